@@ -122,7 +122,7 @@ class Dispositions(unittest.TestCase):
                 self.assertEqual(kernel.ask([ret(action | 5)], [getpid]).texts, [kernel_child.PROCESS_ENDS])
                 answer = Answer.read(StandIn().printed(action | 5))
                 self.assertEqual((answer.refuses, answer.lets_through, answer.fate), (True, False, REFUSED))
-                self.assertIn("the process ends", answer.does())
+                self.assertIn("the process is killed", answer.does())
 
 
 class Planted(unittest.TestCase):

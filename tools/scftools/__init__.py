@@ -41,7 +41,7 @@ folders or site packages. So it adds its own folder, by its real name, to the im
     straces     strace logs
     needing     what a program needs of a profile, from a strace log
     engines     what a container engine makes of its own profile for one container
-    runtimes    what runc and crun make of a profile
+    runtimes    what container runtimes make of a profile
     child       a function in a child process that ends in time, whatever it waits in
     ptrace      ptrace(2), and the files of /proc
     restart     syscalls that a stop interrupts, and how they continue
@@ -57,6 +57,7 @@ folders or site packages. So it adds its own folder, by its real name, to the im
     beside      two surfaces compared
     stack_surfaces  the surfaces of files or of a process, each with a status
     verifying   the filters of processes compared with a profile, each distinct stack by itself
+    watchdog    a hook's helper processes: one that acts at a deadline, and one that works
     hooks       hooks of container runtimes: whether a container's process is confined as configured
     units       the profile that a systemd unit's syscall settings describe
     changes     two profiles compared, syscall by syscall

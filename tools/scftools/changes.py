@@ -36,14 +36,14 @@ class Faulty(Exception):
 @dataclass(frozen=True)
 class Source:
     """A profile; and of one as a runtime applies it, where its entries stand in the user's, and the least number that
-    runc answers by ENOSYS."""
+    runc answers with ENOSYS."""
 
     data: bytes
     origins: Sequence[Origin] | None = None
     stub: int | None = None
 
     def with_stub(self, table: Table, end: int | None) -> Source:
-        """The profile with an entry for what runc answers by ENOSYS, as far as the table names it, below a number."""
+        """The profile with an entry for what runc answers with ENOSYS, as far as the table names it, below a number."""
         if self.stub is None:
             return self
         return replace(self, data=newer.with_stub(self.data, table, self.stub, end),
@@ -147,7 +147,7 @@ class Changes:
     # the verdict over all x86-64 syscalls
     whole: Verdict
     calls: Sequence[Change]
-    # the least number without a name, where the defaults differ, which answer all such numbers
+    # the least number without a name, if the defaults differ, which answer all such numbers
     unnamed: Change | None
     # of each side
     sources: dict[str, Source]

@@ -223,7 +223,7 @@ def of_fault(fault: verdicts.Fault, profile: bytes, table: Table) -> Iterator[st
 
 
 def sentences_of(comparison: Comparison, fault: verdicts.Fault) -> Iterator[str]:
-    """What is said of a fault of a comparison."""
+    """The lines about a fault of a comparison."""
     yield from of_fault(fault, comparison.profile, comparison.table)
     if comparison.origins is not None and fault.source == "profile":
         from . import engines  # pylint: disable=import-outside-toplevel
@@ -287,7 +287,8 @@ def compiled(profile: bytes, table: Table) -> tuple[int, bytes, list[str]]:
     comparison = Comparison([Filter("the compiled one", done.out)], profile, table, "0")
     report = comparison.run(NATIVE)[1]
     facts = comparison.facts if report.skipped else None
-    return done.status, done.out, [*explanation.of_skipped(report, table, bool(facts and facts.lets_through_by_default)),
+    lets_through = bool(facts and facts.lets_through_by_default)
+    return done.status, done.out, [*explanation.of_skipped(report, table, lets_through),
                                    *explanation.of_killed_architectures(report)]
 
 

@@ -78,7 +78,7 @@ def of_conditions(found: Sequence[Entry]) -> Iterator[Finding]:
 
 
 def of_unions(trial: Trial, found: Sequence[Entry]) -> Iterator[Finding]:
-    """Entries with conditions and one answer that together leave no call of a syscall out: they were meant to hold all
+    """Entries with conditions and one answer that together cover every call of a syscall: they were meant to hold all
     at once, and one of them is enough."""
     having: dict[tuple[str, tuple[str, int]], list[Entry]] = {}
     for entry in found:
@@ -95,8 +95,8 @@ def of_unions(trial: Trial, found: Sequence[Entry]) -> Iterator[Finding]:
         for name, entries_of in its.items():
             if number_of(name) not in left_out:
                 places = [it.place for it in entries_of]
-                yield Finding("always-met", f"entries {listed(list(map(str, places)), 'and')}: each call of {name} "
-                              "meets one of them, and one is enough", {"entries": places, "name": name})
+                yield Finding("always-met", f"entries {listed(list(map(str, places)), 'and')}: every call of {name} "
+                              "meets one of them, so one entry is enough", {"entries": places, "name": name})
 
 
 class Denials:

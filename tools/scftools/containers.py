@@ -24,16 +24,16 @@ HIERARCHIES = ("", "name=systemd", "pids")
 # by themselves make NAME.scope of a name; LXC and systemd-nspawn name what is the container's beside what is their own.
 NAMED = re.compile(rb".*/(?:(?:[a-z-]+-)?[0-9a-f]{64}(?:\.scope)?(?:/container)?|(?:runc|crun)-[^/]+\.scope(?:/container)?|"
                    rb"lxc\.payload[./][^/]+|(?:machine-[^/]+\.scope|systemd-nspawn@[^/]+\.service)/payload)(?=/|\Z)")
-# systemd's groups (systemd.special(7)) where they aren't at the top, and aren't those of a user's service manager.
+# systemd's groups (systemd.special(7)) if they aren't at the top, and aren't those of a user's service manager.
 OF_SYSTEMD = re.compile(rb"(/.*?[^/]+)/(?:init\.scope|system\.slice)(?:/|\Z)")
 OF_A_USER = re.compile(rb".*/user@[^/]*\.service")
-# How many processes are told that weren't looked at.
+# At most so many processes that weren't checked are listed.
 MOST_SHOWN = 5
 
 
 @dataclass(frozen=True)
 class Group:
-    """A control group that is taken for a container's own."""
+    """A control group that is taken for the container's own."""
 
     hierarchy: str
     path: bytes
@@ -118,7 +118,7 @@ def container_of(kernel: Kernel, process: int) -> Container:
 
 
 def is_unknown(kernel: Kernel, process: int) -> bool:
-    """Whether nothing tells which container a process is in."""
+    """Whether the container of a process can't be known."""
     try:
         group = group_of(kernel, process)
     except Unreadable:
@@ -127,11 +127,11 @@ def is_unknown(kernel: Kernel, process: int) -> bool:
 
 
 def others_told(kernel: Kernel, container: Container) -> str | None:
-    """What is said of processes that may be the container's, too, and aren't looked at."""
+    """The line about processes that may also be the container's, and aren't checked."""
     others = container.others()
     if not others:
         return None
     shown = ", ".join(f"{it} ({output.escaped(kernel.name_of(it))})" for it in others[:MOST_SHOWN])
     rest = f" and {len(others) - MOST_SHOWN} more" if len(others) > MOST_SHOWN else ""
-    return (f"in its PID namespace, and in other control groups, are processes that weren't looked at: {shown}{rest}; "
+    return (f"processes of its PID namespace in other control groups weren't checked: {shown}{rest}; "
             f"whether they are the container's can't be known")

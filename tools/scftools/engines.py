@@ -74,7 +74,7 @@ class Setting:
     is_native: bool = False
     # One of ENGINES; without one the members of all are read.
     engine: str | None = None
-    # Unknown members that are no conditions; None where all are.
+    # Unknown members that aren't conditions; None if all of them aren't.
     ignored: Sequence[str] | None = ()
     # Where the capabilities come from, if no word names them.
     source: str | None = None
@@ -152,7 +152,7 @@ def printed(profile: dict[str, Any]) -> str:
 
 
 def _check_one(value: Any, kind: str, where: str, name: str) -> None:
-    """Refuses a member in which the engines don't read a text, a number or a version of a kernel."""
+    """Refuses a member that isn't a string, a number or a kernel version as the engines read it."""
     if kind == NUMBER:
         if type(value) is not int or not 0 <= value < 1 << 64:
             raise Refused(f"{where_in(where, name)} isn't an integer from 0 to 2^64-1")
@@ -267,11 +267,11 @@ STUB = Origin(-1, "")
 
 
 def as_given(numbers: dict[str, int], origins: Sequence[Origin]) -> Iterator[str]:
-    """Which entries of the user's profile a fault names that scf found in the resolved one."""
+    """The entries of the user's profile for those that a fault in the resolved one names."""
     named = [numbers[it] for it in ("entry", "first", "second") if it in numbers]
     found = [origins[index].told() for index in named if index < len(origins)]
     if found:
-        yield f"in the file as it was given that is {' and '.join(dict.fromkeys(found))}"
+        yield f"in the original file that is {' and '.join(dict.fromkeys(found))}"
 
 
 class Resolver:

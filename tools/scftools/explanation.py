@@ -83,9 +83,9 @@ def of_killed_architectures(report: Report) -> Iterator[str]:
     """What a filter that scf compiles does with the other architectures of its profile, which an x86-64 kernel has."""
     killed = [name for name in ("SCMP_ARCH_X86", "SCMP_ARCH_X32") if name in report.architectures]
     if killed:
-        yield f"the profile is for {' and '.join(killed)}, too: the filter kills a process that makes such a syscall"
+        yield f"the profile also names {' and '.join(killed)}: the filter kills a process that makes such a syscall"
     if len(killed) < len(set(report.architectures)):
-        yield "the other architectures of the profile aren't looked at"
+        yield "the profile's other architectures are left out"
 
 
 def of_decision(call: Call | None, decision: Decision, table: Table) -> Iterator[str]:

@@ -72,12 +72,12 @@ def require_rights(kernel: Kernel) -> None:
 
 
 def is_sure(since: float, count: int) -> bool:
-    """Whether it is believed that a thread can't be traced which the kernel has refused so often since then."""
+    """Whether a thread is taken as untraceable after the kernel refused it so often since then."""
     return count >= SURE_TIMES and time.monotonic() - since >= SURE_AFTER
 
 
 def why_not_traced(kernel: Kernel, thread: int, process: int, error: OSError) -> str | None:
-    """Why the kernel refuses to trace a thread, or None where that may be since it ends or executes a program."""
+    """Why the kernel refuses to trace a thread, or None if it may be that it ends or executes a program."""
     who = called(thread, process)
     if error.errno not in (errno.EPERM, errno.EACCES):
         return f"{who} can't be stopped: {error.strerror}"
@@ -187,7 +187,7 @@ class Hold:
                 raise self.why_impatient()
 
     def is_unsure(self) -> bool:
-        """Whether a thread may yet be traced that the kernel refuses."""
+        """Whether a thread that the kernel refuses to trace may become traceable."""
         return not all(is_sure(*refused) for refused in self.refused.values())
 
     def waiting(self) -> list[int]:

@@ -34,18 +34,18 @@ if TYPE_CHECKING:
 CONFIG = "config.json"
 # The container's own program isn't executed yet; runc calls a poststart hook so.
 CREATED = "created"
-# How often the threads of a process without a filter are looked at again, in seconds: a runtime may call its hooks
-# while the filter isn't loaded yet.
+# How often the threads of a process without a filter are read again, in seconds: a runtime may call its hooks
+# before the filter is loaded.
 PAUSE = 0.02
 # A hook has no environment but the one that is named.
 PATH = "PATH=/usr/local/sbin:/usr/local/bin:/usr/sbin:/usr/bin:/sbin:/bin"
-# How long is waited for the container's state, for processes that were killed to end, for the explanation of what is
-# known already, and how much later than the hook, which may be killing then, the watchdog acts, in seconds.
+# Seconds to wait for the container's state, for killed processes to end, and for the explanation of what is known
+# already; and how much later than the hook, which may be killing then, the watchdog acts.
 STATE_SECONDS, KILL_SECONDS, EXPLANATION_SECONDS, GRACE = 5.0, 2.0, 10.0, 4.0
-# How long it may take beyond the wait for a filter until it is known whether the container is confined.
+# Seconds that the check may take beyond the wait for a filter.
 DEADLINE = 30.0
-OF_NO_GROUP = ("the container has neither a PID namespace nor a control group of its own: its first process was "
-               "looked at, and those that descend from it")
+OF_NO_GROUP = ("the container has neither a PID namespace nor a control group of its own: its first process "
+               "and that one's descendants were checked")
 # How much time the hook file leaves for what isn't waited for: the tool's own start, and its end.
 STARTUP = 10
 
@@ -134,9 +134,9 @@ def configured(container: Container) -> dict[str, Any] | None:
 
 
 def member(value: Any, wanted: str, path: str) -> Any:
-    """A member of an object of a configuration; refused where a runtime in Go reads another one as it, too."""
+    """A member of an object in a configuration; refused if a runtime in Go also reads another one as it."""
     if not isinstance(value, dict):
-        raise Failed(f"'{path}' is no configuration of a container")
+        raise Failed(f"'{path}' isn't a container's configuration")
     others = [it for it in value if it != wanted and profiles.folded(it) == wanted]
     if others:
         raise Failed(f"'{path}' has a member '{others[0]}', which runc reads as {wanted} and crun doesn't")
@@ -145,7 +145,7 @@ def member(value: Any, wanted: str, path: str) -> Any:
 
 def asked_of(config: dict[str, Any], runtime: str | None, keeps_first: bool, table: Table, limit: str | None,
              relation: str) -> verifying.Asked:
-    """What is asked of a container with this configuration, as its runtime applies it."""
+    """The question about a container with this configuration, as its runtime applies it."""
     try:
         if runtime is not None:
             return verifying.Asked.of_runtime(runtimes.applied(config, runtime), table, limit, comparing.NATIVE,
@@ -171,13 +171,13 @@ class Members:
     # Whether the kernel ends them with the first one.
     end_together: bool = False
     remarks: Sequence[str] = ()
-    # What is said of others, of which it can't be known whether they are the container's, too.
+    # The lines about other processes that may also be the container's.
     others_told: Callable[[], str | None] = lambda: None
 
 
 def members_of(kernel: Kernel, pid: int) -> Members:
-    """The processes of a container whose first one this is: those of its PID namespace where it is the first one there,
-    too, else those of its control group, where this tool isn't in that group itself."""
+    """The processes of a container whose first one this is: those of its PID namespace if it is also the first one
+    there, else those of its control group if this tool isn't in that group itself."""
     if kernel.status_of(pid).get("NSpid", "").split()[1:][-1:] == ["1"]:
         space = kernel.namespaces_of(pid)[:1]
         return Members(lambda: [it for it in kernel.processes() if set(space) & set(kernel.namespaces_of(it))],
@@ -192,7 +192,7 @@ def members_of(kernel: Kernel, pid: int) -> Members:
 
 
 def descendants(kernel: Kernel, pid: int) -> list[int]:
-    """A process and those that descend from it."""
+    """A process and its descendants."""
     parents = {it: kernel.status_of(it).get("PPid") for it in kernel.processes()}
     found, last = [pid], [pid]
     while last:
@@ -202,7 +202,7 @@ def descendants(kernel: Kernel, pid: int) -> list[int]:
 
 
 def sent(file: int, number: int) -> int | None:
-    """Sends a signal by a pidfd; the errno where that fails."""
+    """Sends a signal by a pidfd; returns the errno if that fails."""
     try:
         signal.pidfd_send_signal(file, number)
     except OSError as error:
@@ -211,7 +211,7 @@ def sent(file: int, number: int) -> int | None:
 
 
 def held_by(pid: int) -> Iterator[int]:
-    """A pidfd of a process, where it is there."""
+    """A pidfd of a process, if it exists."""
     try:
         yield os.pidfd_open(pid)
     except OSError:
@@ -237,7 +237,7 @@ class Process:
         return bool(select.select([self.file], [], [], seconds)[0])
 
     def kill(self) -> Killed:
-        """Ends it and the others of the container."""
+        """Kills it and the others of the container."""
         pid, until = self.container.pid, time.monotonic() + KILL_SECONDS
         was_there = not self.has_ended()
         others = {} if self.members.end_together else self.held_others()
@@ -253,7 +253,7 @@ class Process:
         return Killed(True, f"process {pid} was killed{more}")
 
     def kill_others(self, others: dict[int, int], until: float) -> int:
-        """Ends processes that are held, and those that they have begun meanwhile: how many."""
+        """Kills the held processes and those that they started meanwhile; returns how many."""
         killed: set[int] = set()
         while others:
             killed.update(pid for pid, file in others.items() if sent(file, signal.SIGKILL) is None)
@@ -279,7 +279,7 @@ class Process:
 
     def threads(self) -> dict[int, int]:
         """The threads of all processes of the container; of the first one, before the container's program is executed,
-        the one alone that executes it."""
+        only the thread that will execute it."""
         pid = self.container.pid
         threads = self.kernel.threads_of(pid)
         found = {it: pid for it in threads if it == pid or self.container.status != CREATED}
@@ -296,12 +296,12 @@ class Process:
         return found
 
     def has_filters(self) -> bool:
-        """Whether no thread is there without a filter, as far as that can be told without stopping it."""
+        """Whether every thread has a filter, as far as that can be known without stopping it."""
         of_threads = [self.kernel.status_of(it) for it in self.threads()]
         return all(it.get("Seccomp") != "0" or it.get("State", "Z")[:1] in "ZX" for it in of_threads)
 
     def confined(self, seconds: float, is_forced: bool) -> Found:
-        """What all threads have, once each has a filter or so many seconds went by."""
+        """What all threads have, once each has a filter or the time is up."""
         until = time.monotonic() + seconds
         while not self.has_ended() and not self.has_filters() and time.monotonic() < until:
             time.sleep(PAUSE)
@@ -310,7 +310,7 @@ class Process:
 
 @dataclass(frozen=True)
 class Killed:
-    """Whether a process was ended, and what is said of it."""
+    """Whether a process was killed, and the line about it."""
 
     is_so: bool
     line: str
@@ -318,8 +318,8 @@ class Killed:
 
 @dataclass
 class Finding:
-    """What is known of a container: a status and a verdict; and what else there is to say, which may take long to find,
-    as lines and as an object."""
+    """What is known about a container: a status and a verdict; and the explanation, which may take long to find, as
+    lines and as an object."""
 
     status: int
     verdict: str | None
@@ -364,7 +364,7 @@ def finding_of(found: Found, asked: verifying.Asked, members: Members) -> Findin
 
 
 def stated(status: int, verdict: str | None, line: str) -> Finding:
-    """What a line says."""
+    """A finding of a single line."""
     value: dict[str, object] = {"status": status, "scope": comparing.NATIVE, "verdict": verdict}
     return Finding(status, verdict, lambda: [line], lambda: value if verdict else {**value, "why": line})
 
@@ -384,7 +384,7 @@ def failed(why: str, status: int = program.FAILED) -> Finding:
 
 
 def report(finding: Finding, is_json: bool, send: Callable[[object], None]) -> None:
-    """What a worker sends: what is known, and then what else there is to say."""
+    """What a worker sends: first the status and the verdict, then the explanation."""
     send([finding.status, finding.verdict])
     send(finding.lines())
     if is_json:
@@ -392,7 +392,7 @@ def report(finding: Finding, is_json: bool, send: Callable[[object], None]) -> N
 
 
 def result_of(worker: Worker, seconds: float, is_json: bool, settle: Callable[[int], None]) -> Result:
-    """What a worker finds within so many seconds. `settle` is called as soon as the status is known."""
+    """What a worker finds within this many seconds. `settle` is called as soon as the status is known."""
     known = worker.receive(time.monotonic() + seconds)
     if known is None:
         finding = unknown(worker.status(), seconds)
@@ -401,7 +401,7 @@ def result_of(worker: Worker, seconds: float, is_json: bool, settle: Callable[[i
     status, verdict = known
     settle(status)
     until = time.monotonic() + EXPLANATION_SECONDS
-    found = result(stated(status, verdict, f"the explanation isn't given: it takes longer than {EXPLANATION_SECONDS:g} "
+    found = result(stated(status, verdict, f"no explanation: it takes longer than {EXPLANATION_SECONDS:g} "
                                            f"seconds"))
     found.lines = worker.receive(until) or found.lines
     found.value = is_json and worker.receive(until) or found.value
@@ -409,18 +409,18 @@ def result_of(worker: Worker, seconds: float, is_json: bool, settle: Callable[[i
 
 
 def unknown(status: int | None, seconds: float) -> Finding:
-    """A worker has found nothing: it ended so, or goes on."""
+    """The finding if a worker reports nothing: it ended with a status, or still runs."""
     if status is None:
-        return failed(f"it wasn't known within {seconds:g} seconds", program.UNKNOWN)
+        return failed(f"undecided after {seconds:g} seconds", program.UNKNOWN)
     if status == program.NO_PROGRAM:
         return failed("scf can't be run", program.NO_PROGRAM)
     how = f"signal {-status}" if status < 0 else f"status {status}"
-    return failed(f"the look was ended with {how}")
+    return failed(f"the check ended with {how}")
 
 
 class Examination:
-    """A container that is to be found confined within so many seconds, and else is killed if that is asked: as soon as
-    that is known, before it is explained."""
+    """A container that must be known to be confined within this many seconds, and else is killed on request, as soon as
+    the status is known and before it is explained."""
 
     def __init__(self, process: Process, seconds: float, kills: bool) -> None:
         self.process = process
@@ -437,18 +437,18 @@ class Examination:
                             [self.watchdog.end] if self.watchdog else [])
         except OSError as error:
             self.settle(program.FAILED)
-            return result(failed(f"no process can be begun: {error.strerror}"))
+            return result(failed(f"no process can be started: {error.strerror}"))
         return result_of(worker, self.seconds, is_json, self.settle)
 
     def settle(self, status: int) -> None:
-        """What is done when the status is known."""
+        """Acts on the status: kills the container on request, and dismisses the watchdog."""
         if self.kills and status != program.WELL:
             self.killed.append(self.process.kill())
         if self.watchdog is not None:
             self.watchdog.dismiss()
 
     def bark(self) -> None:
-        """What the watchdog does."""
+        """The watchdog's action: it kills the container and reports that."""
         killed = self.process.kill()
         line = f"{self.process.container.told}: the hook was ended or stopped: {killed.line}"
         output.say(program.name(), line)
@@ -492,8 +492,8 @@ def hook_words(words: Sequence[str]) -> list[str]:
 
 
 def hook_file(path: str, words: Sequence[str], seconds: float) -> str:
-    """The text of a file for hooks.d, as oci-hooks(5) has it, that calls this tool for each container. A runtime is to
-    wait longer than the tool itself, to which it takes so many seconds until it knows."""
+    """The text of a file for hooks.d, as oci-hooks(5) has it, that calls this tool for each container. The runtime must
+    wait longer than the tool itself, which takes this many seconds to know."""
     longest = seconds + STATE_SECONDS + KILL_SECONDS + EXPLANATION_SECONDS + GRACE
     hook = {"path": path, "args": [os.path.basename(path), *hook_words(words)], "env": [PATH],
             "timeout": math.ceil(longest) + STARTUP}
@@ -507,7 +507,7 @@ def own_path() -> str:
 
 
 def guarded(find: Callable[[], Finding]) -> Finding:
-    """What is found; where that fails, whatever fails, why."""
+    """What is found; if anything fails, why."""
     try:
         return find()
     except (Failed, program.Refused) as why:
@@ -516,7 +516,7 @@ def guarded(find: Callable[[], Finding]) -> Finding:
     except processes.Unreadable as why:
         return failed(f"{why} (--force stops it)" if isinstance(why, hold.Waiting) else str(why))
     except processes.Interrupted as came:
-        return failed(f"the look was ended by {signal.Signals(came.args[0]).name}")
+        return failed(f"the check was ended by {signal.Signals(came.args[0]).name}")
     except MemoryError:
         return failed("out of memory")
     except OSError as error:

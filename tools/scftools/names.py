@@ -55,8 +55,8 @@ def of_names(top: Object, table: Table) -> Iterator[Finding]:
 
 
 def _near(name: str, prefix: str, known: Sequence[str], count: int) -> str | None:
-    """The word that is most like a name behind the prefix that all have, if one is much like it; not of a name that
-    stands behind so many."""
+    """The word most like a name behind their common prefix, if one is much like it; none for a name that comes after so
+    many."""
     if count >= tables.TOLD or len(name) > tables.LONGEST:
         return None
     last = name.upper().removeprefix(prefix)
@@ -69,7 +69,7 @@ def _nearest(near: str | None) -> str:
 
 
 def _words(top: Object) -> Iterator[tuple[str, str, object]]:
-    """The actions and operators of a profile that may be faulty: where each stands, whether it's an action, and it."""
+    """The actions and operators of a profile that may be faulty: where each is, whether it's an action, and it."""
     yield "the default", "action", top.get("defaultAction")
     syscalls = top.get("syscalls")
     for place, entry in enumerate(syscalls if isinstance(syscalls, list) else []):
@@ -82,7 +82,7 @@ def _words(top: Object) -> Iterator[tuple[str, str, object]]:
 
 
 def of_words(top: Object) -> Iterator[Finding]:
-    """Actions and operators that there aren't, for which scf refuses a profile."""
+    """Unknown actions and operators, for which scf refuses a profile."""
     known = {"action": ACTIONS, "operator": tuple(HOLDS)}
     wrong = (it for it in _words(top) if isinstance(it[2], str) and it[2] not in known[it[1]])
     for at, (where, kind, word) in enumerate(wrong):

@@ -35,14 +35,14 @@ REFERRED, EQUAL = ("SCMP_ACT_TRACE", 1), "SCMP_CMP_EQ"
 # What a least profile has of the one that is given, beside its default.
 KEPT = ("architectures", "flags", "listenerPath", "listenerMetadata")
 LETS_THROUGH = ("SCMP_ACT_ALLOW", "SCMP_ACT_LOG")
-# What each least profile allows: a process makes these calls where a log needn't show it, to go on after a stop or a
+# What each least profile allows: a process calls these, which a log needn't show, to continue after a stop or a
 # signal, and to end.
 ALWAYS = ("restart_syscall", "rt_sigreturn", "exit", "exit_group")
 
 
 @dataclass(frozen=True)
 class Traced:
-    """A call of a log: its number, its name, and the values of the arguments that a condition looks at; None where one
+    """A syscall in a log: its number, its name, and the values of the arguments that a condition tests; None if one
     isn't known."""
 
     number: int
@@ -115,7 +115,7 @@ def number_of(name: str, table: Table) -> int | None:
 
 
 class Judge:
-    """A profile, its filter, and what of each call its conditions look at."""
+    """A profile, its filter, and what its conditions test of each syscall."""
 
     def __init__(self, profile: bytes, trial: Trial):
         self.profile, self.trial, self.table = profile, trial, trial.table
@@ -132,7 +132,7 @@ class Judge:
                        for name in (*self.table.names_of(number), f"syscall_{number:#x}")}
 
     def looked_at(self, name: str) -> tuple[int, ...]:
-        """The arguments of a call that a condition looks at."""
+        """The arguments of a syscall that a condition tests."""
         return self.looked.get(name, ())
 
     def number_of(self, name: str) -> int | None:
@@ -156,7 +156,7 @@ class Judge:
         return found
 
     def _asked(self, traced: Traced, values: dict[int, int]) -> Answers:
-        """By `scf ask`: the call with these arguments, as one that is made or one that isn't."""
+        """By `scf ask`: the syscall with these arguments, as one that is allowed or one that isn't."""
         call = Call(traced.number, arguments=tuple(values.get(index, 0) for index in range(6)))
         answer = self._reason(call).answer
         return (call, None) if answer is None or answer.fate == MADE else (None, (call, answer))
@@ -170,7 +170,7 @@ class Judge:
         return self.trial.report([self.filter], beside, table, "--native", relation).verdict or Verdict(UNFINISHED)
 
     def _compared(self, traced: Traced, values: dict[int, int]) -> Answers | Verdict:
-        """By comparisons: a call with these arguments that is made, and one that isn't; or a verdict without either."""
+        """By comparisons: a syscall with these arguments that is allowed, and one that isn't; or only a verdict."""
         less = self._verdict(traced, values, "SCMP_ACT_ERRNO", ("SCMP_ACT_ALLOW", 0), "--no-less")
         more = self._verdict(traced, values, "SCMP_ACT_ALLOW", REFERRED, "--no-more")
         for verdict in (less, more):

@@ -28,8 +28,8 @@ ENOSYS_PROFILE, ENOSYS = b'{"defaultAction": "SCMP_ACT_ERRNO", "defaultErrnoRet"
 
 
 def with_stub(profile: bytes, table: Table, first: int, end: int | None = None) -> bytes:
-    """A profile as runc resolves it, with one entry more for the numbers from one on, and below another one, that its
-    stub answers, as far as a table names them."""
+    """A profile as runc resolves it, with one more entry for the numbers in this range that its stub answers, as far as
+    a table names them."""
     numbers = [number for number in table.numbers() if first <= number and (end is None or number < end)]
     top = json.loads(profile)
     if numbers:
@@ -39,7 +39,7 @@ def with_stub(profile: bytes, table: Table, first: int, end: int | None = None) 
 
 
 def expecting_stub(comparison: Comparison, first: int | None) -> Comparison:
-    """The comparison by which it is explained what differs where a stub is to answer the numbers from one on."""
+    """The comparison that explains a difference if a stub answers the numbers from `first` on."""
     if first is None:
         return comparison
     return replace(comparison, profile=with_stub(comparison.profile, comparison.table, first), stub=first, _facts=[],

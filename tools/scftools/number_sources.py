@@ -88,7 +88,7 @@ def _library():
 
 
 def known_names() -> Callable[[str], bool]:
-    """What says whether the installed libseccomp knows a call by this name, of any architecture."""
+    """A function that says whether the installed libseccomp knows a syscall by this name, of any architecture."""
     import ctypes  # pylint: disable=import-outside-toplevel
 
     resolve = _library().seccomp_syscall_resolve_name
@@ -97,7 +97,7 @@ def known_names() -> Callable[[str], bool]:
 
 
 def _libseccomp():
-    """The library, and what frees the names that it gives."""
+    """The library, and the function that frees the names it returns."""
     import ctypes  # pylint: disable=import-outside-toplevel
 
     library, libc = _library(), ctypes.CDLL(None)

@@ -77,7 +77,7 @@ class Found:
     stacks: list[Stack]
     # The processes, by number, and what each was called.
     names: dict[int, bytes]
-    # The processes of which no thread makes a call, by number, and why.
+    # The processes whose threads make no syscalls, by number, and why.
     passed_over: dict[int, str]
     # The processes and threads whose syscalls a supervisor got twice, since they were stopped meanwhile.
     asked_again: list[tuple[int, int]] = field(default_factory=list)
@@ -138,8 +138,8 @@ def look(kernel: Kernel, listed: Callable[[], dict[int, int]], patience: float, 
     try:
         return child.run(lambda: read_threads(kernel, listed, TO_STOP * patience, is_forced), patience)
     except child.Late as late:
-        raise Unreadable(f"the threads couldn't be read within {patience:g} seconds: the kernel makes a tracer wait, as "
-                         f"for a thread that executes a program; all stopped threads continue") from late
+        raise Unreadable(f"the threads couldn't be read within {patience:g} seconds: the kernel makes a tracer wait, "
+                         f"as for a thread that executes a program; all stopped threads continue") from late
     except child.Died as died:
         raise Unreadable(str(died)) from died
 

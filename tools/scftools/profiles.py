@@ -118,7 +118,7 @@ class Misread:
 
     def told(self) -> str:
         if self.name == self.read_as:
-            return f"{self.where} has the member '{self.name}' more than once, of which programs in Go take the last"
+            return f"{self.where} has the member '{self.name}' more than once: programs in Go take the last"
         spelled = self.name.encode("ascii", "backslashreplace").decode()
         return f"{self.where} has a member '{spelled}', which programs in Go read as '{self.read_as}'"
 

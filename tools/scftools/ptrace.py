@@ -21,7 +21,7 @@ PTRACE_EVENT_STOP = 128
 REGISTERS = ("r15", "r14", "r13", "r12", "rbp", "rbx", "r11", "r10", "r9", "r8", "rax", "rcx", "rdx", "rsi", "rdi",
              "orig_rax", "rip", "cs", "eflags", "rsp", "ss", "fs_base", "gs_base", "ds", "es", "fs", "gs")
 WORD = 8
-# linux/ptrace.h: the beginning of struct ptrace_syscall_info, which holds the architecture of the system call.
+# linux/ptrace.h: the beginning of struct ptrace_syscall_info, which holds the architecture of the syscall.
 SYSCALL_INFO = struct.Struct("<B3xI")
 # linux/wait.h: wait for threads too. Since Linux 4.7 the kernel takes it for granted of what is traced; before, a
 # thread that isn't the main one of its process is waited for by this alone.
@@ -138,7 +138,7 @@ class Kernel:
         return found
 
     def mounted_groups(self, process: int) -> list[bytes]:
-        """The control groups that are the roots of what a process sees mounted of them (proc_pid_mountinfo(5))."""
+        """The roots of the control group mounts that a process sees (proc_pid_mountinfo(5))."""
         found = []
         for line in contents(f"/proc/{process}/mountinfo").split(b"\n"):
             fields, _, source = line.partition(b" - ")

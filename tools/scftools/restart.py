@@ -1,11 +1,11 @@
 """Syscalls that a stop interrupts, and how they continue with the thread.
 
-A call that waits returns one of the numbers below when its thread is stopped, and the kernel makes the call again
-behind the stop (handle_signal and arch_do_signal_or_restart in arch/x86/kernel/signal.c). Where it waits for so long and
-no longer, as in nanosleep and in poll, it makes restart_syscall(2) in its place, which goes on with the time that is
-left. A filter answers that as any other system call: where it doesn't allow it, it ends the process or fails the call.
-So a thread in such a call is given another number while it is stopped, if its filters don't allow restart_syscall.
-Nor does a call begin anew that they deny.
+A syscall that waits returns one of the numbers below when its thread is stopped, and the kernel calls it again after
+the stop (handle_signal and arch_do_signal_or_restart in arch/x86/kernel/signal.c). If it waits with a timeout, as
+nanosleep and poll do, the kernel calls restart_syscall(2) instead, which continues with the remaining time. A filter
+answers that as any other syscall: if it denies it, it ends the process or fails the call. So a thread in such a syscall
+is given another number while it is stopped, if its filters don't allow restart_syscall. A syscall that they deny isn't
+restarted either.
 """
 from __future__ import annotations
 
@@ -72,9 +72,9 @@ def notifies(filters: Sequence[bytes]) -> bool:
 
 @dataclass(frozen=True)
 class Interrupted:
-    """An interrupted call: the number by which it would go on, and what it may be.
+    """An interrupted syscall: the number with which it would continue, and what it may be.
 
-    Where the kernel doesn't tell the architecture, it is a call of x86-64 or one of i386.
+    If the kernel doesn't report the architecture, it is a syscall of x86-64 or of i386.
     """
 
     number: int
@@ -82,12 +82,12 @@ class Interrupted:
 
     @property
     def goes_on(self) -> bool:
-        """Whether restart_syscall is made in its place."""
+        """Whether restart_syscall is called instead."""
         return self.number == ERESTART_RESTARTBLOCK
 
     @property
     def anew(self) -> int:
-        """The number by which it begins anew."""
+        """The number with which it starts again."""
         return ERESTARTNOHAND if self.goes_on else self.number
 
 
@@ -123,8 +123,8 @@ class Restarts:
             self.kernel.set_result(thread, -number)
 
     def number(self, interrupted: Interrupted, filters: tuple[bytes, ...]) -> int:
-        """By which number a call goes on: by that of restart_syscall where it is allowed; else it begins anew; where it
-        is denied itself, since its thread was put under another filter meanwhile, it ends with EINTR."""
+        """The number with which a syscall continues: restart_syscall's if that is allowed; else its own, from the start.
+        If it is denied itself, since its thread got another filter meanwhile, it ends with EINTR."""
         if not filters:
             return interrupted.number
         calls = interrupted.calls
@@ -141,12 +141,12 @@ class Restarts:
         return any(answer is not None and answer.action == "USER_NOTIF" for answer in answers)
 
     def becomes(self, filters: tuple[bytes, ...], call: Call) -> str | None:
-        """What becomes of a call, or None where that isn't known."""
+        """The disposition of a syscall, or None if it isn't known."""
         answer = self.answer(filters, call)
         return None if answer is None else answer.fate
 
     def answer(self, filters: tuple[bytes, ...], call: Call) -> Answer | None:
-        """What filters answer to a call; where they look at its number alone, that is asked of scf once."""
+        """What filters answer to a syscall; if they test only its number, scf is run once for it."""
         general = Call(call.architecture, call.number, 0, (0,) * len(call.arguments))
         if (filters, general) not in self.are_by_number:
             self.are_by_number[filters, general] = all(is_by_number(data, general) for data in filters)
@@ -157,7 +157,7 @@ class Restarts:
 
 
 def run(words: Sequence[str], given: bytes) -> str:
-    """What scf prints; nothing where it isn't there. It isn't built for that, which takes long."""
+    """What scf prints; nothing if it isn't built, since building it takes long."""
     path = program.built()
     if path is None:
         return ""
@@ -173,8 +173,8 @@ def answer_of(filters: tuple[bytes, ...], call: Call) -> Answer | None:
 
 
 def is_by_number(data: bytes, call: Call) -> bool:
-    """Whether a filter answers a call without a look at its arguments and its instruction pointer: then each call of
-    that number and architecture takes the same path."""
+    """Whether a filter answers a syscall without loading its arguments or its instruction pointer: then every syscall
+    with that number and architecture takes the same path."""
     found = paths.PRINTED.fullmatch("".join(program.lines_of(run(["run", "--path", *call.words()], data))[1:2]))
     insns = list(INSTRUCTION.iter_unpack(data))
     return found is not None and not any(insns[int(place)][0] == LOAD_WORD and insns[int(place)][3] >= POINTER[0]

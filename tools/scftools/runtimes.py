@@ -9,7 +9,7 @@ generatePatch of seccomp/patchbpf), and were found by filters that crun 1.8.1 an
 - a name that libseccomp doesn't know is left out;
 - an entry without conditions has all calls of its syscall, wherever it stands; of two such entries it is the first;
 - the calls of x86-64 are confined whether or not `architectures` has it;
-- where it has it and the default denies, runc alone answers each number above all that the profile names by ENOSYS.
+- where it has it and the default denies, runc alone answers each number above all that the profile names with ENOSYS.
 """
 from __future__ import annotations
 
@@ -28,8 +28,8 @@ if TYPE_CHECKING:
     from . import processes
 
 RUNC, CRUN = "runc", "crun"
-# The actions that the runtimes know, under one name each where they have two; and those that take a number, which is
-# EPERM where none is given.
+# The actions that the runtimes know, under one name each if they have two; and those that take a number, which is
+# EPERM if none is given.
 ACTIONS = {f"SCMP_ACT_{it}": f"SCMP_ACT_{it}" for it in
            ("KILL_PROCESS", "KILL_THREAD", "TRAP", "ERRNO", "NOTIFY", "TRACE", "LOG", "ALLOW")}
 ACTIONS["SCMP_ACT_KILL"] = "SCMP_ACT_KILL_THREAD"
@@ -37,10 +37,10 @@ ERRNO, NOTIFY = "SCMP_ACT_ERRNO", "SCMP_ACT_NOTIFY"
 WITH_NUMBER = (ERRNO, "SCMP_ACT_TRACE")
 # Defaults beside which runc's stub isn't put before the filter (isAllowAction of patchbpf).
 ALLOWS = ("SCMP_ACT_ALLOW", "SCMP_ACT_LOG", "SCMP_ACT_TRACE")
-# The greatest errno that libseccomp takes, and the most conditions of an entry that crun looks at.
+# The greatest errno that libseccomp takes, and the most conditions of an entry that crun reads.
 MAX_ERRNO, CRUN_CONDITIONS = 4095, 6
 PREFIX = "SCMP_ARCH_"
-# The most names of all entries together that are handed on, each once for each of its alternatives: the kernel takes no
+# The most names of all entries together that are passed on, each once for each of its alternatives: the kernel takes no
 # filter that is a sixteenth so long.
 MAX_RULES = 1 << 16
 
@@ -143,7 +143,7 @@ class Library:
         if not self.is_there:
             return self._table.number_of(name)
         data = name.encode("utf-8", "surrogatepass")
-        # AUDIT_ARCH_X86_64, and __NR_SCMP_ERROR where there is no such name
+        # AUDIT_ARCH_X86_64, and __NR_SCMP_ERROR if there is no such name
         number = self._resolve(0xC000003E, data) if b"\0" not in data else -1
         return None if number == -1 else number
 
@@ -154,12 +154,12 @@ class Applied:
 
     runtime: Runtime
     profile: dict[str, Any]
-    # of each entry of the profile, where it stands in the user's
+    # the index of each entry in the user's profile
     origins: Sequence[Origin]
     # what is to be known of the whole, and what was left out of it, entry by entry
     remarks: Sequence[str]
     notes: Sequence[str]
-    # the least number that runc answers by ENOSYS, where it does
+    # the least number that runc answers with ENOSYS, if it does
     stub: int | None = None
 
     @property
@@ -221,7 +221,7 @@ class _Application:
     def count_rules(self, more: int) -> None:
         self.count += more
         if self.count > MAX_RULES:
-            raise Refused(f"the profile has more than {MAX_RULES} rules, of which each is one name of an entry")
+            raise Refused(f"the profile has more than {MAX_RULES} rules (one for each name of an entry)")
 
     def answer_of(self, action: str, number: int | None, where: str) -> Answer:
         """What libseccomp is given for an action and its number."""
@@ -323,7 +323,8 @@ class _Application:
 
     def tell_unknown(self) -> None:
         if not self.library.is_there:
-            self.remarks.append("there is no libseccomp.so.2 here, so it is unknown which names the runtime's doesn't know")
+            self.remarks.append("there is no libseccomp.so.2 here, so it is unknown which names the runtime's doesn't "
+                                "know")
         elif self.unknown:
             names = listed(list(self.unknown))
             self.remarks.append(f"left out, since {self.library.told} doesn't know them: {names}")
@@ -384,7 +385,7 @@ def applied(value: Any, name: str, setting: Setting | None = None) -> Applied:
     setting = setting or setting_of(runtime)
     notes: list[str] = []
     if _is_config(value):
-        # the engine has done its part, and what else stands there isn't read
+        # the engine has done its part, and the other members aren't read
         value, setting = _seccomp_of(value), replace(setting, engine=None, ignored=None)
         seccomp = (value["linux"] or {}).get("seccomp") if isinstance(value["linux"], dict) else None
         _refuse_engines(seccomp, runtime.program)

@@ -1,4 +1,4 @@
-"""Syscalls that do what another one does: where one is denied, and the other allowed, the denial is void."""
+"""Syscalls that do what another one does: if one is denied and the other allowed, the denial is void."""
 from __future__ import annotations
 
 from collections.abc import Callable, Iterator, Sequence
@@ -22,8 +22,8 @@ ENOSYS = ("ERRNO", 38)
 
 
 def of_siblings(table: Table, ask: Callable[[Call], Reason], found: Sequence[Entry]) -> Iterator[Finding]:
-    """Denials by an entry that another syscall makes void. One by ENOSYS isn't meant to keep a program from anything,
-    but to lead it to the other one; and of what has conditions nothing is said."""
+    """Denials by an entry that another syscall makes void. One with ENOSYS isn't meant to keep a program from anything,
+    but to lead it to the other one; entries with conditions are left out."""
     conditional = {name for it in found if it.conditions for name in it.names}
     for name in dict.fromkeys(name for it in found for name in it.names if name in SIBLINGS):
         denied = _ask(table, ask, name)

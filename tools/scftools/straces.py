@@ -1,7 +1,7 @@
 """strace logs: their syscalls, and what is known of the arguments.
 
-Of an argument a number is known, and the names of tables/arguments.symbols, each alone or joined by `|`. Where strace
-prints a text, a structure, another name or nothing at all, the argument isn't known.
+An argument is known if strace prints it as a number or as names of tables/arguments.symbols, alone or joined by `|`. If
+strace prints a string, a structure, another name or nothing at all, the argument isn't known.
 """
 from __future__ import annotations
 
@@ -14,15 +14,15 @@ from dataclasses import dataclass, field
 
 from . import inputs, output, program
 
-# The most bytes of a log, and so many of a line, of a call that isn't finished yet and of an argument are looked at.
+# The most bytes that are read of a log, of a line, of a syscall that isn't finished yet and of an argument.
 LIMIT, LINE, BEGINNING, ARGUMENT = 1 << 30, 1 << 16, 1 << 13, 1 << 12
-# So many calls that aren't finished yet are kept, and so many with other names or arguments; so many more are counted,
-# and so many processes.
+# The most unfinished syscalls and the most with other names or arguments that are kept; how many more are counted; and
+# the most processes.
 PENDING, KEPT, LEFT, PROCESSES = 10000, 1000, 100000, 1 << 20
-# So many processes may make one at a time, and it is still looked at in which mode each runs.
+# At most so many processes that are creating one are considered for the mode of a new process.
 MAKERS = 100
 SYMBOLS = os.path.join(program.TOP, "tables", "arguments.symbols")
-# What stands before a call: a process, a time, the instruction pointer and the call's number (strace(1): -f, -Y; -t,
+# What comes before a syscall: a process, a time, the instruction pointer and the syscall number (strace(1): -f, -Y; -t,
 # -tt, -ttt, -r; -i; -n).
 LEADER = re.compile(
     r"(?:\[pid +([0-9]{1,10})(?:<[^>]{0,64}>)?\] |([0-9]{1,10})(?:<[^>]{0,64}>)? +)?"
@@ -76,7 +76,7 @@ def _number_of(found: re.Match[str]) -> int | None:
 
 
 def _number_in(text: str) -> int | None:
-    """The number that is printed, or that has the bits of all that are printed, as in SOCK_STREAM|0x80000."""
+    """The printed number, or the bitwise OR of all that are printed, as in SOCK_STREAM|0x80000."""
     whole, at = 0, 0
     while True:
         part = PART.match(text, at)
@@ -95,10 +95,10 @@ def _number_in(text: str) -> int | None:
 
 
 def values_of(text: str) -> tuple[int, ...] | None:
-    """The values that the register of a printed argument may have, None where it isn't known.
+    """The values that the register of a printed argument may have, None if it isn't known.
 
-    Of many arguments strace prints the lower 32 bits, and of a mode the lower 16. What is above is taken for zero, or
-    where the highest bit is set that is shown, also for the sign.
+    Of many arguments strace prints the lower 32 bits, and of a mode the lower 16. The bits above are taken as zero, or,
+    if the highest printed bit is set, also as the sign.
     """
     text = text.strip().removesuffix(UNFINISHED.strip()).rstrip()
     number = _number_in(text) if len(text) <= ARGUMENT else None
@@ -180,22 +180,22 @@ class Log:
     calls: dict[tuple[str, tuple], Seen] = field(default_factory=dict)
     foreign: Seen = field(default_factory=lambda: Seen(0))
     unread: Seen = field(default_factory=lambda: Seen(0))
-    # lines of calls that have a number, without a result or without a beginning
+    # lines of syscalls that have a number, without a result or without a beginning
     cut: Seen = field(default_factory=lambda: Seen(0))
-    # calls with other names or arguments than those that are kept
+    # syscalls with other names or arguments than those that are kept
     left: Seen = field(default_factory=lambda: Seen(0))
     _names: set[str] = field(default_factory=set)
     _modes: dict[str | None, str] = field(default_factory=dict)
     _alive: set[str] = field(default_factory=set)
     _pending: dict[str | None, tuple[int, str]] = field(default_factory=dict)
-    # those of which such a call makes processes
+    # the processes that create others
     _makers: dict[str | None, None] = field(default_factory=dict)
     _other_mode: str | None = None
-    # pieces of a line that messages of strace's stand in the midst of, and so many characters more are kept
+    # the pieces of a line that is broken by messages of strace, and how many more characters are kept
     _broken: list[str] = field(default_factory=list)
     _room: int = LINE
     _line: int = 0
-    # whether the line that is looked at is longer than it is looked at
+    # whether the current line is longer than what is read of it
     _is_long: bool = False
 
     def add(self, number: int, line: str) -> None:
@@ -216,7 +216,7 @@ class Log:
             self._add(number, who, text)
 
     def _is_message(self, line: str) -> bool:
-        """Whether a message of strace's ends a line, which it broke off there, and which goes on in the next one."""
+        """Whether a message of strace ends a line, which it broke off there and continues in the next one."""
         message = MESSAGE.search(line, max(0, len(line) - 64))
         if message is None or message.end() != len(line):
             return False
@@ -226,17 +226,17 @@ class Log:
         return True
 
     def _is_of_other_abi(self, number: int, text: str) -> bool:
-        """Whether a call has another number than the call of its name, as those of i386 have."""
+        """Whether a syscall has another number than its name has, as those of i386 do."""
         name = CALL.match(text)
         return name is not None and self.number_of(name[1]) not in (None, number)
 
     def _who(self, printed: str | None) -> str | None:
-        """The process of a line: strace names it only where there are several."""
+        """The process of a line: strace names it only if there are several."""
         if printed is None:
             return next(iter(self._alive)) if len(self._alive) == 1 else None
         if printed not in self._alive:
             if max(len(self._alive), len(self._modes)) >= PROCESSES:
-                raise program.Refused(f"the log has more than {PROCESSES} processes that aren't seen to end")
+                raise program.Refused(f"the log has more than {PROCESSES} processes whose end isn't logged")
             self._alive.add(printed)
             self._modes.setdefault(printed, self._mode_of_new())
         return printed
@@ -274,7 +274,7 @@ class Log:
             self._count(self.unread, number)
 
     def _begin(self, number: int, who: str | None, text: str) -> None:
-        """Keeps a call that isn't finished yet."""
+        """Keeps a syscall that isn't finished yet."""
         self._pending_ends(who)
         self._pending[who] = number, text
         if text.startswith(FORKS):
@@ -325,7 +325,7 @@ class Log:
         self._count(self._kept(name[1], tuple(values_of(shown[at]) if at in shown else None for at in wanted)), number)
 
     def _kept(self, name: str, values: tuple) -> Seen:
-        """Where a call is counted: of a name that has a number the first one is kept in any case."""
+        """Where a syscall is counted: the first one of a name that has a number is always kept."""
         seen = self.calls.get((name, values))
         if seen is None:
             kept = len(self.calls)
@@ -370,7 +370,7 @@ def _pieces(name: str) -> Iterator[bytes]:
 
 
 def lines(name: str) -> Iterator[str]:
-    """The lines of a log, `-` being standard input, each as far as it is looked at."""
+    """The lines of a log (`-` is standard input), each up to the limit."""
     kept = b""
     for piece in _pieces(name):
         *whole, last = piece.split(b"\n")
@@ -392,12 +392,12 @@ def is_log(data: bytes) -> bool:
 
 
 def read(name: str, looked_at: Callable[[str], tuple[int, ...]], number_of: Callable[[str], int | None]) -> Log:
-    """What stands in a log; of the arguments of a call those that are asked for."""
+    """The contents of a log, with the requested arguments of each syscall."""
     found = Log(looked_at, number_of)
     for number, line in enumerate(lines(name), 1):
         found.add(number, line)
         if found.left.count > LEFT:
-            raise program.Refused(f"the log has more than {KEPT + LEFT} calls with other names or arguments: make one "
-                                  "of fewer calls by strace -e trace=..")
+            raise program.Refused(f"the log has more than {KEPT + LEFT} syscalls with other names or arguments: log "
+                                  "fewer syscalls by strace -e trace=..")
     found.end()
     return found

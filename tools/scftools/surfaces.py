@@ -15,7 +15,7 @@ from .verdicts import UNDECIDED, UNFINISHED, NamedCall
 
 MADE, REFERRED, REFUSED, DEPENDS = "made", "referred", "refused", "depends"
 FATES = {answers.MADE: MADE, answers.REFERRED: REFERRED, answers.REFUSED: REFUSED}
-# What may hold for all syscalls of a number, in the order in which it is printed; the last two where scf can't tell.
+# What may hold for all syscalls of a number, in the order in which it is printed; the last two if scf can't decide.
 SAID = (MADE, DEPENDS, REFERRED, REFUSED, UNDECIDED, UNFINISHED)
 # The words of text output; JSON has those above.
 WORDS = {MADE: "allowed", REFERRED: "delegated", REFUSED: "denied"}

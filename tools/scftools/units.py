@@ -42,7 +42,7 @@ ARCHITECTURES = {name: f"SCMP_ARCH_{oci}" for name, oci in (
 LOCAL = (OCI_ARCH, "SCMP_ARCH_X86", "SCMP_ARCH_X32")
 # The most bytes of what a command of systemd prints, and the deepest nesting of groups.
 MOST_PRINTED, DEEPEST = 1 << 20, 16
-# The most bytes of a unit's file, and so many names that are left out are told.
+# The most bytes of a unit's file, and the most names that are listed as left out.
 MOST_BYTES, MOST_TOLD = 1 << 20, 20
 
 
@@ -51,7 +51,7 @@ class Refused(Exception):
 
 
 class Unknown(Exception):
-    """What a unit's files say isn't known."""
+    """The contents of a unit's files can't be known."""
 
 
 @dataclass(frozen=True)
@@ -144,9 +144,9 @@ def groups_of(text: str) -> dict[str, list[str]]:
 
 
 class Reader:
-    """Reads lists of calls; groups are asked for where a list names one, and what is left out is told.
+    """Reads lists of syscalls; asks for groups if a list names one, and reports what is left out.
 
-    A name that systemd's libseccomp doesn't know is left out, as systemd does; where that can't be asked, none is.
+    A name that systemd's libseccomp doesn't know is left out, as systemd does; without a libseccomp, none is.
     """
 
     def __init__(self, groups: Callable[[], dict[str, list[str]]], tell: Callable[[str], None],
@@ -215,11 +215,11 @@ class Reader:
         return found if found is None or found.calls or not found.is_inverted else None
 
     def tell_unknown(self) -> None:
-        """Says which names were left out, since libseccomp doesn't know them."""
+        """Reports the names that were left out, since libseccomp doesn't know them."""
         if self.unknown:
             names = list(self.unknown)
             more = f" and {len(names) - MOST_TOLD} more" if len(names) > MOST_TOLD else ""
-            self.tell(f"left out, as systemd does with names that its libseccomp doesn't know: "
+            self.tell(f"left out, as by systemd, since libseccomp doesn't know them: "
                       f"{', '.join(names[:MOST_TOLD])}{more}")
 
     def shown(self, text: str) -> CallList | None:
@@ -267,7 +267,7 @@ def assignments_of(text: str, section: str, setting: str) -> Iterator[str]:
 
 
 def files_of(shown: dict[str, str]) -> Iterator[str]:
-    """The texts of the files that systemd has read a unit from: its own file, and the drop-ins in their order."""
+    """The texts of the files from which systemd read a unit: its own file, and the drop-ins in their order."""
     import shlex  # pylint: disable=import-outside-toplevel
 
     for path in [shown.get("FragmentPath", ""), *shlex.split(shown.get("DropInPaths", ""))]:
@@ -282,12 +282,12 @@ def files_of(shown: dict[str, str]) -> Iterator[str]:
 
 
 def denied_by(shown: dict[str, str], allowed: CallList, reader: Reader) -> dict[str, Answer | None]:
-    """The calls that a list of allowed calls denies by an errno of their own, as `SystemCallFilter=~clone3:EINVAL`.
+    """The syscalls that an allow-list denies with an errno of their own, as in `SystemCallFilter=~clone3:EINVAL`.
 
     systemd doesn't show them (property_get_syscall_filter of its core/dbus-execute.c), so the unit's files are read.
     """
     if shown.get("NeedDaemonReload") != "no":
-        raise Unknown("its files aren't those that systemd has read; run systemctl daemon-reload")
+        raise Unknown("its files changed since systemd read them; run systemctl daemon-reload")
     section = SECTIONS.get(shown.get("Id", "").rpartition(".")[2], "")
     values = [value for text in files_of(shown) for value in assignments_of(text, section, "SystemCallFilter")]
     if not any(value.startswith("~") and ":" in value for value in values):
@@ -296,10 +296,10 @@ def denied_by(shown: dict[str, str], allowed: CallList, reader: Reader) -> dict[
     listed = lenient.assigned(values)
     lenient.tell_unknown()
     if listed is None or listed.is_inverted:
-        raise Unknown("its files state another list than systemd shows")
+        raise Unknown("its files have another list than systemd shows")
     own = {call: answer for call, answer in listed.calls.items() if answer is not None}
     if not allowed.calls.keys() <= listed.calls.keys() - own.keys():
-        raise Unknown("its files state another list than systemd shows")
+        raise Unknown("its files have another list than systemd shows")
     return own
 
 
@@ -317,8 +317,8 @@ def of_unit(unit: str, reader: Reader) -> Settings:
         try:
             found.calls.update(denied_by(shown, found, reader))
         except (Unknown, ValueError) as why:
-            raise program.Refused("it can't be known which calls the list of allowed calls denies by an errno of their "
-                                  f"own, which systemctl show doesn't show: {why}", program.UNKNOWN) from why
+            raise program.Refused("it can't be known which syscalls the allow-list denies with an errno of their own, "
+                                  f"which systemctl show doesn't print: {why}", program.UNKNOWN) from why
     return Settings(found, refusal_of(shown.get("SystemCallErrorNumber", "")),
                     architectures_of(shown.get("SystemCallArchitectures", "")),
                     reader.shown(shown.get("SystemCallLog", "~")))

@@ -1,5 +1,5 @@
-"""Processes beside a hook: a watchdog, which acts where the hook can't, and a worker, which the hook waits for no
-longer than it wants to, whatever system call the worker hangs in.
+"""A hook's helper processes: a watchdog, which acts if the hook can't, and a worker, for which the hook waits no longer
+than it wants to, whatever syscall the worker hangs in.
 """
 from __future__ import annotations
 
@@ -21,7 +21,7 @@ PR_SET_PDEATHSIG = 1
 
 
 def _is_ready(file: int, until: float) -> bool:
-    """Waits until there is something to read, or an end, no longer than until then."""
+    """Waits until there is something to read, or an end, until this time at the latest."""
     return bool(select.select([file], [], [], max(0.0, until - time.monotonic()))[0])
 
 
@@ -29,7 +29,7 @@ def _begun(run: Callable[[], object]) -> int:
     """A child in a process group of its own that runs this and ends."""
     child = os.fork()
     try:
-        # both do it, so that it is done before either goes on
+        # both do it, so that it is done before either continues
         os.setpgid(child, child)
     except OSError:
         pass
@@ -42,8 +42,8 @@ def _begun(run: Callable[[], object]) -> int:
 
 
 def _ended(child: int) -> int | None:
-    """Waits for a child: its status, negative for a signal; None where another one has taken it, as the kernel does if
-    SIGCHLD is ignored."""
+    """Waits for a child and returns its status, negative for a signal; None if it was already reaped, as by the kernel
+    if SIGCHLD is ignored."""
     try:
         state = os.waitpid(child, 0)[1]
     except ChildProcessError:
@@ -52,10 +52,10 @@ def _ended(child: int) -> int | None:
 
 
 class Watchdog:
-    """A process that acts at a deadline, or as soon as the one that began it has ended, unless it is dismissed before.
+    """A process that acts at a deadline, or as soon as its parent has ended, unless it is dismissed before.
 
     It takes no signal but SIGKILL and SIGSTOP, and has a process group of its own, so that what ends or stops the
-    hook's leaves it alone. A hook that is still there when it has acted hangs or is stopped: it is ended.
+    hook's group leaves it alone. A hook that still exists after it has acted hangs or is stopped: it is killed.
     """
 
     def __init__(self, act: Callable[[], object], until: float) -> None:
@@ -82,8 +82,8 @@ class Watchdog:
 
 
 class Worker:
-    """A process that works and sends values. Where the hook ends, it ends, too, with all that it began, once it holds
-    no thread of another process any more."""
+    """A process that works and sends values. If the hook ends, it ends too, with all that it started, once it holds no
+    thread of another process any more."""
 
     def __init__(self, work: Callable[[Callable[[object], None]], object], unneeded: Sequence[int] = ()) -> None:
         self.file, end = os.pipe()
@@ -104,7 +104,7 @@ class Worker:
             work(lambda value: print(json.dumps(value), file=file, flush=True))
 
     def receive(self, until: float) -> Any:
-        """The next value; None where it doesn't come until then, or at all."""
+        """The next value; None if it doesn't come by then, or at all."""
         while b"\n" not in self.pending:
             if not _is_ready(self.file, until):
                 return None
@@ -116,5 +116,5 @@ class Worker:
         return json.loads(line)
 
     def status(self) -> int | None:
-        """How it ended; None where it hasn't, or where that can't be known."""
+        """How it ended; None if it hasn't, or if that can't be known."""
         return _ended(self.child) if _is_ready(self.file, 0.0) else None

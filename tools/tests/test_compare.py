@@ -168,7 +168,7 @@ class Compare(Case):
         status, out, _ = self.run_tool("compare", self.file("square.bpf", square),
                                        self.file("p", b'{"defaultAction":"SCMP_ACT_ALLOW"}'), "--limit=100000")
         self.assertEqual(status, 4)
-        self.assertRegex(out, r"^undecided at [0-9]+\n# Runs of a filter end at this place")
+        self.assertRegex(out, r"^undecided at [0-9]+\n# Runs of a filter end at this instruction")
 
     def test_skipped_names_and_other_architectures(self):
         profile = profile_of("read", "gone", "write").replace(b"{",

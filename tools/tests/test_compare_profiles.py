@@ -262,8 +262,8 @@ class Engines(Case):
     def test_without_an_option_scf_refuses_an_engines_form(self):
         status, out, err = self.run_tool("compare-profiles", *[self.file("old.json", json.dumps(self.OLD))] * 2)
         self.assertEqual((status, err, out.split("\n")[0]), (1, "", "fault profile EngineForm"))
-        self.assertTrue(out.endswith("# it is the old profile\n# --caps and its kin have both resolved as an engine "
-                                     "does\n"), out)
+        self.assertTrue(out.endswith("# it is the old profile\n# --caps and the like resolve both profiles as an "
+                                     "engine does\n"), out)
 
     def test_what_a_setting_changes(self):
         """The same profile by itself is the same, whatever it leaves out."""
@@ -328,14 +328,14 @@ class Runtimes(Case):
         for one, other, side in ((old, good, "old"), (good, old, "new")):
             status, lines, _ = self.lines(one, other, "--runtime", "runc")
             self.assertEqual((status, lines[0], lines[-2:]), (1, "fault profile Conflict number 83 first 1 second 2", [
-                "# in the file as it was given that is entry 2 (mkdir) and entry 3 (mkdir)",
+                "# in the original file that is entry 2 (mkdir) and entry 3 (mkdir)",
                 f"# it is the {side} profile"]))
         if os.geteuid():
             return
         child, _ = started([[self.file("f.bpf", ret(0x7FFF0000))]])
         self.addCleanup(ended, child)
         out = self.run_tool("verify-process", "--runtime", "crun", str(child.pid), self.file("p", json.dumps(old)))[1]
-        self.assertIn("\n# in the file as it was given that is entry 2 (mkdir) and entry 3 (mkdir)\n", out)
+        self.assertIn("\n# in the original file that is entry 2 (mkdir) and entry 3 (mkdir)\n", out)
 
     def test_what_runc_answers_by_enosys(self):
         """From behind the greatest that a profile names on; a profile that names a greater one has more defaults."""

@@ -285,14 +285,14 @@ class VerifyProcess(Confined):
         child = self.child([refusing(MOUNT), OLDEST])
         status, out = self.verify(child, ALLOWS_ALL)
         self.assertEqual(status, 1)
-        self.assertIn("\n# the last tests on the way in 0.bpf:\n", out)
+        self.assertIn("\n# the last tests on the path in 0.bpf:\n", out)
         status, out = self.verify(child, refuses("umount2"), "--no-more")
         self.assertEqual((status, out.split("\n")[0]), (1, "more"))
-        self.assertIn("\n# the last tests on the way in 0.bpf:\n", out)
+        self.assertIn("\n# the last tests on the path in 0.bpf:\n", out)
         self.assertEqual(self.run_tool("filters-of", str(child.pid), "out")[1], "out/0.bpf\nout/1.bpf\n")
         child = self.child([refusing(MOUNT), refusing(MOUNT)])
         out = self.verify(child, ALLOWS_ALL)[1]
-        self.assertIn("\n# the last tests on the way in 1.bpf:\n", out)
+        self.assertIn("\n# the last tests on the path in 1.bpf:\n", out)
 
     @here
     def test_threads_that_differ(self):
@@ -476,7 +476,7 @@ class Containers(Confined):
         self.assertEqual([block.split("\n")[0] for block in blocks], ["differs", "same"])
         self.assertIn(f"# process {second} (", blocks[0])
         self.assertIn(f"# process {first} (", blocks[1])
-        self.assertEqual(comments(out)[-1], "the container is a PID namespace; its processes: 2")
+        self.assertEqual(comments(out)[-1], "the container is a PID namespace; its processes that were checked: 2")
         found = json.loads(self.verify(first, refuses("mount"), "--all", "--json")[1])
         self.assertEqual((found["status"], found["verdict"], found["container"]), (1, "differs", "a PID namespace"))
         self.assertEqual([stack["processes"][0]["process"] for stack in found["stacks"]], [second, first])
@@ -514,8 +514,8 @@ class Containers(Confined):
             status, out, err = self.verify(child.pid, refuses("mount"), "--all")
             self.assertEqual((status, err, [block.split("\n")[0] for block in out.split("\n\n")]),
                              (1, "", ["differs", "same"]))
-            self.assertEqual(comments(out)[-1], f"the container is the control group {group}; processes of it that were "
-                                                f"looked at: 2")
+            self.assertEqual(comments(out)[-1], f"the container is the control group {group}; its processes that "
+                                                f"were checked: 2")
 
     @here
     @ROOT
@@ -538,11 +538,11 @@ class Containers(Confined):
         status, out, err = self.verify(first, refuses("mount"), "--all")
         with open(f"/proc/{second}/comm", encoding="utf-8") as file:
             called = file.read().strip()
-        told = (f"in its PID namespace, and in other control groups, are processes that weren't looked at: {second} "
+        told = (f"processes of its PID namespace in other control groups weren't checked: {second} "
                 f"({called}); whether they are the container's can't be known")
         self.assertEqual((status, err, comments(out)[-2:]),
-                         (4, "", [told, f"the container is the control group {group}/inner; processes of it that were "
-                                        f"looked at: 1"]))
+                         (4, "", [told, f"the container is the control group {group}/inner; its processes that "
+                                        f"were checked: 1"]))
         found = json.loads(self.verify(first, refuses("mount"), "--all", "--json")[1])
         self.assertEqual((found["status"], found["verdict"], found["others"]), (4, None, told))
         # where both are, all is known
@@ -557,7 +557,7 @@ class Containers(Confined):
         status, out, err = self.verify(children[0].pid, refuses("mount"), "--all")
         self.assertEqual((status, err, [block.split("\n")[0] for block in out.split("\n\n")]),
                          (1, "", ["differs", "same"]))
-        self.assertIn(f"/scf-test-{os.getpid()}; its processes: 2", comments(out)[-1])
+        self.assertIn(f"/scf-test-{os.getpid()}; its processes that were checked: 2", comments(out)[-1])
         status, out, err = self.verify(children[1].pid, refuses("umount2"), "--all")
         self.assertEqual((status, out.split("\n")[0]), (0, "same"))
         for child in children:
@@ -644,7 +644,7 @@ class Containers(Confined):
         self.assertTrue(said[3].startswith("syscalls with numbers above all that the profile names"), said)
         status, out, err = self.verify(pid, json.dumps(profile), "--all")
         self.assertEqual((status, err), (1, ""))
-        self.assertIn("its processes: 1", out)
+        self.assertIn("its processes that were checked: 1", out)
 
     @here
     @ROOT
@@ -670,7 +670,7 @@ class Containers(Confined):
         config = os.path.join(self.folder, "box/config.json")
         status, out, err = self.run_tool("verify-process", "--all", str(pid), config)
         self.assertEqual((status, err, comments(out)[-1]),
-                         (0, "", f"the container is the control group {group}; processes of it that were looked at: 2"))
+                         (0, "", f"the container is the control group {group}; its processes that were checked: 2"))
 
     @here
     @ROOT

@@ -330,7 +330,7 @@ class OfProcesses(Hook):
         self.assertEqual((status, lines[:2]), (1, [
             "container box: not confined as configured (unconfined)",
             f"process {child.pid} was killed, and 1 more of the container"]))
-        self.assertIn(f"# process {other} (sleep) has no filter: it isn't confined, and all calls are made", lines)
+        self.assertIn(f"# process {other} (sleep) has no filter: it isn't confined, and every syscall is allowed", lines)
         self.assertEqual(child.wait(PATIENCE), -signal.SIGKILL)
         self.assertTrue(comes(lambda: not os.path.exists(f"/proc/{other}")))
 
@@ -411,13 +411,13 @@ class OfTime(Hook):
         self.assertTrue(comes(lambda: let_on(fifo) or status_of(child.pid)["State"][0] != "D"))
 
     def test_a_look_that_does_not_end(self):
-        """A thread doesn't stop: it counts as not known at the deadline."""
+        """A thread doesn't stop: at the deadline it is undecided."""
         child, fifo = self.stuck([refusing(MOUNT)])
         hook = self.begin(child, "--kill", "--deadline=0.5", "--wait=0")
         self.assertEqual(hook.wait(PATIENCE), 4)
         lines = self.lines(hook.stderr.read().decode())
-        self.assertEqual(lines[::2], ["container box: it can't be told whether it is confined as configured",
-                                      "it wasn't known within 0.5 seconds"])
+        self.assertEqual(lines[::2], ["container box: unknown whether it is confined as configured",
+                                      "undecided after 0.5 seconds"])
         # (the kernel ends a process in vfork(2) as soon as its child is out of it)
         self.assertIn(f"process {child.pid}", lines[1])
         self.is_let_on(child, fifo)
@@ -468,7 +468,7 @@ class OfTime(Hook):
         os.kill(self.children(hook)[1], signal.SIGKILL)
         self.assertEqual(hook.wait(PATIENCE), 3)
         self.is_killed(child, 20)
-        self.assertIn("the look was ended with signal 9", hook.stderr.read().decode())
+        self.assertIn("the check ended with signal 9", hook.stderr.read().decode())
 
     def test_a_confined_one_runs_on(self):
         """Also behind the deadline of the watchdog, which is dismissed."""
@@ -493,7 +493,7 @@ class OfTime(Hook):
             found = examination.result(lambda: hooks.Finding(1, "differs", lambda: time.sleep(5), dict), True)
         self.assertEqual((found.status, found.verdict, found.value), (1, "differs", {
             "status": 1, "scope": "native", "verdict": "differs"}))
-        self.assertEqual(found.lines, ["the explanation isn't given: it takes longer than 0.1 seconds"])
+        self.assertEqual(found.lines, ["no explanation: it takes longer than 0.1 seconds"])
         self.assertEqual(examination.killed, [hooks.Killed(True, f"process {child.pid} was killed")])
         self.is_killed(child, 20)
 
@@ -554,7 +554,7 @@ class Inside(Hook):
                             (program.Refused("no scf", program.NO_PROGRAM), "no scf"), (hooks.Failed("no"), "no"),
                             (hold.Waiting("it waits"), "it waits (--force stops it)"),
                             (processes.Unreadable("it can't"), "it can't"),
-                            (processes.Interrupted(15), "the look was ended by SIGTERM")):
+                            (processes.Interrupted(15), "the check was ended by SIGTERM")):
             result = hooks.result(hooks.guarded(mock.Mock(side_effect=error)))
             status = 125 if says == "no scf" else 3
             self.assertEqual((result.status, result.lines, result.value["verdict"]), (status, [says], None))

@@ -181,7 +181,7 @@ class Asked(Case):
                       mock.patch("struct.calcsize", return_value=4)):
             kernel = FakeKernel([OLDEST])
             with patch:
-                self.refused(kernel, "only on x86-64")
+                self.refused(kernel, "can only be inspected on x86-64")
             self.assertEqual(kernel.asked, [])
 
     def test_none_is_stopped_before_all_are_traced(self):
@@ -504,7 +504,7 @@ class Real(Confined):
         with self.assertRaises(processes.Unreadable) as caught:
             processes.look_at_process(kernel, child.pid, patience=0.5)
         self.assertLess(time.monotonic() - begun, PATIENCE)
-        self.assertIn("couldn't be looked at within 0.5 seconds", str(caught.exception))
+        self.assertIn("couldn't be read within 0.5 seconds", str(caught.exception))
         os.waitpid(other, ptrace.WALL)
         self.assertTrue(comes(lambda: kernel.name_of(child.pid) == b"sleep"))
         self.assertEqual(status_of(child.pid)["TracerPid"], "0")
@@ -541,7 +541,7 @@ class Real(Confined):
     def test_a_tool_whose_child_is_stopped(self):
         child, looks = self.held("2")
         os.kill(int(status_of(child.threads[1])["TracerPid"]), signal.SIGSTOP)
-        self.assertIn("couldn't be looked at within 2 seconds", looks.communicate()[0])
+        self.assertIn("couldn't be read within 2 seconds", looks.communicate()[0])
         self.let_go(child)
 
     def test_what_calls_end_early(self):

@@ -68,15 +68,15 @@ class Compile(Case):
         self.assertEqual(err, "compile: names in the profile that were skipped because the table doesn't have "
                               "them: 2\ncompile: no known syscall is named umont2; the nearest name in "
                               f"the table is umount2\n{LOST.replace('# ', 'compile: ')}"
-                              "compile: the profile is for SCMP_ARCH_X86, too: the filter kills a process that makes "
+                              "compile: the profile also names SCMP_ARCH_X86: the filter kills a process that makes "
                               "such a syscall\n")
         # it says of the filter what the filter does
         self.assertEqual(self.run_tool("run", "--arch", "0x40000003", "--nr", "3", self.file("made.bpf", out))[1].split(
             "\n")[0].split()[0], "KILL_PROCESS")
         for names, says in ((("X86_64",), ""), (("X86_64", "ARM"), "compile: the profile's other architectures "
                                                                     "are left out\n"),
-                            (("X32", "X86_64", "X86"), "compile: the profile is for SCMP_ARCH_X86 and SCMP_ARCH_X32, "
-                             "too: the filter kills a process that makes such a syscall\n")):
+                            (("X32", "X86_64", "X86"), "compile: the profile also names SCMP_ARCH_X86 and "
+                             "SCMP_ARCH_X32: the filter kills a process that makes such a syscall\n")):
             given = {"defaultAction": "SCMP_ACT_ALLOW", "architectures": [f"SCMP_ARCH_{it}" for it in names]}
             self.assertEqual(self.compiled(self.file("p.json", json.dumps(given)))[2], says)
 

@@ -141,7 +141,7 @@ class UnitProfile(Case):
                          ({}, ""))
 
     def test_what_can_not_be_known_of_a_unit(self):
-        changed = "its files aren't those that systemd has read"
+        changed = "its files changed since systemd read them"
         for members, says in (({"NeedDaemonReload": "yes"}, changed), ({"NeedDaemonReload": None}, changed),
                               ({"FragmentPath": "/none/box.service"}, "'/none/box.service' can't be read: No"),
                               ({"FragmentPath": ""}, "'' can't be read"), ({"DropInPaths": '"'}, "No closing"),
@@ -150,7 +150,7 @@ class UnitProfile(Case):
                               ({"FragmentPath": self.unit_file("v", "[Service]\nSystemCallFilter=~clone3:EINVAL")},
                                "another list")):
             self.shows(SystemCallFilter="read", **members)
-            self.refused(4, "it can't be known which calls the list of allowed calls denies by an errno of their own",
+            self.refused(4, "it can't be known which syscalls the allow-list denies with an errno of their own",
                          "box.service")
             self.refused(4, says, "box.service")
             # a list of denied calls is shown whole
@@ -168,7 +168,7 @@ class UnitProfile(Case):
 
     @unittest.skipUnless(ctypes.util.find_library("seccomp"), "there is no libseccomp here")
     def test_names_that_libseccomp_does_not_know(self):
-        says = "unit-profile: left out, as systemd does with names that its libseccomp doesn't know: no_such_call\n"
+        says = "unit-profile: left out, as by systemd, since libseccomp doesn't know them: no_such_call\n"
         self.assertEqual(self.printed("--set", "~no_such_call mount _llseek")[1::2], ({(KILL, None): {
             "mount", "_llseek"}}, says))
         self.assertEqual(self.printed("--set", "no_such_call read")[1::2], (

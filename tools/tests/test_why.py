@@ -414,7 +414,7 @@ class Behind(Case):
             jail.communicate()
         self.assertTrue(out.startswith("more\ncall nr 56 "), out)
         header, tests = self.way([line[2:] for line in out.split("\n") if line.startswith("# ")])
-        self.assertRegex(header, r"\Athe last tests on the way in (filter 0|0\.bpf), behind ")
+        self.assertRegex(header, r"\Athe last tests on the path in (filter 0|0\.bpf), after ")
         self.assertTrue(any("loaded 0x38, " in line for line in tests), tests)
         self.assertNotRegex(out, "filter [0-9]+ of")
 
