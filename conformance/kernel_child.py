@@ -149,7 +149,7 @@ def assembled() -> tuple[bytes, dict[str, int]]:
 
 
 def is_gate(site: int) -> bool:
-    """Whether calls are made here by the gate of i386."""
+    """Whether the i386 gate makes syscalls here."""
     return SITES[site] == INT_80
 
 

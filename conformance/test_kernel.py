@@ -331,14 +331,14 @@ class LeftOut(Asked):
     def test_other_filters_answer_the_calls_too(self):
         status, lines = self.asked("--programs=1", "--filters=1", preexec_fn=filtered(ret(ALLOW)))
         self.assertEqual(status, 0, lines)
-        self.assertIn("skipped: calls: this process has filters already, which answer them, too", lines)
+        self.assertIn("skipped: syscalls: this process already has filters, which answer them too", lines)
         self.assertRegex(lines[-1], r"^[1-9][0-9]* passed, 0 failed, 1 skipped$")
 
     def test_no_tracer_is_allowed(self):
         status, lines = self.asked("--programs=0", preexec_fn=filtered(refusing(NR_PTRACE)))
         self.assertEqual((status, lines[1:]), (0, [
             "skipped: a tracer, which isn't allowed here",
-            "skipped: calls: this process has filters already, which answer them, too",
+            "skipped: syscalls: this process already has filters, which answer them too",
             "0 passed, 0 failed, 2 skipped"]))
 
 
