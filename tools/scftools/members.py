@@ -52,7 +52,7 @@ class Members:
                               {**at, "member": name, "nearest": near})
         for name in value.repeated:
             keeps = isinstance(members.get(name), list) and isinstance(members[name][0], dict)
-            then = ", and programs in Go keep members of the earlier one's entries" if keeps else ""
+            then = "; programs in Go keep members of the earlier one's entries" if keeps else ""
             yield Finding("repeated-member", f"{where}: {shown(name)} is repeated, and the last one is "
                           f"taken{then}", {**at, "member": name})
 

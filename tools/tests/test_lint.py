@@ -262,7 +262,7 @@ class Members(Linted):
                b'"action":"SCMP_ACT_ALLOW"}]}'
         found = self.found(text, kinds=self.KINDS)
         self.assertEqual([(it["kind"], it["entry"], it["member"]) for it in found], [("repeated-member", 0, "action")])
-        self.assertTrue(found[0]["text"].endswith(": action stands there more than once, and the last is taken"))
+        self.assertTrue(found[0]["text"].endswith(": action is repeated, and the last one is taken"))
         # the last is taken
         self.assertEqual(self.run_tool("ask", self.file("q.json", text))[1].split("\n")[0], "ALLOW 0 entry 0")
 
