@@ -70,7 +70,7 @@ class Hostile(Case):
                 if depth == 100 and b'"x"' in given:
                     self.ends(path, 0, "nothing reads 'x'")
                 elif depth == 100:
-                    self.ends(path, 1, " isn't a ")
+                    self.ends(path, 1, " isn't a")
                 elif depth == 100000:
                     self.ends(path, 1, "nested too deep")
                 else:
@@ -106,7 +106,7 @@ class Hostile(Case):
         end = b'{"index":0,"op":"SCMP_CMP_EQ","value":1}]},{"names":["read"],"action":"SCMP_ACT_ALLOW"}]}'
         runc, crun = ("--runtime", "runc"), ("--runtime", "crun")
         self.ends(self.pieces((begin, 1), (condition, 1000), (end, 1)), 0,
-                  "read left out of entry 0: entry 1, which has no conditions, has all such calls\n", runc)
+                  "read left out of entry 0: entry 1, which has no conditions, covers all such syscalls\n", runc)
         many = self.pieces((begin, 1), (condition, 300000), (end, 1))
         self.ends(many, 1, "the profile has more than 65536 rules", runc)
         out = self.ends(many, 0, "entry 0 has 300001 conditions, of which crun takes the first 6", crun)
