@@ -1,4 +1,4 @@
-"""conformance/kernel: the running kernel does what scf says; a change that is planted in what scf says is seen; what differs
+"""conformance/kernel: the running kernel does what scf says; a change planted in what scf says is seen; what differs
 is kept and can be repeated; where nothing can be asked, that is said."""
 import ctypes
 import json
@@ -121,7 +121,7 @@ class Dispositions(unittest.TestCase):
             with self.subTest(action=hex(action)):
                 self.assertEqual(kernel.ask([ret(action | 5)], [getpid]).texts, [kernel_child.PROCESS_ENDS])
                 answer = Answer.read(StandIn().printed(action | 5))
-                self.assertEqual((answer.refuses, answer.lets_through, answer.fate), (True, False, REFUSED))
+                self.assertEqual((answer.refuses, answer.lets_through, answer.disposition), (True, False, REFUSED))
                 self.assertIn("the process is killed", answer.does())
 
 
@@ -362,4 +362,5 @@ class Words(Case):
             self.assertIn((status, err), ((0, ""), (4, "")), out)
 
     def test_closed_output(self):
-        self.assertEqual(self.closed_output("../conformance/kernel", "--programs=0", "--filters=0", "--profiles=0")[0], 3)
+        self.assertEqual(self.closed_output("../conformance/kernel", "--programs=0", "--filters=0",
+                                            "--profiles=0")[0], 3)

@@ -25,7 +25,7 @@ LETS_THROUGH = ("ALLOW", "LOG")
 REFUSES = ("ERRNO", "TRAP", "KILL_THREAD", "KILL_PROCESS", "UNNAMED")
 # The disposition of a syscall, the strictest first. It follows from the action alone; the rank of an answer only says
 # which of a stack's answers decides.
-FATES = REFUSED, REFERRED, MADE = "denied", "delegated to a supervisor or tracer", "allowed"
+DISPOSITIONS = REFUSED, REFERRED, MADE = "denied", "delegated to a supervisor or tracer", "allowed"
 # Actions whose data is always printed, even if it is 0.
 HAS_DATA = ("ERRNO", "TRACE", "TRAP", "UNNAMED")
 # Linux's names of errno(3); of two names for a number, the one that the header defines by the number.
@@ -77,7 +77,7 @@ class Answer:
         return next(high for high, name in ACTIONS.items() if name == self.action) << 16 | self.data
 
     @property
-    def fate(self) -> str:
+    def disposition(self) -> str:
         """The disposition of the syscall."""
         return MADE if self.lets_through else REFUSED if self.refuses else REFERRED
 

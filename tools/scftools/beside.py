@@ -7,7 +7,7 @@ from dataclasses import dataclass
 from . import other_abis, program
 from .groups import Groups
 from .surface_output import LEAST, details, fitted, grouped, of_whole, row_json, wrapped
-from .surfaces import DEPENDS, Row, Surface, fate_of, word_of
+from .surfaces import DEPENDS, Row, Surface, disposition_of, word_of
 
 BESIDE = "beside"
 
@@ -71,9 +71,9 @@ class Beside:
 
 def _fares_otherwise(row: Row, surface: Surface) -> bool:
     """Whether an example of a row has another disposition in the other surface."""
-    for fate, shown in row.shown.items():
+    for disposition, shown in row.shown.items():
         answer = surface.asker.decided(shown.call) if shown.is_whole else None
-        if answer is not None and fate_of(answer) != fate:
+        if answer is not None and disposition_of(answer) != disposition:
             return True
     return False
 

@@ -6,7 +6,7 @@ from collections.abc import Iterator, Sequence
 from dataclasses import dataclass, field, replace
 
 from . import bundles, entries, newer, program, reasons, unnamed
-from .answers import FATES, Answer
+from .answers import DISPOSITIONS, Answer
 from .calls import Call
 from .comparing import CALLS, NATIVE, Comparison
 from .engines import STUB, Origin
@@ -201,7 +201,7 @@ def _of_calls(given: Given) -> list[Change]:
 
 def _kind_of(before: Answer | None, after: Answer | None) -> str:
     """The kind of a change from one answer to another."""
-    one, other = (FATES.index(answer.fate) if answer else 0 for answer in (before, after))
+    one, other = (DISPOSITIONS.index(answer.disposition) if answer else 0 for answer in (before, after))
     return MORE if one < other else LESS if one > other else OTHERWISE
 
 

@@ -191,14 +191,14 @@ def of_native_calls(comparison: Comparison, report: Report) -> tuple[list[str], 
     return (lines + told, []) if report.verdict.call.number >= found.first else ([], lines + told)
 
 
-def of_fates(comparison: Comparison, scope: str) -> tuple[Report, Report]:
+def of_both_relations(comparison: Comparison, scope: str) -> tuple[Report, Report]:
     """Reports on filters that differ: whether they are nowhere more permissive, and whether nowhere stricter."""
     return comparison.run(scope, NO_MORE)[1], comparison.run(scope, NO_LESS)[1]
 
 
 def of_refusing_more(comparison: Comparison, scope: str) -> Iterator[str]:
     """A line if filters that differ from the profile are never more permissive."""
-    no_more, no_less = (report.verdict for report in of_fates(comparison, scope))
+    no_more, no_less = (report.verdict for report in of_both_relations(comparison, scope))
     if no_more is None or not no_more.holds:
         return
     they, are, s = ("they", "are", "") if len(comparison.filters) > 1 else ("it", "is", "s")
@@ -206,7 +206,7 @@ def of_refusing_more(comparison: Comparison, scope: str) -> Iterator[str]:
     if no_less is not None and no_less.holds:
         yield f"{they} {are} neither more permissive nor stricter than the profile: only the answers differ"
     elif no_less is not None and no_less.fails:
-        is_denied = no_less.call is None or no_less.filters is None or no_less.filters.fate == REFUSED
+        is_denied = no_less.call is None or no_less.filters is None or no_less.filters.disposition == REFUSED
         less = f"{are} stricter, and" if is_denied else f"delegate{s} more to a supervisor or tracer, and {are}"
         yield f"{they} {less} never more permissive than the profile"
     else:
@@ -322,7 +322,7 @@ def as_json(comparison: Comparison, report: Report, scope: str, status: int) -> 
             found.update(reasons.difference_as_json(comparison, report.verdict))
     calls = report.calls
     if report.verdict and report.verdict.word == DIFFERS:
-        for member, one in zip(("no_more", "no_less"), of_fates(comparison, scope)):
+        for member, one in zip(("no_more", "no_less"), of_both_relations(comparison, scope)):
             found[member] = one.verdict.word if one.verdict else None
     if scope == NATIVE and report.verdict and report.verdict.fails:
         from . import newer  # pylint: disable=import-outside-toplevel

@@ -37,8 +37,8 @@ def of_differing(verdict: verdicts.Verdict, table: Table, is_native: bool, count
     if verdict.profile:
         yield f"the profile answers {verdict.profile.told()}"
     if verdict.word != verdicts.DIFFERS and verdict.filters and verdict.profile:
-        yield (f"the syscall is {verdict.filters.fate} by the filter{'s' * (count > 1)}, and {verdict.profile.fate} by "
-               f"the profile")
+        yield (f"the syscall is {verdict.filters.disposition} by the filter{'s' * (count > 1)}, and "
+               f"{verdict.profile.disposition} by the profile")
 
 
 def of_verdict(report: Report, table: Table, is_native: bool, count: int) -> Iterator[str]:

@@ -76,7 +76,7 @@ class Judged:
     """The result for a syscall: allowed, not allowed, or it depends; with examples and their answers."""
 
     traced: Traced
-    fate: str
+    disposition: str
     line: str = ""
     made: Call | None = None
     refused: tuple[Call, Answer] | None = None
@@ -93,8 +93,8 @@ class Needs:
     cut: int = 0
     left: int = 0
 
-    def of(self, fate: str) -> list[Judged]:
-        return [it for it in self.judged if it.fate == fate]
+    def of(self, disposition: str) -> list[Judged]:
+        return [it for it in self.judged if it.disposition == disposition]
 
     @property
     def isnt_whole(self) -> bool:
@@ -159,7 +159,7 @@ class Judge:
         """By `scf ask`: the syscall with these arguments, as one that is allowed or one that isn't."""
         call = Call(traced.number, arguments=tuple(values.get(index, 0) for index in range(6)))
         answer = self._reason(call).answer
-        return (call, None) if answer is None or answer.fate == MADE else (None, (call, answer))
+        return (call, None) if answer is None or answer.disposition == MADE else (None, (call, answer))
 
     def _verdict(self, traced: Traced, values: dict[int, int], default: str, answer: tuple[str, int],
                  relation: str) -> Verdict:
@@ -201,9 +201,9 @@ def find(log: Log, judge: Judge) -> Needs:
 
 def _of_judged(one: Judged) -> Iterator[str]:
     """The lines of a syscall that isn't allowed, or not always."""
-    if one.fate == ISNT_MADE:
+    if one.disposition == ISNT_MADE:
         yield f"{one.traced.told()} {one.line}"
-    elif one.fate == DEPENDS:
+    elif one.disposition == DEPENDS:
         unsure = one.traced.unsure
         args = f"arg {unsure[0]}" if len(unsure) == 1 else f"args {', '.join(map(str, unsure))}"
         yield f"{one.traced.told()} depends on {args}"
@@ -241,12 +241,12 @@ def _of_unjudged(needs: Needs) -> Iterator[str]:
 
 def lines(needs: Needs) -> Iterator[str]:
     """The text output: what isn't allowed, what depends, and counts."""
-    for fate in (ISNT_MADE, DEPENDS, UNTOLD):
-        for one in needs.of(fate):
+    for disposition in (ISNT_MADE, DEPENDS, UNTOLD):
+        for one in needs.of(disposition):
             yield from _of_judged(one)
     yield from (f"# {line}" for line in _of_unjudged(needs))
-    counts = ", ".join(f"{WORDS[fate]} {len(needs.of(fate))}" for fate in (IS_MADE, ISNT_MADE, DEPENDS, UNTOLD)
-                       if fate != UNTOLD or needs.of(UNTOLD))
+    counts = ", ".join(f"{WORDS[it]} {len(needs.of(it))}" for it in (IS_MADE, ISNT_MADE, DEPENDS, UNTOLD)
+                       if it != UNTOLD or needs.of(UNTOLD))
     yield f"# syscalls, each with the arguments that conditions test: {counts}"
 
 
@@ -255,16 +255,16 @@ def as_json(needs: Needs, table: Table) -> dict[str, object]:
     for one in needs.judged:
         traced = one.traced
         shown: dict[str, object] = {
-            "number": traced.number, "name": traced.name, "fate": one.fate, "count": traced.seen.count,
-            "line": traced.seen.line, "depends_on": traced.unsure if one.fate == DEPENDS else [],
+            "number": traced.number, "name": traced.name, "fate": one.disposition, "count": traced.seen.count,
+            "line": traced.seen.line, "depends_on": traced.unsure if one.disposition == DEPENDS else [],
             "arguments": {str(index): None if values is None else list(map(hex, values))
                           for index, values in traced.arguments}}
         if one.refused:
             shown["refused"] = {"call": one.refused[0].as_json(table), "answer": one.refused[1].as_json(),
                                 "reason": one.line.split(" ", 2)[-1]}
-        if one.made and one.fate == DEPENDS:
+        if one.made and one.disposition == DEPENDS:
             shown["made"] = one.made.as_json(table)
-        if one.fate == UNTOLD:
+        if one.disposition == UNTOLD:
             shown["verdict"] = one.line
         found.append(shown)
     return {"status": needs.status, "calls": found,

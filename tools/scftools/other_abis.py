@@ -93,7 +93,7 @@ class Proved:
     def told(self) -> str:
         if self.call is None or self.answer is None:
             return f"{self.kind.name}: every syscall is denied"
-        which = "some syscalls are allowed" if self.answer.fate == MADE else "not every syscall is denied"
+        which = "some syscalls are allowed" if self.answer.disposition == MADE else "not every syscall is denied"
         return f"{self.kind.name}: {which}, such as {self.kind.told(self.call.number)}: {self.answer}"
 
     def as_json(self) -> dict[str, object]:

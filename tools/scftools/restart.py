@@ -123,8 +123,8 @@ class Restarts:
             self.kernel.set_result(thread, -number)
 
     def number(self, interrupted: Interrupted, filters: tuple[bytes, ...]) -> int:
-        """The number with which a syscall continues: restart_syscall's if that is allowed; else its own, from the start.
-        If it is denied itself, since its thread got another filter meanwhile, it ends with EINTR."""
+        """The number with which a syscall continues: restart_syscall's if that is allowed; else its own, from the
+        start. If it is denied itself, since its thread got another filter meanwhile, it ends with EINTR."""
         if not filters:
             return interrupted.number
         calls = interrupted.calls
@@ -143,7 +143,7 @@ class Restarts:
     def becomes(self, filters: tuple[bytes, ...], call: Call) -> str | None:
         """The disposition of a syscall, or None if it isn't known."""
         answer = self.answer(filters, call)
-        return None if answer is None else answer.fate
+        return None if answer is None else answer.disposition
 
     def answer(self, filters: tuple[bytes, ...], call: Call) -> Answer | None:
         """What filters answer to a syscall; if they test only its number, scf is run once for it."""

@@ -56,7 +56,7 @@ def of_whole(surface: Surface) -> list[str]:
 def details(row: Row) -> list[str]:
     """The examples of a number, by disposition, or else one answer."""
     if row.shown:
-        return [f"{word_of(fate)} {shown.told()}" for fate, shown in row.shown.items()]
+        return [f"{word_of(disposition)} {shown.told()}" for disposition, shown in row.shown.items()]
     return [str(row.answer)] if row.answer else []
 
 
@@ -118,7 +118,7 @@ def row_json(row: Row, groups: Groups) -> dict[str, object]:
     found: dict[str, object] = {"number": row.number, "names": row.names, "group": groups.of_call(row.names),
                                 "said": row.said}
     if row.shown:
-        found["shown"] = {fate: shown.as_json() for fate, shown in row.shown.items()}
+        found["shown"] = {disposition: shown.as_json() for disposition, shown in row.shown.items()}
         found["never"] = row.never
     elif row.answer:
         found["answer"] = row.answer.as_json()

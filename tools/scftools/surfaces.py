@@ -14,7 +14,7 @@ from .unnamed import Unnamed
 from .verdicts import UNDECIDED, UNFINISHED, NamedCall
 
 MADE, REFERRED, REFUSED, DEPENDS = "made", "referred", "refused", "depends"
-FATES = {answers.MADE: MADE, answers.REFERRED: REFERRED, answers.REFUSED: REFUSED}
+DISPOSITIONS = {answers.MADE: MADE, answers.REFERRED: REFERRED, answers.REFUSED: REFUSED}
 # What may hold for all syscalls of a number, in the order in which it is printed; the last two if scf can't decide.
 SAID = (MADE, DEPENDS, REFERRED, REFUSED, UNDECIDED, UNFINISHED)
 # The words of text output; JSON has those above.
@@ -26,8 +26,8 @@ def word_of(said: str) -> str:
     return WORDS.get(said, said)
 
 
-def fate_of(answer: Answer) -> str:
-    return FATES[answer.fate]
+def disposition_of(answer: Answer) -> str:
+    return DISPOSITIONS[answer.disposition]
 
 
 @dataclass(frozen=True)
@@ -67,7 +67,7 @@ class Row:
         found: dict[str, tuple[Question, NamedCall]] = {}
         for question, line in self.lines.items():
             if line is not None and line.verdict.filters is not None:
-                found.setdefault(fate_of(line.verdict.filters), (question, line))
+                found.setdefault(disposition_of(line.verdict.filters), (question, line))
         return found
 
     @property
@@ -91,7 +91,7 @@ class Row:
     @property
     def never(self) -> list[str]:
         """The dispositions that are proved not to occur."""
-        return [fate for fate, question in ((MADE, IS_NEVER_MADE), (REFUSED, IS_NEVER_REFUSED)) if self.holds(question)]
+        return [it for it, question in ((MADE, IS_NEVER_MADE), (REFUSED, IS_NEVER_REFUSED)) if self.holds(question)]
 
     @property
     def answer(self) -> Answer | None:
@@ -137,7 +137,7 @@ def _shown(asker: Asker, question: Question, line: NamedCall) -> Shown:
         return Shown(call, answer, True)
     alone = asker.of_number(question, line.number)
     if alone is not None and alone.call is not None and alone.filters is not None:
-        if fate_of(alone.filters) == fate_of(answer) and asker.decided(alone.call) == alone.filters:
+        if disposition_of(alone.filters) == disposition_of(answer) and asker.decided(alone.call) == alone.filters:
             return Shown(alone.call, alone.filters, True)
     return Shown(call, answer, False)
 
@@ -152,7 +152,7 @@ def rows_of(asker: Asker, table: Table) -> list[Row]:
         _asked(asker, question, [row for row in rows if not row.holds(IS_REFUSED) and not row.holds(IS_MADE)])
     for row in rows:
         if row.said not in (MADE, REFERRED, REFUSED):
-            row.shown = {fate: _shown(asker, *found) for fate, found in row.failed.items()}
+            row.shown = {disposition: _shown(asker, *found) for disposition, found in row.failed.items()}
     return rows
 
 

@@ -33,7 +33,7 @@ READ_WRITE = profile(("read write", "ALLOW", {}))
 
 
 def degree(answer):
-    return ("denied", "delegated to a supervisor or tracer", "allowed").index(answer.fate)
+    return ("denied", "delegated to a supervisor or tracer", "allowed").index(answer.disposition)
 
 
 class Program(Case):

@@ -208,9 +208,11 @@ class Fates(Case):
         """What becomes of a call, as the tools say it."""
         for answer in EACH:
             printed = answers.Answer.read(StandIn().printed(answer))
-            self.assertEqual(printed.fate, ("denied", "delegated to a supervisor or tracer", "allowed")[degree(answer)],
+            self.assertEqual(printed.disposition,
+                             ("denied", "delegated to a supervisor or tracer", "allowed")[degree(answer)],
                              hex(answer))
-        self.assertEqual([answers.Answer.read(it).fate for it in ("ERRNO 65535", "USER_NOTIF 0", "TRACE 9", "LOG 0")],
+        self.assertEqual([answers.Answer.read(it).disposition
+                          for it in ("ERRNO 65535", "USER_NOTIF 0", "TRACE 9", "LOG 0")],
                          ["denied", *["delegated to a supervisor or tracer"] * 2, "allowed"])
 
 
