@@ -250,7 +250,7 @@ def of_foreign(comparison: Comparison, report: Report, scope: str, is_quiet: boo
 
 
 def added(comparison: Comparison, report: Report, scope: str) -> Iterator[str]:
-    """The lines behind scf's."""
+    """The lines after scf's."""
     table, count = comparison.table, len(comparison.filters)
     if report.fault:
         yield from sentences_of(comparison, report.fault)

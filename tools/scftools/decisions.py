@@ -179,7 +179,7 @@ def of_givers(filters: Sequence[Filter], givers: Sequence[Giver]) -> Iterator[st
 
 
 def added(filters: Sequence[Filter], one: Asked, decision: Decision, table: Table) -> Iterator[str]:
-    """The lines behind scf's for a stack."""
+    """The lines after scf's for a stack."""
     yield from explanation.of_decision(one.call, decision, table)
     yield from of_fault(filters, decision)
     if decision.answer:

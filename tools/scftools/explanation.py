@@ -1,4 +1,4 @@
-"""What scf's answers, verdicts and faults mean: the lines that the tools add behind scf's."""
+"""What scf's answers, verdicts and faults mean: the lines that the tools add after scf's."""
 from __future__ import annotations
 
 from collections.abc import Iterator

@@ -122,7 +122,7 @@ def told(reason: Reason, profile: bytes, call: Call | None, origins: Sequence[Or
 
 
 def _added(reason: Reason, profile: bytes, call: Call | None, table: Table) -> Iterator[str]:
-    """The lines behind scf's."""
+    """The lines after scf's."""
     if reason.fault:
         yield from comparing.of_fault(reason.fault, profile, table)
     elif reason.answer:

@@ -1,7 +1,7 @@
 """systemd units: the profile that their syscall settings describe.
 
-The rules are those of systemd.exec(5). SystemCallFilter= is a list of what is allowed, or behind `~` of what is denied,
-by SystemCallErrorNumber= or by an errno of its own. SystemCallLog= is a list of what is logged, or behind `~` of what
+The rules are those of systemd.exec(5). SystemCallFilter= is a list of what is allowed, or after `~` of what is denied,
+by SystemCallErrorNumber= or by an errno of its own. SystemCallLog= is a list of what is logged, or after `~` of what
 isn't. SystemCallArchitectures= are the architectures of which calls are permitted, beside the native one; where it is
 empty, all of them are.
 """
