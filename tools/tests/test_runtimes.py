@@ -278,7 +278,7 @@ class Runtimes(Case):
         with mock.patch("ctypes.CDLL", side_effect=OSError("none")):
             found = runtimes.applied(profile(entry("mkdir", "no_such")), "runc")
         self.assertEqual((found.stub, found.remarks), (max(tables.read(None).numbers()) + 1, [
-            "there is no libseccomp.so.2 here to ask which names the runtime's doesn't know"]))
+            "there is no libseccomp.so.2 here, so it is unknown which names the runtime's doesn't know"]))
         self.assertEqual(found.profile["syscalls"][1]["names"], ["mkdir"])
 
     def test_what_only_engines_read(self):

@@ -136,7 +136,7 @@ class UnitProfile(Case):
                        "[Service]\nSystemCallFilter=mount read\nSystemCallFilter=~mount\n")):
             self.assertEqual(self.denied(*texts), (own, ""), texts)
         self.assertEqual(self.denied("[Service]\nSystemCallFilter=@inner\nSystemCallFilter=~mount:08 clone3:22\n"),
-                         (own, "unit-profile: mount:08 left out: '08' is no errno\n"))
+                         (own, "unit-profile: mount:08 left out: '08' isn't an errno\n"))
         self.assertEqual(self.denied("[Service]\nSystemCallFilter=@inner\n[Socket]\nSystemCallFilter=~clone3:22\n"),
                          ({}, ""))
 
@@ -164,7 +164,7 @@ class UnitProfile(Case):
             self.assertEqual(self.printed("--set", f"~read:{text}")[1], {(ERRNO, number): {"read"}}, text)
         self.assertEqual(self.printed("--set", "~read", "--errno", "010")[1], {(ERRNO, 8): {"read"}})
         for text in ("08", "0x", "1_0", "0b2", "-1", "4096", "9" * 5000, "EHWPOISON1", "\u0663"):
-            self.refused(1, "is no errno", "--set", f"~read:{text}")
+            self.refused(1, "isn't an errno", "--set", f"~read:{text}")
 
     @unittest.skipUnless(ctypes.util.find_library("seccomp"), "there is no libseccomp here")
     def test_names_that_libseccomp_does_not_know(self):
@@ -232,7 +232,8 @@ class UnitProfile(Case):
 
     def test_what_is_refused(self):
         for words, says in ((("--set", "~read:ENOTHING"), "'ENOTHING' isn't an errno"),
-                            (("--set", "~read:4096"), "'4096' isn't an errno"), (("--set", "~read:"), "'' isn't an errno"),
+                            (("--set", "~read:4096"), "'4096' isn't an errno"),
+                            (("--set", "~read:"), "'' isn't an errno"),
                             (("--set", "~read:strerror"), "'strerror' isn't an errno"),
                             (("--set", "read", "--errno=-1"), "'-1' isn't an errno"),
                             (("--set", "read", "--architectures", "x86 \x1b[2J"), "'\\x1b[2J' isn't an architecture"),
