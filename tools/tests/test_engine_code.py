@@ -77,8 +77,7 @@ class Members(Case):
         self.assertEqual(engine_code.resolved([("docker", (), twice)])[0][0]["syscalls"],
                          [{"names": ["ptrace"], "action": "C"}])
         self.assertEqual([it.told() for it in profiles.misread_members(twice.encode())],
-                         ["the profile has the member 'syscalls' more than once, of which programs in Go take the "
-                          "last"])
+                         ["the profile has the member 'syscalls' more than once: programs in Go take the last"])
 
     def test_tools_that_speak_of_a_runtime_refuse_them(self):
         """With and without --runtime: what scf reads isn't what the runtime read."""
