@@ -68,15 +68,15 @@ def add_option(parser: argparse.ArgumentParser) -> None:
     parser.add_argument("--runtime", choices=tuple(RUNTIMES), help=HELP)
 
 
-def add_options(parser: argparse.ArgumentParser) -> None:
-    """Adds `--runtime`, and what says how an engine resolves a profile."""
+def add_options(parser: argparse.ArgumentParser, without_caps: str = "podman for podman, or docker") -> None:
+    """Adds `--runtime`, and what says how an engine resolves a profile; without `--caps` for which capabilities."""
     add_option(parser)
     parser.add_argument("--engine", choices=tuple(engines.ENGINES),
                         help="the engine whose rules resolve the profile: Docker since 23.0, Docker 20.10 or podman "
                              "[default: that of --runtime, or all members that one of them reads]")
     parser.add_argument("--caps", metavar="LIST",
                         help="the container's capabilities, such as CAP_KILL,SYS_ADMIN; docker, podman and none are "
-                             "sets, as in docker,SYS_ADMIN [default: podman for podman, or docker]")
+                             f"sets, as in docker,SYS_ADMIN [default: {without_caps}]")
     parser.add_argument("--kernel", metavar="X.Y", help="the kernel that the engine runs on [default: this one]")
     parser.add_argument("--arch", choices=("native", "all"),
                         help="whether only x86-64 or all architectures are passed on [default: all, as the engine "
