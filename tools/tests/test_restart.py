@@ -302,8 +302,8 @@ class Supervised(Confined):
     def test_a_thread_that_waits_is_not_stopped(self):
         child, supervisor, call = self.waiting()
         with self.assertRaises(processes.Unreadable) as caught:
-            processes.look_at_process(processes.Kernel(), child.pid, patience=0.3)
-        self.assertIn(f"process {child.pid} has waited 0.27 seconds for a seccomp supervisor",
+            processes.look_at_process(processes.Kernel(), child.pid, patience=5)
+        self.assertIn(f"process {child.pid} has waited 4.5 seconds for a seccomp supervisor",
                       str(caught.exception))
         self.is_made_once(child, supervisor, call)
 
