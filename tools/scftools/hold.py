@@ -31,8 +31,8 @@ PF_USER_WORKER = 0x00004000
 # vfork(2) does.
 HELD_FOR_ONE = 0.2
 # How often and for how many seconds the kernel refuses to trace a thread before that is believed: one that ends or
-# executes a program is refused for a moment.
-SURE_TIMES, SURE_AFTER = 10, 0.5
+# executes a program is refused for a moment, on a loaded machine for longer. A zombie is believed sooner.
+SURE_TIMES, SURE_AFTER, SURE_OF_ZOMBIE = 10, 3, 0.5
 # How often threads are waited for while PTRACE_SEIZE waits, and are listed again while none is held, in seconds.
 PAUSE, PAUSE_UNHELD = 0.005, 0.02
 # The state of a stopped thread, as waitpid(2) gives it.
@@ -71,9 +71,9 @@ def require_rights(kernel: Kernel) -> None:
                          "containers")
 
 
-def is_sure(since: float, count: int) -> bool:
+def is_sure(since: float, count: int, is_zombie: bool) -> bool:
     """Whether a thread is taken as untraceable after the kernel refused it so often since then."""
-    return count >= SURE_TIMES and time.monotonic() - since >= SURE_AFTER
+    return count >= SURE_TIMES and time.monotonic() - since >= (SURE_OF_ZOMBIE if is_zombie else SURE_AFTER)
 
 
 def why_not_traced(kernel: Kernel, thread: int, process: int, error: OSError) -> str | None:
@@ -117,10 +117,10 @@ class Hold:
         self.passed_over: dict[int, str] = {}
         # Those that aren't to be held any more, and couldn't be let go: they end, and are waited for.
         self.leaving: set[int] = set()
-        # Of a thread that the kernel refuses to trace since when it does, and how often it was listed so; and the same
-        # before the last listing.
-        self.refused: dict[int, tuple[float, int]] = {}
-        self.refused_before: dict[int, tuple[float, int]] = {}
+        # Of a thread that the kernel refuses to trace: since when it does, how often it was listed so, and whether it is
+        # a zombie; and the same before the last listing.
+        self.refused: dict[int, tuple[float, int, bool]] = {}
+        self.refused_before: dict[int, tuple[float, int, bool]] = {}
         # Held by this thread, but for the time in which it waits in PTRACE_SEIZE; then the other one waits for threads,
         # and puts down here what became of them.
         self.lock = threading.Lock()
@@ -230,11 +230,12 @@ class Hold:
             self.passed_over[process] = "is a kernel thread, which makes no syscalls"
             return False
         why = why_not_traced(self.kernel, thread, process, error)
-        since, count = self.refused_before.get(thread, (time.monotonic(), 0))
-        self.refused[thread] = since, count + 1
-        if why is None and not is_sure(since, count + 1):
+        since, count, _ = self.refused_before.get(thread, (time.monotonic(), 0, False))
+        is_zombie = self.kernel.status_of(thread).get("State", "Z")[:1] in "ZX"
+        self.refused[thread] = since, count + 1, is_zombie
+        if why is None and not is_sure(since, count + 1, is_zombie):
             return True
-        if why is None and self.kernel.status_of(thread).get("State", "Z")[:1] in "ZX":
+        if why is None and is_zombie:
             self.passed_over[process] = "is a zombie: it has ended, and waits for its parent"
             return False
         raise Unreadable(why or f"{called(thread, process)} can't be stopped ({error.strerror}): run this as root, "

@@ -29,7 +29,7 @@ class Asked(Case):
 
     def setUp(self):
         super().setUp()
-        for name, soon in (("SURE_AFTER", 0), ("SURE_TIMES", 4), ("PAUSE_UNHELD", 0.001)):
+        for name, soon in (("SURE_AFTER", 0), ("SURE_OF_ZOMBIE", 0), ("SURE_TIMES", 4), ("PAUSE_UNHELD", 0.001)):
             patch = mock.patch.object(hold, name, soon)
             patch.start()
             self.addCleanup(patch.stop)
