@@ -1,6 +1,7 @@
 """conformance/kernel: the running kernel does what scf says; a change planted in what scf says is seen; what differs
 is kept and can be repeated; where nothing can be asked, that is said."""
 import ctypes
+import functools
 import json
 import os
 import random
@@ -65,6 +66,15 @@ class Remembering(kernel_child.Kernel):
         return self.came[key]
 
 
+@functools.cache
+def the_kernel():
+    """One for all tests of this process, since its memory has a fixed place; a SkipTest where there is none."""
+    try:
+        return Remembering()
+    except kernel_child.Unavailable as why:
+        raise unittest.SkipTest(str(why)) from why
+
+
 class Asked(Case):
     """Asks the kernel as conformance/kernel does."""
 
@@ -112,10 +122,7 @@ class Dispositions(unittest.TestCase):
     """What becomes of a syscall by an answer: what the kernel does, and what the tools say."""
 
     def test_an_action_without_a_name_ends_the_process(self):
-        try:
-            kernel = kernel_child.Kernel()
-        except kernel_child.Unavailable as why:
-            self.skipTest(str(why))
+        kernel = the_kernel()
         getpid = kernel_child.call_at(kernel_child.SITE, 39, ())
         for action in WITHOUT_A_NAME:
             with self.subTest(action=hex(action)):
@@ -130,8 +137,8 @@ class Planted(unittest.TestCase):
 
     @classmethod
     def setUpClass(cls):
+        cls.kernel = the_kernel()
         try:
-            cls.kernel = Remembering()
             cls.abilities = kernel_cases.abilities(cls.kernel)
         except kernel_child.Unavailable as why:
             raise unittest.SkipTest(str(why)) from why
