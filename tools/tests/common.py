@@ -22,7 +22,7 @@ X86_64, I386 = 0xC000003E, 0x40000003
 ALLOW, EPERM, KILL_PROCESS, KILL_THREAD = 0x7FFF0000, 0x00050001, 0x80000000, 0
 # How long anything is waited for, in seconds, before it counts as something that hangs. It measures nothing: on a slow
 # machine that does much else, what takes a minute elsewhere takes a quarter of an hour.
-PATIENCE = 3600
+PATIENCE = 900
 
 
 def tool(name):

@@ -203,8 +203,9 @@ class Runtimes(Containers):
 
     def test_a_process_begun_before_the_filter(self):
         """By a hook of the configuration, within the container; runc would wait for its end."""
-        begin = {"createContainer": [{"path": "/bin/sh", "args": ["sh", "-c", "sleep 998 </dev/null >/dev/null 2>&1 &"],
-                                      **PATH}]}
+        # (crun goes on to another root once the shell has ended: by then the process has loaded its library)
+        begin = {"createContainer": [{"path": "/bin/sh", **PATH, "args": [
+            "sh", "-c", "sleep 998 </dev/null >/dev/null 2>&1 & sleep 1"]}]}
         with self.begun("--wait=0.2", loaded=LOADED, hooks=begin) as pid:
             self.assertTrue(self.runs(pid))
             self.assertEqual(len(self.called("sleep", "998")), 1)
