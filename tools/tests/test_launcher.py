@@ -36,7 +36,7 @@ class Launcher(Case):
     def test_scf_is_built_where_it_never_was(self):
         status, out, err = self.run_here("scf", "a", "b c")
         self.assertEqual((status, out), (0, "one a b c\n"))
-        self.assertEqual(err, "build: proving and building scf; the first time this takes about 20 minutes\n")
+        self.assertEqual(err, "build: proving and building scf; the first time this may take half an hour\n")
         self.assertEqual(self.run_here("scf", "x"), (0, "one x\n", ""))
         self.assertEqual(self.asked(), 1)
 
