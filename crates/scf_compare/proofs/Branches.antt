@@ -1,5 +1,5 @@
 -- Open branches, as one is opened and one is taken.
-use Rattle.scf_compare.proofs.Common.{◌≡◌, ℕ, zero, suc, ◌+◌, ◌<◌, ◌≤◌, ◌↔◌, ◌⊎◌, inl, inr, List, [], ◌∷◌, ◌++◌, length, refl, sym, ap, ◌∙◌, arith, length-append, Some, IsTrue, slice_get, slice_get_within, sum_by-append, Store, IsSameLevel, Frontier, Compared, GivesLearned, LearnsExactly, IsOpenBranch, IsInBranch, IsFrontier, AreExact, open_size, IsTaken, Tree}
+use Rattle.scf_compare.proofs.Common.{◌≡◌, ℕ, zero, suc, ◌+◌, ◌<◌, ◌≤◌, ◌↔◌, ◌⊎◌, inl, inr, List, [], ◌∷◌, ◌++◌, length, refl, sym, ap, ◌∙◌, arith, length-append, Some, IsTrue, slice_get, slice_get_within, sum_by-append, AreWordsIn, Store, IsSameLevel, Frontier, Compared, GivesLearned, LearnsExactly, IsOpenBranch, IsInBranch, IsFrontier, AreExact, open_size, IsTaken, Tree}
 use Rattle.scf_compare.specs.declared.frontier.OpenBranch.{OpenBranch}
 
 -- ---- places in a list with one more at its end
@@ -101,7 +101,7 @@ pub record HasTaken {F K N : Type 0} (store : Store F) (old new : Frontier F K N
       → IsTrue (store.is_exact new.facts (store.level new.facts))
 
 pub taken : {F K N : Type 0} (store : Store F) (compared : Compared) (tree : K → Tree N) (old new : Frontier F K N)
-    (b : OpenBranch K N) → IsFrontier store tree compared.in_scope old → HasTaken store old new b
+    (b : OpenBranch K N) → IsFrontier store tree (AreWordsIn compared) old → HasTaken store old new b
     → IsTaken store compared tree old new (tree b.known) b.node
 taken {K = K} {N = N} store compared tree old new b f h =
     let more = length_more new.branches.items old.branches.items b h.branches in

@@ -11,7 +11,7 @@ pub use Rattle.scf_facts.proofs.Common.{All-push, IsSameLevel, and_assoc, and_co
 pub use Rattle.scf_facts.proofs.HighMasks.{beyond_mask, of_multiple, one_more}
 pub use Rattle.scf_facts.proofs.MaskLaws.{beyond_rest}
 pub use Rattle.scf_facts.specs.declared.atom.Atom.{Atom}
-pub use Rattle.scf_facts.specs.declared.atom.Atom.TheVariants.{Eq, Ge}
+pub use Rattle.scf_facts.specs.declared.atom.Atom.TheVariants.{Eq, Ge, Gt}
 pub use Rattle.scf_facts.specs.declared.word_facts.WordFacts.{Ghosts as Store}
 pub use Rattle.scf_insn.proofs.CallWords.{IsRecord-call_of, IsWords-words_of, call_of-words_of, word_below, words_of-call_of}
 pub use Rattle.scf_insn.proofs.Common.{drop-drop, IsRecord, IsSimpleMask, IsWords, and_shr, argument, bpf_memwords, call_of, disposition_of, mul-le-mul_left, permissiveness_of, rank_of, words_of, x32_syscall_bit}
@@ -43,39 +43,43 @@ pub use Rattle.scf_compare.specs.Paths.{size_of_insn, tree_size}
 unfoldable pub use Rattle.scf_compare.specs.Paths.{tree_sizes}
 pub use Rattle.scf_profile.specs.Relation.{IsRelated}
 pub use Rattle.scf_profile.specs.Scope.{IsInScope, RelatedAnswersIn, SameAnswersIn}
-pub use Rattle.scf_compare.specs.Verdicts.{IsDecided, IsEndPlace, IsStackEndPlace, IsTrueBy, IsTrueOf, IsTrueOfStackBy}
+pub use Rattle.scf_compare.specs.Findings.{AllRelated, Compared, IsFindingDecided, IsTrueFinding, WordsRelated, compared_in, compared_sides}
+pub use Rattle.scf_compare.specs.Sides.{Behavior, IsEndPlace, IsStackEndPlace, behavior_of, profile_behavior, stack_behavior}
+pub use Rattle.scf_compare.specs.Verdicts.{IsDecided, IsTrueBy, IsTrueOf, IsTrueOfStackBy, finding_of}
 pub use Rattle.scf_compare.specs.declared.asking.Atoms.{Atoms}
 pub use Rattle.scf_compare.specs.declared.comparison.PairLeaf.{PairLeaf}
-pub use Rattle.scf_compare.specs.declared.comparison.FilterLeaf.{FilterLeaf}
+pub use Rattle.scf_compare.specs.declared.finding.Finding.{Finding}
+pub use Rattle.scf_compare.specs.declared.finding.Which.{Which}
 pub use Rattle.scf_compare.specs.declared.filter.FilterNode.{FilterNode}
 pub use Rattle.scf_compare.specs.declared.control_flow.ControlFlow.{ControlFlow}
 pub use Rattle.scf_compare.specs.declared.control_flow.ControlFlow.TheVariants.{ConditionalJump, DivideByIndex, Jump, FallThrough, ReturnAccumulator, ReturnConstant}
 pub use Rattle.scf_compare.specs.declared.frontier.Frontier.{Frontier}
 pub use Rattle.scf_compare.specs.declared.bit_slice.BitSlice.{BitSlice}
 pub use Rattle.scf_compare.specs.declared.profile.ConditionPlace.{ConditionPlace}
-pub use Rattle.scf_compare.specs.declared.registers.Registers.{Registers}
+pub use Rattle.scf_compare.specs.declared.registers.KnownRegisters.{KnownRegisters}
 pub use Rattle.scf_profile.specs.declared.relation.Relation.{Relation}
 pub use Rattle.scf_profile.specs.declared.relation.Relation.TheVariants.{NoLess, NoMore, Same}
 pub use Rattle.scf_profile.specs.declared.scope.Scope.{Scope}
-pub use Rattle.scf_profile.specs.declared.scope.Scope.TheVariants.{Call, Native}
+pub use Rattle.scf_profile.specs.declared.scope.Scope.TheVariants.{Call, Native, Numbers}
+pub use Rattle.scf_compare.specs.declared.side.Side.{Side}
+pub use Rattle.scf_compare.specs.declared.side_tree.SideLeaf.{SideLeaf}
 pub use Rattle.scf_compare.specs.declared.stack.StackNode.TheVariants.{At}
 pub use Rattle.scf_compare.specs.declared.step.Step.{Step}
 pub use Rattle.scf_compare.specs.declared.step.Step.TheVariants.{Branch}
 pub use Rattle.scf_compare.specs.declared.value.Decision.{Decision}
 pub use Rattle.scf_compare.specs.declared.verdict.Verdict.{Verdict}
 pub use Rattle.scf_compare.specs.internal.Asking.{AsksOfWords, KeepsEither, StaysExact, atoms_answer}
-pub use Rattle.scf_compare.specs.internal.Compared.{AllRelated, Compared, IsTrueVerdict}
-pub use Rattle.scf_compare.specs.internal.Leaves.{IsPlaceOf, KnowsBoth, Tells, WereAllSeen, WereSeen}
+pub use Rattle.scf_compare.specs.internal.Leaves.{AreWordsIn, IsFirstUndecided, IsSideLeaf, KnowsBoth, Tells, WereAllSeen, WereSeen, side_leaves}
 pub use Rattle.scf_compare.specs.internal.Filters.{ComesTo, EndsWith, IsFilterEnd, IsStepOf, filter_size, filter_tree}
 pub use Rattle.scf_compare.specs.internal.ControlFlow.{IsInside, UsesScratch, control_flow_at, size_of_flow}
 pub use Rattle.scf_compare.specs.internal.Frontier.{AreExact, GivesLearned, IsAhead, IsOpenBranch, IsExact, IsFrontier, IsInBranch, LearnsExactly, open_size}
 pub use Rattle.scf_compare.specs.internal.BitSlices.{AreShiftedAlike, IsWhole, bit_slice_value, shifted_word}
-pub use Rattle.scf_compare.specs.internal.Laws.{paths_count, scaled_costs, spread_counts}
+pub use Rattle.scf_compare.specs.internal.Laws.{paths_count, scaled_costs, side_size_counts, spread_counts}
 pub use Rattle.scf_compare.specs.internal.NumberedProfiles.{IsNumbered, NumberedProfile}
 pub use Rattle.scf_compare.specs.internal.AffineTerms.{signed_sum}
 pub use Rattle.scf_compare.specs.internal.Profiles.{IsAtCondition, IsAtRule, IsFrom, numbers_size, own_conditions, own_rules, size_behind}
-pub use Rattle.scf_compare.specs.internal.Scopes.{AreWordsOf, AreWordsOfX86_64, compared_in}
+pub use Rattle.scf_compare.specs.internal.ScopeWords.{AreWordsOf, AreWordsOfX86_64}
 pub use Rattle.scf_compare.specs.internal.Stacks.{IsStackLeaf, filter_at, stack_is_node, stack_is_plain, stack_reaches, stack_size}
-pub use Rattle.scf_compare.specs.internal.Stages.{GoesOver, IsTaken, LeadsTo, verdict_of_all}
+pub use Rattle.scf_compare.specs.internal.Stages.{GoesOver, IsTaken, LeadsTo, finding_of_all}
 pub use Rattle.scf_compare.specs.internal.Trees.{Costs, GoesOn, StaysPlain, Tree}
 pub use Rattle.scf_compare.specs.internal.Values.{Decides, Describes}

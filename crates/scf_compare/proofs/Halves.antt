@@ -1,7 +1,7 @@
 -- A condition on a 64-bit number by the halves of the number.
 use Rattle.scf_compare.proofs.Common.{◌≡◌, ℕ, ◌+◌, ◌*◌, true, false, List, arith, IsWords, call_of, argument, words_of-call_of, argument_low, argument_high, Condition}
 use Rattle.scf_insn.proofs.CallWords.{IsRecord-call_of}
-use Rattle.scf_profile.specs.Condition.{holds}
+use Rattle.scf_profile.specs.Condition.{condition_holds}
 use Rattle.scf_profile.specs.NumberTests.{comes_to, test_of}
 use Rattle.scf_profile.proofs.NumberTests.{decides}
 use Rattle.scf_compare.specs.declared.question.Successor.{Successor}
@@ -21,7 +21,7 @@ module _ (c : Condition) (successor : Successor) (words : List ℕ) (w : IsWords
   abbrev number : ℕ
   number = argument (call_of words) c.index
 
-  decided : comes_to (test_of c) number ≡ holds c number
+  decided : comes_to (test_of c) number ≡ condition_holds c number
   decided = decides c number ((IsRecord-call_of words w).args c.index)
 
   -- where a condition holds if its test is met, its ways are the test's

@@ -11,7 +11,9 @@ pub mod Orders
 pub mod Relations
 pub mod Rules
 pub mod Saturated
+pub mod ScopeFacts
 pub mod Stacks
 pub mod Stages
+pub mod Steps
 pub mod Verdicts
 pub mod Successors

@@ -1,5 +1,7 @@
 -- What follows from one relation for another.
-use Rattle.scf_compare.proofs.Common.{call_of-words_of, ◌≡◌, ◌≤◌, ℕ, List, arith, subst, Disposition, Insn, CallRecord, permissiveness_of, disposition_of, IsRecord, words_of, StackAnswers, stack_answer_once, Profile, HaveNoConflict, ProfileAnswers, AnswersRelated, one_answer, Relation, Same, NoMore, NoLess, Scope, IsRelated, IsInScope, RelatedAnswersIn}
+use Rattle.scf_compare.specs.SideLaws.{IsSide}
+use Rattle.scf_compare.specs.declared.side.Side.TheVariants.{Stack, Profile as OfProfile}
+use Rattle.scf_compare.proofs.Common.{Side, behavior_of, call_of-words_of, ◌≡◌, ◌≤◌, ℕ, List, arith, subst, Disposition, Insn, CallRecord, permissiveness_of, disposition_of, IsRecord, words_of, StackAnswers, stack_answer_once, Profile, HaveNoConflict, ProfileAnswers, AnswersRelated, one_answer, Relation, Same, NoMore, NoLess, Scope, IsRelated, IsInScope, RelatedAnswersIn}
 
 pub all_related : (relation : Relation) (filters : List (List Insn)) (p : Profile) (scope : Scope)
     → RelatedAnswersIn Same scope (StackAnswers filters) p → RelatedAnswersIn relation scope (StackAnswers filters) p
@@ -15,6 +17,15 @@ related_here relation filters p call filter profile none is_record both of_words
     let one = stack_answer_once filters (words_of call) both.filter filter both.of_words of_words in
     let other = one_answer p call none is_record both.of_profile of_profile in
     rw (one, other) at both.are_related
+
+-- a side has one answer to a call
+pub side_answers_once : (side : Side) (call : CallRecord) (first second : ℕ) → IsSide side → IsRecord call
+    → (behavior_of side).answers (words_of call) first → (behavior_of side).answers (words_of call) second
+    → first ≡ second
+side_answers_once (Stack filters) call first second is is_record a b =
+    stack_answer_once filters.now (words_of call) first second a b
+side_answers_once (OfProfile p) call first second is is_record a b =
+    let same = call_of-words_of call is_record in one_answer p.now call is.no_conflict is_record (rw same at a) (rw same at b)
 
 -- the profile has one answer to a call, which is that of its words
 pub ruleset single_answers = (call_of-words_of, one_answer)

@@ -1,7 +1,7 @@
 -- The rules of a profile and their conditions, one after another.
 use Rattle.scf_compare.proofs.Common.{drop-cons, ◌≡◌, ◌≢◌, ℕ, zero, suc, ◌+◌, ◌*◌, ◌<◌, Bool, true, false, eqb, List, [], ◌∷◌, ◌++◌, Some, length, take, drop, get_or, ap, ◌∙◌, arith, slice_get, All, Contains, ne_eqb, All-push, get_or_from_slice_get, add-one, slice_get_read, slice_get_within, CallRecord, argument, Condition, Rule, all_hold, meets, conditions_size, rules_size}
 use Rattle.std.proofs.Math.Seq.{take-suc}
-use Rattle.scf_profile.specs.Condition.{holds}
+use Rattle.scf_profile.specs.Condition.{condition_holds}
 
 -- ---- which rules a call meets
 
@@ -17,13 +17,14 @@ met_by call r same hold = grind arith
 
 pub held_more : (call : CallRecord) (conditions : List Condition) (i : ℕ) (c : Condition)
     → slice_get conditions i ≡ Some c → all_hold call (take i conditions) ≡ true
-    → holds c (argument call c.index) ≡ true → all_hold call (take (suc i) conditions) ≡ true
+    → condition_holds c (argument call c.index) ≡ true → all_hold call (take (suc i) conditions) ≡ true
 held_more call [] i c here before h = absurd (cc)
 held_more call (x ∷ conditions) zero c here before h = grind arith
 held_more call (x ∷ conditions) (suc i) c here before h = grind (arith, held_more call conditions i c here)
 
 pub fails_by : (call : CallRecord) (conditions : List Condition) (i : ℕ) (c : Condition)
-    → slice_get conditions i ≡ Some c → holds c (argument call c.index) ≡ false → all_hold call conditions ≡ false
+    → slice_get conditions i ≡ Some c → condition_holds c (argument call c.index) ≡ false
+    → all_hold call conditions ≡ false
 fails_by call [] i c here h = absurd (cc)
 fails_by call (x ∷ conditions) zero c here h = grind arith
 fails_by call (x ∷ conditions) (suc i) c here h = grind (arith, fails_by call conditions i c here)

@@ -1,5 +1,5 @@
 -- Numbers that are cut at 2^64-1.
-use Rattle.scf_compare.proofs.Common.{◌≡◌, ℕ, ◌+◌, ◌*◌, ◌-◌, ◌<◌, ◌≤◌, List, length, drop, get_or, refl, arith, slice_get-get_or, slice_get_read, Equal, Condition, Rule, conditions_size, rules_size, saturated, paths_count, spread_counts}
+use Rattle.scf_compare.proofs.Common.{◌≡◌, ℕ, ◌+◌, ◌*◌, ◌-◌, ◌<◌, ◌≤◌, List, length, drop, get_or, refl, arith, slice_get-get_or, slice_get_read, Equal, Condition, Rule, conditions_size, rules_size, saturated, paths_count, side_size_counts, spread_counts}
 use Rattle.scf_compare.proofs.Numbered.{no_condition}
 use Rattle.scf_compare.proofs.Rules.{conditions_more, rules_more}
 
@@ -28,4 +28,4 @@ pub conditions_added : (size fails twice first second third x behind : ℕ) → 
     → second ≡ saturated (first + twice) → third ≡ saturated (second + 3) → third ≡ saturated (3 + 2 * x + 2 * behind)
 conditions_added size fails twice first second third x behind a b c d e f = omega arith
 
-pub ruleset products = (multiplied, paths_count, spread_counts)
+pub ruleset products = (multiplied, paths_count, side_size_counts, spread_counts)

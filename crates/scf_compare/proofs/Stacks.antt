@@ -1,9 +1,13 @@
 -- The filters of a stack by their places.
-use Rattle.scf_compare.proofs.Common.{◌≡◌, ℕ, ◌+◌, ◌*◌, ◌-◌, ◌<◌, ◌≤◌, List, [], ◌∷◌, length, take, drop, arith, Option, IfSome, slice_get-get_or, Answer, Insn, RunAnswers, StackAnswers, one_answers, stack_paths, tree_size, FilterLeaf, IsFilterEnd, IsStackLeaf, filter_at}
+use Rattle.scf_compare.proofs.Common.{Branch, IsSideLeaf, IsWords, SideLeaf, Step, Tree, side_leaves, stack_behavior, ◌≡◌, ℕ, ◌+◌, ◌*◌, ◌-◌, ◌<◌, ◌≤◌, List, [], ◌∷◌, length, take, drop, arith, Option, IfSome, slice_get-get_or, Answer, Insn, RunAnswers, StackAnswers, one_answers, stack_paths, tree_size, IsFilterEnd, IsStackLeaf, filter_at}
 use Rattle.scf_compare.proofs.Rules.{contains_here, drop_here}
+use Rattle.scf_compare.proofs.Verdicts.{stack_end_place}
+use Rattle.scf_compare.specs.declared.step.Step.TheVariants.{Next, Leaf}
+use Rattle.scf_compare.specs.internal.Stacks.{leaves_of_stack}
+use Rattle.scf_compare.specs.internal.Trees.{IsProper, IsStep}
 
 -- an end of one of the filters is an end of the stack
-pub is_stack_leaf : (filters : List (List Insn)) (place : ℕ) (leaf : FilterLeaf) → place < length filters
+pub is_stack_leaf : (filters : List (List Insn)) (place : ℕ) (leaf : SideLeaf) → place < length filters
     → IsFilterEnd (filter_at filters place) leaf → IsStackLeaf filters leaf
 is_stack_leaf [] place leaf inside of_filter = absurd (omega arith)
 is_stack_leaf (filter ∷ filters) place leaf inside of_filter =
@@ -27,3 +31,26 @@ pub first_decides : (filters : List (List Insn)) (place : ℕ) (words : List ℕ
     → place < length filters → place ≡ 0 → IfSome answer (λ a. RunAnswers (filter_at filters place) words a.0)
     → IfSome answer (λ a. StackAnswers (take (place + 1) filters) words a.0)
 first_decides filters place words answer inside first run = grind (arith, one_answers)
+
+-- an end of a stack is a leaf of it as a side
+side_leaf : (filters : List (List Insn)) (leaf : SideLeaf) → IsStackLeaf filters leaf
+    → IsSideLeaf (stack_behavior filters) leaf
+side_leaf filters leaf is = let place = stack_end_place filters leaf is in grind arith
+
+leads_properly : {N : Type 0} (filters : List (List Insn)) (tree : Tree N) (step : Step N SideLeaf)
+    → IsProper tree (IsStackLeaf filters) step → IsProper tree (IsSideLeaf (stack_behavior filters)) step
+leads_properly filters tree (Next next) proper = proper
+leads_properly filters tree (Branch asked if_true if_false) proper = proper
+leads_properly filters tree (Leaf leaf) proper = side_leaf filters leaf proper
+
+-- a step of the stack is one of it as a side
+pub side_step : {N : Type 0} (filters : List (List Insn)) (given : List ℕ → Type 0) (here : Tree N) (node : N)
+    (there : Tree N) (step : Step N SideLeaf)
+    → IsStep (leaves_of_stack filters) IsWords here node there step
+    → IsStep (side_leaves (stack_behavior filters)) (λ words. IsWords words × given words) here node there step
+side_step filters given here node there step of_stack = record {
+  proper = leads_properly filters there step of_stack.proper;
+  leads = λ words allowed reached. of_stack.leads words allowed.0 reached;
+  costs = of_stack.costs;
+  plain = of_stack.plain;
+}

@@ -1,10 +1,10 @@
 -- From one stage of an exploration to the next.
-use Rattle.scf_compare.proofs.Common.{◌≡◌, ◌∙◌, ℕ, ◌≤◌, ◌↔◌, List, true, false, arith, Option, Some, None, IsTrue, cases_Bool, Store, Atoms, PairLeaf, Frontier, Step, Branch, AsksOfWords, atoms_answer, StaysExact, KeepsEither, Compared, Tells, KnowsBoth, WereSeen, IsFrontier, LeadsTo, IsTaken, GoesOver, Tree, GoesOn, StaysPlain, Costs}
+use Rattle.scf_compare.proofs.Common.{◌≡◌, ◌∙◌, ℕ, ◌≤◌, ◌↔◌, List, true, false, arith, Option, Some, None, IsTrue, cases_Bool, Store, Atoms, PairLeaf, Frontier, Step, Branch, Which, AreWordsIn, AsksOfWords, atoms_answer, StaysExact, KeepsEither, Compared, Tells, KnowsBoth, WereSeen, IsFrontier, LeadsTo, IsTaken, GoesOver, Tree, GoesOn, StaysPlain, Costs}
 use Rattle.scf_compare.specs.declared.frontier.OpenBranch.{OpenBranch}
 use Rattle.scf_compare.proofs.Branches.{HasOpened, still_in_branch, in_opened, frontier_opened, size_more, exact_opened}
 
 module _ {F K N : Type 0} (store : Store F) (compared : Compared) (tree : K → Tree N) (old new : Frontier F K N)
-    (f : IsFrontier store tree compared.in_scope old) where
+    (f : IsFrontier store tree (AreWordsIn compared) old) where
   -- One way on from atoms is gone, and a branch stands open for the other: those that are left of them were learned.
   pub asked : (known : K) (whole remaining : Atoms) (if_true if_false : N)
       → AsksOfWords whole × (tree known).is_node if_true × (tree known).is_node if_false
@@ -21,11 +21,11 @@ module _ {F K N : Type 0} (store : Store F) (compared : Compared) (tree : K → 
       → LeadsTo store compared tree old new (tree known) (Branch (Some whole) if_true if_false) if_true
   asked known whole remaining if_true if_false proper asks same keeps opened learned exact =
       let other : OpenBranch K N = record { known = known; node = if_false; learned = Some (remaining, false) } in
-      let still = still_in_branch store tree compared.in_scope old new other f opened in
-      let there = in_opened store tree compared.in_scope old new other f opened in
+      let still = still_in_branch store tree (AreWordsIn compared) old new other f opened in
+      let there = in_opened store tree (AreWordsIn compared) old new other f opened in
       record {
         frontier =
-            frontier_opened store tree compared.in_scope old new other f opened
+            frontier_opened store tree (AreWordsIn compared) old new other f opened
             (record { node = proper.2; asks = asks });
         node = proper.1;
         words = λ words ahead.
@@ -33,7 +33,7 @@ module _ {F K N : Type 0} (store : Store F) (compared : Compared) (tree : K → 
         size = omega (arith, size_more tree old new other opened.branches);
         exact = λ all. let either = keeps all.plain.0 in record {
           branches =
-              exact_opened store tree compared.in_scope old new other f opened all.branches all.facts either.1
+              exact_opened store tree (AreWordsIn compared) old new other f opened all.branches all.facts either.1
               all.plain.2 (λ words allowed refused. (all.reached words allowed).1 (same words allowed ∙ refused));
           facts = exact either.0 all.facts;
           plain = all.plain.1;
@@ -50,11 +50,11 @@ module _ {F K N : Type 0} (store : Store F) (compared : Compared) (tree : K → 
       → LeadsTo store compared tree old new (tree known) (Branch None if_true if_false) if_true
   forked known if_true if_false proper opened still =
       let other : OpenBranch K N = record { known = known; node = if_false; learned = None } in
-      let seen = still_in_branch store tree compared.in_scope old new other f opened in
-      let there = in_opened store tree compared.in_scope old new other f opened in
+      let seen = still_in_branch store tree (AreWordsIn compared) old new other f opened in
+      let there = in_opened store tree (AreWordsIn compared) old new other f opened in
       record {
         frontier =
-            frontier_opened store tree compared.in_scope old new other f opened (record { node = proper.2; asks = tt });
+            frontier_opened store tree (AreWordsIn compared) old new other f opened (record { node = proper.2; asks = tt });
         node = proper.1;
         words = λ words ahead. grind (arith, seen words, there words, still words);
         size = omega (arith, size_more tree old new other opened.branches);
@@ -68,11 +68,11 @@ module _ {F K N : Type 0} (store : Store F) (compared : Compared) (tree : K → 
       → Costs there step (here.size from)
       → (here.is_plain from → StaysPlain there KnowsBoth step)
       → LeadsTo store compared tree old new there step next
-      → (found : Option ℕ) → GoesOver store compared tree old new here from there found next
+      → (found : Option (Which × ℕ)) → GoesOver store compared tree old new here from there found next
   led here from there step next leads costs plain to found = grind arith
 
   -- where all was seen at an end, and the newest branch was taken
-  pub ended : (here : Tree N) (from : N) (there : Tree N) (found : Option ℕ) (next : N)
+  pub ended : (here : Tree N) (from : N) (there : Tree N) (found : Option (Which × ℕ)) (next : N)
       → ((words : List ℕ) → store.allows old.facts (store.level old.facts) words → here.reaches from words
       → WereSeen compared found words)
       → 1 ≤ here.size from

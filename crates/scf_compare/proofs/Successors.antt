@@ -1,14 +1,14 @@
 -- The runs that come to the nodes of a filter's tree.
-use Rattle.scf_compare.proofs.Common.{◌≡◌, ℕ, ◌+◌, ◌==◌, Bool, true, false, List, ◌∷◌, length, refl, subst, ◌∙◌, arith, Insn, Operation, State, Outcome, Goes, Ends, Faults, step, effect, jumps_to, holds, operand_of, RunAnswers, RunsSafely, Stands, FilterLeaf, FilterNode, ControlFlow, FallThrough, Jump, ConditionalJump, DivideByIndex, ReturnConstant, ReturnAccumulator, Registers, Step, Decision, control_flow_at, Tree, GoesOn, Describes, Decides, ComesTo, IsStepOf}
+use Rattle.scf_compare.proofs.Common.{◌≡◌, ℕ, ◌+◌, ◌==◌, Bool, true, false, List, ◌∷◌, length, refl, subst, ◌∙◌, arith, Insn, Operation, State, Outcome, Goes, Ends, Faults, step, effect, jumps_to, holds, operand_of, RunAnswers, RunsSafely, Stands, SideLeaf, FilterNode, ControlFlow, FallThrough, Jump, ConditionalJump, DivideByIndex, ReturnConstant, ReturnAccumulator, KnownRegisters, Step, Decision, control_flow_at, Tree, GoesOn, Describes, Decides, ComesTo, IsStepOf}
 use Rattle.scf_compare.proofs.ControlFlows.{Does, does}
 
 -- A run over the words comes to an instruction, whose values are known.
-module _ {insns : List Insn} {words : List ℕ} {place : ℕ} {i : Insn} {operation : Operation} {registers : Registers}
+module _ {insns : List Insn} {words : List ℕ} {place : ℕ} {i : Insn} {operation : Operation} {registers : KnownRegisters}
     (stands : Stands insns place i operation) (c : ComesTo insns place registers words) where
   step_here : step insns words c.state ≡ effect operation i words c.state
   step_here = grind arith
 
-  comes_on : (t : State) (next : ℕ) (after : Registers) → effect operation i words c.state ≡ Goes t → t.place ≡ next
+  comes_on : (t : State) (next : ℕ) (after : KnownRegisters) → effect operation i words c.state ≡ Goes t → t.place ≡ next
       → Describes after words t → ComesTo insns next after words
   comes_on t next after e at d =
       record { state = t; earlier = c.state ∷ c.earlier; chain = (step_here ∙ e, c.chain); there = at; describes = d }
@@ -20,7 +20,7 @@ module _ {insns : List Insn} {words : List ℕ} {place : ℕ} {i : Insn} {operat
   )
 
   comes_next : RunsSafely insns words → (o : Outcome) → effect operation i words c.state ≡ o → (next : ℕ)
-      → Does (FallThrough next) i c.state o → (after : Registers)
+      → Does (FallThrough next) i c.state o → (after : KnownRegisters)
       → ((t : State) → effect operation i words c.state ≡ Goes t → Describes after words t)
       → ComesTo insns next after words
   comes_next safe (Goes t) e next does after d = comes_on t next after e (does.1 t refl) (d t e)
@@ -31,7 +31,7 @@ module _ {insns : List Insn} {words : List ℕ} {place : ℕ} {i : Insn} {operat
   -- where the run goes on, with registers that describe the states after the instruction
   abbrev pub Leads : ControlFlow → Type 0
   Leads (FallThrough next) =
-      (after : Registers) → ((t : State) → effect operation i words c.state ≡ Goes t → Describes after words t)
+      (after : KnownRegisters) → ((t : State) → effect operation i words c.state ≡ Goes t → Describes after words t)
       → ComesTo insns next after words
   Leads (Jump target) = ComesTo insns target registers words
   Leads (ConditionalJump test operand if_true if_false) =
@@ -39,7 +39,7 @@ module _ {insns : List Insn} {words : List ℕ} {place : ℕ} {i : Insn} {operat
       (outcome ≡ true → ComesTo insns if_true registers words)
       × (outcome ≡ false → ComesTo insns if_false registers words)
   Leads (DivideByIndex next) =
-      (after : Registers) → ((t : State) → effect operation i words c.state ≡ Goes t → Describes after words t)
+      (after : KnownRegisters) → ((t : State) → effect operation i words c.state ≡ Goes t → Describes after words t)
       → ((c.state.x == 0) ≡ true → RunAnswers insns words 0)
       × ((c.state.x == 0) ≡ false → ComesTo insns next after words)
   Leads ReturnConstant = RunAnswers insns words i.k
@@ -71,8 +71,8 @@ module _ {insns : List Insn} {words : List ℕ} {place : ℕ} {i : Insn} {operat
       (does operation i words c.state)))
 
 -- where words go on from a test
-pub step_leads : (tree : Tree FilterNode) (tells : FilterLeaf → List ℕ → Type 0) (words : List ℕ) (decision : Decision)
-    (if_true if_false : FilterNode) (step : Step FilterNode FilterLeaf) (test : Bool)
+pub step_leads : (tree : Tree FilterNode) (tells : SideLeaf → List ℕ → Type 0) (words : List ℕ) (decision : Decision)
+    (if_true if_false : FilterNode) (step : Step FilterNode SideLeaf) (test : Bool)
     → IsStepOf decision if_true if_false step → Decides decision words test → (test ≡ true → tree.reaches if_true words)
     → (test ≡ false → tree.reaches if_false words) → GoesOn tree tells step words
 step_leads tree tells words decision if_true if_false step test e d ht hf = grind arith

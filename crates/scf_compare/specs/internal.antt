@@ -1,5 +1,5 @@
 pub mod Asking
-pub mod Compared
+pub mod Comparers
 pub mod Conditions
 pub mod Conjunctions
 pub mod Leaves
@@ -12,7 +12,7 @@ pub mod NumberedProfiles
 pub mod AffineTerms
 pub mod Pairs
 pub mod Profiles
-pub mod Scopes
+pub mod ScopeWords
 pub mod Stacks
 pub mod Stages
 pub mod Trees

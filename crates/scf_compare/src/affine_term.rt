@@ -4,7 +4,7 @@ ghost use Rattle.std.specs.Prelude.{◌≡◌, ◌==◌, ◌+◌, ◌-◌, ◌%�
 ghost use Rattle.scf_insn.specs.Words.{IsWords};
 ghost use Rattle.scf_compare.specs.internal.BitSlices.{IsBitSlice, bit_slice_value};
 ghost use Rattle.scf_compare.specs.internal.AffineTerms.{signed_sum, affine_value};
-ghost use Rattle.scf_compare.specs.internal.Values.{IsValue, StandsFor, IsTestDecision, Decides};
+ghost use Rattle.scf_compare.specs.internal.Values.{IsValue, Abstracts, IsTestDecision, Decides};
 
 use crate::bit_slice::BitSlice;
 use crate::value::{Decision, Value};
@@ -97,7 +97,7 @@ impl AffineTerm {
     pub(crate) fn value(self) -> Value
         requires { IsBitSlice self.bit_slice }
         ensures value { IsValue result }
-        ensures stands { (words : List ℕ) → StandsFor result words (affine_value self words) }
+        ensures stands { (words : List ℕ) → Abstracts result words (affine_value self words) }
     {
         let bits = self.bit_slice.bits();
         let common = self.added & bits;

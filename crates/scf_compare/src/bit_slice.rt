@@ -7,7 +7,7 @@ ghost use Rattle.scf_insn.specs.SimpleMask.{IsSimpleMask};
 ghost use Rattle.scf_insn.specs.Words.{IsWords};
 ghost use Rattle.scf_compare.specs.internal.BitSlices.{IsBitSlice, IsWhole, AreShiftedAlike, bit_slice_value};
 ghost use Rattle.scf_machine.specs.Machine.{value_computed};
-ghost use Rattle.scf_compare.specs.internal.Values.{IsValue, StandsFor, IsTestDecision, Decides, IsPlainDecision};
+ghost use Rattle.scf_compare.specs.internal.Values.{IsValue, Abstracts, IsTestDecision, Decides, IsPlainDecision};
 
 use crate::asking::Atoms;
 use crate::value::{Decision, Value};
@@ -114,7 +114,7 @@ impl BitSlice {
         requires alike { AreShiftedAlike self other }
         ensures value { IsValue result }
         ensures stands { (words : List ℕ)
-            → StandsFor result words
+            → Abstracts result words
             (value_computed arithmetic (bit_slice_value self words) (bit_slice_value other words)) }
     {
         match arithmetic {
@@ -151,7 +151,7 @@ impl BitSlice {
         requires bit_slice { IsBitSlice self }
         requires count { count < 32 }
         ensures value { IsValue result }
-        ensures stands { (words : List ℕ) → StandsFor result words (bit_slice_value self words / 2 ^ count) }
+        ensures stands { (words : List ℕ) → Abstracts result words (bit_slice_value self words / 2 ^ count) }
     {
         let mask = self.mask >> count;
         let flipped = self.flipped >> count;
@@ -182,7 +182,7 @@ impl BitSlice {
         requires bit_slice { IsBitSlice self }
         requires count { count < 32 }
         ensures value { IsValue result }
-        ensures stands { (words : List ℕ) → StandsFor result words (bit_slice_value self words * 2 ^ count % 2 ^ 32) }
+        ensures stands { (words : List ℕ) → Abstracts result words (bit_slice_value self words * 2 ^ count % 2 ^ 32) }
     {
         let left = self.left + count;
         let flipped = self.flipped << count;

@@ -1,4 +1,4 @@
-//! The comparison of a filter with a profile.
+//! Comparisons: of two sides, and of a filter with a profile.
 
 ghost use Rattle.std.specs.Prelude.{◌≡◌, All, IsTrue, IfOk, OnErr, min};
 ghost use Rattle.scf_machine.specs.Machine.{RunAnswers};
@@ -6,10 +6,19 @@ ghost use Rattle.scf_machine.specs.Plain.{IsPlainProgram};
 ghost use Rattle.scf_machine.specs.Precedence.{StackAnswers};
 ghost use Rattle.scf_profile.specs.PlainProfile.{IsPlainProfile};
 ghost use Rattle.scf_profile.specs.SameAnswers.{SameAnswers};
-ghost use Rattle.scf_compare.specs.Effort.{effort_of, effort_of_stack};
 ghost use Rattle.scf_profile.specs.Scope.{RelatedAnswersIn, SameAnswersIn};
+ghost use Rattle.scf_compare.specs.Effort.{effort_of, effort_of_stack};
+ghost use Rattle.scf_compare.specs.Findings.{
+  AllRelated,
+  IsFindingDecided,
+  IsFindingWithin,
+  IsTrueFinding,
+  LeavesFindingSteps,
+  compared_in,
+  compared_sides,
+};
+ghost use Rattle.scf_compare.specs.Sides.{IsPlainSide, behavior_of, effort_of_sides};
 ghost use Rattle.scf_compare.specs.Verdicts.{
-  AreSteps,
   IsDecided,
   IsTrueOf,
   IsTrueOfStack,
@@ -17,12 +26,16 @@ ghost use Rattle.scf_compare.specs.Verdicts.{
   IsWithin,
   LeavesSteps,
 };
+ghost use Rattle.scf_compare.specs.internal.Comparers.{IsComparison};
 
 use crate::by_number::ByNumber;
 use crate::explore::explore;
-use crate::pair::{Pair, PairNode};
+use crate::finding::Finding;
+use crate::pair::{Pair, PairKnown, PairNode};
 use crate::scope::facts_of;
-use crate::stack::start_of;
+use crate::side::Side;
+use crate::side_tree::SideTree;
+use crate::stack::StackSide;
 use crate::verdict::Verdict;
 use scf_facts::WordFacts;
 use scf_insn::Memory;
@@ -30,6 +43,145 @@ use scf_machine::{FilterStack, Program};
 use scf_profile::{Profile, Relation, Scope};
 use std::alloc::Global;
 use std::slice;
+
+/// Compares two sides over the records of a scope by a relation, in at most `limit` steps.
+///
+/// `Holds` says that the relation holds of the answers to every record of the scope; `Fails` shows one, with both
+/// answers, of which it doesn't hold. `Undecided` gives the index of an instruction where runs of one side end and the
+/// store `F` doesn't decide the answers; it comes only after everything else was explored. `Unfinished` comes only if
+/// the limit is below the exact effort; the steps of `Holds` are within both.
+///
+/// A store that starts exact decides plain sides: with a limit of at least the effort the finding is `Holds` exactly if
+/// the relation holds of the answers to every record of the scope, else `Fails`.
+pub fn compare_sides<F: WordFacts>(
+    alloc: Global,
+    left: &Side<'_>,
+    right: &Side<'_>,
+    over: Scope,
+    by: Relation,
+    limit: u64,
+) -> Result<Finding, Memory>
+    ensures holds { IfOk result (IsTrueFinding (compared_sides by over left.now right.now)) }
+    ensures within { IfOk result (IsFindingWithin limit (effort_of_sides left.now right.now)) }
+    ensures decided { IsTrue F.starts_exact → IsPlainSide left.now → IsPlainSide right.now
+        → IfOk result (IsFindingDecided (AllRelated (compared_sides by over left.now right.now))
+        limit (effort_of_sides left.now right.now)) }
+{
+    let mut taken = 0;
+    let finding = compare_counted::<F>(alloc, left, right, over, by, limit, &mut taken)?;
+    Ok(finding)
+}
+
+/// Compares as `compare_sides` does, in at most `limit` steps and at most the `left_over` ones that several comparisons
+/// share. The steps taken are subtracted from `left_over`; if an allocation fails, it doesn't change.
+///
+/// With no steps left the finding is `Unfinished`.
+pub fn compare_sides_within<F: WordFacts>(
+    alloc: Global,
+    left: &Side<'_>,
+    right: &Side<'_>,
+    over: Scope,
+    by: Relation,
+    limit: u64,
+    left_over: &mut u64,
+) -> Result<Finding, Memory>
+    ensures holds { IfOk result (IsTrueFinding (compared_sides by over left.now right.now)) }
+    ensures within { IfOk result (IsFindingWithin (min limit left_over.old) (effort_of_sides left.now right.now)) }
+    ensures decided { IsTrue F.starts_exact → IsPlainSide left.now → IsPlainSide right.now
+        → IfOk result (IsFindingDecided (AllRelated (compared_sides by over left.now right.now))
+        (min limit left_over.old) (effort_of_sides left.now right.now)) }
+    ensures left { IfOk result (λ finding. LeavesFindingSteps
+        (min limit left_over.old) (effort_of_sides left.now right.now) left_over.old finding left_over.new) }
+    ensures err { OnErr result (left_over.new ≡ left_over.old) }
+{
+    let mut taken = 0;
+    let most = limit.min(*left_over);
+    let finding = compare_counted::<F>(alloc, left, right, over, by, most, &mut taken)?;
+    *left_over -= taken;
+    Ok(finding)
+}
+
+/// Compares two sides. `taken` becomes the count of steps taken.
+fn compare_counted<F: WordFacts>(
+    alloc: Global,
+    left: &Side<'_>,
+    right: &Side<'_>,
+    over: Scope,
+    by: Relation,
+    limit: u64,
+    taken: &mut u64,
+) -> Result<Finding, Memory>
+    ensures { IfOk result (λ finding.
+        IsComparison (compared_sides by over left.now right.now) (IsTrue F.starts_exact) limit finding taken.new) }
+{
+    match *left {
+        Side::Stack(filters) => {
+            let stack = StackSide { filters };
+            compare_with::<F, StackSide<'_>>(alloc, stack, right, over, by, limit, taken)
+        }
+        Side::Profile(profile) => {
+            let profile = ByNumber::new(profile);
+            compare_with::<F, ByNumber<'_>>(alloc, profile, right, over, by, limit, taken)
+        }
+    }
+}
+
+/// Compares the left side with the right one.
+fn compare_with<F: WordFacts, L: SideTree + Drop>(
+    alloc: Global,
+    left: L,
+    right: &Side<'_>,
+    over: Scope,
+    by: Relation,
+    limit: u64,
+    taken: &mut u64,
+) -> Result<Finding, Memory>
+    ensures { IfOk result (λ finding. IsComparison (compared_in by over (L.behavior left) (behavior_of right.now))
+        (IsTrue F.starts_exact) limit finding taken.new) }
+{
+    match *right {
+        Side::Stack(filters) => {
+            let right = StackSide { filters };
+            let pair = Pair {
+                left,
+                right,
+                over,
+                by,
+            };
+            compare_pair::<F, L, StackSide<'_>>(alloc, &pair, limit, taken)
+        }
+        Side::Profile(profile) => {
+            let right = ByNumber::new(profile);
+            let pair = Pair {
+                left,
+                right,
+                over,
+                by,
+            };
+            compare_pair::<F, L, ByNumber<'_>>(alloc, &pair, limit, taken)
+        }
+    }
+}
+
+/// Walks the tree of a pair.
+fn compare_pair<F: WordFacts, L: SideTree, R: SideTree>(
+    alloc: Global,
+    pair: &Pair<L, R>,
+    limit: u64,
+    taken: &mut u64,
+) -> Result<Finding, Memory>
+    ensures { IfOk result (λ finding. IsComparison
+        (compared_in pair.now.by pair.now.over (L.behavior pair.now.left) (R.behavior pair.now.right))
+        (IsTrue F.starts_exact) limit finding taken.new) }
+{
+    let facts: F = facts_of(alloc, pair.over)?;
+    let (left, start) = pair.left.start();
+    let (right, _) = pair.right.start();
+    let known = PairKnown { left, right };
+    let root = PairNode::AtLeft(start);
+    let finding = explore(alloc, pair, facts, known, root, limit, taken)?;
+    Ok(finding)
+}
 
 /// Compares a program with a profile over every call record, in at most `limit` steps.
 ///
@@ -54,16 +206,7 @@ pub fn compare<F: WordFacts>(
         limit (effort_of program.now profile.now)) }
 {
     let filters = slice::from_ref(program);
-    let mut taken = 0;
-    compare_filters::<F>(
-        alloc,
-        filters,
-        profile,
-        Scope::All,
-        Relation::Same,
-        limit,
-        &mut taken,
-    )
+    compare_filters::<F>(alloc, filters, profile, Scope::All, Relation::Same, limit)
 }
 
 /// Compares a stack of filters with a profile over the records of a scope, in at most `limit` steps.
@@ -108,9 +251,7 @@ pub fn compare_by<F: WordFacts>(
         (RelatedAnswersIn relation scope (StackAnswers stack.now) profile.now)
         limit (effort_of_stack stack.now profile.now)) }
 {
-    let filters = stack.filters();
-    let mut taken = 0;
-    compare_filters::<F>(alloc, filters, profile, scope, relation, limit, &mut taken)
+    compare_filters::<F>(alloc, stack.filters(), profile, scope, relation, limit)
 }
 
 /// Compares as `compare_by` does, in at most `limit` steps and at most the `left` ones that several comparisons share.
@@ -136,22 +277,15 @@ pub fn compare_within<F: WordFacts>(
         LeavesSteps (min limit left.old) (effort_of_stack stack.now profile.now) left.old verdict left.new) }
     ensures err { OnErr result (left.new ≡ left.old) }
 {
-    let mut taken = 0;
-    let verdict = compare_filters::<F>(
-        alloc,
-        stack.filters(),
-        profile,
-        scope,
-        relation,
-        limit.min(*left),
-        &mut taken,
+    let filters = Side::Stack(stack.filters());
+    let profile = Side::Profile(profile);
+    let finding = compare_sides_within::<F>(
+        alloc, &filters, &profile, scope, relation, limit, left,
     )?;
-    *left -= taken;
-    Ok(verdict)
+    Ok(finding.verdict())
 }
 
-/// Compares filters, the oldest first, with a profile over the records of a scope by a relation. `taken` becomes the
-/// count of steps taken.
+/// Compares filters, the oldest first, with a profile over the records of a scope by a relation.
 fn compare_filters<F: WordFacts>(
     alloc: Global,
     filters: &[Program],
@@ -159,25 +293,16 @@ fn compare_filters<F: WordFacts>(
     scope: Scope,
     relation: Relation,
     limit: u64,
-    taken: &mut u64,
 ) -> Result<Verdict, Memory>
     ensures holds { IfOk result (IsTrueOfStackBy relation filters.now profile.now scope) }
     ensures within { IfOk result (IsWithin limit (effort_of_stack filters.now profile.now)) }
-    ensures taken { IfOk result (λ verdict.
-        AreSteps limit (effort_of_stack filters.now profile.now) verdict taken.new) }
     ensures decided { IsTrue F.starts_exact → All IsPlainProgram filters.now → IsPlainProfile profile.now
         → IfOk result (IsDecided
         (RelatedAnswersIn relation scope (StackAnswers filters.now) profile.now)
         limit (effort_of_stack filters.now profile.now)) }
 {
-    let pair = Pair {
-        filters,
-        profile: ByNumber::new(profile),
-        scope,
-        relation,
-    };
-    let facts: F = facts_of(alloc, scope)?;
-    let (known, start) = start_of(filters);
-    let root = PairNode::AtFilter(start);
-    explore(alloc, &pair, facts, known, root, limit, taken)
+    let filters = Side::Stack(filters);
+    let profile = Side::Profile(profile);
+    let finding = compare_sides::<F>(alloc, &filters, &profile, scope, relation, limit)?;
+    Ok(finding.verdict())
 }

@@ -1,35 +1,29 @@
-//! What the explorer knows of the two sides: a tree of questions.
+//! What the explorer knows of the two sides: one tree of questions.
 
-ghost use Rattle.std.specs.Prelude.{◌<◌, ◌↔◌, ℕ, List, IsTrue};
-ghost use Rattle.scf_insn.specs.Words.{words_of, IsWords};
-ghost use Rattle.scf_compare.specs.internal.Compared.{Compared};
+ghost use Rattle.std.specs.Prelude.{◌<◌, ◌↔◌, IsTrue};
+ghost use Rattle.scf_insn.specs.Words.{words_of};
+ghost use Rattle.scf_compare.specs.Findings.{Compared};
 ghost use Rattle.scf_compare.specs.internal.Leaves.{IsOnlyAnswer, pair_leaves};
 ghost use Rattle.scf_compare.specs.internal.Trees.{Tree, IsStep};
 
+use crate::side_tree::SideLeaf;
 use crate::step::Step;
 use scf_facts::WordFacts;
 use scf_insn::{Answer, CallRecord};
 
-/// A leaf of a filter's tree: its answer, if it is known, and the index of the instruction there.
-#[derive(Clone, Copy)]
-pub(crate) struct FilterLeaf {
-    pub(crate) answer: Option<Answer>,
-    pub(crate) at: usize,
-}
-
 /// A leaf of a comparison's tree: what is known of both answers.
 #[derive(Clone, Copy)]
 pub(crate) struct PairLeaf {
-    pub(crate) filter: FilterLeaf,
-    pub(crate) profile: Answer,
+    pub(crate) left: SideLeaf,
+    pub(crate) right: SideLeaf,
 }
 
-/// A filter and a profile that are asked about the same words, as one tree of questions.
+/// Two sides that are asked about the same words, as one tree of questions.
 pub(crate) trait Comparison {
-    /// What is known at a node beside the store: the filter's registers.
+    /// What is known at a node beside the store.
     type Known: Copy;
 
-    type Node: Drop;
+    type Node: Copy;
 
     ghost compared: { Self → Compared };
 
@@ -47,19 +41,16 @@ pub(crate) trait Comparison {
         ensures { IsStep (pair_leaves (compared self.now)) (F.allows facts.now (F.level facts.now))
             (tree self.now known.old) node.now (tree self.now known.new) result };
 
-    /// The answers to a call: the filter's and the profile's. Each is the only one.
+    /// The answers to a call: the left side's and the right one's. Each is the only one.
     fn answers(&self, call: &CallRecord) -> (Answer, Answer)
-        ensures filter { (compared self.now).filter_answers (words_of call.now) result.0.0 }
-        ensures profile { (compared self.now).profile_answers (words_of call.now) result.1.0 }
-        ensures one_of_filter { IsOnlyAnswer (compared self.now).filter_answers (words_of call.now) result.0.0 }
-        ensures one_of_profile { IsOnlyAnswer (compared self.now).profile_answers (words_of call.now) result.1.0 };
+        ensures left { (compared self.now).left.answers (words_of call.now) result.0.0 }
+        ensures right { (compared self.now).right.answers (words_of call.now) result.1.0 }
+        ensures one_of_left { IsOnlyAnswer (compared self.now).left.answers (words_of call.now) result.0.0 }
+        ensures one_of_right { IsOnlyAnswer (compared self.now).right.answers (words_of call.now) result.1.0 };
 
-    /// Whether the relation holds of an answer of the filter and one of the profile.
-    fn relates(&self, filter: Answer, profile: Answer) -> bool
-        ensures { IsTrue result ↔ (compared self.now).related filter.0 profile.0 };
-
-    /// Everything in the scope is the words of a call record.
-    ghost of_words: { (comparison : Self) (words : List ℕ) → (compared comparison).in_scope words → IsWords words };
+    /// Whether the relation holds of an answer of the left side and one of the right side.
+    fn relates(&self, left: Answer, right: Answer) -> bool
+        ensures { IsTrue result ↔ (compared self.now).related left.0 right.0 };
 
     /// Each node has a size above 0.
     ghost counts: { (comparison : Self) (known : Self.Known) (node : Self.Node)

@@ -5,7 +5,7 @@ ghost use Rattle.scf_facts.specs.Atoms.{atom_answer, word_of};
 ghost use Rattle.scf_machine.specs.Machine.{holds};
 ghost use Rattle.scf_compare.specs.internal.Asking.{AsksOfWords, atoms_answer};
 ghost use Rattle.scf_compare.specs.internal.Conjunctions.{MaskedHolds, IsConjunction, ConjunctionHolds};
-ghost use Rattle.scf_compare.specs.internal.Values.{IsValue, StandsFor, IsTestDecision, Decides, IsZeroTest};
+ghost use Rattle.scf_compare.specs.internal.Values.{IsValue, Abstracts, IsTestDecision, Decides, IsZeroTest};
 
 use crate::asking::Atoms;
 use crate::value::{Decision, Value};
@@ -73,7 +73,7 @@ impl Conjunction {
         requires asks { IsTestDecision is_zero }
         ensures value { IsValue result }
         ensures stands { (words : List ℕ) (a : ℕ) → a < 2 ^ 32 → Decides is_zero words (a == 0)
-            → StandsFor result words a }
+            → Abstracts result words a }
     {
         match is_zero {
             Decision::Known(false) => Value::ZeroTest(Conjunction::One(MaskedWord {

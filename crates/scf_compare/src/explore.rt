@@ -1,16 +1,16 @@
 //! The explorer: a depth-first walk of a comparison's tree.
 
-ghost use Rattle.std.specs.Prelude.{◌≡◌, ◌↔◌, ℕ, List, IsTrue, IfOk, IfSome, IfNone, IsSome};
-ghost use Rattle.scf_compare.specs.Verdicts.{AreSteps, IsWithin, IsDecided};
-ghost use Rattle.scf_compare.specs.internal.Compared.{AllRelated, IsTrueVerdict};
-ghost use Rattle.scf_compare.specs.internal.Leaves.{IsLeaf, Tells, KnowsBoth, WereSeen, WereAllSeen};
+ghost use Rattle.std.specs.Prelude.{◌≡◌, ◌↔◌, ℕ, List, IsTrue, false, IfOk, IfSome, IfNone, IsSome};
+ghost use Rattle.scf_compare.specs.Findings.{AllRelated, AreSteps, IsFindingDecided, IsFindingWithin, IsTrueFinding, WordsRelated};
+ghost use Rattle.scf_compare.specs.internal.Leaves.{AreWordsIn, IsFirstUndecided, IsLeaf, IsUndecidedLeaf};
+ghost use Rattle.scf_compare.specs.internal.Leaves.{KnowsBoth, Tells, WereAllSeen, WereSeen};
 ghost use Rattle.scf_compare.specs.internal.Frontier.{IsFrontier, IsExact};
-ghost use Rattle.scf_compare.specs.internal.Stages.{IsFound, IsStageAfter, verdict_of_all};
+ghost use Rattle.scf_compare.specs.internal.Stages.{IsFound, IsStageAfter, finding_of_all};
 
 use crate::comparison::{Comparison, PairLeaf};
+use crate::finding::{Finding, Which};
 use crate::frontier::{Frontier, ask, fork, take_branch};
 use crate::step::Step;
-use crate::verdict::Verdict;
 use scf_facts::WordFacts;
 use scf_insn::{CallRecord, Memory};
 use std::alloc::Global;
@@ -22,55 +22,73 @@ pub(crate) enum Stage<N> {
     At(N),
     /// Behind the last leaf.
     AllSeen,
-    /// At a verdict.
-    Found(Verdict),
+    /// At a finding.
+    Found(Finding),
 }
 
-/// Judges a leaf: `Differs`, if a record shows it. If the store doesn't decide whether the answers are related, the
-/// leaf's instruction index is kept as the first undecided one, unless there was one before.
+/// Whether both answers are known at a leaf, and the relation holds of them.
+fn is_related<C: Comparison>(comparison: &C, leaf: PairLeaf) -> bool
+    ensures related { IsTrue result → (words : List ℕ) → Tells (C.compared comparison.now) leaf words
+        → WordsRelated (C.compared comparison.now) words }
+    ensures undecided { result ≡ false → IsUndecidedLeaf (C.compared comparison.now) leaf }
+{
+    match (leaf.left.answer, leaf.right.answer) {
+        (Some(left), Some(right)) => comparison.relates(left, right),
+        _ => false,
+    }
+}
+
+/// Where a leaf is undecided: on the left side, unless only the right one's answer isn't known.
+fn open_end_of<C: Comparison>(comparison: &C, leaf: PairLeaf) -> (Which, usize)
+    requires { IsLeaf (C.compared comparison.now) leaf }
+    ensures { IsFirstUndecided (C.compared comparison.now) result }
+{
+    let _ = comparison;
+    match (leaf.left.answer, leaf.right.answer) {
+        (Some(_), None) => (Which::Right, leaf.right.at),
+        _ => (Which::Left, leaf.left.at),
+    }
+}
+
+/// Judges a leaf: `Fails`, if a record shows it. If the store doesn't decide whether the answers are related, the
+/// leaf's side and instruction index are kept as the first undecided ones, unless there were some before.
 ///
-/// A record is shown only after the filter was run on it and the profile was asked.
+/// A record is shown only after both sides answered it.
 fn judge<C: Comparison, F: WordFacts>(
     comparison: &C,
     facts: &F,
     leaf: PairLeaf,
-    first_undecided: &mut Option<usize>,
-) -> Option<Verdict>
+    first_undecided: &mut Option<(Which, usize)>,
+) -> Option<Finding>
     requires leaf { IsLeaf (C.compared comparison.now) leaf }
     requires scope { (words : List ℕ) → F.allows facts.now (F.level facts.now) words
-        → (C.compared comparison.now).in_scope words }
-    requires place { IfSome first_undecided.old (C.compared comparison.now).is_place }
+        → AreWordsIn (C.compared comparison.now) words }
+    requires place { IfSome first_undecided.old (IsFirstUndecided (C.compared comparison.now)) }
     ensures seen { IfNone result ((words : List ℕ) → F.allows facts.now (F.level facts.now) words
         → Tells (C.compared comparison.now) leaf words
         → WereSeen (C.compared comparison.now) first_undecided.new words) }
     ensures found { IfSome result (IsFound (C.compared comparison.now)) }
-    ensures place { IfSome first_undecided.new (C.compared comparison.now).is_place }
+    ensures place { IfSome first_undecided.new (IsFirstUndecided (C.compared comparison.now)) }
     ensures first { IsSome first_undecided.old → first_undecided.new ≡ first_undecided.old }
     ensures exact { IsTrue (F.is_exact facts.now (F.level facts.now)) → KnowsBoth leaf
         → ((words : List ℕ) → F.allows facts.now (F.level facts.now) words
         → Tells (C.compared comparison.now) leaf words)
         → first_undecided.new ≡ first_undecided.old }
 {
-    if let Some(answer) = leaf.filter.answer {
-        if comparison.relates(answer, leaf.profile) {
-            return None;
-        }
+    if is_related(comparison, leaf) {
+        return None;
     }
     if facts.is_empty() {
         return None;
     }
     if let Some(words) = facts.pick() {
         let call = CallRecord::from_words(&words);
-        let (filter, profile) = comparison.answers(&call);
-        if !comparison.relates(filter, profile) {
-            return Some(Verdict::Differs {
-                call,
-                filter,
-                profile,
-            });
+        let (left, right) = comparison.answers(&call);
+        if !comparison.relates(left, right) {
+            return Some(Finding::Fails { call, left, right });
         }
     }
-    *first_undecided = first_undecided.or(Some(leaf.filter.at));
+    *first_undecided = first_undecided.or(Some(open_end_of(comparison, leaf)));
     None
 }
 
@@ -80,17 +98,17 @@ fn advance<C: Comparison, F: WordFacts>(
     frontier: &mut Frontier<F, C::Known, C::Node>,
     known: &mut C::Known,
     node: C::Node,
-    first_undecided: &mut Option<usize>,
+    first_undecided: &mut Option<(Which, usize)>,
 ) -> Result<Stage<C::Node>, Memory>
     requires frontier { IsFrontier F.WordFacts (C.tree comparison.now)
-        (C.compared comparison.now).in_scope frontier.old }
+        (AreWordsIn (C.compared comparison.now)) frontier.old }
     requires node { (C.tree comparison.now known.old).is_node node }
-    requires place { IfSome first_undecided.old (C.compared comparison.now).is_place }
+    requires place { IfSome first_undecided.old (IsFirstUndecided (C.compared comparison.now)) }
     ensures stage { IfOk result (
         IsStageAfter F.WordFacts (C.compared comparison.now) (C.tree comparison.now)
         frontier.old frontier.new (C.tree comparison.now known.old) node (C.tree comparison.now known.new)
         first_undecided.new) }
-    ensures place { IfSome first_undecided.new (C.compared comparison.now).is_place }
+    ensures place { IfSome first_undecided.new (IsFirstUndecided (C.compared comparison.now)) }
     ensures first { IsSome first_undecided.old → first_undecided.new ≡ first_undecided.old }
     ensures exact { let here = C.tree comparison.now known.old in
         IsExact F.WordFacts (C.tree comparison.now) frontier.old (here.is_plain node) (here.reaches node)
@@ -107,8 +125,8 @@ fn advance<C: Comparison, F: WordFacts>(
             Ok(Stage::At(next))
         }
         Step::Leaf(leaf) => {
-            if let Some(verdict) = judge(comparison, &frontier.facts, leaf, first_undecided) {
-                return Ok(Stage::Found(verdict));
+            if let Some(finding) = judge(comparison, &frontier.facts, leaf, first_undecided) {
+                return Ok(Stage::Found(finding));
             }
             match take_branch(comparison, frontier, known)? {
                 Some(next) => Ok(Stage::At(next)),
@@ -120,7 +138,7 @@ fn advance<C: Comparison, F: WordFacts>(
 
 /// Walks the whole tree from a node, with what is known there, for the words that the store allows.
 ///
-/// An undecided leaf doesn't end the walk: another leaf may show a difference. `taken` becomes the count of steps taken.
+/// An undecided leaf doesn't end the walk: another leaf may show a difference. `taken` becomes the count of steps.
 pub(crate) fn explore<C: Comparison, F: WordFacts>(
     alloc: Global,
     comparison: &C,
@@ -129,20 +147,20 @@ pub(crate) fn explore<C: Comparison, F: WordFacts>(
     root: C::Node,
     limit: u64,
     taken: &mut u64,
-) -> Result<Verdict, Memory>
+) -> Result<Finding, Memory>
     requires node { (C.tree comparison.now start).is_node root }
     requires unmarked { F.level facts ≡ 0 }
-    requires scope { (words : List ℕ) → F.allows facts 0 words ↔ (C.compared comparison.now).in_scope words }
-    requires reached { (words : List ℕ) → (C.compared comparison.now).in_scope words
+    requires scope { (words : List ℕ) → F.allows facts 0 words ↔ AreWordsIn (C.compared comparison.now) words }
+    requires reached { (words : List ℕ) → AreWordsIn (C.compared comparison.now) words
         → (C.tree comparison.now start).reaches root words }
-    ensures holds { IfOk result (IsTrueVerdict (C.compared comparison.now)) }
-    ensures within { IfOk result (IsWithin limit ((C.tree comparison.now start).size root)) }
-    ensures taken { IfOk result (λ verdict.
-        AreSteps limit ((C.tree comparison.now start).size root) verdict taken.new) }
+    ensures holds { IfOk result (IsTrueFinding (C.compared comparison.now)) }
+    ensures within { IfOk result (IsFindingWithin limit ((C.tree comparison.now start).size root)) }
+    ensures taken { IfOk result (λ finding.
+        AreSteps limit ((C.tree comparison.now start).size root) finding taken.new) }
     ensures seen { IfOk result (WereAllSeen (C.compared comparison.now)) }
     ensures decided { let tree = C.tree comparison.now start in
         IsTrue (F.is_exact facts 0) → tree.is_plain root
-        → IfOk result (IsDecided (AllRelated (C.compared comparison.now)) limit (tree.size root)) }
+        → IfOk result (IsFindingDecided (AllRelated (C.compared comparison.now)) limit (tree.size root)) }
 {
     let mut frontier = Frontier::new(alloc, facts);
     let mut known = start;
@@ -161,22 +179,22 @@ pub(crate) fn explore<C: Comparison, F: WordFacts>(
                 *taken = steps + 1;
                 return Ok(seen_in(steps + 1, first_undecided));
             }
-            Stage::Found(verdict) => {
+            Stage::Found(finding) => {
                 *taken = steps + 1;
-                return Ok(verdict);
+                return Ok(finding);
             }
         }
     }
     *taken = limit;
-    Ok(Verdict::Unfinished)
+    Ok(Finding::Unfinished)
 }
 
-/// The verdict after everything was seen in `steps` steps.
-fn seen_in(steps: u64, first_undecided: Option<usize>) -> Verdict
-    ensures { result ≡ verdict_of_all steps first_undecided }
+/// The finding after everything was seen in `steps` steps.
+fn seen_in(steps: u64, first_undecided: Option<(Which, usize)>) -> Finding
+    ensures { result ≡ finding_of_all steps first_undecided }
 {
     match first_undecided {
-        Some(at) => Verdict::Undecided { at },
-        None => Verdict::Same { steps },
+        Some((side, at)) => Finding::Undecided { side, at },
+        None => Finding::Holds { steps },
     }
 }

@@ -11,9 +11,9 @@ ghost use Rattle.scf_compare.specs.internal.Filters.{filter_reaches, filter_size
 ghost use Rattle.scf_compare.specs.internal.Trees.{IsStep};
 ghost use Rattle.scf_compare.specs.internal.Values.{AreValues};
 
-use crate::comparison::FilterLeaf;
 use crate::control_flow::ControlFlow;
-use crate::registers::Registers;
+use crate::registers::KnownRegisters;
+use crate::side_tree::SideLeaf;
 use crate::step::Step;
 use crate::value::{Decision, Value};
 use scf_insn::{Answer, Insn, Operation, Test};
@@ -27,29 +27,29 @@ pub(crate) enum FilterNode {
 }
 
 /// The root of a filter's tree, and what is known of the registers there.
-pub(crate) fn start_in_filter(program: &Program) -> (Registers, FilterNode)
+pub(crate) fn start_in_filter(program: &Program) -> (KnownRegisters, FilterNode)
     ensures node { filter_is_node program.now result.0 result.1 }
     ensures reached { (words : List ℕ) → filter_reaches program.now result.0 result.1 words }
     ensures size { filter_size program.now result.1 ≡ tree_size program.now 0 }
     ensures plain { IsPlainProgram program.now → filter_is_plain program.now result.0 result.1 }
 {
     let _insns = program.insns();
-    (Registers::at_start(), FilterNode::At(0))
+    (KnownRegisters::at_start(), FilterNode::At(0))
 }
 
 /// The step from a node of a filter, and what is known of its registers after it.
 pub(crate) fn step_in_filter(
     program: &Program,
-    registers: &mut Registers,
+    registers: &mut KnownRegisters,
     node: FilterNode,
-) -> Step<FilterNode, FilterLeaf>
+) -> Step<FilterNode, SideLeaf>
     requires { filter_is_node program.now registers.old node }
     ensures { IsStep (leaves_of_filter program.now) IsWords
         (filter_tree program.now registers.old) node (filter_tree program.now registers.new) result }
 {
     match node {
         FilterNode::At(place) => step_at(program.insns(), place, registers),
-        FilterNode::Stopped(answer, at) => Step::Leaf(FilterLeaf {
+        FilterNode::Stopped(answer, at) => Step::Leaf(SideLeaf {
             answer: Some(answer),
             at,
         }),
@@ -58,7 +58,11 @@ pub(crate) fn step_in_filter(
 
 /// The step from the instruction at an index, and what is known of the registers after it.
 #[tactic(auto, using(crate::proofs::ControlFlows::operations))]
-fn step_at(insns: &[Insn], place: usize, registers: &mut Registers) -> Step<FilterNode, FilterLeaf>
+fn step_at(
+    insns: &[Insn],
+    place: usize,
+    registers: &mut KnownRegisters,
+) -> Step<FilterNode, SideLeaf>
     requires place { place < length insns.now }
     requires valid { IsValidList insns.now }
     requires safe { (words : List ℕ) → RunsSafely insns.now words }
@@ -80,8 +84,8 @@ fn step_of(
     place: usize,
     insn: Insn,
     operation: Operation,
-    registers: &mut Registers,
-) -> Step<FilterNode, FilterLeaf>
+    registers: &mut KnownRegisters,
+) -> Step<FilterNode, SideLeaf>
     requires stands { Stands insns.now place insn operation }
     requires valid { IsValidList insns.now }
     requires safe { (words : List ℕ) → RunsSafely insns.now words }
@@ -108,11 +112,11 @@ fn step_of(
             registers.apply(insn, operation);
             step_by(decision, stopped, FilterNode::At(next))
         }
-        ControlFlow::ReturnConstant => Step::Leaf(FilterLeaf {
+        ControlFlow::ReturnConstant => Step::Leaf(SideLeaf {
             answer: Some(Answer(insn.k)),
             at: place,
         }),
-        ControlFlow::ReturnAccumulator => Step::Leaf(FilterLeaf {
+        ControlFlow::ReturnAccumulator => Step::Leaf(SideLeaf {
             answer: registers.a.answer(),
             at: place,
         }),
@@ -124,7 +128,7 @@ fn step_by(
     decision: Decision,
     if_true: FilterNode,
     if_false: FilterNode,
-) -> Step<FilterNode, FilterLeaf>
+) -> Step<FilterNode, SideLeaf>
     ensures { IsStepOf decision if_true if_false result }
 {
     match decision {

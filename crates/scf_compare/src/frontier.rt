@@ -2,7 +2,7 @@
 
 ghost use Rattle.std.specs.Prelude.{◌≡◌, ◌+◌, ◌<◌, ◌≤◌, ◌↔◌, ◌++◌, ◌∷◌, [], ℕ, List, IsTrue, OnOk, IfOk, MatchOption};
 ghost use Rattle.scf_facts.specs.Levels.{IsSameLevel};
-ghost use Rattle.scf_compare.specs.internal.Leaves.{IsLeaf};
+ghost use Rattle.scf_compare.specs.internal.Leaves.{AreWordsIn, IsLeaf};
 ghost use Rattle.scf_compare.specs.internal.Frontier.{GivesLearned, LearnsOfWords, LearnsExactly, IsInBranch, IsFrontier};
 ghost use Rattle.scf_compare.specs.internal.Stages.{LeadsTo, IsTaken};
 ghost use Rattle.scf_compare.specs.internal.Trees.{IsProper};
@@ -93,7 +93,7 @@ pub(crate) fn take_branch<C: Comparison, F: WordFacts>(
     frontier: &mut Frontier<F, C::Known, C::Node>,
     known: &mut C::Known,
 ) -> Result<Option<C::Node>, Memory>
-    requires { IsFrontier F.WordFacts (C.tree comparison.now) (C.compared comparison.now).in_scope frontier.old }
+    requires { IsFrontier F.WordFacts (C.tree comparison.now) (AreWordsIn (C.compared comparison.now)) frontier.old }
     ensures { IfOk result (λ taken. MatchOption taken
         ((words : List ℕ) → IsInBranch F.WordFacts (C.tree comparison.now) frontier.old words → ⊥)
         (IsTaken F.WordFacts (C.compared comparison.now) (C.tree comparison.now)
@@ -120,7 +120,7 @@ pub(crate) fn ask<C: Comparison, F: WordFacts>(
     if_false: C::Node,
 ) -> Result<C::Node, Memory>
     requires frontier { IsFrontier F.WordFacts (C.tree comparison.now)
-        (C.compared comparison.now).in_scope frontier.old }
+        (AreWordsIn (C.compared comparison.now)) frontier.old }
     requires proper { let step = Step.Branch (Some atoms) if_true if_false in
         IsProper (C.tree comparison.now known.now) (IsLeaf (C.compared comparison.now)) step }
     ensures { let step = Step.Branch (Some atoms) if_true if_false in
@@ -148,7 +148,7 @@ pub(crate) fn fork<C: Comparison, F: WordFacts>(
     if_false: C::Node,
 ) -> Result<C::Node, Memory>
     requires frontier { IsFrontier F.WordFacts (C.tree comparison.now)
-        (C.compared comparison.now).in_scope frontier.old }
+        (AreWordsIn (C.compared comparison.now)) frontier.old }
     requires proper { let step = Step.Branch None if_true if_false in
         IsProper (C.tree comparison.now known.now) (IsLeaf (C.compared comparison.now)) step }
     ensures { let step = Step.Branch None if_true if_false in

@@ -9,6 +9,13 @@ ghost use Rattle.scf_machine.specs.Precedence.{StackAnswers};
 ghost use Rattle.scf_profile.specs.Profile.{Profile, HaveNoConflict};
 ghost use Rattle.scf_profile.specs.ProfileAnswers.{ProfileAnswers};
 ghost use Rattle.scf_compare.specs.Headline.{Headline};
+ghost use Rattle.scf_compare.specs.SideLaws.{
+  BothWaysIsOneDisposition,
+  HoldsThrough,
+  HoldsTurned,
+  SameHoldsByAll,
+  SidesHeadline,
+};
 ghost use Rattle.scf_profile.specs.Scope.{IsInScope, RelatedAnswersIn, SameAnswersIn};
 
 use scf_profile::{Relation, Scope};
@@ -34,6 +41,34 @@ pub fn no_more_and_no_less_is_one_disposition()
         → IsRecord call → IsInScope scope call
         → StackAnswers filters (words_of call) filter → ProfileAnswers p call profile
         → disposition_of filter ≡ disposition_of profile }
+{}
+
+/// The headline of any two sides, which follows from what `compare_sides` promises.
+#[tactic(auto, using(crate::proofs::Relations::side_answers_once))]
+pub fn sides_headline()
+    ensures { SidesHeadline }
+{}
+
+/// A comparison with left and right exchanged.
+pub fn holds_turned()
+    ensures { HoldsTurned }
+{}
+
+/// Sides that answer alike are related by each relation.
+pub fn same_holds_by_all()
+    ensures { SameHoldsByAll }
+{}
+
+/// What is no more permissive, and no less, denies, delegates and allows the same calls.
+#[tactic(auto, using(crate::proofs::Relations::side_answers_once))]
+pub fn both_ways_is_one_disposition()
+    ensures { BothWaysIsOneDisposition }
+{}
+
+/// A comparison of three sides.
+#[tactic(auto, using(crate::proofs::Relations::side_answers_once))]
+pub fn holds_through()
+    ensures { HoldsThrough }
 {}
 
 /// The headline, which follows from what `check`, `compare_stack` and `compare_by` promise.

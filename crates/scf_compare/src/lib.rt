@@ -1,30 +1,34 @@
-//! Compares filters with a profile, over every call record of a scope.
+//! Compares two sides, each a stack of filters or a profile, over every call record of a scope.
 //!
 //! # How it works
 //!
-//! Take the filter `ld [0]; jeq #41, 0, 1; ret ERRNO; ret ALLOW` and a profile that allows everything but syscall 41,
-//! which gets ERRNO.
+//! Take the filter `ld [0]; jeq #41, 0, 1; ret ERRNO; ret ALLOW` on the left, and on the right a profile that allows
+//! everything but syscall 41, which gets ERRNO.
 //!
-//! 1. The filter is a tree of questions (`filter`). `ld [0]` has one successor (`Step::Next`); what is known of the
-//!    registers says that A now is word 0 of the record (`value::Value::Slice`). `jeq #41` asks `Atom::Eq` about word 0
-//!    (`Step::Branch`). Each `ret` is a leaf with its answer (`Step::Leaf`).
+//! 1. Each side is a tree of questions (`side_tree`): the filter's tree is in `filter`, the profile's in `profile`.
+//!    `ld [0]` has one successor (`Step::Next`); what is known of the registers says that A now is word 0 of the record
+//!    (`value::Value::Slice`). `jeq #41` asks `Atom::Eq` about word 0 (`Step::Branch`). Each `ret` is a leaf with its
+//!    answer (`Step::Leaf`).
 //! 2. The walk (`explore`) puts the question to the store of facts (`scf_facts`). It doesn't know the answer, so a
 //!    branch for "no" stays open behind a mark of the store (`frontier`), and "yes" is learned: word 0 is 41.
-//! 3. At the leaf `ret ERRNO` the profile's tree begins (`pair`, `profile`). Is the architecture x86-64? Unknown, so
+//! 3. At the leaf `ret ERRNO` the tree of the right side begins (`pair`). Is the architecture x86-64? Unknown, so
 //!    another branch is opened and "yes" is learned. Is the number below 0x40000000, is it 41? Both are known. The
 //!    profile's leaf has ERRNO: the answers are related.
-//! 4. The newest open branch is taken: the store is undone to its mark, and "no" is learned. For other architectures the
-//!    profile answers KILL_PROCESS and the filter ERRNO. The store gives a record that comes to this leaf (`pick`), the
-//!    filter is run on it, the profile is asked, and the verdict is `Differs`. Over x86-64 alone the walk goes on with
-//!    the first branch and ends with `Same`.
+//! 4. The newest open branch is taken: the store is undone to its mark, and "no" is learned. For other architectures
+//!    the profile answers KILL_PROCESS and the filter ERRNO. The store gives a record that comes to this leaf (`pick`),
+//!    the filter is run on it, the profile is asked, and the finding is `Fails`. Over x86-64 alone the walk goes on with
+//!    the first branch and ends with `Holds`.
+//!
+//! With a filter on the right, too, nothing else changes: the same filter on both sides, and the walk asks `jeq #41` a
+//! second time behind each leaf of the first. The store knows the answer by then.
 //!
 //! A value that the filter computes stays known while it is a bit slice of a word (`bit_slice`), such a slice plus a
 //! constant (`affine_term`), or something whose test for 0 is one or two equations (`conjunction`). Everything else is
 //! unknown: the walk follows both sides of its tests and learns nothing, so a leaf behind may stay undecided.
-//! `Undecided` is the verdict only if everything else was seen and no difference was found.
+//! `Undecided` is the finding only if everything else was seen and nothing fails.
 //!
 //! A stack of filters is walked oldest first (`stack`). The proofs of the walk speak of trees (`comparison`), and
-//! neither of instructions nor of rules.
+//! neither of instructions nor of rules. `Verdict` is the finding on a filter, on the left, and a profile (`comparer`).
 #![tactic(auto)]
 
 mod affine_term;
@@ -35,8 +39,10 @@ mod comparer;
 mod comparison;
 mod conjunction;
 mod control_flow;
+mod decided;
 mod explore;
 mod filter;
+mod finding;
 mod frontier;
 mod laws;
 mod pair;
@@ -45,15 +51,25 @@ mod profile;
 mod question;
 mod registers;
 mod scope;
+mod side;
+mod side_tree;
 mod stack;
 mod step;
 mod tree_sizes;
 mod value;
 mod verdict;
 
-pub use comparer::{compare, compare_by, compare_stack, compare_within};
-pub use laws::{no_more_and_no_less_is_one_disposition, same_is_no_more_and_no_less};
+pub use comparer::{
+    compare, compare_by, compare_sides, compare_sides_within, compare_stack, compare_within,
+};
+pub use finding::{Finding, Which};
+pub use laws::{
+    both_ways_is_one_disposition, headline, holds_through, holds_turned,
+    no_more_and_no_less_is_one_disposition, same_holds_by_all, same_is_no_more_and_no_less,
+    sides_headline,
+};
 pub use plain::is_plain;
 pub use scf_profile::{Relation, Scope};
-pub use tree_sizes::{effort, effort_stack};
+pub use side::Side;
+pub use tree_sizes::{effort, effort_sides, effort_stack};
 pub use verdict::Verdict;

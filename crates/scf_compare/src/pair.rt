@@ -1,113 +1,115 @@
-//! Filters and a profile as one tree of questions.
+//! Two sides as one tree of questions: the left side is asked first, and the right one at each leaf of its tree.
 
-ghost use Rattle.scf_machine.specs.Precedence.{StackAnswers};
-ghost use Rattle.scf_compare.specs.internal.Leaves.{IsPlaceOf, pair_leaves};
-ghost use Rattle.scf_compare.specs.internal.Pairs.{pair_tree};
-ghost use Rattle.scf_compare.specs.internal.Profiles.{profile_is_node};
-ghost use Rattle.scf_compare.specs.internal.Scopes.{compared_in};
-ghost use Rattle.scf_compare.specs.internal.Stacks.{IsStackLeaf};
+ghost use Rattle.scf_compare.specs.Findings.{compared_in};
+ghost use Rattle.scf_compare.specs.internal.Leaves.{IsSideLeaf, pair_leaves};
+ghost use Rattle.scf_compare.specs.internal.Pairs.{pair_known, pair_tree};
 ghost use Rattle.scf_compare.specs.internal.Trees.{IsStep};
 
-use crate::by_number::ByNumber;
-use crate::comparison::{Comparison, FilterLeaf, PairLeaf};
-use crate::profile::ProfileNode;
-use crate::registers::Registers;
-use crate::stack::{StackNode, step_in_stack};
+use crate::comparison::{Comparison, PairLeaf};
+use crate::decided::decided_step;
+use crate::side_tree::{SideLeaf, SideTree};
 use crate::step::Step;
-use PairNode::{AtFilter, AtProfile};
 use scf_facts::WordFacts;
 use scf_insn::{Answer, CallRecord};
-use scf_machine::{Program, decide};
 use scf_profile::{Relation, Scope};
 
-/// A node of the filters' tree, or one of the profile's tree behind a leaf of the filters'.
+/// What is known of each side. Of the right one it counts only behind a leaf of the left side's tree.
 #[derive(Clone, Copy)]
-pub(crate) enum PairNode {
-    AtFilter(StackNode),
-    AtProfile(FilterLeaf, ProfileNode),
+pub(crate) struct PairKnown<K, M> {
+    pub(crate) left: K,
+    pub(crate) right: M,
 }
 
-/// Filters, the oldest first, and the profile that they are compared with over a scope, by a relation.
+/// A node of the left side's tree, or one of the right side's tree behind a leaf of the left side's.
+#[derive(Clone, Copy)]
+pub(crate) enum PairNode<A, B> {
+    AtLeft(A),
+    AtRight(SideLeaf, B),
+}
+
+/// Two sides that are compared over a scope, by a relation.
 #[derive(Drop)]
-pub(crate) struct Pair<'a> {
-    pub(crate) filters: &'a [Program],
-    pub(crate) profile: ByNumber<'a>,
-    pub(crate) scope: Scope,
-    pub(crate) relation: Relation,
+pub(crate) struct Pair<L, R> {
+    pub(crate) left: L,
+    pub(crate) right: R,
+    pub(crate) over: Scope,
+    pub(crate) by: Relation,
 }
 
-impl Comparison for Pair<'_> {
-    type Known = Registers;
+impl<L: SideTree, R: SideTree> Comparison for Pair<L, R> {
+    type Known = PairKnown<L::Known, R::Known>;
 
-    type Node = PairNode;
+    type Node = PairNode<L::Node, R::Node>;
 
-    ghost compared = { λ pair. compared_in pair.relation pair.scope (IsPlaceOf (IsStackLeaf pair.filters.now))
-        (StackAnswers pair.filters.now) pair.profile.profile };
+    ghost compared = { λ pair. compared_in pair.by pair.over (L.behavior pair.left) (R.behavior pair.right) };
 
-    ghost tree = { λ pair. pair_tree pair.filters.now pair.profile };
+    ghost tree = { λ pair. pair_tree (compared_in pair.by pair.over (L.behavior pair.left) (R.behavior pair.right))
+        (L.tree pair.left) (R.tree pair.right) };
 
     fn step<F: WordFacts>(
         &self,
         facts: &F,
-        known: &mut Registers,
-        node: &PairNode,
-    ) -> Step<PairNode, PairLeaf> {
+        known: &mut PairKnown<L::Known, R::Known>,
+        node: &PairNode<L::Node, R::Node>,
+    ) -> Step<PairNode<L::Node, R::Node>, PairLeaf> {
         match *node {
-            AtFilter(node) => match step_in_stack(self.filters, known, node) {
-                Step::Next(next) => Step::Next(AtFilter(next)),
-                Step::Branch(asked, if_true, if_false) => {
-                    Step::Branch(asked, AtFilter(if_true), AtFilter(if_false))
+            PairNode::AtLeft(node) => match self.left.step(facts, &mut known.left, node) {
+                Step::Next(next) => Step::Next(PairNode::AtLeft(next)),
+                Step::Branch(asked, if_true, if_false) => Step::Branch(
+                    asked,
+                    PairNode::AtLeft(if_true),
+                    PairNode::AtLeft(if_false),
+                ),
+                Step::Leaf(leaf) => {
+                    let (start_known, start) = self.right.start();
+                    known.right = start_known;
+                    self.ask_right(facts, &mut known.right, leaf, start)
                 }
-                Step::Leaf(leaf) => self.ask_profile(facts, leaf, ProfileNode::Architecture),
             },
-            AtProfile(leaf, node) => self.ask_profile(facts, leaf, node),
+            PairNode::AtRight(leaf, node) => self.ask_right(facts, &mut known.right, leaf, node),
         }
     }
 
-    #[tactic(auto, using(crate::proofs::Relations::single_answers))]
     fn answers(&self, call: &CallRecord) -> (Answer, Answer) {
-        call.within_widths();
-        let profile = self.profile.profile();
-        let _rules = profile.rules();
-        (decide(self.filters, call), profile.answer(call))
+        (self.left.answer(call), self.right.answer(call))
     }
 
-    fn relates(&self, filter: Answer, profile: Answer) -> bool {
-        self.relation.holds(filter, profile)
+    fn relates(&self, left: Answer, right: Answer) -> bool {
+        self.by.relates(left, right)
     }
 
     ghost use Rattle.scf_compare.specs.internal.Laws.{pair_counts};
 
-    ghost of_words = { λ _ words within. within.0 };
-
-    ghost counts = { λ pair. pair_counts pair.filters.now pair.profile };
+    ghost counts = { λ pair. pair_counts
+        (compared_in pair.by pair.over (L.behavior pair.left) (R.behavior pair.right))
+        (L.tree pair.left) (R.tree pair.right) (L.counts pair.left) (R.counts pair.right) (R.size_counts pair.right) };
 }
 
-impl Pair<'_> {
-    /// The profile's next question, behind a leaf of the filters' tree.
-    fn ask_profile<F: WordFacts>(
+impl<L: SideTree, R: SideTree> Pair<L, R> {
+    /// The right side's step, behind a leaf of the left side's tree.
+    fn ask_right<F: WordFacts>(
         &self,
         facts: &F,
-        leaf: FilterLeaf,
-        node: ProfileNode,
-    ) -> Step<PairNode, PairLeaf>
-        requires node { profile_is_node self.now.profile node }
-        requires leaf { IsStackLeaf self.now.filters.now leaf }
-        ensures { (registers : Registers) → let filters = self.now.filters.now in
-            let s = self.now.profile in
-            IsStep (pair_leaves (compared_in self.now.relation self.now.scope (IsPlaceOf (IsStackLeaf filters))
-            (StackAnswers filters) s.profile)) (F.allows facts.now (F.level facts.now))
-            (pair_tree filters s registers) (PairNode.AtProfile leaf node) (pair_tree filters s registers) result }
+        known: &mut R::Known,
+        leaf: SideLeaf,
+        node: R::Node,
+    ) -> Step<PairNode<L::Node, R::Node>, PairLeaf>
+        requires node { (R.tree self.now.right known.old).is_node node }
+        requires leaf { IsSideLeaf (L.behavior self.now.left) leaf }
+        ensures { (left : L.Known) → let pair = self.now in
+            let compared = compared_in pair.by pair.over (L.behavior pair.left) (R.behavior pair.right) in
+            let tree = pair_tree compared (L.tree pair.left) (R.tree pair.right) in
+            IsStep (pair_leaves compared) (F.allows facts.now (F.level facts.now))
+            (tree (pair_known left known.old)) (PairNode.AtRight leaf node) (tree (pair_known left known.new)) result }
     {
-        match self.profile.step(facts, node) {
-            Step::Next(next) => Step::Next(AtProfile(leaf, next)),
-            Step::Branch(asked, if_true, if_false) => {
-                Step::Branch(asked, AtProfile(leaf, if_true), AtProfile(leaf, if_false))
-            }
-            Step::Leaf(profile) => Step::Leaf(PairLeaf {
-                filter: leaf,
-                profile,
-            }),
+        match decided_step(&self.right, facts, known, node) {
+            Step::Next(next) => Step::Next(PairNode::AtRight(leaf, next)),
+            Step::Branch(asked, if_true, if_false) => Step::Branch(
+                asked,
+                PairNode::AtRight(leaf, if_true),
+                PairNode::AtRight(leaf, if_false),
+            ),
+            Step::Leaf(right) => Step::Leaf(PairLeaf { left: leaf, right }),
         }
     }
 }

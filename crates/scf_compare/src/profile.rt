@@ -7,7 +7,9 @@ ghost use Rattle.scf_profile.specs.declared.condition.Condition.{Condition};
 ghost use Rattle.scf_profile.specs.Rule.{IsRule};
 ghost use Rattle.scf_compare.specs.internal.Conditions.{ConditionLeadsTo, successor_size};
 ghost use Rattle.scf_compare.specs.Effort.{conditions_size, rules_size};
-ghost use Rattle.scf_compare.specs.internal.Profiles.{IsAtCondition, IsAtRule, IsFrom, StandsAt, leaves_of_profile};
+ghost use Rattle.scf_compare.specs.Sides.{profile_behavior};
+ghost use Rattle.scf_compare.specs.internal.Leaves.{side_leaves};
+ghost use Rattle.scf_compare.specs.internal.Profiles.{IsAtCondition, IsAtRule, IsFrom, StandsAt};
 ghost use Rattle.scf_compare.specs.internal.Profiles.{own_conditions, own_rules, profile_is_node, profile_reaches};
 ghost use Rattle.scf_compare.specs.internal.Profiles.{profile_size, profile_tree, size_behind, size_of_rest};
 ghost use Rattle.scf_compare.specs.internal.Trees.{IsStep};
@@ -15,10 +17,11 @@ ghost use Rattle.scf_compare.specs.internal.Trees.{IsStep};
 use crate::asking::{Atoms, word_is};
 use crate::by_number::ByNumber;
 use crate::question::{ConditionPart, Successor, question_of};
+use crate::side_tree::{SideLeaf, SideTree};
 use crate::step::Step;
 use scf_facts::{Atom, Tell, WordFacts};
-use scf_insn::Answer;
 use scf_insn::kernel::{AUDIT_ARCH_X86_64, X32_SYSCALL_BIT};
+use scf_insn::{Answer, CallRecord};
 use scf_profile::{FOREIGN_ANSWER, Rule};
 
 /// Where a condition stands, by indices.
@@ -47,15 +50,51 @@ pub(crate) enum ProfileNode {
     Answer(Answer),
 }
 
-impl ByNumber<'_> {
-    /// The step from a node, for the words that the store allows.
-    pub(crate) fn step<F: WordFacts>(
+impl SideTree for ByNumber<'_> {
+    type Known = ();
+
+    type Node = ProfileNode;
+
+    ghost behavior = { λ s. profile_behavior s.profile };
+
+    ghost tree = { λ s _. profile_tree s };
+
+    #[tactic(auto, using(crate::proofs::Numbered::numbers_spread))]
+    fn start(&self) -> ((), ProfileNode) {
+        let _numbers = self.numbers();
+        ((), ProfileNode::Architecture)
+    }
+
+    fn step<F: WordFacts>(
         &self,
         facts: &F,
+        known: &mut (),
         node: ProfileNode,
-    ) -> Step<ProfileNode, Answer>
+    ) -> Step<ProfileNode, SideLeaf> {
+        let _ = known;
+        self.step_from(facts, node)
+    }
+
+    #[tactic(auto, using(crate::proofs::Relations::single_answers))]
+    fn answer(&self, call: &CallRecord) -> Answer {
+        call.within_widths();
+        let profile = self.profile();
+        let _rules = profile.rules();
+        profile.answer(call)
+    }
+
+    ghost use Rattle.scf_compare.specs.internal.Laws.{profile_node_counts, spread_counts};
+
+    ghost counts = { λ s _. profile_node_counts s };
+
+    ghost size_counts = { λ s. spread_counts s.profile.rules };
+}
+
+impl ByNumber<'_> {
+    /// The step from a node, for the words that the store allows.
+    fn step_from<F: WordFacts>(&self, facts: &F, node: ProfileNode) -> Step<ProfileNode, SideLeaf>
         requires { profile_is_node self.now node }
-        ensures { IsStep (leaves_of_profile self.now.profile)
+        ensures { IsStep (side_leaves (profile_behavior self.now.profile))
             (λ words. IsWords words × F.allows facts.now (F.level facts.now) words)
             (profile_tree self.now) node (profile_tree self.now) result }
     {
@@ -75,7 +114,7 @@ impl ByNumber<'_> {
             ),
             ProfileNode::Number(place) => self.ask_number(facts, place),
             ProfileNode::Condition(at, part) => self.ask_condition(at, part),
-            ProfileNode::Answer(answer) => Step::Leaf(answer),
+            ProfileNode::Answer(answer) => Step::Leaf(SideLeaf::of_profile(answer)),
         }
     }
 
@@ -83,8 +122,8 @@ impl ByNumber<'_> {
     ///
     /// Numbers that the store knows to be too low or too high aren't asked. If it knows the number, that one is asked
     /// at once.
-    fn ask_number<F: WordFacts>(&self, facts: &F, place: usize) -> Step<ProfileNode, Answer>
-        ensures { IsStep (leaves_of_profile self.now.profile)
+    fn ask_number<F: WordFacts>(&self, facts: &F, place: usize) -> Step<ProfileNode, SideLeaf>
+        ensures { IsStep (side_leaves (profile_behavior self.now.profile))
             (λ words. IsWords words × F.allows facts.now (F.level facts.now) words)
             (profile_tree self.now) (ProfileNode.Number place) (profile_tree self.now) result }
     {
@@ -92,11 +131,11 @@ impl ByNumber<'_> {
         let numbers = self.numbers();
         let from = self.first_possible(facts, place);
         if from >= numbers.len() {
-            return Step::Leaf(default_answer);
+            return Step::Leaf(SideLeaf::of_profile(default_answer));
         }
         let own = &numbers[from];
         if is_known_below(facts, own.number) {
-            return Step::Leaf(default_answer);
+            return Step::Leaf(SideLeaf::of_profile(default_answer));
         }
         Step::Branch(
             Some(Atoms::One(word_is(0, own.number))),
@@ -199,9 +238,9 @@ impl ByNumber<'_> {
     }
 
     /// The step from a condition.
-    fn ask_condition(&self, at: ConditionPlace, part: ConditionPart) -> Step<ProfileNode, Answer>
+    fn ask_condition(&self, at: ConditionPlace, part: ConditionPart) -> Step<ProfileNode, SideLeaf>
         requires { StandsAt self.now.numbers at }
-        ensures { IsStep (leaves_of_profile self.now.profile) IsWords
+        ensures { IsStep (side_leaves (profile_behavior self.now.profile)) IsWords
             (profile_tree self.now) (ProfileNode.Condition at part) (profile_tree self.now) result }
     {
         let rule = &self.rules_at(at.number)[at.rule];

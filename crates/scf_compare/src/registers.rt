@@ -15,7 +15,7 @@ ghost use Rattle.scf_machine.specs.Machine.{
   Goes,
 };
 ghost use Rattle.scf_compare.specs.internal.ControlFlow.{UsesScratch};
-ghost use Rattle.scf_compare.specs.internal.Values.{IsValue, StandsFor, IsPlainValue, AreValues, Describes};
+ghost use Rattle.scf_compare.specs.internal.Values.{IsValue, Abstracts, IsPlainValue, AreValues, Describes};
 
 use crate::bit_slice::BitSlice;
 use crate::value::Value;
@@ -24,20 +24,20 @@ use scf_insn::{Arithmetic, Insn, Operand, Operation, Register};
 
 /// What is known of both registers and the sixteen scratch words.
 #[derive(Clone, Copy)]
-pub(crate) struct Registers {
+pub(crate) struct KnownRegisters {
     pub(crate) a: Value,
     pub(crate) x: Value,
     pub(crate) scratch: [Value; BPF_MEMWORDS],
 }
 
-impl Registers {
+impl KnownRegisters {
     /// At the start of a run: both registers are 0, and no scratch word is stored.
-    pub(crate) fn at_start() -> Registers
+    pub(crate) fn at_start() -> KnownRegisters
         ensures values { AreValues result }
         ensures describes { (words : List ℕ) → Describes result words start }
         ensures plain { IsPlainValue result.a }
     {
-        Registers {
+        KnownRegisters {
             a: Value::Known(0),
             x: Value::Known(0),
             scratch: [Value::Unknown; BPF_MEMWORDS],
@@ -48,7 +48,7 @@ impl Registers {
         requires { AreValues self.now }
         ensures value { IsValue result }
         ensures stands { (words : List ℕ) (s : State) → Describes self.now words s
-            → StandsFor result words (value_of register s) }
+            → Abstracts result words (value_of register s) }
     {
         match register {
             Register::A => self.a,
@@ -62,7 +62,7 @@ impl Registers {
         requires value { IsValue value }
         ensures values { AreValues self.new }
         ensures describes { (words : List ℕ) (s : State) (number : ℕ) → Describes self.old words s
-            → StandsFor value words number
+            → Abstracts value words number
             → Describes self.new words (sets register s number) }
         ensures accumulator { register ≡ Register.A → self.new.a ≡ value }
     {
@@ -79,7 +79,7 @@ impl Registers {
         requires index { index < bpf_memwords }
         ensures values { AreValues self.new }
         ensures describes { (words : List ℕ) (s : State) (number : ℕ) → Describes self.old words s
-            → StandsFor value words number
+            → Abstracts value words number
             → Describes self.new words (stores s index number) }
     {
         self.scratch[index as usize] = value;
@@ -90,7 +90,7 @@ impl Registers {
         requires { AreValues self.now }
         ensures value { IsValue result }
         ensures stands { (words : List ℕ) (s : State) → Describes self.now words s
-            → StandsFor result words (operand_of operand insn s) }
+            → Abstracts result words (operand_of operand insn s) }
         ensures constant { operand ≡ Operand.Constant → result ≡ Value.Known insn.k }
     {
         match operand {
@@ -104,7 +104,7 @@ impl Registers {
         requires { AreValues self.now }
         ensures value { IsValue result }
         ensures stands { (words : List ℕ) (s : State) → Describes self.now words s
-            → StandsFor result words (operand_in_computation arithmetic operand insn s) }
+            → Abstracts result words (operand_in_computation arithmetic operand insn s) }
     {
         match (operand, arithmetic) {
             (Operand::Index, Arithmetic::Lsh | Arithmetic::Rsh) => self.x.low_five_bits(),

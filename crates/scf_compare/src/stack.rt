@@ -7,18 +7,20 @@ ghost use Rattle.scf_machine.specs.Machine.{RunAnswers};
 ghost use Rattle.scf_machine.specs.Plain.{IsPlainProgram};
 ghost use Rattle.scf_machine.specs.Precedence.{StackAnswers};
 ghost use Rattle.scf_compare.specs.Effort.{stack_paths};
-ghost use Rattle.scf_compare.specs.internal.Leaves.{FilterTells, KnowsAnswer};
+ghost use Rattle.scf_compare.specs.Sides.{stack_behavior};
+ghost use Rattle.scf_compare.specs.internal.Leaves.{KnowsAnswer, SideTells};
 ghost use Rattle.scf_compare.specs.internal.Stacks.{IsOlder, IsStackLeaf, OlderTells, leaves_of_stack, filter_at};
 ghost use Rattle.scf_compare.specs.internal.Stacks.{stack_is_node, stack_is_plain, stack_reaches, stack_size, stack_tree};
 ghost use Rattle.scf_compare.specs.internal.Trees.{IsStep};
 
-use crate::comparison::FilterLeaf;
 use crate::filter::{FilterNode, start_in_filter, step_in_filter};
-use crate::registers::Registers;
+use crate::registers::KnownRegisters;
+use crate::side_tree::{SideLeaf, SideTree};
 use crate::step::Step;
 use StackNode::{At, Empty};
-use scf_insn::{Action, Answer};
-use scf_machine::Program;
+use scf_facts::WordFacts;
+use scf_insn::{Action, Answer, CallRecord};
+use scf_machine::{Program, decide};
 
 /// A node of one filter of a stack, with the leaf that the older filters came to, if there are any.
 #[derive(Clone, Copy)]
@@ -26,36 +28,77 @@ pub(crate) enum StackNode {
     /// There is no filter.
     Empty,
     /// In the filter at this index.
-    At(usize, Option<FilterLeaf>, FilterNode),
+    At(usize, Option<SideLeaf>, FilterNode),
+}
+
+/// The filters of a stack, the oldest first.
+#[derive(Drop)]
+pub(crate) struct StackSide<'a> {
+    pub(crate) filters: &'a [Program],
+}
+
+impl SideTree for StackSide<'_> {
+    type Known = KnownRegisters;
+
+    type Node = StackNode;
+
+    ghost behavior = { λ side. stack_behavior side.filters.now };
+
+    ghost tree = { λ side. stack_tree side.filters.now };
+
+    fn start(&self) -> (KnownRegisters, StackNode) {
+        start_of(self.filters)
+    }
+
+    fn step<F: WordFacts>(
+        &self,
+        facts: &F,
+        known: &mut KnownRegisters,
+        node: StackNode,
+    ) -> Step<StackNode, SideLeaf> {
+        let _ = facts;
+        step_in_stack(self.filters, known, node)
+    }
+
+    fn answer(&self, call: &CallRecord) -> Answer {
+        call.within_widths();
+        decide(self.filters, call)
+    }
+
+    ghost use Rattle.scf_compare.specs.internal.Laws.{paths_count, stack_node_counts};
+
+    ghost counts = { λ side. stack_node_counts side.filters.now };
+
+    ghost size_counts = { λ side. paths_count side.filters.now };
 }
 
 /// The root of the stack's tree, and what is known there.
 #[tactic(auto, using(crate::proofs::Rules::some_of))]
-pub(crate) fn start_of(filters: &[Program]) -> (Registers, StackNode)
+fn start_of(filters: &[Program]) -> (KnownRegisters, StackNode)
     ensures node { stack_is_node filters.now result.0 result.1 }
     ensures reached { (words : List ℕ) → stack_reaches filters.now result.0 result.1 words }
     ensures size { stack_size filters.now result.1 ≡ stack_paths filters.now }
     ensures plain { All IsPlainProgram filters.now → stack_is_plain filters.now result.0 result.1 }
 {
     if filters.is_empty() {
-        return (Registers::at_start(), Empty);
+        return (KnownRegisters::at_start(), Empty);
     }
     let (known, node) = start_in_filter(filter_of(filters, 0));
     (known, At(0, None, node))
 }
 
 /// The step from a node of the stack, and what is known of the registers after it.
-pub(crate) fn step_in_stack(
+fn step_in_stack(
     filters: &[Program],
-    registers: &mut Registers,
+    registers: &mut KnownRegisters,
     node: StackNode,
-) -> Step<StackNode, FilterLeaf>
+) -> Step<StackNode, SideLeaf>
     requires { stack_is_node filters.now registers.old node }
     ensures { IsStep (leaves_of_stack filters.now) IsWords
         (stack_tree filters.now registers.old) node (stack_tree filters.now registers.new) result }
 {
     match node {
-        Empty => Step::Leaf(FilterLeaf {
+        Empty => Step::Leaf(SideLeaf {
             answer: Some(Answer::new(Action::Allow, 0)),
             at: 0,
         }),
@@ -74,14 +117,14 @@ fn filter_of(filters: &[Program], place: usize) -> &Program
 /// The leaf of filters with one more, the newest: the first whose answer isn't known, else the one whose answer takes
 /// precedence.
 #[tactic(auto, using(crate::proofs::Stacks::first_decides))]
-fn decided_at(older: Option<FilterLeaf>, newest: FilterLeaf) -> FilterLeaf
+fn decided_at(older: Option<SideLeaf>, newest: SideLeaf) -> SideLeaf
     ensures leaf { (filters : List (List Insn)) (place : ℕ) → IsOlder filters place older → IsStackLeaf filters newest
         → IsStackLeaf filters result }
     ensures known { IfSome older KnowsAnswer → KnowsAnswer newest → KnowsAnswer result }
     ensures decides { (filters : List (List Insn)) (place : ℕ) (words : List ℕ) → place < length filters
         → IsOlder filters place older → OlderTells filters place older words
-        → FilterTells (RunAnswers (filter_at filters place)) newest words
-        → FilterTells (StackAnswers (take (place + 1) filters)) result words }
+        → SideTells (RunAnswers (filter_at filters place)) newest words
+        → SideTells (StackAnswers (take (place + 1) filters)) result words }
 {
     let Some(older) = older else {
         return newest;
@@ -104,11 +147,11 @@ fn decided_at(older: Option<FilterLeaf>, newest: FilterLeaf) -> FilterLeaf
 #[tactic(auto, using(crate::specs::internal::Laws::paths_count, crate::specs::internal::Laws::scaled_costs))]
 fn step_from(
     filters: &[Program],
-    registers: &mut Registers,
+    registers: &mut KnownRegisters,
     first: usize,
-    decided: Option<FilterLeaf>,
+    decided: Option<SideLeaf>,
     begun: FilterNode,
-) -> Step<StackNode, FilterLeaf>
+) -> Step<StackNode, SideLeaf>
     requires { stack_is_node filters.now registers.old (StackNode.At first decided begun) }
     ensures { IsStep (leaves_of_stack filters.now) IsWords (stack_tree filters.now registers.old)
         (StackNode.At first decided begun) (stack_tree filters.now registers.new) result }

@@ -3,7 +3,7 @@
 use crate::asking::Atoms;
 
 /// A step from a node of a tree of questions about words. `E` is the type of its leaves.
-#[derive(Drop)]
+#[derive(Clone, Copy)]
 pub(crate) enum Step<N, E> {
     /// To the only next node.
     Next(N),

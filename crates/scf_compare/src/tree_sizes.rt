@@ -5,8 +5,10 @@ ghost use Rattle.scf_machine.specs.Rules.{IsValidList, Stands};
 ghost use Rattle.scf_compare.specs.Effort.{conditions_size, rules_size, spread, stack_paths, effort_of};
 ghost use Rattle.scf_compare.specs.Effort.{effort_of_stack, saturated};
 ghost use Rattle.scf_compare.specs.Paths.{tree_size};
+ghost use Rattle.scf_compare.specs.Sides.{behavior_of, effort_of_sides};
 
 use crate::control_flow::ControlFlow;
+use crate::side::Side;
 use scf_insn::kernel::BPF_MAXINSNS;
 use scf_insn::{Insn, Operation};
 use scf_machine::{FilterStack, Program};
@@ -30,6 +32,26 @@ pub fn effort_stack(stack: &FilterStack, profile: &Profile) -> u64
 {
     let paths = paths_of_all(stack.filters());
     paths.saturating_mul(spread_of(profile))
+}
+
+/// The effort of a comparison of two sides, or 2^64-1 if it is more: the product of their sizes. That of a stack is the
+/// product of the sizes of its filters' trees of paths, that of a profile its spread.
+#[tactic(auto, using(crate::proofs::Saturated::products))]
+pub fn effort_sides(left: &Side<'_>, right: &Side<'_>) -> u64
+    ensures { result ≡ saturated (effort_of_sides left.now right.now) }
+{
+    let left_size = size_of_side(left);
+    left_size.saturating_mul(size_of_side(right))
+}
+
+/// The size of a side's tree.
+fn size_of_side(side: &Side<'_>) -> u64
+    ensures { result ≡ saturated (behavior_of side.now).size }
+{
+    match *side {
+        Side::Stack(filters) => paths_of_all(filters),
+        Side::Profile(profile) => spread_of(profile),
+    }
 }
 
 /// The product of the sizes of the filters' trees of paths, the newest filter first.

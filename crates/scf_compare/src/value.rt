@@ -6,7 +6,7 @@ ghost use Rattle.scf_insn.specs.Words.{IsWords};
 ghost use Rattle.scf_machine.specs.Machine.{holds, value_computed};
 ghost use Rattle.scf_compare.specs.internal.BitSlices.{IsBitSlice, IsWhole, bit_slice_value};
 ghost use Rattle.scf_compare.specs.internal.AffineTerms.{affine_value};
-ghost use Rattle.scf_compare.specs.internal.Values.{IsValue, StandsFor, IsPlainValue, IsTestDecision, Decides};
+ghost use Rattle.scf_compare.specs.internal.Values.{IsValue, Abstracts, IsPlainValue, IsTestDecision, Decides};
 ghost use Rattle.scf_compare.specs.internal.Values.{IsPlainDecision};
 
 use crate::affine_term::AffineTerm;
@@ -43,7 +43,7 @@ pub(crate) enum Decision {
 impl Value {
     /// The value as an answer, if it is known.
     pub(crate) fn answer(self) -> Option<Answer>
-        ensures { (words : List ℕ) (x : ℕ) → StandsFor self words x → IfSome result (λ answer. x ≡ answer.0) }
+        ensures { (words : List ℕ) (x : ℕ) → Abstracts self words x → IfSome result (λ answer. x ≡ answer.0) }
     {
         match self {
             Value::Known(value) => Some(Answer(value)),
@@ -56,9 +56,9 @@ impl Value {
         requires value { IsValue self }
         requires other { IsValue other }
         ensures value { IsValue result }
-        ensures stands { (words : List ℕ) (a v : ℕ) → StandsFor self words a
-            → StandsFor other words v
-            → StandsFor result words (value_computed arithmetic a v) }
+        ensures stands { (words : List ℕ) (a v : ℕ) → Abstracts self words a
+            → Abstracts other words v
+            → Abstracts result words (value_computed arithmetic a v) }
     {
         match (self, other, arithmetic) {
             (_, Value::Known(v), _) => self.computed_with(arithmetic, v),
@@ -79,9 +79,9 @@ impl Value {
         requires first { IsValue self }
         requires second { IsValue other }
         ensures value { IsValue result }
-        ensures stands { (words : List ℕ) (a b : ℕ) → StandsFor self words a
-            → StandsFor other words b
-            → StandsFor result words (bit_or a b) }
+        ensures stands { (words : List ℕ) (a b : ℕ) → Abstracts self words a
+            → Abstracts other words b
+            → Abstracts result words (bit_or a b) }
     {
         match (self.zeros(), other.zeros()) {
             (Value::ZeroTest(first), Value::ZeroTest(second)) => match first.and(second) {
@@ -97,7 +97,7 @@ impl Value {
     fn zeros(self) -> Value
         requires { IsValue self }
         ensures value { IsValue result }
-        ensures stands { (words : List ℕ) (a : ℕ) → StandsFor self words a → StandsFor result words a }
+        ensures stands { (words : List ℕ) (a : ℕ) → Abstracts self words a → Abstracts result words a }
     {
         match self {
             Value::Slice(bit_slice) => Conjunction::by_test(bit_slice.word, bit_slice.is(0)),
@@ -114,8 +114,8 @@ impl Value {
     fn computed_with(self, arithmetic: Arithmetic, v: u32) -> Value
         requires { IsValue self }
         ensures value { IsValue result }
-        ensures stands { (words : List ℕ) (a : ℕ) → StandsFor self words a
-            → StandsFor result words (value_computed arithmetic a v) }
+        ensures stands { (words : List ℕ) (a : ℕ) → Abstracts self words a
+            → Abstracts result words (value_computed arithmetic a v) }
     {
         match self {
             Value::Known(a) => known_result(arithmetic, a, v),
@@ -129,8 +129,8 @@ impl Value {
     pub(crate) fn taken_from(self, v: u32) -> Value
         requires { IsValue self }
         ensures value { IsValue result }
-        ensures stands { (words : List ℕ) (a : ℕ) → StandsFor self words a
-            → StandsFor result words ((v + 2 ^ 32 - a) % 2 ^ 32) }
+        ensures stands { (words : List ℕ) (a : ℕ) → Abstracts self words a
+            → Abstracts result words ((v + 2 ^ 32 - a) % 2 ^ 32) }
     {
         match self {
             Value::Known(a) => Value::Known(v.wrapping_sub(a)),
@@ -144,7 +144,7 @@ impl Value {
     pub(crate) fn low_five_bits(self) -> Value
         requires { IsValue self }
         ensures value { IsValue result }
-        ensures stands { (words : List ℕ) (a : ℕ) → StandsFor self words a → StandsFor result words (a % 32) }
+        ensures stands { (words : List ℕ) (a : ℕ) → Abstracts self words a → Abstracts result words (a % 32) }
     {
         match self {
             Value::Known(a) => Value::Known(a % 32),
@@ -158,8 +158,8 @@ impl Value {
         requires other { IsValue other }
         ensures asks { IsTestDecision result }
         ensures decides { (words : List ℕ) (a v : ℕ) → IsWords words
-            → StandsFor self words a
-            → StandsFor other words v
+            → Abstracts self words a
+            → Abstracts other words v
             → Decides result words (holds test a v) }
         ensures plain { (v : ℕ) → IsPlainValue self → other ≡ Value.Known v
             → (test ≡ Test.CommonBit → IsSimpleMask v)
@@ -177,7 +177,7 @@ impl Value {
         requires { IsValue self }
         ensures asks { IsTestDecision result }
         ensures decides { (words : List ℕ) (a : ℕ) → IsWords words
-            → StandsFor self words a
+            → Abstracts self words a
             → Decides result words (holds test a v) }
         ensures plain { IsPlainValue self → (test ≡ Test.CommonBit → IsSimpleMask v) → IsPlainDecision result }
     {
@@ -196,7 +196,7 @@ impl Value {
         requires { IsValue self }
         ensures asks { IsTestDecision result }
         ensures decides { (words : List ℕ) (v : ℕ) → IsWords words
-            → StandsFor self words v
+            → Abstracts self words v
             → Decides result words (holds test a v) }
     {
         match test {
@@ -227,7 +227,7 @@ impl Decision {
 /// A computation on constants. Division by 0 and shifts past 31 have no known result.
 fn known_result(arithmetic: Arithmetic, a: u32, v: u32) -> Value
     ensures value { IsValue result }
-    ensures stands { (words : List ℕ) → StandsFor result words (value_computed arithmetic a v) }
+    ensures stands { (words : List ℕ) → Abstracts result words (value_computed arithmetic a v) }
 {
     match arithmetic {
         Arithmetic::Div if v == 0 => Value::Unknown,
@@ -253,7 +253,7 @@ fn bit_slice_result(arithmetic: Arithmetic, bit_slice: BitSlice, v: u32) -> Valu
     requires { IsBitSlice bit_slice }
     ensures value { IsValue result }
     ensures stands { (words : List ℕ)
-        → StandsFor result words (value_computed arithmetic (bit_slice_value bit_slice words) v) }
+        → Abstracts result words (value_computed arithmetic (bit_slice_value bit_slice words) v) }
 {
     match arithmetic {
         Arithmetic::Add => AffineTerm::of(bit_slice).plus(v).value(),
@@ -280,7 +280,7 @@ fn affine_result(arithmetic: Arithmetic, affine_term: AffineTerm, v: u32) -> Val
     requires { IsBitSlice affine_term.bit_slice }
     ensures value { IsValue result }
     ensures stands { (words : List ℕ)
-        → StandsFor result words (value_computed arithmetic (affine_value affine_term words) v) }
+        → Abstracts result words (value_computed arithmetic (affine_value affine_term words) v) }
 {
     match arithmetic {
         Arithmetic::Add => affine_term.plus(v).value(),

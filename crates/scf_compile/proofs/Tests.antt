@@ -1,6 +1,6 @@
 -- The code of a condition: how long it is, that it is sound, and how it goes on.
 use Rattle.scf_compile.proofs.Common.{◌≡◌, ℕ, ◌+◌, ◌*◌, ◌<◌, ◌≤◌, ◌^◌, ◌≢◌, Bool, true, false, cond, eqb, ltb, not, List, [], ◌∷◌, ◌++◌, drop, length, refl, sym, ap, ◌∙◌, arith, append_assoc, bit_and, length-append, slice_index, IsTrue, AllByRecursion, eqb-true, eqb-false, nat_tests, and_mask, and_shr, and_mod, and_assoc, and_self, Insn, CallRecord, Test, SameWord, Above, AtLeast, CommonBit, JumpIf, Constant, MaskKind, Empty, OneBit, Full, Mixed, mask_kind, IsSimpleMask, low, high, words_of, argument, IsRecord, argument_low, argument_high, IsOfKind, is_of_kind, test_holds, IsPlainOperation, Operator, NotEqual, Less, LessOrEqual, Greater, MaskedEqual, Condition, IsPlainCondition, all_hold, IsCondition, jump_if, word_code, order_code, bit_code, half_code_of, half_code, masked_code, test_code, exits, condition_code, argument_word, conditions_code, EndsWithin, AreSound, ◌-◌, inl, inr, ◌⊎◌, IsPowerOfTwo, bit_at, and_zero_r, cases_eq, eq-eqb, and_pow, bit_at-lt}
-use Rattle.scf_profile.specs.Condition.{holds}
+use Rattle.scf_profile.specs.Condition.{condition_holds}
 use Rattle.scf_profile.specs.declared.condition.Operator.TheVariants.{Equal, GreaterOrEqual}
 use Rattle.scf_profile.specs.declared.number_test.NumberTest.{NumberTest}
 use Rattle.scf_profile.specs.declared.number_test.NumberTest.TheVariants as tests
@@ -252,7 +252,7 @@ within_of c fine = by_operator c.op c.value c.value_two fine.value
         and_assoc value value_two value ∙ ap (λ (m : ℕ). bit_and value_two m) (and_self value)
 
 condition_tests : (c : Condition) (out : ℕ) → IsCondition c
-    → Tests (condition_code c out) 0 out 6 (IsPlainCondition c) (λ call. holds c (argument call c.index))
+    → Tests (condition_code c out) 0 out 6 (IsPlainCondition c) (λ call. condition_holds c (argument call c.index))
 condition_tests c out fine =
     tests_as 6 6 _ _ (by_exits (test_of c).1) (omega arith) (plain_of c)
     (λ call fits. decides c (argument call c.index) (fits.args c.index))

@@ -1,4 +1,4 @@
-//! Filters against profiles by each of the three relations.
+//! Filters against profiles by each relation.
 
 use crate::fixtures::{profile_of, push_answer};
 use scf_compare::{Relation, Scope, Verdict, compare_by};
@@ -9,7 +9,12 @@ use scf_profile::Profile;
 use std::alloc::Global;
 use std::process::Abort;
 
-const RELATIONS: &[Relation] = &[Relation::Same, Relation::NoMore, Relation::NoLess];
+const RELATIONS: &[Relation] = &[
+    Relation::Same,
+    Relation::NoMore,
+    Relation::NoLess,
+    Relation::SameDisposition,
+];
 
 fn relations() -> &'static [Relation] {
     RELATIONS
@@ -91,6 +96,7 @@ fn holds(relation: Relation, filter: (u32, u8), profile: (u32, u8)) -> bool {
         Relation::Same => answer == wanted,
         Relation::NoMore => disposition <= wanted_disposition,
         Relation::NoLess => disposition >= wanted_disposition,
+        Relation::SameDisposition => disposition == wanted_disposition,
     }
 }
 
@@ -130,7 +136,7 @@ fn by_each_relation(
     for relation in relations() {
         let wanted = holds(*relation, filter, stated);
         let is_said = says(rt, alloc, stack, profile, *relation, answers, wanted);
-        let is_so = is_said && relation.holds(answers.0, answers.1) == wanted;
+        let is_so = is_said && relation.relates(answers.0, answers.1) == wanted;
         assert!(rt; is_so, "{answers:?} {relation:?}");
     }
 }

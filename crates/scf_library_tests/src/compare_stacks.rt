@@ -2,8 +2,8 @@
 //! filter at least, and takes single numbers from a table alone.
 
 use crate::fixtures::{holds_of, profile_of, stack_of};
-use scf_compare::Relation::{NoLess, NoMore, Same};
-use scf_compare::Scope::{All, Call, Native};
+use scf_compare::Relation::{NoLess, NoMore, Same, SameDisposition};
+use scf_compare::Scope::{All, Call, Native, Numbers};
 use scf_compare::{Relation, Scope, Verdict, compare_by, compare_stack, effort_stack};
 use scf_facts::WordSets;
 use scf_insn::Answer;
@@ -61,6 +61,30 @@ const ROWS: &[Row] = &[
             (Call(0), Same, None),
             (Call(1), Same, Some((ALLOW, ERRNO_1))),
             (Call(0x4000_0000), Same, FOREIGN),
+            (Numbers { first: 0, last: 0 }, Same, None),
+            (
+                Numbers { first: 0, last: 1 },
+                SameDisposition,
+                Some((ALLOW, ERRNO_1)),
+            ),
+            (
+                Numbers {
+                    first: 1,
+                    last: 0xffff_ffff,
+                },
+                Same,
+                Some((ALLOW, ERRNO_1)),
+            ),
+            // None of them is native, or none is at all.
+            (
+                Numbers {
+                    first: 0x4000_0000,
+                    last: 0xffff_ffff,
+                },
+                Same,
+                None,
+            ),
+            (Numbers { first: 2, last: 1 }, Same, None),
         ],
     },
     // Numbers from those of x32 on, which no table names.
@@ -166,6 +190,9 @@ fn is_in_scope(scope: Scope, nr: u32, arch: u32) -> bool {
         All => true,
         Native => arch == X86_64 && nr < 0x4000_0000,
         Call(number) => arch == X86_64 && nr == number,
+        Numbers { first, last } => {
+            arch == X86_64 && nr < 0x4000_0000 && first <= nr && nr <= last
+        }
     }
 }
 

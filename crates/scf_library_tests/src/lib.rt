@@ -14,6 +14,8 @@ mod compare_limits;
 #[cfg(test)]
 mod compare_relations;
 #[cfg(test)]
+mod compare_sides;
+#[cfg(test)]
 mod compare_stacks;
 #[cfg(test)]
 mod compile;

@@ -44,7 +44,7 @@ pub use Rattle.std.specs.Str.Lines.{lines, lines_of_parts, strip_carriage_return
 pub use Rattle.scf_insn.proofs.Common.{AllByRecursion, IsRecord, and_parts, argument, audit_arch_x86_64, cases_eq, cases_lt, common_steps, drop_all, eq-eqb, eqb-false, eqb-true, err_from_is_err_and, lookup, lt-ltb, nat_tests, ne_eqb, seccomp_data_args, seccomp_ret_kill_process, take-append-drop, take_all, x32_syscall_bit}
 pub use Rattle.scf_insn.specs.declared.answer.Answer.{Answer}
 pub use Rattle.scf_insn.specs.declared.record.CallRecord.{CallRecord}
-pub use Rattle.scf_profile.specs.Condition.{compares, holds}
+pub use Rattle.scf_profile.specs.Condition.{compares, condition_holds}
 unfoldable pub use Rattle.scf_profile.specs.JsonMembers.{each}
 pub use Rattle.scf_profile.specs.Limits.{max_rules}
 pub use Rattle.scf_profile.specs.Loading.{EntriesConflict, IsText, Loads, Refuses, TestsGive}
@@ -62,7 +62,7 @@ pub use Rattle.scf_profile.specs.SameAnswers.{AnswersRelated, SameAnswers}
 pub use Rattle.scf_profile.specs.StatedProfile.{rules_from, rules_named, skipped_names, strings_of, x86_64}
 unfoldable pub use Rattle.scf_profile.specs.StatedProfile.{answer_in, condition_of, condition_of as condition_stated, entry_of, errno_of, no_engine_form, profile_of, seccomp_of}
 pub use Rattle.scf_profile.specs.Steps.{◌>>=◌}
-pub use Rattle.scf_profile.specs.Table.{AreCallNumbers, BeginWithCall, Names, is_blank as blank, entry_in, fields, is_blank, is_in_name, is_name, table_of, with_entry}
+pub use Rattle.scf_profile.specs.Table.{AreCallNumbers, BeginWithCall, Names, entry_in, fields, is_separator, is_in_name, is_call_name, table_of, with_entry}
 unfoldable pub use Rattle.scf_profile.specs.Table.{with_lines}
 pub use Rattle.scf_profile.specs.declared.condition.Condition.{Condition}
 pub use Rattle.scf_profile.specs.declared.conflict.Clash.{Clash}
@@ -83,4 +83,4 @@ pub use Rattle.scf_profile.specs.internal.NumberSets.{HaveCommonNumber, IsGreate
 pub use Rattle.scf_profile.specs.internal.Overlaps.{HoldAt, Overlap, OverlapAt}
 pub use Rattle.scf_profile.specs.internal.Refusals.{NamesLeastConflict}
 pub use Rattle.scf_profile.specs.internal.RulesUnder.{AreUnder, Under, number_rules, rules_under}
-pub use Rattle.scf_profile.specs.internal.Stated.{IsLoaded, loaded_of}
+pub use Rattle.scf_profile.specs.internal.Stated.{IsWithoutConflict, loaded_of}

@@ -1,5 +1,5 @@
 -- The map behind a tree from texts to numbers, and names as text.
-use Rattle.scf_profile.proofs.Common.{All-weaker, AllPass-from_list_all, IsAscii-from_all, ◌≡◌, ℕ, ◌<◌, Option, None, true, cond, List, [], ◌∷◌, map, Some, String, string_bytes, Global, BTreeMap, refl, sym, ap, ◌∙◌, subst, arith, string_cmp, IfSome, IsUtf8, lookup, get, insert, get-from_entries, get-empty, get-insert, same_map, value_of, is_at, Updates, slice_cmp, nat_list_cmp_total, eq_by_cmp, is_eq, eq_by_cmp_equiv, and_parts, nat_tests, IsUtf8-from_ascii, exact_bytes, btree_map_updates_text, is_eq-slice_cmp, x32_syscall_bit, Names, AreCallNumbers, is_name, is_in_name, named, names_of}
+use Rattle.scf_profile.proofs.Common.{All-weaker, AllPass-from_list_all, IsAscii-from_all, ◌≡◌, ℕ, ◌<◌, Option, None, true, cond, List, [], ◌∷◌, map, Some, String, string_bytes, Global, BTreeMap, refl, sym, ap, ◌∙◌, subst, arith, string_cmp, IfSome, IsUtf8, lookup, get, insert, get-from_entries, get-empty, get-insert, same_map, value_of, is_at, Updates, slice_cmp, nat_list_cmp_total, eq_by_cmp, is_eq, eq_by_cmp_equiv, and_parts, nat_tests, IsUtf8-from_ascii, exact_bytes, btree_map_updates_text, is_eq-slice_cmp, x32_syscall_bit, Names, AreCallNumbers, is_call_name, is_in_name, named, names_of}
 use Rattle.std.proofs.Common.{nat_cmp}
 use Rattle.std.specs.FinMap.{find}
 
@@ -32,7 +32,7 @@ insert_named m n key names name v view is updates =
     ∙ sym (get-insert nat_list_cmp_total (names_of m.entries) k v q
     ∙ ap (cond (eq_by_cmp (slice_cmp nat_cmp) q k) (Some v)) (get_named m.entries q))))
 
-pub names_are_text : (text : List ℕ) → is_name text ≡ true → IsUtf8 text
+pub names_are_text : (text : List ℕ) → is_call_name text ≡ true → IsUtf8 text
 names_are_text text h =
     IsUtf8-from_ascii text (IsAscii-from_all text
     (All-weaker (λ b. is_in_name b ≡ true) (λ b. b < 128) (λ b word. grind (arith, nat_tests)) text

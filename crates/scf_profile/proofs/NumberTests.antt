@@ -9,7 +9,7 @@ use Rattle.scf_profile.specs.declared.condition.Operator.TheVariants.{NotEqual, 
 use Rattle.scf_profile.specs.declared.condition.Operator.TheVariants.{GreaterOrEqual, Greater, MaskedEqual}
 use Rattle.scf_profile.specs.declared.condition.Condition.{Condition}
 use Rattle.scf_profile.specs.declared.number_test.NumberTest.TheVariants as tests
-use Rattle.scf_profile.specs.Condition.{holds}
+use Rattle.scf_profile.specs.Condition.{condition_holds}
 use Rattle.scf_profile.specs.NumberTests.{IsPlainTest, comes_to, test_by, test_of, tree_answer}
 
 -- under all bits a number is itself
@@ -33,7 +33,7 @@ by_operator GreaterOrEqual value value_two n fits = at_least n value
 by_operator Greater value value_two n fits = greater n value
 by_operator MaskedEqual value value_two n fits = sym (masked_split n value (bit_and value_two value))
 
-pub decides : (c : Condition) (n : ℕ) → n < 2 ^ 64 → comes_to (test_of c) n ≡ holds c n
+pub decides : (c : Condition) (n : ℕ) → n < 2 ^ 64 → comes_to (test_of c) n ≡ condition_holds c n
 decides c n fits = by_operator c.op c.value c.value_two n fits
 
 -- of a condition with simple masks the test is plain

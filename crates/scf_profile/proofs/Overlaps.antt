@@ -1,14 +1,14 @@
 -- Conditions on one argument.
-use Rattle.scf_profile.proofs.Common.{◌≡◌, ◌≢◌, ℕ, zero, suc, ◌<◌, ◌^◌, ◌↔◌, Bool, true, ◌&&◌, List, [], ◌∷◌, eqb, get_or, Option, Some, None, refl, sym, ap, ◌∙◌, subst, arith, inl, inr, AllByRecursion, find, and_parts, cases_eq, cases_lt, eq-eqb, ne_eqb, get_or_past, All-cons, All-from_recursion, All-head, All-nil, All-tail, AllPass-from_list_all, list_all-from_AllPass, CallRecord, IsRecord, argument, Condition, Rule, holds, seccomp_data_args, Conflicts, HaveDistinctIndices, IsCondition, IsRule, all_hold, HoldAt, Overlap}
+use Rattle.scf_profile.proofs.Common.{◌≡◌, ◌≢◌, ℕ, zero, suc, ◌<◌, ◌^◌, ◌↔◌, Bool, true, ◌&&◌, List, [], ◌∷◌, eqb, get_or, Option, Some, None, refl, sym, ap, ◌∙◌, subst, arith, inl, inr, AllByRecursion, find, and_parts, cases_eq, cases_lt, eq-eqb, ne_eqb, get_or_past, All-cons, All-from_recursion, All-head, All-nil, All-tail, AllPass-from_list_all, list_all-from_AllPass, CallRecord, IsRecord, argument, Condition, Rule, condition_holds, seccomp_data_args, Conflicts, HaveDistinctIndices, IsCondition, IsRule, all_hold, HoldAt, Overlap}
 
 -- what holds of a condition where it is on the argument
 abbrev HoldsOn : ℕ → ℕ → Condition → Type 0
-HoldsOn index n c = c.index ≡ index → holds c n ≡ true
+HoldsOn index n c = c.index ≡ index → condition_holds c n ≡ true
 
 -- the one condition on an argument says what all do, and where none is on it any number will do
 abbrev HoldByOne : List Condition → ℕ → ℕ → Option Condition → Type 0
 HoldByOne cs index n None = HoldAt cs index n
-HoldByOne cs index n (Some c) = (holds c n ≡ true) ↔ HoldAt cs index n
+HoldByOne cs index n (Some c) = (condition_holds c n ≡ true) ↔ HoldAt cs index n
 
 by_others : (c : Condition) (cs : List Condition) (index n : ℕ) → HoldsOn index n c → (found : Option Condition)
     → HoldByOne cs index n found → HoldByOne (c ∷ cs) index n found
@@ -39,13 +39,13 @@ hold_by_found cs index n h found is = rw is (hold_by_first cs index n h)
 -- the conditions of a rule that a call meets
 held_at : (call : CallRecord) (cs : List Condition) → all_hold call cs ≡ true → (i : ℕ) → HoldAt cs i (argument call i)
 held_at call cs all i k c below on =
-    rw (← on) (AllPass-from_list_all (λ d. holds d (argument call d.index)) cs all k c below)
+    rw (← on) (AllPass-from_list_all (λ d. condition_holds d (argument call d.index)) cs all k c below)
 
 -- a call of whose arguments the conditions hold
 all_held : (call : CallRecord) (cs : List Condition) → AllByRecursion IsCondition cs
     → ((i : ℕ) → i < seccomp_data_args → HoldAt cs i (argument call i)) → all_hold call cs ≡ true
 all_held call cs each held =
-    list_all-from_AllPass (λ c. holds c (argument call c.index)) cs
+    list_all-from_AllPass (λ c. condition_holds c (argument call c.index)) cs
     (λ k c below. held (get_or cs k c).index (All-from_recursion IsCondition cs each k c below).index k c below refl)
 
 -- a number for each argument makes a call that meets both rules

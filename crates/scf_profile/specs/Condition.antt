@@ -15,5 +15,5 @@ compares GreaterOrEqual number value value_two = nat_le value number
 compares Greater number value value_two = nat_lt value number
 compares MaskedEqual number value value_two = bit_and number value == bit_and value_two value
 
-abbrev pub holds : Condition → ℕ → Bool
-holds c number = compares c.op number c.value c.value_two
+abbrev pub condition_holds : Condition → ℕ → Bool
+condition_holds c number = compares c.op number c.value c.value_two

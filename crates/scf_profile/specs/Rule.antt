@@ -6,11 +6,11 @@ use Rattle.scf_insn.specs.Kernel.{x32_syscall_bit, seccomp_data_args}
 use Rattle.scf_insn.specs.Words.{IsRecord, argument}
 use Rattle.scf_profile.specs.declared.condition.Condition.{Condition}
 use Rattle.scf_profile.specs.declared.rule.Rule.{Rule}
-use Rattle.scf_profile.specs.Condition.{holds}
+use Rattle.scf_profile.specs.Condition.{condition_holds}
 
 -- each condition holds of the argument at its index
 abbrev pub all_hold : CallRecord → List Condition → Bool
-all_hold call conditions = list_all (λ c. holds c (argument call c.index)) conditions
+all_hold call conditions = list_all (λ c. condition_holds c (argument call c.index)) conditions
 
 -- the call has the rule's number, and all its conditions hold
 abbrev pub meets : Rule → CallRecord → Bool

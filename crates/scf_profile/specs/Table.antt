@@ -23,25 +23,25 @@ abbrev pub AreCallNumbers : Names → Type 0
 AreCallNumbers names = (name : List ℕ) (number : ℕ) → get names name ≡ Some number → number < x32_syscall_bit
 
 -- space or tab
-abbrev pub is_blank : ℕ → Bool
-is_blank byte = byte == 32 || byte == 9
+abbrev pub is_separator : ℕ → Bool
+is_separator byte = byte == 32 || byte == 9
 
 -- the parts between blanks, but for empty ones
 abbrev pub fields : List ℕ → List (List ℕ)
-fields line = filter (λ part. nat_lt 0 (length part)) (slice_split is_blank line)
+fields line = filter (λ part. nat_lt 0 (length part)) (slice_split is_separator line)
 
 -- a letter, a digit or an underscore
 abbrev pub is_in_name : ℕ → Bool
 is_in_name byte = is_ascii_alphanumeric byte || byte == 95
 
 -- such bytes, of which the first is no digit
-abbrev pub is_name : List ℕ → Bool
-is_name text = nat_lt 0 (length text) && not (is_ascii_digit (slice_index text 0)) && list_all is_in_name text
+abbrev pub is_call_name : List ℕ → Bool
+is_call_name text = nat_lt 0 (length text) && not (is_ascii_digit (slice_index text 0)) && list_all is_in_name text
 
 -- a name, and as the one other field the decimal digits of a number below those of x32 calls
 unfoldable pub pair_of : ℕ → List ℕ → List (List ℕ) → Result (Option (List ℕ × ℕ)) TableFault
 pair_of line name (digits ∷ []) = do
-  _ ← refused_if (not (is_name name)) (faults.Name line)
+  _ ← refused_if (not (is_call_name name)) (faults.Name line)
   number ← ok_or (option_and_then (λ n. number_below x32_syscall_bit (pos n)) (numeral 10 digits)) (faults.Number line)
   Ok (Some (name, number))
 pair_of line name others = Err (faults.Form line)

@@ -1,7 +1,7 @@
 //! Conditions on syscall arguments (OCI runtime specification, config-linux.md, seccomp).
 
 ghost use Rattle.std.specs.Prelude.{◌≡◌, ◌<◌, ◌^◌, ◌↔◌, ℕ, IsTrue, All, IfOk, IfSome};
-ghost use Rattle.scf_profile.specs.Condition.{holds};
+ghost use Rattle.scf_profile.specs.Condition.{condition_holds};
 ghost use Rattle.scf_profile.specs.NumberTests.{test_of};
 ghost use Rattle.scf_profile.specs.internal.NumberSets.{IsNumberSet, is_in_some};
 ghost use Rattle.scf_insn.specs.SimpleMask.{IsSimpleMask};
@@ -82,7 +82,7 @@ impl Condition {
 
     /// Whether the condition holds for an argument.
     pub(crate) fn holds_of(&self, argument: u64) -> bool
-        ensures { result ≡ holds self.now argument }
+        ensures { result ≡ condition_holds self.now argument }
     {
         match self.op {
             Operator::NotEqual => argument != self.value,
@@ -98,7 +98,7 @@ impl Condition {
     /// The values for which the condition holds, if there are any.
     #[tactic(auto, using(crate::proofs::Masks::masked_twice))]
     pub(crate) fn numbers(&self) -> Option<NumberSet>
-        ensures same { (n : ℕ) → n < 2 ^ 64 → is_in_some result n ≡ holds self.now n }
+        ensures same { (n : ℕ) → n < 2 ^ 64 → is_in_some result n ≡ condition_holds self.now n }
         ensures set { IfSome result IsNumberSet }
     {
         let value = self.value;

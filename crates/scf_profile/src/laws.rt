@@ -1,21 +1,28 @@
-//! Laws of conditions and of profiles' answers. Each function does nothing: its contract is the law.
+//! Laws of conditions, of profiles' answers, of relations and of scopes. Each function does nothing: its contract is the
+//! law.
 
-ghost use Rattle.std.specs.Prelude.{◌≡◌, ◌<◌, ◌^◌, ℕ};
+ghost use Rattle.std.specs.Prelude.{◌≡◌, ◌↔◌, ◌-◌, ◌<◌, ◌≤◌, ◌^◌, ℕ};
 ghost use Rattle.scf_insn.specs.declared.record.CallRecord.{CallRecord};
+ghost use Rattle.scf_insn.specs.Kernel.{x32_syscall_bit};
 ghost use Rattle.scf_insn.specs.Words.{IsRecord};
 ghost use Rattle.scf_profile.specs.declared.condition.Condition.{Condition};
 ghost use Rattle.scf_profile.specs.declared.reason.Reason.{Reason};
-ghost use Rattle.scf_profile.specs.Condition.{holds};
+ghost use Rattle.scf_profile.specs.Condition.{condition_holds};
 ghost use Rattle.scf_profile.specs.NumberTests.{comes_to, test_of};
 ghost use Rattle.scf_profile.specs.Profile.{Profile, HaveNoConflict};
 ghost use Rattle.scf_profile.specs.ProfileAnswers.{ProfileAnswers};
 ghost use Rattle.scf_profile.specs.Reasons.{IsAnswerOf, IsReason};
+ghost use Rattle.scf_profile.specs.Relation.{IsRelated};
+ghost use Rattle.scf_profile.specs.Scope.{IsInScope};
+
+use crate::relation::Relation;
+use crate::scope::Scope;
 
 /// A condition holds exactly if its test, decided half by half, has the expected result.
 #[tactic(auto, using(crate::proofs::NumberTests::decides))]
 pub fn condition_by_halves()
     ensures { (c : Condition) (n : ℕ) → n < 2 ^ 64
-        → comes_to (test_of c) n ≡ holds c n }
+        → comes_to (test_of c) n ≡ condition_holds c n }
 {}
 
 /// A profile answers every record.
@@ -36,4 +43,20 @@ pub fn one_answer()
 pub fn answer_of_reason()
     ensures { (p : Profile) (call : CallRecord) (reason : Reason) (answer : ℕ) → HaveNoConflict p.rules
         → IsRecord call → IsReason p call reason → ProfileAnswers p call answer → IsAnswerOf p call reason answer }
+{}
+
+/// Two answers have the same disposition exactly if neither is more permissive than the other.
+pub fn same_disposition_is_no_more_and_no_less()
+    ensures { (left right : ℕ) → IsRelated Relation.SameDisposition left right
+        ↔ (IsRelated Relation.NoMore left right × IsRelated Relation.NoLess left right) }
+{}
+
+/// A range of numbers within another one has no other records, and the range of all numbers has all native ones.
+pub fn numbers_are_native()
+    ensures within { (first last f l : ℕ) (call : CallRecord) → f ≤ first → last ≤ l
+        → IsInScope (Scope.Numbers first last) call → IsInScope (Scope.Numbers f l) call }
+    ensures all { (call : CallRecord) → IsInScope (Scope.Numbers 0 (x32_syscall_bit - 1)) call
+        ↔ IsInScope Scope.Native call }
+    ensures one { (number : ℕ) (call : CallRecord) → number < x32_syscall_bit
+        → IsInScope (Scope.Numbers number number) call ↔ IsInScope (Scope.Call number) call }
 {}

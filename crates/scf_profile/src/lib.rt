@@ -31,7 +31,10 @@ mod table_line;
 mod texts;
 
 pub use condition::{Condition, Conditions, Operator};
-pub use laws::{answer_of_reason, condition_by_halves, one_answer, some_answer};
+pub use laws::{
+    answer_of_reason, condition_by_halves, numbers_are_native, one_answer,
+    same_disposition_is_no_more_and_no_less, some_answer,
+};
 pub use limits::{MAX_RULES, MAX_TEXT_LEN};
 pub use load_fault::LoadFault;
 pub use loaded::Loaded;

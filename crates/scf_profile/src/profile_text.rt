@@ -8,7 +8,7 @@ ghost use Rattle.scf_profile.specs.Limits.{max_text_len};
 ghost use Rattle.scf_profile.specs.Loading.{IsText, Loads, Refuses};
 ghost use Rattle.scf_profile.specs.internal.Refusals.{NamesLeastConflict, ParseRefuses};
 ghost use Rattle.scf_profile.specs.internal.Results.{result_map};
-ghost use Rattle.scf_profile.specs.internal.Stated.{loaded_of, IsLoaded};
+ghost use Rattle.scf_profile.specs.internal.Stated.{loaded_of, IsWithoutConflict};
 ghost use Rattle.scf_profile.specs.Steps.{Gives};
 ghost use Rattle.scf_profile.specs.StatedProfile.{profile_of};
 
@@ -82,7 +82,7 @@ fn read_root(alloc: Global, table: &CallTable, root: &Value) -> Result<Stated, L
 fn without_conflict(alloc: Global, stated: Stated) -> Result<Loaded, LoadFault>
     requires rules { AreStatedRules stated.rules.items }
     requires default_answer { stated.default_answer.0 < 2 ^ 32 }
-    ensures ok { IfOk result (IsLoaded stated) }
+    ensures ok { IfOk result (IsWithoutConflict stated) }
     ensures err { IfErr result (NamesLeastConflict stated.rules.items) }
 {
     let numbers = by_number(alloc, &stated.rules)?;

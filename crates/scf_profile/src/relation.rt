@@ -5,26 +5,29 @@ ghost use Rattle.scf_profile.specs.Relation.{IsRelated};
 
 use scf_insn::Answer;
 
-/// Which relation of the filter's answer to the profile's is asked for.
+/// Which relation of the left side's answer to the right side's is asked for, as of a filter's to a profile's.
 #[derive(Clone, Copy, Debug, PartialEq, Eq)]
 pub enum Relation {
     /// Both answers are the same, all 32 bits.
     Same,
-    /// The filter's answer is no more permissive than the profile's: denied < delegated < allowed.
+    /// The left answer is no more permissive than the right one: denied < delegated < allowed.
     NoMore,
-    /// The filter's answer is no less permissive than the profile's.
+    /// The left answer is no less permissive than the right one.
     NoLess,
+    /// Both answers are denied, delegated or allowed alike, whatever their data.
+    SameDisposition,
 }
 
 impl Relation {
-    /// Whether it holds of the answers of a filter and a profile.
-    pub fn holds(self, filter: Answer, profile: Answer) -> bool
-        ensures { IsTrue result ↔ IsRelated self filter.0 profile.0 }
+    /// Whether it holds of the answers of the left and the right side.
+    pub fn relates(self, left: Answer, right: Answer) -> bool
+        ensures { IsTrue result ↔ IsRelated self left.0 right.0 }
     {
         match self {
-            Relation::Same => filter == profile,
-            Relation::NoMore => filter.is_no_more_permissive(profile),
-            Relation::NoLess => profile.is_no_more_permissive(filter),
+            Relation::Same => left == right,
+            Relation::NoMore => left.is_no_more_permissive(right),
+            Relation::NoLess => right.is_no_more_permissive(left),
+            Relation::SameDisposition => left.disposition() == right.disposition(),
         }
     }
 }

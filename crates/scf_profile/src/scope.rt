@@ -9,4 +9,6 @@ pub enum Scope {
     Native,
     /// x86-64's own with this syscall number.
     Call(u32),
+    /// x86-64's own with a syscall number from `first` to `last`, both included; none if `first` is above `last`.
+    Numbers { first: u32, last: u32 },
 }

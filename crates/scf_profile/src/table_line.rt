@@ -9,8 +9,7 @@ ghost use Rattle.scf_insn.specs.Numbers.{numeral};
 ghost use Rattle.scf_profile.specs.declared.table_fault.TableFault.TheVariants.{Memory};
 ghost use Rattle.scf_profile.specs.Limits.{number_below};
 ghost use Rattle.scf_profile.specs.internal.Results.{result_map};
-ghost use Rattle.scf_profile.specs.Table.{is_blank as blank, fields, is_in_name as in_name};
-ghost use Rattle.scf_profile.specs.Table.{is_name as name_is, entry_in};
+ghost use Rattle.scf_profile.specs.Table.{entry_in, fields, is_call_name, is_in_name as in_name, is_separator};
 
 use crate::table_fault::TableFault;
 use scf_insn::kernel::X32_SYSCALL_BIT;
@@ -40,7 +39,7 @@ pub(crate) fn first_line(text: &[u8]) -> (&[u8], &[u8])
 }
 
 fn is_blank(byte: u8) -> bool
-    ensures { result ≡ blank byte }
+    ensures { result ≡ is_separator byte }
 {
     byte == b' ' || byte == b'\t'
 }
@@ -49,7 +48,7 @@ fn is_blank(byte: u8) -> bool
 fn trimmed(text: &[u8]) -> &[u8]
     ensures fields { fields result.now ≡ fields text.now }
     ensures shorter { length result.now ≤ length text.now }
-    ensures begins { 0 < length result.now → blank (slice_index result.now 0) ≡ false }
+    ensures begins { 0 < length result.now → is_separator (slice_index result.now 0) ≡ false }
 {
     let mut rest = text;
     while let [first, after @ ..] = rest {
@@ -89,7 +88,7 @@ fn are_in_name(text: &[u8]) -> bool
 
 /// Letters, digits and underscores, of which the first is no digit.
 fn is_name(text: &[u8]) -> bool
-    ensures { result ≡ name_is text.now }
+    ensures { result ≡ is_call_name text.now }
 {
     !text.is_empty() && !text[0].is_ascii_digit() && are_in_name(text)
 }

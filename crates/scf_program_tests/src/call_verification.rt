@@ -3,7 +3,7 @@
 
 use crate::parts::{filter_of, long_filter};
 use crate::verification::failing_at;
-use scf_compare::{Scope, Verdict};
+use scf_compare::{Finding, Relation, Scope};
 use scf_insn::faults::{Failing, Reader};
 use scf_insn::{Answer, InputFault, ReadFault};
 use scf_machine::{CheckFault, PushFault};
@@ -11,7 +11,7 @@ use scf_profile::{LoadFault, TableFault};
 use scf_test_fixtures::kernel::{ALLOW, ERRNO, ERRNO_1, X86_64};
 use scf_test_fixtures::profiles::{DEFAULT_ALLOW, READ_TABLE};
 use scf_test_fixtures::texts::are;
-use scf_tool::{CallVerdict, CallsOutcome, Limits, VerifyFault, verify_calls, verify_stack};
+use scf_tool::{CallFinding, CallsOutcome, Limits, VerifyFault, verify_calls, verify_stack};
 use std::alloc::Global;
 use std::process::Abort;
 
@@ -26,24 +26,17 @@ enum Wanted {
     Unfinished,
 }
 
-fn is_wanted(told: &CallVerdict, wanted: Wanted) -> bool {
-    match (told.verdict, wanted) {
-        (Verdict::Same { .. }, Wanted::Same) => true,
-        (
-            Verdict::Differs {
-                call,
-                filter,
-                profile,
-            },
-            Wanted::Differs(of_stack, of_profile),
-        ) => {
+fn is_wanted(told: &CallFinding, wanted: Wanted) -> bool {
+    match (told.finding, wanted) {
+        (Finding::Holds { .. }, Wanted::Same) => true,
+        (Finding::Fails { call, left, right }, Wanted::Differs(of_stack, of_profile)) => {
             call.nr == told.number
                 && call.arch == X86_64
-                && filter == Answer(of_stack)
-                && profile == Answer(of_profile)
+                && left == Answer(of_stack)
+                && right == Answer(of_profile)
         }
-        (Verdict::Undecided { at }, Wanted::Undecided(places)) => places.contains(&at),
-        (Verdict::Unfinished, Wanted::Unfinished) => true,
+        (Finding::Undecided { at, .. }, Wanted::Undecided(places)) => places.contains(&at),
+        (Finding::Unfinished, Wanted::Unfinished) => true,
         _ => false,
     }
 }
@@ -118,25 +111,32 @@ fn verified(alloc: Global, given: &[&[u8]; 4], limit: u64) -> Result<CallsOutcom
     ];
     let mut table = Reader::new(*table, 1, Failing::Never);
     let mut profile = Reader::new(*profile, 1, Failing::Never);
-    verify_calls(alloc, &mut filters, &mut profile, &mut table, each(limit))
+    verify_calls(
+        alloc,
+        &mut filters,
+        &mut profile,
+        &mut table,
+        Relation::Same,
+        each(limit),
+    )
 }
 
 /// Whether this is told of a call of the table.
-fn is_told(told: &CallVerdict, call: &Call, is_ample: bool) -> bool {
+fn is_told(told: &CallFinding, call: &Call, is_ample: bool) -> bool {
     let (number, names, ample, few) = call;
     let wanted = if is_ample { *ample } else { *few };
     told.number == *number && are(told.names.as_slice(), names) && is_wanted(told, wanted)
 }
 
 /// That the verdict at a place is that on a call.
-fn tells(rt: &impl Abort, told: &[CallVerdict], place: usize, call: &Call, is_ample: bool) {
+fn tells(rt: &impl Abort, told: &[CallFinding], place: usize, call: &Call, is_ample: bool) {
     let told = told.get(place).expect(rt, "a verdict");
     let is_so = is_told(told, call, is_ample);
     assert!(rt; is_so, "{told:?}, {is_ample}");
 }
 
 /// That these are the verdicts on the calls of the table.
-fn tells_of_each(rt: &impl Abort, told: &[CallVerdict], is_ample: bool) {
+fn tells_of_each(rt: &impl Abort, told: &[CallFinding], is_ample: bool) {
     for (place, call) in calls().iter().enumerate() {
         tells(rt, told, place, call, is_ample);
     }
@@ -149,8 +149,11 @@ fn calls() -> &'static [Call] {
 /// Whether each call of the table is there, and the names and architectures that are left out.
 fn is_whole(outcome: &CallsOutcome) -> bool {
     outcome.calls.len() == calls().len()
-        && are(outcome.skipped.as_slice(), &["gone"])
-        && are(outcome.other_architectures.as_slice(), &["SCMP_ARCH_X86"])
+        && are(outcome.left_out.skipped.as_slice(), &["gone"])
+        && are(
+            outcome.left_out.other_architectures.as_slice(),
+            &["SCMP_ARCH_X86"],
+        )
 }
 
 /// What is told within ample steps, or within 64.
@@ -179,7 +182,7 @@ fn fault_by(
     by_calls: bool,
 ) -> Option<VerifyFault> {
     if by_calls {
-        verify_calls(alloc, filters, profile, table, each(1_000)).err()
+        verify_calls(alloc, filters, profile, table, Relation::Same, each(1_000)).err()
     } else {
         verify_stack(alloc, filters, profile, table, Scope::All, 1_000).err()
     }
@@ -334,7 +337,15 @@ fn nine_readers<'a>(rt: &impl Abort, alloc: Global, filter: &'a [u8]) -> Vec<Rea
 fn are_too_many(rt: &impl Abort, alloc: Global, filters: &mut [Reader<'_>], total: usize) {
     let mut table = Reader::new(b"read", 1, Failing::Never);
     let mut profile = Reader::new(b"[", 1, Failing::Never);
-    let answer = verify_calls(alloc, filters, &mut profile, &mut table, each(1_000));
+    let limits = each(1_000);
+    let answer = verify_calls(
+        alloc,
+        filters,
+        &mut profile,
+        &mut table,
+        Relation::Same,
+        limits,
+    );
     let wanted = VerifyFault::Stack(PushFault::TooMany { total });
     assert!(rt; answer.err() == Some(wanted));
     assert!(rt; (table.asks(), profile.asks()) == (0, 0));

@@ -5,7 +5,7 @@ use crate::runs::{
     Ended, asked_once_more, ends, prints, run, run_from, run_from_std, run_into, run_into_std,
 };
 use scf_insn::faults::{Failing, Reader};
-use scf_test_fixtures::filters::ARCH_GATE;
+use scf_test_fixtures::filters::{ALLOW_ALL, ARCH_GATE};
 use std::alloc::Global;
 use std::process::Abort;
 
@@ -47,6 +47,16 @@ const CALLS: Input = Input::Bundle(&[
     Part::Table("b 1\na 1\nd 0"),
 ]);
 
+/// A stack beside one that answers a call otherwise.
+const STACKS: Input = Input::Bundle(&[WITHOUT_WRITE, Part::Beside(ALLOW_ALL)]);
+
+/// The same, and that call with two names.
+const NAMED_STACKS: Input = Input::Bundle(&[
+    WITHOUT_WRITE,
+    Part::Beside(ALLOW_ALL),
+    Part::Table("b 1\na 1\nd 0"),
+]);
+
 const TEXT: Input = Input::Text("ja on; on: ret a");
 
 /// Words, what they read, and what is printed.
@@ -62,6 +72,16 @@ const READS: &[Asked] = &[
     (&["scf", "compile"], PROFILE, b"fault input Read\n"),
     (&["scf", "compare"], PAIR, b"fault input Read\n"),
     (&["scf", "compare", "--calls"], CALLS, b"fault input Read\n"),
+    (
+        &["scf", "compare", "--beside"],
+        STACKS,
+        b"fault input Read\n",
+    ),
+    (
+        &["scf", "compare", "--beside", "--calls"],
+        NAMED_STACKS,
+        b"fault input Read\n",
+    ),
 ];
 
 fn reads() -> &'static [Asked] {

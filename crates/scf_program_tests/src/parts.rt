@@ -10,6 +10,8 @@ use std::process::Abort;
 pub(crate) enum Part {
     /// A filter, in the assembler's language.
     Filter(&'static str),
+    /// A filter beside others.
+    Beside(&'static str),
     Profile(&'static str),
     Table(&'static str),
 }
@@ -71,6 +73,7 @@ pub(crate) fn add(rt: &impl Abort, alloc: Global, bundle: &mut Vec<u8>, word: &s
 fn add_part(rt: &impl Abort, alloc: Global, bundle: &mut Vec<u8>, part: Part) {
     match part {
         Part::Filter(text) => add(rt, alloc, bundle, "filter", &filter_of(rt, alloc, text)),
+        Part::Beside(text) => add(rt, alloc, bundle, "beside", &filter_of(rt, alloc, text)),
         Part::Profile(text) => add(rt, alloc, bundle, "profile", text.as_bytes()),
         Part::Table(text) => add(rt, alloc, bundle, "table", text.as_bytes()),
     }

@@ -1,9 +1,12 @@
 //! What is printed of a comparison.
 
-use scf_compare::Verdict;
+use scf_compare::{Finding, Verdict, Which};
 use scf_insn::{Answer, CallRecord};
-use scf_profile::Texts;
-use scf_tool::{CallVerdict, CallsOutcome, Outcome, report, report_calls};
+use scf_profile::{Relation, Texts};
+use scf_tool::{
+    CallFinding, CallsOutcome, LeftOut, Outcome, report, report_beside, report_calls,
+    report_calls_beside,
+};
 use std::alloc::Global;
 use std::process::Abort;
 
@@ -119,10 +122,21 @@ fn reported_lines(rt: HostRuntime) {
     }
 }
 
-/// A number, its names and its verdict.
-type ToldCall = (u32, &'static [&'static str], Verdict);
+/// A number, its names and its finding.
+type ToldCall = (u32, &'static [&'static str], Finding);
 
-const SAME: ToldCall = (1, &["write"], Verdict::Same { steps: 7 });
+const FAILS: Finding = Finding::Fails {
+    call: CALL,
+    left: Answer(0x0005_0026),
+    right: Answer(0x0001_0000),
+};
+
+const OPEN: Finding = Finding::Undecided {
+    side: Which::Left,
+    at: 4095,
+};
+
+const SAME: ToldCall = (1, &["write"], Finding::Holds { steps: 7 });
 
 /// Calls, and what is printed of them: of all, and of each that isn't the same.
 const CALLS: &[(&[ToldCall], &str)] = &[
@@ -130,11 +144,11 @@ const CALLS: &[(&[ToldCall], &str)] = &[
     (&[SAME], "same\n"),
     (
         &[
-            (0, &["read"], Verdict::Unfinished),
+            (0, &["read"], Finding::Unfinished),
             SAME,
-            (41, &["_a", "b"], DIFFERS),
-            (42, &["c", "d", "e"], UNDECIDED),
-            (1073741823, &["f"], DIFFERS),
+            (41, &["_a", "b"], FAILS),
+            (42, &["c", "d", "e"], OPEN),
+            (1073741823, &["f"], FAILS),
         ],
         "differs\n\
          0 read unfinished\n\
@@ -145,19 +159,11 @@ const CALLS: &[(&[ToldCall], &str)] = &[
          filter ERRNO 38 profile UNNAMED 0x00010000\n",
     ),
     (
-        &[
-            SAME,
-            (2, &["a"], UNDECIDED),
-            (3, &["b"], Verdict::Unfinished),
-        ],
+        &[SAME, (2, &["a"], OPEN), (3, &["b"], Finding::Unfinished)],
         "undecided at 4095\n2 a undecided at 4095\n3 b unfinished\n",
     ),
     (
-        &[
-            SAME,
-            (2, &["a"], Verdict::Unfinished),
-            (3, &["b"], UNDECIDED),
-        ],
+        &[SAME, (2, &["a"], Finding::Unfinished), (3, &["b"], OPEN)],
         "unfinished\n2 a unfinished\n3 b undecided at 4095\n",
     ),
 ];
@@ -166,14 +172,14 @@ const CALLS: &[(&[ToldCall], &str)] = &[
 const LEFT_OUT: &str = "skipped no_such_call\nskipped umount2\nskipped no_such_call\n\
     other SCMP_ARCH_X86\nother \u{e9}\n";
 
-/// The verdicts on these calls.
-fn verdicts_of(rt: &impl Abort, alloc: Global, told: &[ToldCall]) -> Vec<CallVerdict> {
+/// The findings on these calls.
+fn findings_of(rt: &impl Abort, alloc: Global, told: &[ToldCall]) -> Vec<CallFinding> {
     let mut calls = Vec::new(alloc);
-    for (number, names, verdict) in told {
-        let call = CallVerdict {
+    for (number, names, finding) in told {
+        let call = CallFinding {
             number: *number,
             names: texts_of(rt, alloc, names),
-            verdict: *verdict,
+            finding: *finding,
         };
         calls.push(call).expect(rt, "no fault");
     }
@@ -183,9 +189,11 @@ fn verdicts_of(rt: &impl Abort, alloc: Global, told: &[ToldCall]) -> Vec<CallVer
 /// An outcome with these calls, and with names and architectures that were left out.
 fn told_of(rt: &impl Abort, alloc: Global, told: &[ToldCall]) -> CallsOutcome {
     CallsOutcome {
-        calls: verdicts_of(rt, alloc, told),
-        skipped: texts_of(rt, alloc, SKIPPED),
-        other_architectures: texts_of(rt, alloc, OTHERS),
+        calls: findings_of(rt, alloc, told),
+        left_out: LeftOut {
+            skipped: texts_of(rt, alloc, SKIPPED),
+            other_architectures: texts_of(rt, alloc, OTHERS),
+        },
     }
 }
 
@@ -205,7 +213,7 @@ fn is_with_left_out(text: &[u8], wanted: &str) -> bool {
 
 /// Whether this is printed of an outcome, with what is left out behind it.
 fn is_report_of_calls(alloc: Global, outcome: &CallsOutcome, wanted: &str) -> bool {
-    match report_calls(alloc, outcome) {
+    match report_calls(alloc, Relation::Same, outcome) {
         Ok(text) => is_with_left_out(text.as_slice(), wanted),
         Err(_) => false,
     }
@@ -221,4 +229,87 @@ fn reported_calls(rt: HostRuntime) {
     for (told, wanted) in calls() {
         are_told(&rt, rt.alloc(), told, wanted);
     }
+}
+
+/// Findings on filters and those beside them by a relation, and what is printed of them.
+const BESIDE: &[(Relation, Finding, &str)] = &[
+    (Relation::Same, Finding::Holds { steps: 7 }, "same\n"),
+    (Relation::NoMore, Finding::Holds { steps: 7 }, "no more\n"),
+    (Relation::NoLess, Finding::Holds { steps: 7 }, "no less\n"),
+    (
+        Relation::SameDisposition,
+        Finding::Holds { steps: 7 },
+        "same disposition\n",
+    ),
+    (
+        Relation::SameDisposition,
+        FAILS,
+        "differs\n\
+         call nr 41 arch 0xc000003e ip 0x0 args 0x2 0x80000 0x0 0xffffffffffffffff 0xabc 0x10\n\
+         filter ERRNO 38\n\
+         beside UNNAMED 0x00010000\n",
+    ),
+    (
+        Relation::NoLess,
+        FAILS,
+        "less\n\
+         call nr 41 arch 0xc000003e ip 0x0 args 0x2 0x80000 0x0 0xffffffffffffffff 0xabc 0x10\n\
+         filter ERRNO 38\n\
+         beside UNNAMED 0x00010000\n",
+    ),
+    (
+        Relation::Same,
+        Finding::Undecided {
+            side: Which::Right,
+            at: 3,
+        },
+        "undecided at 3\n",
+    ),
+    (Relation::Same, Finding::Unfinished, "unfinished\n"),
+];
+
+fn beside() -> &'static [(Relation, Finding, &'static str)] {
+    BESIDE
+}
+
+fn is_report_beside(alloc: Global, relation: Relation, finding: &Finding, wanted: &str) -> bool {
+    match report_beside(alloc, relation, finding) {
+        Ok(text) => text.as_slice() == wanted.as_bytes(),
+        Err(_) => false,
+    }
+}
+
+#[test]
+fn reported_beside(rt: HostRuntime) {
+    for (relation, finding, wanted) in beside() {
+        let is_so = is_report_beside(rt.alloc(), *relation, finding, wanted);
+        is_reported(&rt, is_so, wanted);
+    }
+}
+
+fn is_report_of_calls_beside(alloc: Global, calls: &[CallFinding], wanted: &str) -> bool {
+    match report_calls_beside(alloc, Relation::SameDisposition, calls) {
+        Ok(text) => text.as_slice() == wanted.as_bytes(),
+        Err(_) => false,
+    }
+}
+
+/// Two calls, of which one is answered otherwise.
+const CALLS_BESIDE: &[ToldCall] = &[
+    (0, &["read"], Finding::Holds { steps: 1 }),
+    (1, &["a"], FAILS),
+];
+
+fn told_beside() -> &'static [ToldCall] {
+    CALLS_BESIDE
+}
+
+#[test]
+fn reported_calls_beside(rt: HostRuntime) {
+    let calls = findings_of(&rt, rt.alloc(), told_beside());
+    let wanted = "differs\n\
+        1 a differs args 0x2 0x80000 0x0 0xffffffffffffffff 0xabc 0x10 \
+        filter ERRNO 38 beside UNNAMED 0x00010000\n";
+    let is_so = is_report_of_calls_beside(rt.alloc(), &calls, wanted);
+    is_reported(&rt, is_so, wanted);
 }

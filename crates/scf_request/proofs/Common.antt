@@ -1,5 +1,5 @@
 -- The names that proofs of this crate cite, passed on from one place. Declares nothing.
-pub use Rattle.std.proofs.Common.{Bool, Bor, Err, IfSome, List, None, Option, Some, [], ap, append-nil, append_assoc, ap₂, arith, bytes_eq, codes, drop, eqb, false, find, fold, get_or, if◌then◌else◌, inl, inr, is_some, length, length-append, length-drop, map, not, option_map, option_to_list, refl, rules, subst, suc, sym, take, true, unwrap_or, zero, ℕ, ◌&&◌, ◌++◌, ◌+◌, ◌-◌, ◌<◌, ◌^◌, ◌∙◌, ◌∷◌, ◌≡◌, ◌≢◌, ◌≤◌}
+pub use Rattle.std.proofs.Common.{◌||◌, All, Bool, Bor, Contains, Err, IfSome, List, None, Option, Some, [], ap, append-nil, append_assoc, ap₂, arith, bytes_eq, codes, drop, eqb, false, find, fold, get_or, if◌then◌else◌, inl, inr, is_some, length, length-append, length-drop, map, not, option_map, option_to_list, refl, rules, subst, suc, sym, take, true, unwrap_or, zero, ℕ, ◌&&◌, ◌++◌, ◌+◌, ◌-◌, ◌<◌, ◌^◌, ◌∙◌, ◌∷◌, ◌≡◌, ◌≢◌, ◌≤◌}
 unfoldable pub use Rattle.clap.proofs.OnLiterals.{clap_on_literals}
 pub use Rattle.clap.proofs.WalkLemmas.{first_value-rows}
 pub use Rattle.clap.specs.Faults.{built_fault, check_fault, entered_fault, level_fault, settle_fault, turn_fault}
@@ -24,9 +24,9 @@ pub use Rattle.std.specs.Option.{IfNone, MatchOption}
 pub use Rattle.std.specs.Str.Parse.{AllDigits}
 pub use Rattle.scf_insn.proofs.Common.{ReadsNumber, and_from, and_parts, digits_value, drop_more, eqb-false, is_digit, list_all, ne_eqb, numeral, take-append-drop, take_all, take_more}
 pub use Rattle.scf_insn.specs.declared.number.NumeralFault.{NumeralFault}
-pub use Rattle.scf_profile.proofs.Common.{IfOk-weaker, err_from_is_err_and, false≢true, filter_map-append, map-append, option_map_or, nat_tests}
-pub use Rattle.scf_request.specs.Bundle.{HasHeader, IsBundleFault, IsBundlePart, IsFaultAt, IsHeader, SpellsBundle, SpellsFrom, content_of, held_by, is_of, kind_word}
-pub use Rattle.scf_request.specs.Options.{NumberOption, choice_in, first_wrong, given_of, is_given, limit_options, number_by, number_in, one_of}
+pub use Rattle.scf_profile.proofs.Common.{All-contains, All-more, IfOk-weaker, err_from_is_err_and, false≢true, filter_map-append, map-append, option_map_or, nat_tests}
+pub use Rattle.scf_request.specs.Bundle.{AreNoParts, HasHeader, IsBundlePart, IsHeader, IsPartFault, SpellsParts, content_of, held_by, is_of, kind_word}
+pub use Rattle.scf_request.specs.Options.{NumberOption, choice_in, first_wrong, given_of, is_given, number_by, number_in, one_of}
 pub use Rattle.scf_request.specs.Requests.{Command as Asked, command_word}
 pub use Rattle.scf_request.specs.Requests.Command.{Ask, Asm, Check, Compare, Compile, Decide, Dis, Run}
 pub use Rattle.scf_request.specs.CommandLine.{option_rule, scf, scf_shape, shape_for, shape_with}
@@ -34,7 +34,7 @@ pub use Rattle.scf_request.specs.declared.bundle.BundleFault.{BundleFault}
 pub use Rattle.scf_request.specs.declared.bundle.BundleFault.TheVariants.{Header, Memory, Short}
 pub use Rattle.scf_request.specs.declared.bundle.Part.{Part}
 pub use Rattle.scf_request.specs.declared.bundle.PartKind.{PartKind}
-pub use Rattle.scf_request.specs.declared.bundle.PartKind.TheVariants.{Filter, Profile, Table}
+pub use Rattle.scf_request.specs.declared.bundle.PartKind.TheVariants.{Beside, Filter, Profile, Table}
 pub use Rattle.scf_request.specs.declared.options.NumberOption.{NumberOption as Kept}
 pub use Rattle.scf_request.specs.Contents.{of_kind}
 pub use Rattle.scf_request.specs.internal.Contents.{with_one}

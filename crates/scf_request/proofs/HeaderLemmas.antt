@@ -1,5 +1,5 @@
 -- A header ends at the first line end, so bytes begin with at most one.
-use Rattle.scf_request.proofs.Common.{nat_tests, ◌≡◌, ◌≢◌, ℕ, zero, suc, ◌+◌, ◌<◌, ◌≤◌, ◌^◌, true, List, [], ◌∷◌, ◌++◌, not, eqb, length, get_or, take, drop, codes, Option, Some, Err, refl, sym, ap, ◌∙◌, append_assoc, arith, length-append, list_all, MatchOption, list_all-append, is_digit, digits_value, AllDigits, and_from, and_parts, false≢true, ltb-true, ne_eqb, cond_some, append_cancel_left, append_cancel_right, drop_more, take-append-drop, digits_value-lt, pow-le-pow_right, numeral, ReadsNumber, NumeralFault, PartKind, Filter, Profile, Table, kind_word, IsHeader, HasHeader}
+use Rattle.scf_request.proofs.Common.{nat_tests, ◌≡◌, ◌≢◌, ℕ, zero, suc, ◌+◌, ◌<◌, ◌≤◌, ◌^◌, true, List, [], ◌∷◌, ◌++◌, not, eqb, length, get_or, take, drop, codes, Option, Some, Err, refl, sym, ap, ◌∙◌, append_assoc, arith, length-append, list_all, MatchOption, list_all-append, is_digit, digits_value, AllDigits, and_from, and_parts, false≢true, ltb-true, ne_eqb, cond_some, append_cancel_left, append_cancel_right, drop_more, take-append-drop, digits_value-lt, pow-le-pow_right, numeral, ReadsNumber, NumeralFault, PartKind, kind_word, IsHeader, HasHeader}
 
 -- ---- the digits of a header
 
@@ -117,9 +117,3 @@ pub header_by_count : (kind : PartKind) (line digits : List ℕ) (counted : Opti
     → MatchOption counted ((n : ℕ) → IsCount digits n → ⊥) (IsCount digits)
     → MatchOption counted ((n : ℕ) → IsHeader (line ++ codes "\n") kind n → ⊥) (IsHeader (line ++ codes "\n") kind)
 header_by_count kind line digits counted h1 h2 = grind (arith, append_cancel_right, same_word)
-
-pub no_kind : (h : List ℕ) → ((n : ℕ) → IsHeader h Filter n → ⊥) → ((n : ℕ) → IsHeader h Profile n → ⊥)
-    → ((n : ℕ) → IsHeader h Table n → ⊥) → (k : PartKind) (n : ℕ) → IsHeader h k n → ⊥
-no_kind h a b c Filter n = a n
-no_kind h a b c Profile n = b n
-no_kind h a b c Table n = c n

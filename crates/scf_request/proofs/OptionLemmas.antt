@@ -1,26 +1,80 @@
 -- Options among the matches of a command line, and among its rules.
-use Rattle.scf_request.proofs.Common.{◌≡◌, ◌<◌, ◌+◌, ℕ, Bor, List, [], ◌∷◌, ◌++◌, Option, Some, None, true, false, append-nil, length, take, drop, get_or, map, refl, sym, ap, ◌∙◌, drop_more, map-append, map_more, map_push, take-append-drop, if◌then◌else◌, is_some, option_to_list, filter_map-append, App, Row, first_value, with_rule, rows_of, Found, first_value-rows, Kept, NumberOption, choice_in, first_wrong, given_of, is_given, limit_options, number_by, number_in, one_of, option_rule, shape_with, flags_in, option_of, options_kept}
-use Rattle.clap.specs.Words.{Rule}
-use Rattle.std.specs.Prelude.{Ok}
+use Rattle.scf_request.proofs.Common.{codes, false, Bool, filter_map, ◌≡◌, ◌||◌, ◌-◌, ◌^◌, ◌<◌, ◌+◌, ℕ, Bor, List, [], ◌∷◌, ◌++◌, Option, Some, None, true, false, append-nil, length, take, drop, get_or, map, refl, sym, ap, ◌∙◌, drop_more, map-append, map_more, map_push, take-append-drop, if◌then◌else◌, is_some, option_to_list, filter_map-append, App, Row, first_value, with_rule, rows_of, Found, first_value-rows, Kept, NumberOption, choice_in, first_wrong, given_of, is_given, number_by, number_in, one_of, option_rule, shape_with, flags_in, option_of, options_kept}
+use Rattle.clap.specs.Words.{Rule, first_of}
 use Rattle.scf_request.specs.declared.request.Limits.{Limits}
-use Rattle.scf_request.specs.Options.{SpellsLimits, numbers_of_limits}
+use Rattle.scf_request.specs.Options.{SelectsCalls, comparison_options, has_range, numbers_of_limits, numbers_of_range, range_options, scope_flags, word_option}
+use Rattle.scf_request.specs.declared.request.Scopes.{Scopes}
+use Rattle.scf_request.specs.declared.request.Scopes.TheVariants.{AtOnce, EachCall}
+use Rattle.scf_profile.specs.declared.scope.Scope.TheVariants.{All, Native, Numbers}
 
 pub by_value : (f : Found) (o : NumberOption) → number_in (rows_of f) o ≡ number_by o (first_value f o.name)
 by_value f o = ap (number_by o) (sym (first_value-rows f o.name))
 
--- where the options of limits spell limits, none of them is wrong
-pub none_wrong : (rows : List Row) (limits : Limits) → SpellsLimits rows (Ok limits)
-    → first_wrong limit_options rows ≡ None
-none_wrong rows limits spells = all_right limit_options rows (numbers_of_limits limits) spells
+-- where options spell numbers, none of them is wrong
+pub none_wrong : (options : List NumberOption) (rows : List Row) (numbers : List ℕ)
+    → map Some numbers ≡ map (number_in rows) options → first_wrong options rows ≡ None
+none_wrong [] rows numbers e = refl
+none_wrong (o ∷ options) rows [] e = absurd (cc)
+none_wrong (o ∷ options) rows (n ∷ numbers) e =
+    let first : number_in rows o ≡ Some n = cc in
+    let others : map Some numbers ≡ map (number_in rows) options = cc in
+    rw first (none_wrong options rows numbers others)
+
+-- the ends of another range behind the same limits
+pub with_range : (rows : List Row) (limits : Limits) (range other : List ℕ)
+    → map Some (numbers_of_limits limits ++ range) ≡ map (number_in rows) comparison_options
+    → (map Some range ≡ map (number_in rows) range_options → map Some other ≡ map (number_in rows) range_options)
+    → map Some (numbers_of_limits limits ++ other) ≡ map (number_in rows) comparison_options
+with_range rows limits range other spelled moved =
+    let ends : map Some range ≡ map (number_in rows) range_options = cc in
+    let moved_ends : map Some other ≡ map (number_in rows) range_options = moved ends in
+    cc
+
+-- no flag stands for a range
+no_range_flag : (rows : List Row) (first last : ℕ) → choice_in rows scope_flags ≡ Some (AtOnce (Numbers first last)) → ⊥
+no_range_flag rows first last chosen =
+    by_flags (is_given rows (codes "native")) (is_given rows (codes "calls")) chosen
   where
-    all_right : (options : List NumberOption) (rows : List Row) (numbers : List ℕ)
-        → map Some numbers ≡ map (number_in rows) options → first_wrong options rows ≡ None
-    all_right [] rows numbers e = refl
-    all_right (o ∷ options) rows [] e = absurd (cc)
-    all_right (o ∷ options) rows (n ∷ numbers) e =
-        let first : number_in rows o ≡ Some n = cc in
-        let others : map Some numbers ≡ map (number_in rows) options = cc in
-        rw first (all_right options rows numbers others)
+    by_flags : (native calls : Bool)
+        → one_of (AtOnce All) (filter_map (λ (flag : Bool × Scopes). if flag.0 then Some flag.1 else None)
+        ((native, AtOnce Native) ∷ (calls, EachCall) ∷ [])) ≡ Some (AtOnce (Numbers first last)) → ⊥
+    by_flags true true e = absurd (cc)
+    by_flags true false e = absurd (cc)
+    by_flags false true e = absurd (cc)
+    by_flags false false e = absurd (cc)
+
+-- the calls that a flag stands for, where no range is given
+pub by_flags : (rows : List Row) (over : Scopes) → has_range rows ≡ false → choice_in rows scope_flags ≡ Some over
+    → SelectsCalls rows over
+by_flags rows EachCall none chosen = (none, chosen)
+by_flags rows (AtOnce (Numbers first last)) none chosen = absurd (no_range_flag rows first last chosen)
+by_flags rows (AtOnce scope) none chosen = (none, chosen)
+
+without_text : (o : NumberOption) (text : Option (List ℕ)) → is_some text ≡ false → number_by o text ≡ Some o.default
+without_text o None absent = refl
+without_text o (Some text) absent = absurd (cc)
+
+both_absent : (a b : Option (List ℕ)) → (is_some a || is_some b) ≡ false → (is_some a ≡ false) × (is_some b ≡ false)
+both_absent None None none = (refl, refl)
+both_absent None (Some b) none = absurd (cc)
+both_absent (Some a) b none = absurd (cc)
+
+-- the ends of all numbers, where none is given
+open_range : (rows : List Row) → has_range rows ≡ false
+    → map Some (0 ∷ (2 ^ 32 - 1) ∷ []) ≡ map (number_in rows) range_options
+open_range rows none =
+    let both = both_absent (first_of (codes "nr-from") rows) (first_of (codes "nr-to") rows) none in
+    let first = without_text (word_option (codes "nr-from") 0) (first_of (codes "nr-from") rows) both.0 in
+    let last = without_text (word_option (codes "nr-to") (2 ^ 32 - 1)) (first_of (codes "nr-to") rows) both.1 in
+    rw (first, last) refl
+
+-- they stand for the calls of a flag
+pub range_of_flags : (rows : List Row) (over : Scopes) → has_range rows ≡ false
+    → choice_in rows scope_flags ≡ Some over
+    → map Some (numbers_of_range over) ≡ map (number_in rows) range_options
+range_of_flags rows EachCall none chosen = open_range rows none
+range_of_flags rows (AtOnce (Numbers first last)) none chosen = absurd (no_range_flag rows first last chosen)
+range_of_flags rows (AtOnce scope) none chosen = open_range rows none
 
 abbrev pub leaf : List ℕ → List Kept → App
 leaf name options = record { top = shape_with name (options_kept options); subs = [] }

@@ -1,17 +1,29 @@
 -- Files one after another, each behind a header.
-use Rattle.std.specs.Prelude.{◌≡◌, ◌≢◌, ℕ, ◌+◌, ◌<◌, ◌≤◌, Bool, true, false, List, [], ◌∷◌, ◌++◌, length, take, drop, codes, Some, None, if◌then◌else◌}
+use Rattle.std.specs.Prelude.{Contains, ◌≡◌, ◌≢◌, ℕ, ◌+◌, ◌<◌, ◌≤◌, Bool, true, false, List, [], ◌∷◌, ◌++◌, length, take, drop, codes, Some, None, if◌then◌else◌}
 use Rattle.std.specs.List.{filter_map}
 use Rattle.scf_insn.specs.Numbers.{numeral}
 use Rattle.scf_request.specs.declared.bundle.PartKind.{PartKind}
-use Rattle.scf_request.specs.declared.bundle.PartKind.TheVariants.{Filter, Profile, Table}
+use Rattle.scf_request.specs.declared.bundle.PartKind.TheVariants.{Beside, Filter, Profile, Table}
 use Rattle.scf_request.specs.declared.bundle.Part.{Part}
 use Rattle.scf_request.specs.declared.bundle.BundleFault.{BundleFault}
 use Rattle.scf_request.specs.declared.bundle.BundleFault.TheVariants.{Header, Short, Memory}
+use Rattle.scf_request.specs.declared.request.Scopes.{Scopes}
+use Rattle.scf_request.specs.declared.request.Scopes.TheVariants.{EachCall}
 
 abbrev pub kind_word : PartKind → List ℕ
 kind_word Filter = codes "filter"
 kind_word Profile = codes "profile"
 kind_word Table = codes "table"
+kind_word Beside = codes "beside"
+
+-- the kinds that parts have beside a profile
+abbrev pub profile_kinds : List PartKind
+profile_kinds = Filter ∷ Profile ∷ Table ∷ []
+
+-- and those that they have beside other filters: call by call there is a table, too
+abbrev pub beside_kinds : Scopes → List PartKind
+beside_kinds EachCall = Filter ∷ Beside ∷ Table ∷ []
+beside_kinds over = Filter ∷ Beside ∷ []
 
 -- The header of a part: the word of its kind, one space, one to eight decimal digits that write the count of the bytes
 -- that follow, LF.
@@ -27,37 +39,46 @@ pub record HasHeader (bytes : List ℕ) (kind : PartKind) (count : ℕ) : Type 0
   pub is_header : IsHeader header kind count
   pub whole : bytes ≡ header ++ rest
 
--- Bytes are a part of a bundle, from an offset on: a header, and as many bytes as it says.
-pub record IsBundlePart (offset : ℕ) (part : Part) (bytes : List ℕ) : Type 0 where
+-- Bytes are a part of a bundle, from an offset on: a header of one of these kinds, and as many bytes as it says.
+pub record IsBundlePart (kinds : List PartKind) (offset : ℕ) (part : Part) (bytes : List ℕ) : Type 0 where
+  pub is_kind : Contains kinds part.kind
   pub front : HasHeader bytes part.kind part.length
   pub start : part.start ≡ offset + length front.header
   pub size : part.length ≡ length front.rest
 
--- Bytes from an offset on spell parts: they are these parts, one after another, and nothing else.
-abbrev pub SpellsFrom : ℕ → List ℕ → List Part → Type 0
-SpellsFrom offset bytes [] = bytes ≡ []
-SpellsFrom offset bytes (part ∷ parts) =
-    (own : List ℕ) × (rest : List ℕ) × (bytes ≡ own ++ rest) × IsBundlePart offset part own
-    × SpellsFrom (offset + length own) rest parts
+-- Bytes from an offset on spell parts of these kinds: they are these parts, one after another, and nothing else.
+abbrev pub SpellsParts : List PartKind → ℕ → List ℕ → List Part → Type 0
+SpellsParts kinds offset bytes [] = bytes ≡ []
+SpellsParts kinds offset bytes (part ∷ parts) =
+    (own : List ℕ) × (rest : List ℕ) × (bytes ≡ own ++ rest) × IsBundlePart kinds offset part own
+    × SpellsParts kinds (offset + length own) rest parts
+
+-- The bytes from an offset on begin with no whole part: they go on, and no header of one of these kinds stands in front,
+-- or one does, and fewer bytes follow than it says. Want of memory may come anywhere.
+abbrev pub IsPartFault : List PartKind → List ℕ → ℕ → BundleFault → Type 0
+IsPartFault kinds bytes at (Header offset) = (offset ≡ at) × (bytes ≢ [])
+    × ((kind : PartKind) (count : ℕ) → Contains kinds kind → HasHeader bytes kind count → ⊥)
+IsPartFault kinds bytes at (Short offset) = (offset ≡ at) × (kind : PartKind) × (count : ℕ) × Contains kinds kind
+    × (found : HasHeader bytes kind count) × (length found.rest < count)
+IsPartFault kinds bytes at Memory = ⊥
+
+-- why bytes are refused: behind whole parts this stands at an offset
+abbrev pub AreNoParts : List PartKind → List ℕ → BundleFault → Type 0
+AreNoParts kinds bytes Memory = Unit {0}
+AreNoParts kinds bytes fault = (offset : ℕ) × (parts : List Part)
+    × SpellsParts kinds 0 (take offset bytes) parts × IsPartFault kinds (drop offset bytes) offset fault
+
+-- ---- a bundle with profiles
 
 -- the bytes of a bundle spell its parts
 abbrev pub SpellsBundle : List ℕ → List Part → Type 0
-SpellsBundle bytes parts = SpellsFrom 0 bytes parts
+SpellsBundle bytes parts = SpellsParts profile_kinds 0 bytes parts
 
--- The bytes from an offset on begin with no whole part: they go on, and no header stands in front, or one does, and
--- fewer bytes follow than it says. Want of memory may come anywhere.
 abbrev pub IsFaultAt : List ℕ → ℕ → BundleFault → Type 0
-IsFaultAt bytes at (Header offset) =
-    (offset ≡ at) × (bytes ≢ []) × ((kind : PartKind) (count : ℕ) → HasHeader bytes kind count → ⊥)
-IsFaultAt bytes at (Short offset) = (offset ≡ at)
-    × (kind : PartKind) × (count : ℕ) × (found : HasHeader bytes kind count) × (length found.rest < count)
-IsFaultAt bytes at Memory = ⊥
+IsFaultAt bytes at fault = IsPartFault profile_kinds bytes at fault
 
--- why bytes are refused: behind whole parts this stands at an offset
 abbrev pub IsBundleFault : List ℕ → BundleFault → Type 0
-IsBundleFault bytes Memory = Unit {0}
-IsBundleFault bytes fault = (offset : ℕ) × (parts : List Part)
-    × SpellsBundle (take offset bytes) parts × IsFaultAt (drop offset bytes) offset fault
+IsBundleFault bytes fault = AreNoParts profile_kinds bytes fault
 
 -- ---- what parts hold
 
@@ -69,6 +90,7 @@ abbrev pub is_of : PartKind → PartKind → Bool
 is_of Filter Filter = true
 is_of Profile Profile = true
 is_of Table Table = true
+is_of Beside Beside = true
 is_of kind other = false
 
 -- what the parts of a kind hold, in their order
@@ -81,4 +103,13 @@ pub record IsBundle (bytes : List ℕ) (filters profiles tables : List (List ℕ
   pub spelled : SpellsBundle bytes parts
   pub filters_held : filters ≡ held_by Filter bytes parts
   pub profiles_held : profiles ≡ held_by Profile bytes parts
+  pub tables_held : tables ≡ held_by Table bytes parts
+
+-- Bytes are a bundle for a comparison over these calls, whose parts hold these filters, these beside them and these
+-- tables, those of each kind in order.
+pub record IsBesideBundle (over : Scopes) (bytes : List ℕ) (filters beside tables : List (List ℕ)) : Type 0 where
+  pub parts : List Part
+  pub spelled : SpellsParts (beside_kinds over) 0 bytes parts
+  pub filters_held : filters ≡ held_by Filter bytes parts
+  pub beside_held : beside ≡ held_by Beside bytes parts
   pub tables_held : tables ≡ held_by Table bytes parts

@@ -1,5 +1,5 @@
 -- The options of the program, and the numbers that they spell.
-use Rattle.std.specs.Prelude.{◌≡◌, ℕ, Bool, false, ◌-◌, ◌^◌, List, [], ◌∷◌, codes, bytes_eq, map, find, nat_le, is_none, Option, Some, None, Result, Ok, Err, option_map, if◌then◌else◌}
+use Rattle.std.specs.Prelude.{◌≡◌, ◌⊎◌, ◌||◌, ℕ, Bool, true, false, ◌-◌, ◌^◌, List, [], ◌∷◌, ◌++◌, codes, bytes_eq, map, find, nat_le, is_none, is_some, Option, Some, None, Result, Ok, Err, option_map, if◌then◌else◌}
 use Rattle.std.specs.List.{filter_map}
 use Rattle.std.specs.Option.{option_and_then, option_map_or}
 use Rattle.clap.specs.Words.{Row, first_of}
@@ -7,10 +7,12 @@ use Rattle.scf_insn.specs.declared.record.CallRecord.{CallRecord}
 use Rattle.scf_insn.specs.Kernel.{audit_arch_x86_64}
 use Rattle.scf_insn.specs.Numbers.{number_of}
 use Rattle.scf_profile.specs.declared.relation.Relation.{Relation}
-use Rattle.scf_profile.specs.declared.relation.Relation.TheVariants.{Same, NoMore, NoLess}
+use Rattle.scf_profile.specs.declared.relation.Relation.TheVariants.{Same, NoMore, NoLess, SameDisposition}
 use Rattle.scf_request.specs.declared.options.NumberFault.{NumberFault}
+use Rattle.scf_request.specs.declared.request.Comparison.{Comparison}
 use Rattle.scf_request.specs.declared.request.Limits.{Limits}
 use Rattle.scf_request.specs.declared.request.Scopes.{Scopes}
+use Rattle.scf_profile.specs.declared.scope.Scope.{Scope}
 use Rattle.scf_profile.specs.declared.scope.Scope.TheVariants as scopes
 use Rattle.scf_request.specs.declared.request.Scopes.TheVariants.{AtOnce, EachCall}
 
@@ -59,14 +61,25 @@ abbrev pub SpellsCall : List Row → Result CallRecord NumberFault → Type 0
 SpellsCall rows (Ok call) = map Some (numbers_of_record call) ≡ map (number_in rows) call_options
 SpellsCall rows (Err fault) = first_wrong call_options rows ≡ Some fault.name.now
 
+-- the options of the ends of a range of numbers, which without them are those of all numbers
+abbrev pub range_options : List NumberOption
+range_options = word_option (codes "nr-from") 0 ∷ word_option (codes "nr-to") (2 ^ 32 - 1) ∷ []
+
+-- the options of a comparison
+abbrev pub comparison_options : List NumberOption
+comparison_options = limit_options ++ range_options
+
 -- the limits, in that order
 abbrev pub numbers_of_limits : Limits → List ℕ
 numbers_of_limits limits = limits.each ∷ limits.total ∷ []
 
--- What the options of limits spell: the limits of their numbers, or the first that spells none.
-abbrev pub SpellsLimits : List Row → Result Limits NumberFault → Type 0
-SpellsLimits rows (Ok limits) = map Some (numbers_of_limits limits) ≡ map (number_in rows) limit_options
-SpellsLimits rows (Err fault) = first_wrong limit_options rows ≡ Some fault.name.now
+-- the ends of the range over which a comparison goes
+abbrev pub numbers_of_range : Scopes → List ℕ
+numbers_of_range (AtOnce (scopes.Numbers first last)) = first ∷ last ∷ []
+numbers_of_range over = 0 ∷ (2 ^ 32 - 1) ∷ []
+
+abbrev pub numbers_of_comparison : Comparison → List ℕ
+numbers_of_comparison comparison = numbers_of_limits comparison.limits ++ numbers_of_range comparison.scopes
 
 -- A flag is given where its name has the text `true`.
 abbrev pub is_given : List Row → List ℕ → Bool
@@ -94,10 +107,37 @@ scope_flags = (AtOnce scopes.All, (codes "native", AtOnce scopes.Native) ∷ (co
 
 -- by which relation it goes: by the same answers without a flag
 abbrev pub relation_flags : Relation × List (List ℕ × Relation)
-relation_flags = (Same, (codes "no-more", NoMore) ∷ (codes "no-less", NoLess) ∷ [])
+relation_flags =
+    (Same, (codes "no-more", NoMore) ∷ (codes "no-less", NoLess) ∷ (codes "disposition", SameDisposition) ∷ [])
 
 abbrev pub flag_names : {A : Type 0} → A × List (List ℕ × A) → List (List ℕ)
 flag_names group = map (λ flag. flag.0) group.1
+
+-- the flag by which other filters stand in place of a profile
+abbrev pub beside_flag : List ℕ
+beside_flag = codes "beside"
+
+-- an end of a range is given
+abbrev pub has_range : List Row → Bool
+has_range rows = is_some (first_of (codes "nr-from") rows) || is_some (first_of (codes "nr-to") rows)
+
+-- A comparison goes over these calls: those of a range that is given, which stands with or without the flag of native
+-- calls, and without one those of the flags.
+abbrev pub SelectsCalls : List Row → Scopes → Type 0
+SelectsCalls rows (AtOnce (scopes.Numbers first last)) =
+    (has_range rows ≡ true) × (scope : Scope) × (choice_in rows scope_flags ≡ Some (AtOnce scope))
+SelectsCalls rows over = (has_range rows ≡ false) × (choice_in rows scope_flags ≡ Some over)
+
+-- The options and flags ask for a comparison over these calls and by this relation.
+pub record AsksToCompare (rows : List Row) (comparison : Comparison) : Type 0 where
+  pub scopes : SelectsCalls rows comparison.scopes
+  pub relation : choice_in rows relation_flags ≡ Some comparison.relation
+
+-- Flags exclude each other, two of a group, or that of single calls a range.
+abbrev pub AreExclusive : List Row → Type 0
+AreExclusive rows =
+    (choice_in rows scope_flags ≡ None) ⊎ (choice_in rows relation_flags ≡ None)
+    ⊎ ((has_range rows ≡ true) × (choice_in rows scope_flags ≡ Some EachCall))
 
 -- the flag that has the path of a run shown
 abbrev pub path_flag : List ℕ

@@ -1,11 +1,11 @@
 -- What the program is asked for by its words.
-use Rattle.std.specs.Prelude.{◌≡◌, ◌⊎◌, ℕ, true, false, List, [], ◌∷◌, ◌++◌, codes, map, Option, Some, None, Result, Ok, Err}
+use Rattle.std.specs.Prelude.{◌≡◌, ℕ, true, false, List, [], ◌∷◌, ◌++◌, codes, map, Option, Some, None, Result, Ok, Err}
 use Rattle.clap.specs.Words.{Row}
 use Rattle.scf_request.specs.declared.request_fault.RequestFault.{RequestFault}
 use Rattle.scf_request.specs.declared.request_fault.RequestFault.TheVariants.{Number, NoCommand, Flags}
 use Rattle.scf_request.specs.declared.request.Request.{Request}
 use Rattle.scf_request.specs.declared.request.Request.TheVariants as requests
-use Rattle.scf_request.specs.Options.{NumberOption, call_options, choice_in, first_wrong, is_given, limit_options, number_in, flag_names, numbers_of_limits, numbers_of_record, path_flag, relation_flags, scope_flags}
+use Rattle.scf_request.specs.Options.{AreExclusive, AsksToCompare, NumberOption, beside_flag, call_options, comparison_options, first_wrong, flag_names, is_given, number_in, numbers_of_comparison, numbers_of_record, path_flag, relation_flags, scope_flags}
 
 pub data Command : Type 0 where
   Ask Asm Check Compare Compile Decide Dis Run : Command
@@ -15,7 +15,8 @@ abbrev pub words_of_command : Command → List ℕ × List NumberOption × List 
 words_of_command Ask = (codes "ask", call_options, [])
 words_of_command Asm = (codes "asm", [], [])
 words_of_command Check = (codes "check", [], [])
-words_of_command Compare = (codes "compare", limit_options, flag_names scope_flags ++ flag_names relation_flags)
+words_of_command Compare =
+    (codes "compare", comparison_options, flag_names scope_flags ++ flag_names relation_flags ++ beside_flag ∷ [])
 words_of_command Compile = (codes "compile", [], [])
 words_of_command Decide = (codes "decide", call_options, [])
 words_of_command Dis = (codes "dis", [], [])
@@ -32,7 +33,8 @@ abbrev pub asked_by : Request → Command × List ℕ
 asked_by (requests.Ask call) = (Ask, numbers_of_record call)
 asked_by requests.Assemble = (Asm, [])
 asked_by requests.Check = (Check, [])
-asked_by (requests.Compare limits scopes relation) = (Compare, numbers_of_limits limits)
+asked_by (requests.Compare comparison) = (Compare, numbers_of_comparison comparison)
+asked_by (requests.CompareBeside comparison) = (Compare, numbers_of_comparison comparison)
 asked_by requests.Compile = (Compile, [])
 asked_by (requests.Decide call) = (Decide, numbers_of_record call)
 asked_by requests.List = (Dis, [])
@@ -41,8 +43,8 @@ asked_by (requests.Trace call) = (Run, numbers_of_record call)
 
 -- the flags of a request are given, and no other
 abbrev pub HasFlags : List Row → Request → Type 0
-HasFlags rows (requests.Compare limits scopes relation) =
-    (choice_in rows scope_flags ≡ Some scopes) × (choice_in rows relation_flags ≡ Some relation)
+HasFlags rows (requests.Compare comparison) = AsksToCompare rows comparison × (is_given rows beside_flag ≡ false)
+HasFlags rows (requests.CompareBeside comparison) = AsksToCompare rows comparison × (is_given rows beside_flag ≡ true)
 HasFlags rows (requests.Run call) = is_given rows path_flag ≡ false
 HasFlags rows (requests.Trace call) = is_given rows path_flag ≡ true
 HasFlags rows request = Unit {0}
@@ -61,6 +63,5 @@ AsksFor asked (Ok request) = IsRequest asked request
 AsksFor asked (Err (Number fault)) = (command : Command) × (rows : List Row)
     × (asked ≡ Some (command_word command, rows)) × (first_wrong (options_of command) rows ≡ Some fault.name.now)
 AsksFor asked (Err Flags) = (rows : List Row) × (asked ≡ Some (command_word Compare, rows))
-    × (first_wrong (options_of Compare) rows ≡ None)
-    × ((choice_in rows scope_flags ≡ None) ⊎ (choice_in rows relation_flags ≡ None))
+    × (first_wrong (options_of Compare) rows ≡ None) × AreExclusive rows
 AsksFor asked (Err NoCommand) = (command : Command) (rows : List Row) → asked ≡ Some (command_word command, rows) → ⊥

@@ -1,11 +1,21 @@
 //! Bundles: files one after another, each behind a header with its kind and its length in bytes.
 
 ghost use Rattle.std.specs.Prelude.{◌≡◌, ◌≢◌, ◌+◌, ◌-◌, ◌<◌, ◌≤◌, ◌++◌, ◌∷◌, [], ℕ, List, codes, length, take, drop};
-ghost use Rattle.std.specs.Prelude.{slice_index, MatchOption, IfSome, IfNone, IfOk, IfErr};
+ghost use Rattle.std.specs.Prelude.{slice_index, Contains, MatchOption, IfSome, IfNone, IfOk, IfErr};
 ghost use Rattle.scf_request.specs.Bundle as spec;
 ghost use Rattle.scf_insn.specs.Numbers.{numeral};
-ghost use Rattle.scf_request.specs.Bundle.{kind_word, IsHeader, HasHeader, IsBundlePart, IsFaultAt, SpellsBundle};
-ghost use Rattle.scf_request.specs.Bundle.{IsBundleFault};
+ghost use Rattle.scf_request.specs.Bundle.{
+  AreNoParts,
+  HasHeader,
+  IsBundleFault,
+  IsBundlePart,
+  IsFaultAt,
+  IsHeader,
+  IsPartFault,
+  SpellsBundle,
+  SpellsParts,
+  kind_word,
+};
 
 use scf_insn::parse_numeral;
 use std::alloc::{AllocError, AllocFailed, Global};
@@ -17,6 +27,8 @@ pub enum PartKind {
     Filter,
     Profile,
     Table,
+    /// A filter of another stack, beside the first.
+    Beside,
 }
 
 /// A part of a bundle: its kind, and the range of its contents, in bytes from the beginning.
@@ -69,6 +81,7 @@ impl PartKind {
             PartKind::Filter => b"filter",
             PartKind::Profile => b"profile",
             PartKind::Table => b"table",
+            PartKind::Beside => b"beside",
         }
     }
 }
@@ -107,22 +120,18 @@ fn count_in(kind: PartKind, line: &[u8]) -> Option<usize>
     count_of(digits)
 }
 
-/// The kind and the length in a header, without its line end.
-fn said_in(line: &[u8]) -> Option<(PartKind, usize)>
+/// The kind, one of these, and the length in a header, without its line end.
+fn said_in(kinds: &[PartKind], line: &[u8]) -> Option<(PartKind, usize)>
     ensures { MatchOption result
-        ((kind : PartKind) (n : ℕ) → IsHeader (line.now ++ codes "\n") kind n → ⊥)
-        (λ said. IsHeader (line.now ++ codes "\n") said.0 said.1) }
+        ((kind : PartKind) (n : ℕ) → Contains kinds.now kind → IsHeader (line.now ++ codes "\n") kind n → ⊥)
+        (λ said. Contains kinds.now said.0 × IsHeader (line.now ++ codes "\n") said.0 said.1) }
 {
-    if let Some(count) = count_in(PartKind::Filter, line) {
-        return Some((PartKind::Filter, count));
+    for kind in kinds {
+        if let Some(count) = count_in(*kind, line) {
+            return Some((*kind, count));
+        }
     }
-    if let Some(count) = count_in(PartKind::Profile, line) {
-        return Some((PartKind::Profile, count));
-    }
-    match count_in(PartKind::Table, line) {
-        Some(count) => Some((PartKind::Table, count)),
-        None => None,
-    }
+    None
 }
 
 /// The index of the first line end.
@@ -139,14 +148,16 @@ fn line_len(bytes: &[u8]) -> Option<usize>
     None
 }
 
-/// The header at the beginning.
-fn header_of(bytes: &[u8]) -> Option<Header>
+/// The header at the beginning, of one of these kinds.
+fn header_of(kinds: &[PartKind], bytes: &[u8]) -> Option<Header>
     ensures some { IfSome result (λ h. (h.length ≤ length bytes.now)
         × IsHeader (take h.length bytes.now) h.kind h.count) }
-    ensures none { IfNone result ((kind : PartKind) (count : ℕ) → HasHeader bytes.now kind count → ⊥) }
+    ensures kind { IfSome result (λ h. Contains kinds.now h.kind) }
+    ensures none { IfNone result ((kind : PartKind) (count : ℕ)
+        → Contains kinds.now kind → HasHeader bytes.now kind count → ⊥) }
 {
     let end = line_len(bytes)?;
-    let (kind, count) = said_in(&bytes[..end])?;
+    let (kind, count) = said_in(kinds, &bytes[..end])?;
     Some(Header {
         kind,
         count,
@@ -154,17 +165,17 @@ fn header_of(bytes: &[u8]) -> Option<Header>
     })
 }
 
-/// The part at an offset.
-fn part_at(bytes: &[u8], offset: usize) -> Result<Part, BundleFault>
+/// The part at an offset, of one of these kinds.
+fn part_at(kinds: &[PartKind], bytes: &[u8], offset: usize) -> Result<Part, BundleFault>
     requires { offset < length bytes.now }
     ensures inside { IfOk result (λ part. (offset < part.start + part.length)
         × (part.start + part.length ≤ length bytes.now)) }
-    ensures part { IfOk result (λ part. IsBundlePart offset part
+    ensures part { IfOk result (λ part. IsBundlePart kinds.now offset part
         (take (part.start + part.length - offset) (drop offset bytes.now))) }
-    ensures fault { IfErr result (IsFaultAt (drop offset bytes.now) offset) }
+    ensures fault { IfErr result (IsPartFault kinds.now (drop offset bytes.now) offset) }
 {
     let rest = &bytes[offset..];
-    let Some(header) = header_of(rest) else {
+    let Some(header) = header_of(kinds, rest) else {
         return Err(BundleFault::Header { offset });
     };
     if rest.len() - header.length < header.count {
@@ -190,7 +201,6 @@ pub(crate) fn content_of<'a>(bytes: &'a [u8], part: Part) -> &'a [u8]
 /// A header is `filter`, `profile` or `table`, one space, 1 to 8 decimal digits and LF. The digits are the count of
 /// bytes that follow. `Header` has the first offset behind whole parts where bytes follow that aren't a header, `Short`
 /// the first offset of a header that announces more bytes than follow.
-#[tactic(auto, using(std::proofs::lemmas::Grind::common_steps, crate::proofs::BundleLemmas::breaks, crate::proofs::BundleLemmas::next_part, crate::proofs::BundleLemmas::one_spelling, crate::proofs::BundleLemmas::first_fault, crate::proofs::BundleLemmas::broken_no_parts))]
 pub fn split(alloc: Global, bytes: &[u8]) -> Result<Vec<Part>, BundleFault>
     ensures parts { IfOk result (λ parts. SpellsBundle bytes.now parts.items) }
     // The bytes spell no other list of parts.
@@ -201,10 +211,35 @@ pub fn split(alloc: Global, bytes: &[u8]) -> Result<Vec<Part>, BundleFault>
     // Nothing is allocated before the first whole part.
     ensures first { (fault : BundleFault) → IsFaultAt bytes.now 0 fault → result ≡ Err fault }
 {
+    split_by(alloc, bytes, &PROFILE_KINDS)
+}
+
+/// The kinds of parts beside a profile.
+pub(crate) const PROFILE_KINDS: [PartKind; 3] = [
+    PartKind::Filter,
+    PartKind::Profile,
+    PartKind::Table,
+];
+
+/// Splits a bundle into its parts, each of one of these kinds, as `split` does with its own.
+#[tactic(auto, using(std::proofs::lemmas::Grind::common_steps, crate::proofs::BundleLemmas::breaks, crate::proofs::BundleLemmas::next_part, crate::proofs::BundleLemmas::one_spelling, crate::proofs::BundleLemmas::first_fault, crate::proofs::BundleLemmas::broken_no_parts))]
+pub(crate) fn split_by(
+    alloc: Global,
+    bytes: &[u8],
+    kinds: &[PartKind],
+) -> Result<Vec<Part>, BundleFault>
+    ensures parts { IfOk result (λ parts. SpellsParts kinds.now 0 bytes.now parts.items) }
+    ensures only { IfOk result (λ parts. (others : List Part)
+        → SpellsParts kinds.now 0 bytes.now others → others ≡ parts.items) }
+    ensures fault { IfErr result (AreNoParts kinds.now bytes.now) }
+    ensures none { IfErr result (λ fault. fault ≢ BundleFault.Memory
+        → (parts : List Part) → SpellsParts kinds.now 0 bytes.now parts → ⊥) }
+    ensures first { (fault : BundleFault) → IsPartFault kinds.now bytes.now 0 fault → result ≡ Err fault }
+{
     let mut parts = Vec::new(alloc);
     let mut offset = 0;
     while offset < bytes.len() {
-        let part = part_at(bytes, offset)?;
+        let part = part_at(kinds, bytes, offset)?;
         parts.push(part)?;
         offset = part.start + part.length;
     }

@@ -7,8 +7,8 @@ ghost use Rattle.scf_request.specs.Requests.Command.{Ask, Asm, Check, Compare, C
 ghost use Rattle.scf_request.specs.internal.Parsing.{MakesNamed, ReadsAsProgram, definition_of, option_of, options_kept};
 
 use crate::options::{
-    CALLS_FLAG, NATIVE_FLAG, NO_LESS_FLAG, NO_MORE_FLAG, NumberOption, PATH_FLAG, call_options,
-    limit_options,
+    BESIDE_FLAG, CALLS_FLAG, DISPOSITION_FLAG, NATIVE_FLAG, NO_LESS_FLAG, NO_MORE_FLAG,
+    NumberOption, PATH_FLAG, call_options, comparison_options,
 };
 use clap::{Arg, ArgAction, ArgMatches, Command, Error};
 use std::alloc::{AllocError, Global};
@@ -117,11 +117,16 @@ fn define_compare<'a>(alloc: Global) -> Result<Command<'a>, AllocError>
         "Each named call by itself, and a line for each that isn't the same; not with --native";
     let no_more = "Whether no call is let through further than by the profile";
     let no_less = "Whether each call is let through as far as by the profile; not with --no-more";
-    command_with(alloc, "compare", about, &limit_options())?
+    let disposition =
+        "Whether both deny, delegate and allow alike; not with --no-more or --no-less";
+    let beside = "With parts `beside`, other filters, in place of a profile";
+    command_with(alloc, "compare", about, &comparison_options())?
         .arg(flag_argument(alloc, NATIVE_FLAG, native))?
         .arg(flag_argument(alloc, CALLS_FLAG, calls))?
         .arg(flag_argument(alloc, NO_MORE_FLAG, no_more))?
-        .arg(flag_argument(alloc, NO_LESS_FLAG, no_less))
+        .arg(flag_argument(alloc, NO_LESS_FLAG, no_less))?
+        .arg(flag_argument(alloc, DISPOSITION_FLAG, disposition))?
+        .arg(flag_argument(alloc, BESIDE_FLAG, beside))
 }
 
 /// The command `ask`.

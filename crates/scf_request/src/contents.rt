@@ -1,11 +1,18 @@
 //! The contents of a bundle.
 
 ghost use Rattle.std.specs.Prelude.{◌≡◌, Err, IfOk, IfErr};
-ghost use Rattle.scf_request.specs.Bundle.{IsBundleFault, IsFaultAt};
-ghost use Rattle.scf_request.specs.Contents.{IsHeldBy, rest_of};
-ghost use Rattle.scf_request.specs.internal.Contents.{AddsPart};
+ghost use Rattle.scf_request.specs.Bundle.{
+  AreNoParts,
+  IsBundleFault,
+  IsFaultAt,
+  IsPartFault,
+  beside_kinds,
+};
+ghost use Rattle.scf_request.specs.Contents.{IsHeldBeside, IsHeldBy, rest_of};
+ghost use Rattle.scf_request.specs.internal.Contents.{AddsPart, HoldParts};
 
-use crate::bundle::{BundleFault, PartKind, content_of, split};
+use crate::bundle::{BundleFault, PROFILE_KINDS, PartKind, content_of, split_by};
+use crate::request::Scopes;
 use scf_insn::{Failed, Source};
 use std::alloc::Global;
 
@@ -14,8 +21,10 @@ use std::alloc::Global;
 pub struct Contents<'a> {
     /// Readers of the filters, the oldest first.
     pub filters: Vec<PartReader<'a>>,
-    pub profiles: Vec<&'a [u8]>,
-    pub tables: Vec<&'a [u8]>,
+    pub profiles: Vec<PartReader<'a>>,
+    pub tables: Vec<PartReader<'a>>,
+    /// Readers of the filters beside these, the oldest first.
+    pub beside: Vec<PartReader<'a>>,
 }
 
 impl<'a> Contents<'a> {
@@ -25,24 +34,58 @@ impl<'a> Contents<'a> {
     {
         match kind {
             PartKind::Filter => self.filters.push(PartReader::new(bytes))?,
-            PartKind::Profile => self.profiles.push(bytes)?,
-            PartKind::Table => self.tables.push(bytes)?,
+            PartKind::Profile => self.profiles.push(PartReader::new(bytes))?,
+            PartKind::Table => self.tables.push(PartReader::new(bytes))?,
+            PartKind::Beside => self.beside.push(PartReader::new(bytes))?,
         }
         Ok(())
     }
 
     /// The contents of the bundle that the bytes spell. Errors are those of `split`.
-    #[tactic(auto, using(crate::proofs::BundleLemmas::part_inside))]
     pub fn of(alloc: Global, bytes: &'a [u8]) -> Result<Contents<'a>, BundleFault>
         ensures bundle { IfOk result (IsHeldBy bytes.now) }
         ensures fault { IfErr result (IsBundleFault bytes.now) }
         ensures first { (fault : BundleFault) → IsFaultAt bytes.now 0 fault → result ≡ Err fault }
     {
-        let parts = split(alloc, bytes)?;
+        Contents::of_kinds(alloc, bytes, &PROFILE_KINDS)
+    }
+
+    /// The contents of the bundle of a comparison over these calls with other filters. Errors are those of `split`, where
+    /// `beside` is a kind of a part, `profile` isn't, and `table` is for single calls alone.
+    pub fn beside(alloc: Global, bytes: &'a [u8], over: Scopes) -> Result<Contents<'a>, BundleFault>
+        ensures bundle { IfOk result (IsHeldBeside over bytes.now) }
+        ensures fault { IfErr result (AreNoParts (beside_kinds over) bytes.now) }
+        ensures first { (fault : BundleFault) → IsPartFault (beside_kinds over) bytes.now 0 fault
+            → result ≡ Err fault }
+    {
+        match over {
+            Scopes::EachCall => {
+                let kinds = [PartKind::Filter, PartKind::Beside, PartKind::Table];
+                Contents::of_kinds(alloc, bytes, &kinds)
+            }
+            Scopes::AtOnce(_) => {
+                Contents::of_kinds(alloc, bytes, &[PartKind::Filter, PartKind::Beside])
+            }
+        }
+    }
+
+    /// The contents of the bundle that the bytes spell, with parts of these kinds.
+    #[tactic(auto, using(crate::proofs::BundleLemmas::part_inside))]
+    fn of_kinds(
+        alloc: Global,
+        bytes: &'a [u8],
+        kinds: &[PartKind],
+    ) -> Result<Contents<'a>, BundleFault>
+        ensures bundle { IfOk result (HoldParts kinds.now bytes.now) }
+        ensures fault { IfErr result (AreNoParts kinds.now bytes.now) }
+        ensures first { (fault : BundleFault) → IsPartFault kinds.now bytes.now 0 fault → result ≡ Err fault }
+    {
+        let parts = split_by(alloc, bytes, kinds)?;
         let mut contents = Contents {
             filters: Vec::new(alloc),
             profiles: Vec::new(alloc),
             tables: Vec::new(alloc),
+            beside: Vec::new(alloc),
         };
         for part in &parts {
             contents.add(part.kind, content_of(bytes, *part))?;
@@ -62,6 +105,13 @@ impl<'a> PartReader<'a> {
         ensures { rest_of result ≡ bytes.now }
     {
         PartReader { rest: bytes }
+    }
+
+    /// The bytes that aren't read yet.
+    pub fn rest(&self) -> &'a [u8]
+        ensures { result.now ≡ rest_of self.now }
+    {
+        self.rest
     }
 }
 

@@ -1,8 +1,8 @@
 //! Options that take a number, and flags.
 
-ghost use Rattle.std.specs.Prelude.{◌≡◌, ◌≤◌, Some, None, IfOk, IfErr, length, map};
+ghost use Rattle.std.specs.Prelude.{◌≡◌, ◌≤◌, ◌++◌, ◌∷◌, [], Some, None, IfOk, IfErr, is_some, length, map};
 ghost use Rattle.std.specs.List.{AllByRecursion};
-ghost use Rattle.clap.specs.Words.{found_of, rows_of};
+ghost use Rattle.clap.specs.Words.{first_of, found_of, rows_of};
 ghost use Rattle.scf_request.specs.Options as table;
 ghost use Rattle.scf_request.specs.internal.Parsing.{flags_in, option_of, options_kept};
 
@@ -79,16 +79,27 @@ pub(crate) fn call_options() -> [NumberOption; 9]
     ]
 }
 
-/// The options for the most steps of a comparison, and of all comparisons of `--calls` together.
-pub(crate) fn limit_options() -> [NumberOption; 2]
-    ensures kept { options_kept result ≡ table.limit_options }
+/// The option of the first number of a range.
+const FIRST_NUMBER: &str = "nr-from";
+
+/// The option of its last number.
+const LAST_NUMBER: &str = "nr-to";
+
+/// The options of a comparison: its most steps, those of all comparisons of `--calls` together, and the ends of a range
+/// of numbers.
+pub(crate) fn comparison_options() -> [NumberOption; 4]
+    ensures kept { options_kept result ≡ table.comparison_options }
     ensures fair { AllByRecursion (λ o. o.default ≤ o.most) result }
 {
     let each = "The most steps of a comparison [default: 1000000]";
     let total = "With --calls, the most steps of all its comparisons together [default: 10000000]";
+    let first = "Only calls of x86-64 with at least this number; not with --calls";
+    let last = "Only calls of x86-64 with at most this number; not with --calls";
     [
         long("limit", 1_000_000, each),
         long("total-limit", 10_000_000, total),
+        word(FIRST_NUMBER, 0, first),
+        word(LAST_NUMBER, MAX_WORD, last),
     ]
 }
 
@@ -104,6 +115,12 @@ pub(crate) const NO_MORE_FLAG: &str = "no-more";
 /// The flag that asks whether the filters are no less permissive.
 pub(crate) const NO_LESS_FLAG: &str = "no-less";
 
+/// The flag that asks whether the filters deny, delegate and allow alike.
+pub(crate) const DISPOSITION_FLAG: &str = "disposition";
+
+/// The flag by which other filters stand in place of a profile.
+pub(crate) const BESIDE_FLAG: &str = "beside";
+
 /// The flag that prints the path of a run.
 pub(crate) const PATH_FLAG: &str = "path";
 
@@ -114,9 +131,10 @@ pub(crate) const SCOPE_FLAGS: [(&str, Scopes); 2] = [
 ];
 
 /// The relation of a comparison, by flag.
-pub(crate) const RELATION_FLAGS: [(&str, Relation); 2] = [
+pub(crate) const RELATION_FLAGS: [(&str, Relation); 3] = [
     (NO_MORE_FLAG, Relation::NoMore),
     (NO_LESS_FLAG, Relation::NoLess),
+    (DISPOSITION_FLAG, Relation::SameDisposition),
 ];
 
 /// Whether a flag is given.
@@ -214,14 +232,48 @@ pub fn record_of(matches: &ArgMatches<'_>) -> Result<CallRecord, NumberFault>
     })
 }
 
-/// The limits that the options `limit` and `total-limit` of these matches spell, in steps. Without a text they are
-/// 1000000 and 10000000. The fault names the first, in this order, whose text is no number in its range: decimal
-/// digits, or `0x` or `0X` and hexadecimal digits, below 2^64.
-pub(crate) fn limits_of(matches: &ArgMatches<'_>) -> Result<Limits, NumberFault>
-    ensures { table.SpellsLimits (rows_of (found_of matches.now)) result }
+/// The numbers of the options of a comparison.
+#[derive(Clone, Copy)]
+pub(crate) struct ComparisonNumbers {
+    pub limits: Limits,
+    /// The ends of the range of numbers.
+    pub first: u32,
+    pub last: u32,
+}
+
+/// The numbers of the options `limit`, `total-limit`, `nr-from` and `nr-to`: limits in steps and the ends of a range. If
+/// not given, they are 1000000, 10000000, 0 and 2^32 - 1. The error names the first option, in this order, whose text
+/// isn't a number in its range: decimal digits, or `0x` or `0X` and hexadecimal digits, below 2^64 for the limits and
+/// below 2^32 for the ends.
+pub(crate) fn comparison_numbers(matches: &ArgMatches<'_>) -> Result<ComparisonNumbers, NumberFault>
+    ensures ok { IfOk result (λ n. map Some (table.numbers_of_limits n.limits ++ n.first ∷ n.last ∷ [])
+        ≡ map (table.number_in (rows_of (found_of matches.now))) table.comparison_options) }
+    ensures err { IfErr result (λ fault.
+        table.first_wrong table.comparison_options (rows_of (found_of matches.now)) ≡ Some fault.name.now) }
 {
-    let mut numbers = [0; 2];
-    numbers_in(matches, &limit_options(), &mut numbers)?;
-    let [each, total] = numbers;
-    Ok(Limits { each, total })
+    let mut numbers = [0; 4];
+    numbers_in(matches, &comparison_options(), &mut numbers)?;
+    let [each, total, first, last] = numbers;
+    Ok(ComparisonNumbers {
+        limits: Limits { each, total },
+        first: first as u32,
+        last: last as u32,
+    })
+}
+
+/// Whether an option has a text.
+fn has_text(matches: &ArgMatches<'_>, name: &str) -> bool
+    ensures { result ≡ is_some (first_of name.now (rows_of (found_of matches.now))) }
+{
+    match matches.get_str(name) {
+        Some(_) => true,
+        None => false,
+    }
+}
+
+/// Whether an end of a range of numbers is given.
+pub(crate) fn has_range(matches: &ArgMatches<'_>) -> bool
+    ensures { result ≡ table.has_range (rows_of (found_of matches.now)) }
+{
+    has_text(matches, FIRST_NUMBER) || has_text(matches, LAST_NUMBER)
 }

@@ -1,11 +1,22 @@
 //! Requests: a command with the values of its options.
 
-ghost use Rattle.std.specs.Prelude.{Some, codes};
+ghost use Rattle.std.specs.Prelude.{◌≡◌, ◌∷◌, [], Err, IfErr, IfOk, Some, codes, map};
 ghost use Rattle.clap.specs.Words.{found_of, rows_of, subcommand_rows_of};
+ghost use Rattle.scf_request.specs.Options.{
+  AreExclusive,
+  AsksToCompare,
+  SelectsCalls,
+  comparison_options,
+  number_in,
+  numbers_of_comparison,
+  numbers_of_range,
+  range_options,
+};
 ghost use Rattle.scf_request.specs.Requests.{AsksFor};
 
 use crate::options::{
-    PATH_FLAG, RELATION_FLAGS, SCOPE_FLAGS, chosen_flag, is_given, limits_of, record_of,
+    BESIDE_FLAG, PATH_FLAG, RELATION_FLAGS, SCOPE_FLAGS, chosen_flag, comparison_numbers,
+    has_range, is_given, record_of,
 };
 use crate::request_fault::RequestFault;
 use clap::ArgMatches;
@@ -30,17 +41,24 @@ pub struct Limits {
     pub total: u64,
 }
 
+/// What a comparison is asked for.
+#[derive(Clone, Copy)]
+pub struct Comparison {
+    pub limits: Limits,
+    pub scopes: Scopes,
+    pub relation: Relation,
+}
+
 /// A command with the values of its options.
 #[derive(Clone, Copy)]
 pub enum Request {
     Ask(CallRecord),
     Assemble,
     Check,
-    Compare {
-        limits: Limits,
-        scopes: Scopes,
-        relation: Relation,
-    },
+    /// `compare`: compare filters with a profile.
+    Compare(Comparison),
+    /// `compare --beside`: compare filters with other filters.
+    CompareBeside(Comparison),
     Compile,
     Decide(CallRecord),
     List,
@@ -49,19 +67,55 @@ pub enum Request {
     Trace(CallRecord),
 }
 
-/// The request of `compare` with these options.
-#[tactic(auto, using(std::proofs::lemmas::Grind::common_steps, crate::proofs::OptionLemmas::none_wrong))]
-fn compare_request(options: &ArgMatches<'_>) -> Result<Request, RequestFault>
-    ensures { AsksFor (Some (codes "compare", rows_of (found_of options.now))) result }
+/// The records over which a comparison goes. If a range is given, its ends are these numbers.
+#[tactic(auto, using(std::proofs::lemmas::Grind::common_steps, crate::proofs::OptionLemmas::by_flags, crate::proofs::OptionLemmas::range_of_flags))]
+fn selected_calls(options: &ArgMatches<'_>, first: u32, last: u32) -> Result<Scopes, RequestFault>
+    ensures given { IfOk result (SelectsCalls (rows_of (found_of options.now))) }
+    ensures range { map Some (first ∷ last ∷ []) ≡ map (number_in (rows_of (found_of options.now))) range_options
+        → IfOk result (λ over. map Some (numbers_of_range over)
+        ≡ map (number_in (rows_of (found_of options.now))) range_options) }
+    ensures flags { IfErr result (λ fault. fault ≡ RequestFault.Flags) }
+    ensures exclusive { IfErr result (λ fault. AreExclusive (rows_of (found_of options.now))) }
 {
-    let limits = limits_of(options)?;
     let scopes = chosen_flag(options, &SCOPE_FLAGS, Scopes::AtOnce(Scope::All))?;
+    if !has_range(options) {
+        return Ok(scopes);
+    }
+    match scopes {
+        Scopes::AtOnce(_) => Ok(Scopes::AtOnce(Scope::Numbers { first, last })),
+        Scopes::EachCall => Err(RequestFault::Flags),
+    }
+}
+
+/// The comparison that these options ask for.
+#[tactic(auto, using(std::proofs::lemmas::Grind::common_steps, crate::proofs::OptionLemmas::none_wrong, crate::proofs::OptionLemmas::with_range))]
+fn comparison_of(options: &ArgMatches<'_>) -> Result<Comparison, RequestFault>
+    ensures numbers { IfOk result (λ asked. map Some (numbers_of_comparison asked)
+        ≡ map (number_in (rows_of (found_of options.now))) comparison_options) }
+    ensures flags { IfOk result (AsksToCompare (rows_of (found_of options.now))) }
+    ensures fault { IfErr result (λ fault.
+        AsksFor (Some (codes "compare", rows_of (found_of options.now))) (Err fault)) }
+{
+    let numbers = comparison_numbers(options)?;
+    let scopes = selected_calls(options, numbers.first, numbers.last)?;
     let relation = chosen_flag(options, &RELATION_FLAGS, Relation::Same)?;
-    Ok(Request::Compare {
-        limits,
+    Ok(Comparison {
+        limits: numbers.limits,
         scopes,
         relation,
     })
+}
+
+/// The request of `compare` with these options.
+fn compare_request(options: &ArgMatches<'_>) -> Result<Request, RequestFault>
+    ensures { AsksFor (Some (codes "compare", rows_of (found_of options.now))) result }
+{
+    let comparison = comparison_of(options)?;
+    if is_given(options, BESIDE_FLAG) {
+        Ok(Request::CompareBeside(comparison))
+    } else {
+        Ok(Request::Compare(comparison))
+    }
 }
 
 /// The request of `run` with these options.

@@ -9,7 +9,8 @@ pub use Rattle.std.proofs.lemmas.List.Sums.{sum_by_push}
 pub use Rattle.std.specs.List.{AllZip}
 pub use Rattle.std.specs.declared.alloc.Global.{Global}
 pub use Rattle.scf_compare.proofs.Common.{take_all}
-pub use Rattle.scf_compare.specs.declared.verdict.Verdict.{Verdict}
+pub use Rattle.scf_compare.specs.Sides.{behavior_of}
+pub use Rattle.scf_compare.specs.declared.finding.Finding.{Finding}
 pub use Rattle.scf_compile.proofs.Common.{drop_more, take_more}
 pub use Rattle.scf_facts.proofs.Common.{take-append-drop}
 pub use Rattle.scf_insn.proofs.Common.{TakesAll, max_filter_len, max_insns_per_path, program_bytes}
@@ -27,17 +28,18 @@ pub use Rattle.scf_tool.specs.Reports.{argument_text, name_line}
 pub use Rattle.scf_request.specs.Requests.{AsksFor}
 pub use Rattle.scf_request.specs.CommandLine.{scf}
 pub use Rattle.scf_tool.specs.Runs.{SpeaksOfWords}
-pub use Rattle.scf_tool.specs.Verifying.{HasEnded, IsFilter, LeavesFilterReader}
-pub use Rattle.scf_tool.specs.VerifyingCalls.{HaveVerdicts, IsVerdictOnCall}
-pub use Rattle.scf_tool.specs.VerifyingStacks.{AreComparedParties, IsRefusedStack}
+pub use Rattle.scf_tool.specs.Verifying.{HasEnded, IsAcceptedFilter, LeavesFilterReader, LeavesProfileReader, LeavesTableReader}
+pub use Rattle.scf_tool.specs.Comparisons.{AreFound, IsFoundOfCall}
+pub use Rattle.scf_tool.specs.VerifyingStacks.{AreComparedParties, IsRefusedStack, LeavesFilterReaders, left_out_of}
+pub use Rattle.scf_tool.specs.declared.left_out.LeftOut.{LeftOut}
 pub use Rattle.scf_request.specs.declared.contents.PartReader.{PartReader}
 pub use Rattle.scf_tool.specs.declared.fault.Fault.{Fault}
 pub use Rattle.scf_tool.specs.declared.fault_line.FaultField.{FaultField}
 pub use Rattle.scf_tool.specs.declared.inputs.Inputs.{Inputs}
 pub use Rattle.scf_tool.specs.declared.reply.Reply.{Reply}
 pub use Rattle.scf_tool.specs.declared.reply.Reply.TheVariants.{CommandLine}
-pub use Rattle.scf_tool.specs.declared.verification.VerifyFault.{VerifyFault}
-pub use Rattle.scf_tool.specs.declared.verification.VerifyFault.TheVariants.{FilterRead}
+pub use Rattle.scf_tool.specs.declared.verify_fault.VerifyFault.{VerifyFault}
+pub use Rattle.scf_tool.specs.declared.verify_fault.VerifyFault.TheVariants.{FilterRead}
 pub use Rattle.scf_request.specs.Contents.{rest_of}
 pub use Rattle.scf_tool.specs.internal.Fields.{field_text, numbers_of_field}
 pub use Rattle.scf_tool.specs.internal.Explaining.{Explains}

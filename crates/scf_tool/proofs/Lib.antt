@@ -1,3 +1,4 @@
+mod BesideLemmas
 mod CallLemmas
 pub mod Common
 mod FaultLemmas

@@ -1,5 +1,8 @@
 -- Readers of filters, one after another.
-use Rattle.scf_tool.proofs.Common.{◌≡◌, ℕ, ◌+◌, ◌<◌, ◌≤◌, List, [], ◌∷◌, ◌++◌, length, take, drop, set, get_or, map, Option, Some, Ok, Err, refl, sym, ap, ◌∙◌, ◌≢◌, arith, add-one, length-drop, drop_more, take_more, take_more_set, set_split, drop-set-lt, take-append-drop, map-append, sum_by_push, AllZip, Insn, max_insns_per_path, IsPush, cost_of, PartReader, HasEnded, IsFilter, LeavesFilterReader, HasStack, HasNoStack, IsNotPushed, HaveEnded, HaveStopped, VerifyFault, FilterRead, rest_of}
+use Rattle.scf_tool.proofs.Common.{◌≡◌, ℕ, ◌+◌, ◌<◌, ◌≤◌, List, [], ◌∷◌, ◌++◌, length, take, drop, set, get_or, map, Option, Some, Ok, Err, refl, sym, ap, ◌∙◌, ◌≢◌, arith, add-one, length-drop, drop_more, take_more, take_more_set, set_split, drop-set-lt, take-append-drop, map-append, sum_by_push, AllZip, Insn, max_insns_per_path, IsPush, cost_of, PartReader, HasEnded, IsAcceptedFilter, LeavesFilterReader, HasStack, HasNoStack, IsNotPushed, HaveEnded, HaveStopped, LeavesFilterReaders, LeavesProfileReader, LeavesTableReader, NoReadFailed, VerifyFault, FilterRead, rest_of}
+use Rattle.scf_tool.specs.VerifyingBeside.{IsTableFault}
+use Rattle.scf_tool.proofs.Common.{inl, inr}
+use Rattle.scf_tool.specs.declared.verify_fault.VerifyFault.TheVariants.{Memory, ProfileRead, TableRead}
 use Rattle.scf_insn.specs.declared.encoding.ReadFault.TheVariants as reads
 
 -- one more on both sides
@@ -45,10 +48,10 @@ pub record IsStackUpTo {R : Type 0} (remaining : R → Option (List ℕ)) (failu
 pub stack_grows : {R : Type 0} (remaining : R → Option (List ℕ)) (failures : R → ℕ) (i : ℕ) (olds news : List R)
     (old new : R) (stack pushed : List (List Insn)) → SameFrom i olds news old
     → IsStackUpTo remaining failures i olds news stack
-    → ((insns : List Insn) × IsFilter (remaining old) insns × IsPush stack insns (Ok tt) pushed)
+    → ((insns : List Insn) × IsAcceptedFilter (remaining old) insns × IsPush stack insns (Ok tt) pushed)
     → HasEnded remaining failures old new → IsStackUpTo remaining failures (i + 1) olds (set news i new) pushed
 stack_grows remaining failures i olds news old new stack pushed from upto push end =
-    let accepted = AllZip-more IsFilter (map remaining (take i olds)) stack (remaining old) push.0
+    let accepted = AllZip-more IsAcceptedFilter (map remaining (take i olds)) stack (remaining old) push.0
     upto.has_stack.accepted push.1 in
     let total : cost_of (stack ++ push.0 ∷ []) ≤ max_insns_per_path + 4 =
     omega (arith, push.2.0, sum_by_push (λ filter. length filter + 4) stack push.0) in
@@ -105,3 +108,73 @@ told_of_parts (reader ∷ readers) = ap (λ told. Some (rest_of reader) ∷ told
 pub never_fails : {R : Type 0} (remaining : R → Option (List ℕ)) (fault : VerifyFault) (olds news : List R)
     → HaveStopped remaining (λ _. 0) fault olds news → fault ≢ FilterRead reads.Read
 never_fails remaining fault olds news h = grind arith
+
+-- ---- readers of parts, which never fail
+
+abbrev told : PartReader → Option (List ℕ)
+told reader = Some (rest_of reader)
+
+abbrev none : PartReader → ℕ
+none reader = 0
+
+-- no read of one is why nothing is compared
+pub reads_well : (T : Type 0) (fault : VerifyFault) (olds news : List PartReader)
+    (table table_new profile profile_new : PartReader)
+    → LeavesFilterReaders {T = T} told none olds (Err fault) news
+    → LeavesTableReader {T = T} told none table (Err fault) table_new
+    → LeavesProfileReader {T = T} told none profile (Err fault) profile_new → NoReadFailed fault
+reads_well T (FilterRead fault) olds news table table_new profile profile_new of_filters of_table of_profile = record {
+  of_filter = never_fails told (FilterRead fault) olds news of_filters;
+  of_table = λ is. cc;
+  of_profile = λ is. cc;
+}
+reads_well T (TableRead fault) olds news table table_new profile profile_new of_filters of_table of_profile = record {
+  of_filter = λ is. cc;
+  of_table = λ is. absurd (omega (arith, of_table.0 (cc)));
+  of_profile = λ is. cc;
+}
+reads_well T (ProfileRead fault) olds news table table_new profile profile_new of_filters of_table of_profile = record {
+  of_filter = λ is. cc;
+  of_table = λ is. cc;
+  of_profile = λ is. absurd (omega (arith, of_profile.0 (cc)));
+}
+reads_well T fault olds news table table_new profile profile_new of_filters of_table of_profile =
+    record { of_filter = λ is. cc; of_table = λ is. cc; of_profile = λ is. cc }
+
+pub memory_is_no_read : NoReadFailed Memory
+memory_is_no_read = record { of_filter = λ is. cc; of_table = λ is. cc; of_profile = λ is. cc }
+
+-- nor why there is no stack
+pub stack_reads_well : (T : Type 0) (texts : List (Option (List ℕ))) (fault : VerifyFault) (olds news : List PartReader)
+    → HasNoStack texts fault → LeavesFilterReaders {T = T} told none olds (Err fault) news → NoReadFailed fault
+stack_reads_well T texts (FilterRead fault) olds news refused left = record {
+  of_filter = never_fails told (FilterRead fault) olds news left;
+  of_table = λ is. cc;
+  of_profile = λ is. cc;
+}
+stack_reads_well T texts (TableRead fault) olds news refused left = absurd refused.why
+stack_reads_well T texts (ProfileRead fault) olds news refused left = absurd refused.why
+stack_reads_well T texts fault olds news refused left =
+    record { of_filter = λ is. cc; of_table = λ is. cc; of_profile = λ is. cc }
+
+pub stopped_reads_well : (texts : List (Option (List ℕ))) (fault : VerifyFault) (olds news : List PartReader)
+    → HasNoStack texts fault → HaveStopped told none fault olds news → NoReadFailed fault
+stopped_reads_well texts (TableRead fault) olds news refused left = absurd refused.why
+stopped_reads_well texts (ProfileRead fault) olds news refused left = absurd refused.why
+stopped_reads_well texts fault olds news refused left =
+    record { of_filter = never_fails told fault olds news left; of_table = λ is. cc; of_profile = λ is. cc }
+
+-- nor why a table isn't read
+pub table_reads_well : (T : Type 0) (fault : VerifyFault) (bytes : Option (List ℕ)) (table table_new : PartReader)
+    → IsTableFault bytes fault → LeavesTableReader {T = T} told none table (Err fault) table_new → NoReadFailed fault
+table_reads_well T (FilterRead fault) bytes table table_new (inl refused) left = absurd refused
+table_reads_well T (FilterRead fault) bytes table table_new (inr refused) left = absurd (cc (refused.2))
+table_reads_well T (TableRead fault) bytes table table_new refused left = record {
+  of_filter = λ is. cc;
+  of_table = λ is. absurd (omega (arith, left.0 (cc)));
+  of_profile = λ is. cc;
+}
+table_reads_well T (ProfileRead fault) bytes table table_new (inl refused) left = absurd refused
+table_reads_well T (ProfileRead fault) bytes table table_new (inr refused) left = absurd (cc (refused.2))
+table_reads_well T fault bytes table table_new refused left =
+    record { of_filter = λ is. cc; of_table = λ is. cc; of_profile = λ is. cc }

@@ -30,23 +30,28 @@ use Rattle.scf_tool.specs.declared.fault.Fault.TheVariants as faults
 use Rattle.scf_profile.specs.declared.relation.Relation.{Relation}
 use Rattle.scf_tool.specs.declared.reply.Reply.{Reply}
 use Rattle.scf_tool.specs.declared.reply.Reply.TheVariants.{Accepted, Ran, Decided, Asked, Bytes, Compared}
+use Rattle.scf_request.specs.declared.request.Comparison.{Comparison}
 use Rattle.scf_request.specs.declared.request.Limits.{Limits}
 use Rattle.scf_request.specs.declared.request.Request.{Request}
 use Rattle.scf_request.specs.declared.request.Request.TheVariants as requests
 use Rattle.scf_request.specs.declared.request.Scopes.{Scopes}
 use Rattle.scf_request.specs.declared.request.Scopes.TheVariants.{AtOnce, EachCall}
-use Rattle.scf_tool.specs.declared.verification.VerifyFault.{VerifyFault}
-use Rattle.scf_tool.specs.declared.verification.VerifyFault.TheVariants as verifies
+use Rattle.scf_tool.specs.declared.verify_fault.BesideFault.{BesideFault}
+use Rattle.scf_tool.specs.declared.verify_fault.BesideFault.TheVariants as besides
+use Rattle.scf_tool.specs.declared.verify_fault.VerifyFault.{VerifyFault}
+use Rattle.scf_tool.specs.declared.verify_fault.VerifyFault.TheVariants as verifies
+use Rattle.scf_compare.specs.declared.finding.Finding.{Finding}
+use Rattle.scf_tool.specs.declared.call_verification.CallFinding.{CallFinding}
 use Rattle.scf_tool.specs.declared.call_verification.CallsOutcome.{CallsOutcome}
 use Rattle.scf_tool.specs.declared.verification.Outcome.{Outcome}
 use Rattle.scf_tool.specs.declared.status.Status.TheVariants.{Well}
-use Rattle.scf_request.specs.Bundle.{IsBundle, IsBundleFault}
-use Rattle.scf_tool.specs.CallReports.{calls_text, joint_of}
+use Rattle.scf_request.specs.Bundle.{AreNoParts, IsBesideBundle, IsBundle, IsBundleFault, beside_kinds}
+use Rattle.scf_tool.specs.CallReports.{calls_text, findings_text, joint_of}
 use Rattle.scf_tool.specs.Lines.{traced_text}
 use Rattle.scf_tool.specs.FilterStacks.{HasStack, HasNoStack}
-use Rattle.scf_tool.specs.Reports.{report_text}
-use Rattle.scf_tool.specs.Statuses.{verdict_status}
-use Rattle.scf_tool.specs.Verifying.{IsFilter, IsNoFilter, ReadsFilter, ReadsUnder}
+use Rattle.scf_tool.specs.Reports.{beside_word, finding_status, finding_text, report_text, verdict_status}
+use Rattle.scf_tool.specs.Verifying.{IsAcceptedFilter, IsNoFilter, ReadsFilter, ReadsUnder}
+use Rattle.scf_tool.specs.VerifyingBeside.{AreVerifiedBeside, IsRefusedPair, IsTableFault, VerifiesBeside}
 use Rattle.scf_tool.specs.VerifyingCalls.{AreVerifiedCalls}
 use Rattle.scf_tool.specs.VerifyingStacks.{IsRefusedStack, IsVerifiedBy}
 
@@ -90,7 +95,7 @@ IsReplyOn request insns reply = ⊥
 
 -- what these end with: the reply is true of an accepted filter, or it isn't accepted
 abbrev pub EndsOnFilter : Request → Option (List ℕ) → Result Reply Fault → Type 0
-EndsOnFilter request told (Ok reply) = (insns : List Insn) × IsFilter told insns × IsReplyOn request insns reply
+EndsOnFilter request told (Ok reply) = (insns : List Insn) × IsAcceptedFilter told insns × IsReplyOn request insns reply
 EndsOnFilter request told (Err (faults.Verify fault)) = IsNoFilter told fault
 EndsOnFilter request told (Err fault) = ⊥
 
@@ -156,7 +161,7 @@ CantLoad profile table fault = ⊥
 -- `compile`: the bytes of an accepted filter that answers every call record as the profile does
 abbrev pub Compiles : List ℕ → List ℕ → Result Reply Fault → Type 0
 Compiles profile table (Ok (Bytes bytes)) = (loaded : Loaded) × IsStated profile table loaded
-    × (insns : List Insn) × IsFilter (Some bytes.items) insns × SameAnswers (RunAnswers insns) loaded.profile
+    × (insns : List Insn) × IsAcceptedFilter (Some bytes.items) insns × SameAnswers (RunAnswers insns) loaded.profile
 Compiles profile table (Err (faults.Verify fault)) = CantLoad profile table fault
 Compiles profile table (Err (faults.Compile fault)) = (loaded : Loaded) × IsStated profile table loaded
     × (fault ≡ compiles.TooLarge → bpf_maxinsns < size_bound_of loaded.profile)
@@ -182,17 +187,62 @@ ComparesParts (AtOnce scope) relation limits filters profile table (Ok (Compared
 ComparesParts EachCall relation limits filters profile table (Ok (Compared text status)) = (outcome : CallsOutcome)
     × AreVerifiedCalls relation (map Some filters) (Some table) (Some profile) limits outcome
     × (text.items ≡ calls_text relation outcome)
-    × (status ≡ option_map_or verdict_status (joint_of outcome.calls.items) Well)
+    × (status ≡ option_map_or finding_status (joint_of outcome.calls.items) Well)
 ComparesParts over relation limits filters profile table ending = ⊥
 
 -- `compare`: the report of the comparison, where one filter or more, a profile and a table are all that the bundle
 -- holds
-abbrev pub Compares : Scopes → Relation → Limits → Option (List ℕ) → Result Reply Fault → Type 0
-Compares over relation limits told =
+abbrev pub Compares : Comparison → Option (List ℕ) → Result Reply Fault → Type 0
+Compares asked told =
     EndsOnBundle told (λ filters profiles tables. (1 ≤ filters) × (profiles ≡ 1) × (tables ≡ 1))
     (λ ending. (filters : List (List ℕ)) × (profile table : List ℕ) × (1 ≤ length filters)
     × HoldsBundle told filters (profile ∷ []) (table ∷ [])
-    × ComparesParts over relation limits filters profile table ending)
+    × ComparesParts asked.scopes asked.relation asked.limits filters profile table ending)
+
+-- ---- a comparison with other filters
+
+-- The input is a bundle for a comparison over these calls, whose parts hold these filters, these beside them and these
+-- tables.
+abbrev pub HoldsBeside : Scopes → Option (List ℕ) → List (List ℕ) → List (List ℕ) → List (List ℕ) → Type 0
+HoldsBeside over told filters beside tables =
+    (bytes : List ℕ) × ReadsInput told (Ok bytes) × IsBesideBundle over bytes filters beside tables
+
+-- why two stacks aren't compared: call by call there is a table, too
+abbrev pub AreNotCompared : Scopes → List (List ℕ) → List (List ℕ) → List (List ℕ) → BesideFault → Type 0
+AreNotCompared (AtOnce scope) filters beside tables fault =
+    IsRefusedPair (map Some filters) (map Some beside) (λ behind. behind ≡ verifies.Memory) fault
+AreNotCompared EachCall filters beside tables fault = (table : List ℕ) × (tables ≡ table ∷ [])
+    × IsRefusedPair (map Some filters) (map Some beside) (IsTableFault (Some table)) fault
+
+-- What two stacks come to: why they aren't compared, or the report of a finding over the calls of a scope, or call by
+-- call of a table, and its status, where None is that the relation holds of all calls.
+abbrev pub ComparesStacks : Scopes → Relation → Limits → List (List ℕ) → List (List ℕ) → List (List ℕ)
+    → Result Reply Fault → Type 0
+ComparesStacks over relation limits filters beside tables (Err (faults.Verify fault)) =
+    NoReadFailed fault × AreNotCompared over filters beside tables (besides.Verify fault)
+ComparesStacks over relation limits filters beside tables (Err (faults.Beside fault)) =
+    NoReadFailed fault × AreNotCompared over filters beside tables (besides.Beside fault)
+ComparesStacks (AtOnce scope) relation limits filters beside tables (Ok (Compared text status)) = (finding : Finding)
+    × VerifiesBeside relation (map Some filters) (map Some beside) scope limits.each (Ok finding)
+    × (text.items ≡ finding_text relation beside_word finding) × (status ≡ finding_status finding)
+ComparesStacks EachCall relation limits filters beside tables (Ok (Compared text status)) =
+    (table : List ℕ) × (tables ≡ table ∷ []) × (calls : List CallFinding)
+    × AreVerifiedBeside relation (map Some filters) (map Some beside) (Some table) limits calls
+    × (text.items ≡ findings_text relation beside_word calls)
+    × (status ≡ option_map_or finding_status (joint_of calls) Well)
+ComparesStacks over relation limits filters beside tables ending = ⊥
+
+-- `compare --beside`: the report of the comparison of the filters with those beside them, any number of either; call by
+-- call the bundle holds a table, too
+abbrev pub ComparesBeside : Comparison → Option (List ℕ) → Result Reply Fault → Type 0
+ComparesBeside asked told (Err (faults.Input fault)) = ReadsInput told (Err fault)
+ComparesBeside asked told (Err (faults.Bundle fault)) =
+    (bytes : List ℕ) × ReadsInput told (Ok bytes) × AreNoParts (beside_kinds asked.scopes) bytes fault
+ComparesBeside asked told (Err faults.Parts) = (filters beside tables : List (List ℕ))
+    × HoldsBeside asked.scopes told filters beside tables × (asked.scopes ≡ EachCall) × (length tables ≢ 1)
+ComparesBeside asked told ending = (filters beside tables : List (List ℕ))
+    × HoldsBeside asked.scopes told filters beside tables
+    × ComparesStacks asked.scopes asked.relation asked.limits filters beside tables ending
 
 -- ---- all commands
 
@@ -200,7 +250,8 @@ Compares over relation limits told =
 abbrev pub IsTrueReply : Request → Option (List ℕ) → Result Reply Fault → Type 0
 IsTrueReply (requests.Ask call) told = EndsOnProfile told (GivesReason call)
 IsTrueReply requests.Assemble told = Assembles told
-IsTrueReply (requests.Compare limits over relation) told = Compares over relation limits told
+IsTrueReply (requests.Compare asked) told = Compares asked told
+IsTrueReply (requests.CompareBeside asked) told = ComparesBeside asked told
 IsTrueReply requests.Compile told = EndsOnProfile told Compiles
 IsTrueReply (requests.Decide call) told = EndsOnFilters told (DecidesCall call)
 IsTrueReply requests.List told = Lists told

@@ -22,8 +22,10 @@ use Rattle.scf_request.specs.declared.bundle.BundleFault.{BundleFault}
 use Rattle.scf_request.specs.declared.bundle.BundleFault.TheVariants as bundles
 use Rattle.scf_request.specs.declared.request_fault.RequestFault.{RequestFault}
 use Rattle.scf_request.specs.declared.request_fault.RequestFault.TheVariants as requests
-use Rattle.scf_tool.specs.declared.verification.VerifyFault.{VerifyFault}
-use Rattle.scf_tool.specs.declared.verification.VerifyFault.TheVariants as verifies
+use Rattle.scf_tool.specs.declared.verify_fault.BesideFault.{BesideFault}
+use Rattle.scf_tool.specs.declared.verify_fault.BesideFault.TheVariants as besides
+use Rattle.scf_tool.specs.declared.verify_fault.VerifyFault.{VerifyFault}
+use Rattle.scf_tool.specs.declared.verify_fault.VerifyFault.TheVariants as verifies
 use Rattle.scf_tool.specs.declared.status.Status.{Status}
 use Rattle.scf_tool.specs.declared.status.Status.TheVariants.{Refused, CommandLine, Failed}
 use Rattle.scf_tool.specs.declared.fault.Fault.{Fault}
@@ -126,6 +128,10 @@ verify_kind (verifies.ProfileRead fault) = (codes "profile", input_kind fault)
 verify_kind (verifies.Profile fault) = (codes "profile", load_kind fault)
 verify_kind verifies.Memory = (codes "compare", (Failed, codes "Memory", []))
 
+-- a fault of the filters beside others
+abbrev pub beside_kind : VerifyFault → List ℕ × Kind
+beside_kind fault = (codes "beside", (verify_kind fault).1)
+
 -- the name of an option stands in place of a kind
 abbrev pub request_kind : RequestFault → List ℕ × Kind
 request_kind requests.NoCommand = (codes "command", (CommandLine, codes "NoCommand", []))
@@ -141,6 +147,12 @@ kind_of_fault faults.Parts = (codes "bundle", (Failed, codes "Parts", []))
 kind_of_fault (faults.Text fault) = (codes "text", text_kind fault)
 kind_of_fault (faults.Compile fault) = (codes "compile", compile_kind fault)
 kind_of_fault (faults.Verify fault) = verify_kind fault
+kind_of_fault (faults.Beside fault) = beside_kind fault
+
+-- the fault of a comparison of two stacks
+abbrev pub fault_of_beside : BesideFault → Fault
+fault_of_beside (besides.Verify fault) = faults.Verify fault
+fault_of_beside (besides.Beside fault) = faults.Beside fault
 
 -- a number behind its name
 abbrev pub number_words : List ℕ × ℕ → List ℕ

@@ -4,21 +4,21 @@ use Rattle.std.specs.List.{AllZip}
 use Rattle.scf_insn.specs.declared.insn.Insn.{Insn}
 use Rattle.scf_insn.specs.Kernel.{max_insns_per_path}
 use Rattle.scf_machine.specs.Stack.{IsPush, cost_of}
-use Rattle.scf_tool.specs.declared.verification.VerifyFault.{VerifyFault}
-use Rattle.scf_tool.specs.declared.verification.VerifyFault.TheVariants.{Stack}
-use Rattle.scf_tool.specs.Verifying.{HasEnded, IsFilter, IsNoFilter, LeavesFilterReader}
+use Rattle.scf_tool.specs.declared.verify_fault.VerifyFault.{VerifyFault}
+use Rattle.scf_tool.specs.declared.verify_fault.VerifyFault.TheVariants.{Stack}
+use Rattle.scf_tool.specs.Verifying.{HasEnded, IsAcceptedFilter, IsNoFilter, LeavesFilterReader}
 
 -- ---- the filters
 
 -- These are the bytes of accepted filters, few enough for a stack: the 4 of the newest are no part of its total.
 pub record HasStack (filters : List (Option (List ℕ))) (stack : List (List Insn)) : Type 0 where
-  pub accepted : AllZip IsFilter filters stack
+  pub accepted : AllZip IsAcceptedFilter filters stack
   pub total : cost_of stack ≤ max_insns_per_path + 4
 
 -- why a filter isn't pushed on a stack of these
 abbrev pub IsNotPushed : List (List Insn) → Option (List ℕ) → VerifyFault → Type 0
 IsNotPushed stack bytes (Stack fault) =
-    (insns : List Insn) × IsFilter bytes insns × IsPush stack insns (Err (fault, insns)) stack
+    (insns : List Insn) × IsAcceptedFilter bytes insns × IsPush stack insns (Err (fault, insns)) stack
 IsNotPushed stack bytes fault = IsNoFilter bytes fault
 
 -- Of these filters, the oldest first, the first that isn't pushed.

@@ -1,5 +1,6 @@
 pub mod CallReports
 pub mod Commands
+pub mod Comparisons
 pub mod Faults
 pub mod FilterStacks
 pub mod Lines
@@ -9,6 +10,8 @@ pub mod Reports
 pub mod Runs
 pub mod Statuses
 pub mod Verifying
+pub mod VerifyingBeside
 pub mod VerifyingCalls
+pub mod VerifyingFilters
 pub mod VerifyingStacks
 pub mod internal

@@ -5,10 +5,16 @@ use Rattle.std.specs.Fmt.{decimal, digits}
 use Rattle.scf_insn.specs.declared.record.CallRecord.{CallRecord}
 use Rattle.scf_profile.specs.declared.relation.Relation.{Relation}
 use Rattle.scf_profile.specs.declared.relation.Relation.TheVariants as relations
+use Rattle.scf_compare.specs.declared.finding.Finding.{Finding}
+use Rattle.scf_compare.specs.declared.finding.Finding.TheVariants.{Holds, Fails, Undecided, Unfinished}
 use Rattle.scf_compare.specs.declared.verdict.Verdict.{Verdict}
-use Rattle.scf_compare.specs.declared.verdict.Verdict.TheVariants.{Same, Differs, Undecided, Unfinished}
+use Rattle.scf_compare.specs.Verdicts.{finding_of}
+use Rattle.scf_tool.specs.declared.left_out.LeftOut.{LeftOut}
+use Rattle.scf_tool.specs.declared.status.Status.{Status}
+use Rattle.scf_tool.specs.declared.status.Status.TheVariants.{Well, Differs, Open}
 use Rattle.scf_tool.specs.declared.verification.Outcome.{Outcome}
 use Rattle.scf_tool.specs.Lines.{answer_text}
+use Rattle.scf_tool.specs.VerifyingStacks.{outcome_left_out}
 
 -- 0x and lower-case hexadecimal digits without leading zeros
 abbrev pub prefixed : ℕ → List ℕ
@@ -33,26 +39,48 @@ abbrev pub said_of : Relation → List ℕ × List ℕ
 said_of relations.Same = (codes "same", codes "differs")
 said_of relations.NoMore = (codes "no more", codes "more")
 said_of relations.NoLess = (codes "no less", codes "less")
+said_of relations.SameDisposition = (codes "same disposition", codes "differs")
 
--- the lines of a verdict on a relation
-abbrev pub verdict_text : Relation → Verdict → List ℕ
-verdict_text relation (Same steps) = (said_of relation).0 ++ codes "\n"
-verdict_text relation (Differs call filter profile) =
+-- the right side of a comparison, by its name in the lines
+abbrev pub profile_word : List ℕ
+profile_word = codes "profile"
+
+abbrev pub beside_word : List ℕ
+beside_word = codes "beside"
+
+-- the lines of a finding on a relation of filters and a right side
+abbrev pub finding_text : Relation → List ℕ → Finding → List ℕ
+finding_text relation right_word (Holds steps) = (said_of relation).0 ++ codes "\n"
+finding_text relation right_word (Fails call left right) =
     ((said_of relation).1 ++ codes "\n")
-    ++ (call_line call ++ (answer_line (codes "filter") filter.0 ++ answer_line (codes "profile") profile.0))
-verdict_text relation (Undecided at) = codes "undecided at " ++ decimal at ++ codes "\n"
-verdict_text relation Unfinished = codes "unfinished\n"
+    ++ (call_line call ++ (answer_line (codes "filter") left.0 ++ answer_line right_word right.0))
+finding_text relation right_word (Undecided side at) = codes "undecided at " ++ decimal at ++ codes "\n"
+finding_text relation right_word Unfinished = codes "unfinished\n"
+
+-- the exit status that goes with a finding
+abbrev pub finding_status : Finding → Status
+finding_status (Holds steps) = Well
+finding_status (Fails call left right) = Differs
+finding_status finding = Open
+
+-- a verdict is a finding on a profile
+abbrev pub verdict_text : Relation → Verdict → List ℕ
+verdict_text relation verdict = finding_text relation profile_word (finding_of verdict)
+
+abbrev pub verdict_status : Verdict → Status
+verdict_status verdict = finding_status (finding_of verdict)
 
 -- a word and a name
 abbrev pub name_line : List ℕ → List ℕ → List ℕ
 name_line word name = word ++ codes " " ++ name ++ codes "\n"
 
 -- what was left out of a profile: a line for each skipped name, and one for each other architecture
-abbrev pub left_out_text : List (List ℕ) → List (List ℕ) → List ℕ
-left_out_text skipped others =
-    flat_map (name_line (codes "skipped")) skipped ++ flat_map (name_line (codes "other")) others
+abbrev pub left_out_text : LeftOut → List ℕ
+left_out_text left_out =
+    flat_map (name_line (codes "skipped")) left_out.skipped
+    ++ flat_map (name_line (codes "other")) left_out.other_architectures
 
 -- The lines of an outcome: those of the verdict on a relation, and of what was left out.
 abbrev pub report_text : Relation → Outcome → List ℕ
 report_text relation outcome =
-    verdict_text relation outcome.verdict ++ left_out_text outcome.skipped outcome.other_architectures
+    verdict_text relation outcome.verdict ++ left_out_text (outcome_left_out outcome)

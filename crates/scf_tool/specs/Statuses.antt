@@ -1,28 +1,21 @@
 -- Exit statuses: their numbers, and how a run of a command leaves standard input.
 use Rattle.std.specs.Prelude.{◌≡◌, ℕ, List, Option, Result, Err}
-use Rattle.scf_compare.specs.declared.verdict.Verdict.{Verdict}
-use Rattle.scf_compare.specs.declared.verdict.Verdict.TheVariants.{Same, Differs}
 use Rattle.scf_insn.specs.declared.input.InputFault.TheVariants as inputs
 use Rattle.scf_tool.specs.declared.fault.Fault.{Fault}
 use Rattle.scf_tool.specs.declared.fault.Fault.TheVariants.{Input, Verify}
 use Rattle.scf_request.specs.declared.request.Request.{Request}
 use Rattle.scf_request.specs.declared.request.Request.TheVariants as requests
 use Rattle.scf_tool.specs.declared.status.Status.{Status}
-use Rattle.scf_tool.specs.declared.status.Status.TheVariants.{Well, Refused, CommandLine, Failed, Open}
+use Rattle.scf_tool.specs.declared.status.Status.TheVariants.{Well, Refused, Differs, CommandLine, Failed, Open}
 use Rattle.scf_tool.specs.Verifying.{HasEnded, HasFailedWhere, LeavesFilterReader}
 
 abbrev pub status_code : Status → ℕ
 status_code Well = 0
 status_code Refused = 1
+status_code Differs = 1
 status_code CommandLine = 2
 status_code Failed = 3
 status_code Open = 4
-
--- the exit status that goes with a verdict
-abbrev pub verdict_status : Verdict → Status
-verdict_status (Same steps) = Well
-verdict_status (Differs call filter profile) = Refused
-verdict_status verdict = Open
 
 -- How a command leaves standard input that is one filter: it came to its end, or the filter isn't read.
 abbrev pub LeavesFilter : {R T : Type 0} → (R → Option (List ℕ)) → (R → ℕ) → R → Result T Fault → R → Type 0

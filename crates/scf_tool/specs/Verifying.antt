@@ -1,5 +1,5 @@
--- What is known of a filter, a call table and a profile once they are read and compared. The bytes of each reader count
--- where the reader tells them.
+-- What is known of a filter, a call table and a profile once they are read. The bytes of each reader count where the
+-- reader tells them.
 use Rattle.std.specs.Prelude.{◌≡◌, ◌≢◌, ◌≤◌, ◌⊎◌, ℕ, List, length, Option, Result, Ok, Err, IfSome}
 use Rattle.std.specs.List.{AllByRecursion}
 use Rattle.std.specs.Io.KnownBytes.{IsAtEnd}
@@ -13,21 +13,14 @@ use Rattle.scf_insn.specs.Readings.{IsInput, IsReading}
 use Rattle.scf_insn.specs.Streams.{HasFailed}
 use Rattle.scf_machine.specs.declared.checker.CheckFault.TheVariants as checks
 use Rattle.scf_machine.specs.Checks.{IsFirstFault}
-use Rattle.scf_machine.specs.Machine.{RunAnswers}
-use Rattle.scf_machine.specs.Plain.{IsPlainProgram}
 use Rattle.scf_machine.specs.Rules.{IsValidList, KeepsScratchRule}
 use Rattle.scf_profile.specs.declared.loaded.Loaded.{Loaded}
 use Rattle.scf_profile.specs.declared.table_fault.TableFault.TheVariants as tables
 use Rattle.scf_profile.specs.Limits.{max_text_len}
 use Rattle.scf_profile.specs.Loading.{Loads, Refuses}
-use Rattle.scf_profile.specs.PlainProfile.{IsPlainProfile}
-use Rattle.scf_profile.specs.SameAnswers.{SameAnswers}
 use Rattle.scf_profile.specs.Table.{Names, table_of}
-use Rattle.scf_compare.specs.Effort.{effort_of}
-use Rattle.scf_compare.specs.Verdicts.{IsTrueOf, IsWithin, IsDecided}
-use Rattle.scf_tool.specs.declared.verification.Outcome.{Outcome}
-use Rattle.scf_tool.specs.declared.verification.VerifyFault.{VerifyFault}
-use Rattle.scf_tool.specs.declared.verification.VerifyFault.TheVariants.{FilterRead, Check, Stack, TableRead, Table, ProfileRead, Profile, Memory}
+use Rattle.scf_tool.specs.declared.verify_fault.VerifyFault.{VerifyFault}
+use Rattle.scf_tool.specs.declared.verify_fault.VerifyFault.TheVariants.{FilterRead, Check, Stack, TableRead, Table, ProfileRead, Profile, Memory}
 
 -- ---- the readers
 
@@ -76,7 +69,7 @@ abbrev pub IsEncoded : Option (List ℕ) → List Insn → Type 0
 IsEncoded bytes insns = IfSome bytes (λ told. told ≡ program_bytes insns) × AllByRecursion IsInsn insns
 
 -- a filter: the bytes of instructions that keep every rule of filters
-pub record IsFilter (bytes : Option (List ℕ)) (insns : List Insn) : Type 0 where
+pub record IsAcceptedFilter (bytes : Option (List ℕ)) (insns : List Insn) : Type 0 where
   pub encoded : IsEncoded bytes insns
   pub valid : IsValidList insns
   pub stored : KeepsScratchRule insns
@@ -96,24 +89,6 @@ IsTable bytes names = IfSome bytes (λ told. (length told ≤ max_text_len) × (
 -- a profile: the JSON value of the bytes and the map state it, with what is left out of it
 abbrev pub IsLoaded : Option (List ℕ) → Names → Loaded → Type 0
 IsLoaded bytes names loaded = IfSome bytes (λ told. Loads told names loaded)
-
--- ---- an outcome
-
--- The bytes are a filter, a call table and a profile, whose skipped names and other architectures these are. The
--- verdict is true of that filter and that profile, and decides between them where both are plain.
-pub record IsVerified (filter table profile : Option (List ℕ)) (limit : ℕ) (outcome : Outcome) : Type 0 where
-  pub insns : List Insn
-  pub names : Names
-  pub loaded : Loaded
-  pub is_filter : IsFilter filter insns
-  pub is_table : IsTable table names
-  pub is_loaded : IsLoaded profile names loaded
-  pub skipped : outcome.skipped ≡ loaded.skipped
-  pub other_architectures : outcome.other_architectures ≡ loaded.other_architectures
-  pub holds : IsTrueOf insns loaded.profile outcome.verdict
-  pub within : IsWithin limit (effort_of insns loaded.profile) outcome.verdict
-  pub decided : IsPlainProgram insns → IsPlainProfile loaded.profile
-      → IsDecided (SameAnswers (RunAnswers insns) loaded.profile) limit (effort_of insns loaded.profile) outcome.verdict
 
 -- ---- a fault
 
@@ -143,9 +118,3 @@ abbrev pub IsProfileFault : Option (List ℕ) → Option (List ℕ) → VerifyFa
 IsProfileFault table profile fault =
     IsNoTable table fault ⊎ ((names : Names) × IsTable table names × (IsNoProfile names profile fault
     ⊎ ((loaded : Loaded) × IsLoaded profile names loaded × (fault ≡ Memory))))
-
--- What the comparison of a filter with a profile, from the bytes of their readers, answers. The filter is read first.
-abbrev pub Verifies : Option (List ℕ) → Option (List ℕ) → Option (List ℕ) → ℕ → Result Outcome VerifyFault → Type 0
-Verifies filter table profile limit (Ok outcome) = IsVerified filter table profile limit outcome
-Verifies filter table profile limit (Err fault) =
-    IsNoFilter filter fault ⊎ ((insns : List Insn) × IsFilter filter insns × IsProfileFault table profile fault)

@@ -14,9 +14,10 @@ use Rattle.scf_compare.specs.declared.verdict.Verdict.{Verdict}
 use Rattle.scf_compare.specs.Effort.{effort_of_stack}
 use Rattle.scf_profile.specs.Scope.{RelatedAnswersIn}
 use Rattle.scf_compare.specs.Verdicts.{IsTrueOfStackBy, IsWithin, IsDecided}
+use Rattle.scf_tool.specs.declared.left_out.LeftOut.{LeftOut}
 use Rattle.scf_tool.specs.declared.verification.Outcome.{Outcome}
-use Rattle.scf_tool.specs.declared.verification.VerifyFault.{VerifyFault}
-use Rattle.scf_tool.specs.declared.verification.VerifyFault.TheVariants.{FilterRead, Check, Stack}
+use Rattle.scf_tool.specs.declared.verify_fault.VerifyFault.{VerifyFault}
+use Rattle.scf_tool.specs.declared.verify_fault.VerifyFault.TheVariants.{FilterRead, Check, Stack}
 use Rattle.scf_tool.specs.FilterStacks.{HasStack, HasNoStack, HaveEnded, HaveStopped}
 use Rattle.scf_tool.specs.Verifying.{IsTable, IsLoaded, IsProfileFault}
 
@@ -29,25 +30,33 @@ pub record IsComparison (relation : Relation) (stack : List (List Insn)) (p : Pr
   pub decided : All IsPlainProgram stack → IsPlainProfile p
       → IsDecided (RelatedAnswersIn relation scope (StackAnswers stack) p) limit (effort_of_stack stack p) verdict
 
--- The bytes are a stack of filters, a call table and a profile, whose skipped names and other architectures these are,
--- and this holds of that stack, that table and that profile.
+-- what is left out of a profile that is loaded
+abbrev pub left_out_of : Loaded → LeftOut
+left_out_of loaded = record { skipped = loaded.skipped; other_architectures = loaded.other_architectures }
+
+-- what an outcome says of that
+abbrev pub outcome_left_out : Outcome → LeftOut
+outcome_left_out outcome =
+    record { skipped = outcome.skipped; other_architectures = outcome.other_architectures }
+
+-- The bytes are a stack of filters, a call table and a profile, of which this is left out, and this holds of that stack,
+-- that table and that profile.
 pub record AreComparedParties (filters : List (Option (List ℕ))) (table profile : Option (List ℕ))
-    (left_out others : List (List ℕ)) (holds : List (List Insn) → Names → Profile → Type 0) : Type 0 where
+    (left_out : LeftOut) (holds : List (List Insn) → Names → Profile → Type 0) : Type 0 where
   pub stack : List (List Insn)
   pub names : Names
   pub loaded : Loaded
   pub has_stack : HasStack filters stack
   pub is_table : IsTable table names
   pub is_loaded : IsLoaded profile names loaded
-  pub skipped : left_out ≡ loaded.skipped
-  pub other_architectures : others ≡ loaded.other_architectures
+  pub is_left_out : left_out ≡ left_out_of loaded
   pub compared : holds stack names loaded.profile
 
 -- They are compared by a relation, and the verdict is one on that stack and that profile.
 abbrev pub IsVerifiedBy : Relation → List (Option (List ℕ)) → Option (List ℕ) → Option (List ℕ) → Scope → ℕ → Outcome
     → Type 0
 IsVerifiedBy relation filters table profile scope limit outcome =
-    AreComparedParties filters table profile outcome.skipped outcome.other_architectures
+    AreComparedParties filters table profile (outcome_left_out outcome)
     (λ stack names p. IsComparison relation stack p scope limit outcome.verdict)
 
 -- Why nothing is compared: the filters are no stack, or they are, and the table and the profile state nothing.

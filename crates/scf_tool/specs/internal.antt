@@ -2,5 +2,4 @@ pub mod Explaining
 pub mod Fields
 pub mod Gathering
 pub mod Pieces
-pub mod Reporting
 pub mod Verification

@@ -1,12 +1,12 @@
 //! The program's commands.
 
 ghost use Rattle.std.specs.Prelude.{◌≡◌, ◌≢◌, ◌∷◌, [], length, map, MatchOption, Ok, Err, IfErr, IfOk, OnOk};
-ghost use Rattle.scf_profile.specs.References.{texts_at};
 ghost use Rattle.scf_tool.specs.Commands.{IsTrueReply, ReadsInput};
 ghost use Rattle.scf_tool.specs.Runs.{Ends, IsRunOfProgram};
 ghost use Rattle.scf_tool.specs.Statuses.{LeavesInput};
 ghost use Rattle.scf_tool.specs.Verifying.{HasEnded, HasFailedWhere};
 
+mod beside;
 mod compare;
 mod filter;
 mod profile;
@@ -18,11 +18,12 @@ use crate::command_line::{explain, refuse_memory};
 use crate::fault::Fault;
 use crate::reply::{LINE_ROOM, Reply, print_ending, status_of};
 use crate::status::Status;
+use beside::compare_beside;
 use compare::compare_bundle;
 use filter::{check_filter, list_filter, run_filter, trace_filter};
 use profile::{ask_profile, compile_profile};
 use scf_insn::{InputFault, Sink, Source, read_input};
-use scf_request::{Request, parse, request_of};
+use scf_request::{PartReader, Request, parse, request_of};
 use stack::decide_stack;
 use std::alloc::Global;
 use std::convert::AsStr;
@@ -42,13 +43,14 @@ fn whole_input<R: Source>(alloc: Global, input: &mut R) -> Result<Vec<u8>, Input
     read_input(alloc, input, MAX_INPUT)
 }
 
-/// The only element of `list`, if it has exactly one.
-fn only<'a>(list: &[&'a [u8]]) -> Option<&'a [u8]>
-    ensures { MatchOption result (length list.now ≢ 1) (λ one. texts_at list.now ≡ one.now ∷ []) }
+/// The only reader, if there is exactly one.
+fn only(mut readers: Vec<PartReader<'_>>) -> Option<PartReader<'_>>
+    ensures { MatchOption result (length readers.entry.items ≢ 1) (λ one. readers.entry.items ≡ one ∷ []) }
 {
-    match list {
-        [one] => Some(one),
-        _ => None,
+    if readers.len() == 1 {
+        readers.pop()
+    } else {
+        None
     }
 }
 
@@ -61,11 +63,8 @@ fn answer<R: Source>(alloc: Global, request: &Request, input: &mut R) -> Result<
         Request::Ask(call) => ask_profile(alloc, call, input),
         Request::Assemble => assemble_text(alloc, input),
         Request::Check => check_filter(alloc, input),
-        Request::Compare {
-            limits,
-            scopes,
-            relation,
-        } => compare_bundle(alloc, *limits, *scopes, *relation, input),
+        Request::Compare(asked) => compare_bundle(alloc, *asked, input),
+        Request::CompareBeside(asked) => compare_beside(alloc, *asked, input),
         Request::Compile => compile_profile(alloc, input),
         Request::Decide(call) => decide_stack(alloc, call, input),
         Request::List => list_filter(alloc, input),

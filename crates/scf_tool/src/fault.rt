@@ -3,7 +3,7 @@
 ghost use Rattle.std.specs.Prelude.{◌≡◌};
 ghost use Rattle.scf_tool.specs.declared.fault.Fault.TheVariants as faults;
 
-use crate::verification::VerifyFault;
+use crate::verify_fault::{BesideFault, VerifyFault};
 use scf_compile::CompileFault;
 use scf_insn::{InputFault, ReadFault};
 use scf_request::{BundleFault, RequestFault};
@@ -25,6 +25,8 @@ pub(crate) enum Fault {
     Compile(CompileFault),
     /// A filter, a stack, a table or a profile is refused, or memory ran out during their comparison.
     Verify(VerifyFault),
+    /// A filter of the stack beside another is refused.
+    Beside(VerifyFault),
 }
 
 impl From<RequestFault> for Fault {
@@ -52,7 +54,7 @@ impl From<BundleFault> for Fault {
 }
 
 impl From<ReadFault> for Fault {
-    ghost use Rattle.scf_tool.specs.declared.verification.VerifyFault.TheVariants as verifies;
+    ghost use Rattle.scf_tool.specs.declared.verify_fault.VerifyFault.TheVariants as verifies;
 
     ghost from_gives = { λ fault e. e ≡ faults.Verify (verifies.FilterRead fault) };
 
@@ -82,5 +84,18 @@ impl From<VerifyFault> for Fault {
 
     fn from(fault: VerifyFault) -> Fault {
         Fault::Verify(fault)
+    }
+}
+
+impl From<BesideFault> for Fault {
+    ghost use Rattle.scf_tool.specs.Faults.{fault_of_beside};
+
+    ghost from_gives = { λ fault e. e ≡ fault_of_beside fault };
+
+    fn from(fault: BesideFault) -> Fault {
+        match fault {
+            BesideFault::Verify(fault) => Fault::Verify(fault),
+            BesideFault::Beside(fault) => Fault::Beside(fault),
+        }
     }
 }

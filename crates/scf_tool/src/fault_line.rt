@@ -11,7 +11,7 @@ use crate::fragments::Fragment::{Decimal, Text};
 use crate::fragments::write_fragments;
 use crate::status::Status;
 use crate::status::Status::{CommandLine, Failed, Refused};
-use crate::verification::VerifyFault;
+use crate::verify_fault::VerifyFault;
 use scf_compile::CompileFault;
 use scf_insn::{InputFault, ReadFault, Sink, WriteFault, write_whole};
 use scf_machine::{CheckFault, PushFault};
@@ -235,6 +235,13 @@ fn verify_line(fault: VerifyFault) -> FaultLine
     }
 }
 
+/// The source and kind of a fault of the filters beside others.
+fn beside_line(fault: VerifyFault) -> FaultLine
+    ensures { fault_line_of result ≡ table.beside_kind fault }
+{
+    line("beside", verify_line(fault).kind)
+}
+
 /// The source and kind of a request's fault.
 fn request_line(fault: RequestFault) -> FaultLine
     ensures { fault_line_of result ≡ table.request_kind fault }
@@ -260,6 +267,7 @@ impl Fault {
             Fault::Text(fault) => line("text", text_kind(fault)),
             Fault::Compile(fault) => line("compile", compile_kind(fault)),
             Fault::Verify(fault) => verify_line(fault),
+            Fault::Beside(fault) => beside_line(fault),
         }
     }
 

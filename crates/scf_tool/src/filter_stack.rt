@@ -5,11 +5,11 @@ ghost use Rattle.scf_insn.specs.declared.insn.Insn.{Insn};
 ghost use Rattle.scf_machine.specs.Stack.{IsPush};
 ghost use Rattle.scf_tool.specs.Commands.{NoReadFailed};
 ghost use Rattle.scf_tool.specs.FilterStacks.{HasStack, HasNoStack, HaveEnded, HaveStopped, IsNotPushed};
-ghost use Rattle.scf_tool.specs.Verifying.{HasEnded, IsFilter, LeavesFilterReader};
+ghost use Rattle.scf_tool.specs.Verifying.{HasEnded, IsAcceptedFilter, LeavesFilterReader};
 ghost use Rattle.scf_request.specs.Contents.{rest_of};
 
 use crate::filter::read_filter;
-use crate::verification::VerifyFault;
+use crate::verify_fault::VerifyFault;
 use scf_insn::Source;
 use scf_machine::FilterStack;
 use scf_request::PartReader;
@@ -21,7 +21,7 @@ fn push_filter<R: Source>(
     stack: &mut FilterStack,
     reader: &mut R,
 ) -> Result<(), VerifyFault>
-    ensures pushed { OnOk result ((insns : List Insn) × IsFilter (R.remaining reader.old) insns
+    ensures pushed { OnOk result ((insns : List Insn) × IsAcceptedFilter (R.remaining reader.old) insns
         × IsPush stack.old insns (Ok tt) stack.new) }
     ensures ended { OnOk result (HasEnded R.remaining R.failures reader.old reader.new) }
     ensures refused { IfErr result (IsNotPushed stack.old (R.remaining reader.old)) }

@@ -1,6 +1,7 @@
 //! The program `scf`: its commands, what they read and what they print.
 #![tactic(auto)]
 
+mod beside_verification;
 mod buffer;
 mod call_reporting;
 mod call_verification;
@@ -12,19 +13,23 @@ mod filter;
 mod filter_stack;
 mod fragments;
 mod inputs;
+mod left_out;
 mod lines;
-mod profile_inputs;
 mod reply;
 mod reporting;
 mod stack_verification;
 mod status;
 mod verification;
+mod verify_fault;
 
-pub use call_reporting::{report_calls, report_calls_by};
-pub use call_verification::{CallVerdict, CallsOutcome, verify_calls, verify_calls_by};
+pub use beside_verification::{verify_beside, verify_calls_beside};
+pub use call_reporting::{report_calls, report_calls_beside};
+pub use call_verification::{CallFinding, CallsOutcome, verify_calls};
 pub use command_line::refuse_words;
 pub use commands::run_command;
-pub use reporting::{report, report_by};
+pub use left_out::LeftOut;
+pub use reporting::{report, report_beside, report_by};
 pub use scf_request::{BundleFault, Limits, NumberFault, Part, PartKind, record_of, split};
 pub use stack_verification::{verify_by, verify_stack};
-pub use verification::{Outcome, VerifyFault, verify};
+pub use verification::{Outcome, verify};
+pub use verify_fault::{BesideFault, VerifyFault};

@@ -4,17 +4,19 @@
 ghost use Rattle.std.specs.Prelude.{◌≡◌, ◌++◌, codes, string_bytes, IfOk};
 ghost use Rattle.std.specs.Fmt.{decimal};
 ghost use Rattle.std.specs.List.{flat_map};
+ghost use Rattle.scf_compare.specs.Verdicts.{finding_of};
 ghost use Rattle.scf_insn.specs.Streams.{Writes};
 ghost use Rattle.scf_tool.specs.Reports.{
   answer_line,
   argument_text,
+  beside_word,
   call_line,
   left_out_text,
   name_line,
+  finding_text,
   prefixed,
   report_text,
   said_of,
-  verdict_text,
 };
 
 use crate::buffer::Buffer;
@@ -22,7 +24,7 @@ use crate::fragments::Fragment::{Decimal, Hexadecimal, Text};
 use crate::fragments::write_fragments;
 use crate::lines::write_last_answer;
 use crate::verification::Outcome;
-use scf_compare::Verdict;
+use scf_compare::{Finding, Verdict, Which};
 use scf_insn::{Answer, CallRecord, Memory, Sink, WriteFault, write_whole};
 use scf_profile::{Relation, Texts};
 use std::alloc::Global;
@@ -74,6 +76,12 @@ pub(crate) fn write_answer_line<S: Sink>(
     write_last_answer(sink, answer)
 }
 
+/// The name of a profile as the right side of a comparison.
+pub(crate) const PROFILE_WORD: &str = "profile";
+
+/// The name of filters beside others.
+pub(crate) const BESIDE_WORD: &str = "beside";
+
 /// The word for a relation that holds.
 pub(crate) fn holding(relation: Relation) -> &'static str
     ensures { result.now ≡ (said_of relation).0 }
@@ -82,6 +90,7 @@ pub(crate) fn holding(relation: Relation) -> &'static str
         Relation::Same => "same",
         Relation::NoMore => "no more",
         Relation::NoLess => "no less",
+        Relation::SameDisposition => "same disposition",
     }
 }
 
@@ -90,7 +99,7 @@ pub(crate) fn failing(relation: Relation) -> &'static str
     ensures { result.now ≡ (said_of relation).1 }
 {
     match relation {
-        Relation::Same => "differs",
+        Relation::Same | Relation::SameDisposition => "differs",
         Relation::NoMore => "more",
         Relation::NoLess => "less",
     }
@@ -107,38 +116,63 @@ pub(crate) fn write_word<S: Sink>(sink: &mut S, word: &str) -> Result<(), WriteF
 fn write_difference<S: Sink>(
     sink: &mut S,
     relation: Relation,
+    right_word: &str,
     call: &CallRecord,
-    filter: Answer,
-    profile: Answer,
+    left: Answer,
+    right: Answer,
 ) -> Result<(), WriteFault>
     ensures { Writes S.contents S.failures sink.old
-        (verdict_text relation (Verdict.Differs call.now filter profile)) result sink.new }
+        (finding_text relation right_word.now (Finding.Fails call.now left right)) result sink.new }
 {
     write_word(sink, failing(relation))?;
     write_call(sink, call)?;
-    write_answer_line(sink, "filter", filter)?;
-    write_answer_line(sink, "profile", profile)
+    write_answer_line(sink, "filter", left)?;
+    write_answer_line(sink, right_word, right)
 }
 
-pub(crate) fn write_verdict<S: Sink>(
+/// Writes the lines of a finding on filters and the right side with this name.
+pub(crate) fn write_finding<S: Sink>(
     sink: &mut S,
     relation: Relation,
-    verdict: &Verdict,
+    right_word: &str,
+    finding: &Finding,
 ) -> Result<(), WriteFault>
-    ensures { Writes S.contents S.failures sink.old (verdict_text relation verdict.now) result sink.new }
+    ensures { Writes S.contents S.failures sink.old
+        (finding_text relation right_word.now finding.now) result sink.new }
+{
+    match finding {
+        Finding::Holds { .. } => write_word(sink, holding(relation)),
+        Finding::Fails { call, left, right } => write_difference(
+            sink, relation, right_word, call, *left, *right,
+        ),
+        Finding::Undecided { at, .. } => {
+            let line = [Text("undecided at "), Decimal(*at as u64), Text("\n")];
+            write_fragments(sink, &line)
+        }
+        Finding::Unfinished => write_whole(sink, b"unfinished\n"),
+    }
+}
+
+/// The finding that a verdict is.
+pub(crate) fn finding_of_verdict(verdict: &Verdict) -> Finding
+    ensures { result ≡ finding_of verdict.now }
 {
     match verdict {
-        Verdict::Same { .. } => write_word(sink, holding(relation)),
+        Verdict::Same { steps } => Finding::Holds { steps: *steps },
         Verdict::Differs {
             call,
             filter,
             profile,
-        } => write_difference(sink, relation, call, *filter, *profile),
-        Verdict::Undecided { at } => {
-            let line = [Text("undecided at "), Decimal(*at as u64), Text("\n")];
-            write_fragments(sink, &line)
-        }
-        Verdict::Unfinished => write_whole(sink, b"unfinished\n"),
+        } => Finding::Fails {
+            call: *call,
+            left: *filter,
+            right: *profile,
+        },
+        Verdict::Undecided { at } => Finding::Undecided {
+            side: Which::Left,
+            at: *at,
+        },
+        Verdict::Unfinished => Finding::Unfinished,
     }
 }
 
@@ -165,7 +199,7 @@ pub(crate) fn write_left_out<S: Sink>(
     skipped: &Texts,
     others: &Texts,
 ) -> Result<(), WriteFault>
-    ensures { Writes S.contents S.failures sink.old (left_out_text skipped.now others.now) result sink.new }
+    ensures { Writes S.contents S.failures sink.old (left_out_text (record { skipped = skipped.now; other_architectures = others.now })) result sink.new }
 {
     write_names(sink, "skipped", skipped)?;
     write_names(sink, "other", others)
@@ -178,7 +212,12 @@ fn write_outcome<S: Sink>(
 ) -> Result<(), WriteFault>
     ensures { Writes S.contents S.failures sink.old (report_text relation outcome.now) result sink.new }
 {
-    write_verdict(sink, relation, &outcome.verdict)?;
+    write_finding(
+        sink,
+        relation,
+        PROFILE_WORD,
+        &finding_of_verdict(&outcome.verdict),
+    )?;
     write_left_out(sink, &outcome.skipped, &outcome.other_architectures)
 }
 
@@ -197,6 +236,21 @@ pub fn report_by(alloc: Global, relation: Relation, outcome: &Outcome) -> Result
 {
     let mut text = Buffer::new(alloc);
     match write_outcome(&mut text, relation, outcome) {
+        Ok(()) => Ok(text.into_bytes()),
+        Err(_) => Err(Memory),
+    }
+}
+
+/// The lines of a finding on filters and those beside them.
+pub fn report_beside(
+    alloc: Global,
+    relation: Relation,
+    finding: &Finding,
+) -> Result<Vec<u8>, Memory>
+    ensures { IfOk result (λ text. text.items ≡ finding_text relation beside_word finding.now) }
+{
+    let mut text = Buffer::new(alloc);
+    match write_finding(&mut text, relation, BESIDE_WORD, finding) {
         Ok(()) => Ok(text.into_bytes()),
         Err(_) => Err(Memory),
     }

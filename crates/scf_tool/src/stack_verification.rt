@@ -6,7 +6,8 @@ ghost use Rattle.scf_tool.specs.VerifyingStacks.{IsVerifiedBy, LeavesFilterReade
 ghost use Rattle.scf_tool.specs.internal.Verification.{AreInputs};
 
 use crate::inputs::{Inputs, read_inputs};
-use crate::verification::{Outcome, VerifyFault};
+use crate::verification::Outcome;
+use crate::verify_fault::VerifyFault;
 use scf_compare::compare_by;
 use scf_facts::WordSets;
 use scf_insn::{Memory, Source};

@@ -8,8 +8,10 @@ ghost use Rattle.scf_tool.specs.Statuses.{status_code};
 pub(crate) enum Status {
     /// All is well.
     Well,
-    /// A filter, text, table, profile or stack is refused, a compiled filter would be too large, or two answers differ.
+    /// A filter, text, table, profile or stack is refused, or a compiled filter would be too large.
     Refused,
+    /// The relation that is asked for doesn't hold of two answers.
+    Differs,
     /// A usage error.
     CommandLine,
     /// The input can't be read, the output can't be written, or memory ran out.
@@ -25,7 +27,7 @@ impl Status {
     {
         match self {
             Status::Well => 0,
-            Status::Refused => 1,
+            Status::Refused | Status::Differs => 1,
             Status::CommandLine => 2,
             Status::Failed => 3,
             Status::Open => 4,

@@ -9,17 +9,16 @@ ghost use Rattle.scf_tool.specs.Verifying.{
   LeavesFilterReader,
   LeavesProfileReader,
   LeavesTableReader,
-  Verifies,
 };
+ghost use Rattle.scf_tool.specs.VerifyingFilters.{Verifies};
 
 use crate::filter::read_filter;
+use crate::verify_fault::VerifyFault;
 use scf_compare::{Verdict, compare};
 use scf_facts::WordSets;
-use scf_insn::{InputFault, Memory, ReadFault, Source, read_input};
-use scf_machine::{CheckFault, PushFault};
-use scf_profile::{CallTable, LoadFault, Loaded, MAX_TEXT_LEN, TableFault, Texts, load};
+use scf_insn::{Source, read_input};
+use scf_profile::{CallTable, Loaded, MAX_TEXT_LEN, Texts, load};
 use std::alloc::Global;
-use thiserror::Error;
 
 /// The verdict of a comparison, and what was left out of the profile.
 #[derive(Debug, Drop)]
@@ -29,72 +28,6 @@ pub struct Outcome {
     pub skipped: Texts,
     /// The architectures beside SCMP_ARCH_X86_64, each occurrence, in the order of the text.
     pub other_architectures: Texts,
-}
-
-/// Why inputs weren't compared.
-#[derive(Clone, Copy, Debug, PartialEq, Eq, Error)]
-pub enum VerifyFault {
-    #[error("filter: {0}")]
-    FilterRead(ReadFault),
-    #[error("filter: {0}")]
-    Check(CheckFault),
-    /// A filter isn't pushed onto the stack. `verify` never returns this.
-    #[error("stack: {0}")]
-    Stack(PushFault),
-    #[error("table: {0}")]
-    TableRead(InputFault),
-    #[error("table: {0}")]
-    Table(TableFault),
-    #[error("profile: {0}")]
-    ProfileRead(InputFault),
-    #[error("profile: {0}")]
-    Profile(LoadFault),
-    #[error("out of memory")]
-    Memory,
-}
-
-impl From<ReadFault> for VerifyFault {
-    ghost use Rattle.std.specs.Prelude.{◌≡◌};
-    ghost use Rattle.scf_tool.specs.declared.verification.VerifyFault.TheVariants.{FilterRead};
-
-    ghost from_gives = { λ fault e. e ≡ FilterRead fault };
-
-    fn from(fault: ReadFault) -> VerifyFault {
-        VerifyFault::FilterRead(fault)
-    }
-}
-
-impl From<TableFault> for VerifyFault {
-    ghost use Rattle.std.specs.Prelude.{◌≡◌};
-    ghost use Rattle.scf_tool.specs.declared.verification.VerifyFault.TheVariants.{Table};
-
-    ghost from_gives = { λ fault e. e ≡ Table fault };
-
-    fn from(fault: TableFault) -> VerifyFault {
-        VerifyFault::Table(fault)
-    }
-}
-
-impl From<LoadFault> for VerifyFault {
-    ghost use Rattle.std.specs.Prelude.{◌≡◌};
-    ghost use Rattle.scf_tool.specs.declared.verification.VerifyFault.TheVariants.{Profile};
-
-    ghost from_gives = { λ fault e. e ≡ Profile fault };
-
-    fn from(fault: LoadFault) -> VerifyFault {
-        VerifyFault::Profile(fault)
-    }
-}
-
-impl From<Memory> for VerifyFault {
-    ghost use Rattle.std.specs.Prelude.{◌≡◌};
-    ghost use Rattle.scf_tool.specs.declared.verification.VerifyFault.TheVariants as faults;
-
-    ghost from_gives = { λ _ e. e ≡ faults.Memory };
-
-    fn from(_refused: Memory) -> VerifyFault {
-        VerifyFault::Memory
-    }
 }
 
 /// Reads a syscall table.

@@ -15,8 +15,8 @@ use scf_profile::{CallTable, Loaded, Profile, Texts, load};
 use scf_request::{Contents, parse};
 use scf_text::{assemble, tokens};
 use scf_tool::{
-    Limits, Outcome, report, report_by, report_calls, report_calls_by, split, verify, verify_by,
-    verify_calls, verify_calls_by, verify_stack,
+    Limits, Outcome, report, report_beside, report_by, report_calls, report_calls_beside, split,
+    verify, verify_beside, verify_by, verify_calls, verify_calls_beside, verify_stack,
 };
 use std::alloc::Global;
 use std::io;
@@ -302,23 +302,6 @@ fn try_verify_calls<R: Print>(lines: &mut Lines<R>, alloc: Global) {
             &mut [Counted::new(rows::clone())],
             &mut Counted::new(rows::masked()),
             &mut Counted::new(rows::table()),
-            LIMITS,
-        )
-    );
-    if let Some(outcome) = verified {
-        tell_twice!(lines, "report_calls", report_calls(alloc, &outcome));
-    }
-}
-
-fn try_verify_calls_by<R: Print>(lines: &mut Lines<R>, alloc: Global) {
-    let verified = twice!(
-        lines,
-        "verify_calls_by",
-        verify_calls_by(
-            alloc,
-            &mut [Counted::new(rows::clone())],
-            &mut Counted::new(rows::masked()),
-            &mut Counted::new(rows::table()),
             Relation::NoLess,
             LIMITS,
         )
@@ -326,8 +309,52 @@ fn try_verify_calls_by<R: Print>(lines: &mut Lines<R>, alloc: Global) {
     if let Some(outcome) = verified {
         tell_twice!(
             lines,
-            "report_calls_by",
-            report_calls_by(alloc, Relation::NoLess, &outcome)
+            "report_calls",
+            report_calls(alloc, Relation::NoLess, &outcome)
+        );
+    }
+}
+
+fn try_verify_beside<R: Print>(lines: &mut Lines<R>, alloc: Global) {
+    let verified = twice!(
+        lines,
+        "verify_beside",
+        verify_beside(
+            alloc,
+            &mut [Counted::new(rows::clone())],
+            &mut [Counted::new(rows::allow_all())],
+            Scope::All,
+            Relation::SameDisposition,
+            LIMIT,
+        )
+    );
+    if let Some(finding) = verified {
+        tell_twice!(
+            lines,
+            "report_beside",
+            report_beside(alloc, Relation::SameDisposition, &finding)
+        );
+    }
+}
+
+fn try_verify_calls_beside<R: Print>(lines: &mut Lines<R>, alloc: Global) {
+    let verified = twice!(
+        lines,
+        "verify_calls_beside",
+        verify_calls_beside(
+            alloc,
+            &mut [Counted::new(rows::clone())],
+            &mut [Counted::new(rows::allow_all())],
+            &mut Counted::new(rows::table()),
+            Relation::NoMore,
+            LIMITS,
+        )
+    );
+    if let Some(calls) = verified {
+        tell_twice!(
+            lines,
+            "report_calls_beside",
+            report_calls_beside(alloc, Relation::NoMore, &calls)
         );
     }
 }
@@ -345,6 +372,7 @@ pub(crate) fn make_all(rt: &HostRuntime) -> io::Result<()> {
     try_verify_stack(&mut lines, alloc);
     try_verify_by(&mut lines, alloc);
     try_verify_calls(&mut lines, alloc);
-    try_verify_calls_by(&mut lines, alloc);
+    try_verify_beside(&mut lines, alloc);
+    try_verify_calls_beside(&mut lines, alloc);
     lines.into_outcome()
 }

@@ -5,7 +5,7 @@ use Rattle.scf_facts.specs.Atoms.{atom_answer}
 use Rattle.scf_profile.specs.declared.condition.Condition.{Condition}
 use Rattle.scf_profile.specs.declared.number_test.NumberTest.{NumberTest}
 use Rattle.scf_profile.specs.declared.number_test.NumberTest.TheVariants.{Masked, Greater, GreaterOrEqual}
-use Rattle.scf_profile.specs.Condition.{holds}
+use Rattle.scf_profile.specs.Condition.{condition_holds}
 use Rattle.scf_profile.specs.NumberTests.{test_of, tree_answer}
 use Rattle.scf_compare.specs.declared.question.ConditionPart.{ConditionPart}
 use Rattle.scf_compare.specs.declared.question.ConditionPart.TheVariants.{High, Above, Low}
@@ -46,8 +46,8 @@ TestLeadsTo test Fails n = tree_answer test n ≡ false
 TestLeadsTo test (Then part) n = IsAtTest test part n
 
 abbrev pub ConditionLeadsTo : Condition → Successor → ℕ → Type 0
-ConditionLeadsTo c Holds n = holds c n ≡ true
-ConditionLeadsTo c Fails n = holds c n ≡ false
+ConditionLeadsTo c Holds n = condition_holds c n ≡ true
+ConditionLeadsTo c Fails n = condition_holds c n ≡ false
 ConditionLeadsTo c (Then part) n = IsAtPart c part n
 
 -- the way of the opposite

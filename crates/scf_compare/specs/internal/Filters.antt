@@ -6,12 +6,12 @@ use Rattle.scf_insn.specs.declared.operation.Operation.{Operation}
 use Rattle.scf_machine.specs.Machine.{State, start, IsChain, RunAnswers}
 use Rattle.scf_machine.specs.Plain.{IsPlainProgram}
 use Rattle.scf_machine.specs.Rules.{Stands}
-use Rattle.scf_compare.specs.declared.comparison.FilterLeaf.{FilterLeaf}
+use Rattle.scf_compare.specs.declared.side_tree.SideLeaf.{SideLeaf}
 use Rattle.scf_compare.specs.declared.filter.FilterNode.{FilterNode}
 use Rattle.scf_compare.specs.declared.filter.FilterNode.TheVariants.{At, Stopped}
 use Rattle.scf_compare.specs.declared.control_flow.ControlFlow.{ControlFlow}
 use Rattle.scf_compare.specs.declared.control_flow.ControlFlow.TheVariants.{DivideByIndex, ReturnConstant, ReturnAccumulator}
-use Rattle.scf_compare.specs.declared.registers.Registers.{Registers}
+use Rattle.scf_compare.specs.declared.registers.KnownRegisters.{KnownRegisters}
 use Rattle.scf_compare.specs.declared.step.Step.{Step}
 use Rattle.scf_compare.specs.declared.step.Step.TheVariants.{Next, Branch}
 use Rattle.scf_compare.specs.declared.value.Decision.{Decision}
@@ -22,8 +22,8 @@ use Rattle.scf_compare.specs.internal.Leaves.{filter_leaves}
 use Rattle.scf_compare.specs.internal.Trees.{Leaves, Tree}
 use Rattle.scf_compare.specs.internal.Values.{AreValues, IsPlainValue, Describes}
 
--- The run over the words comes to a place with registers that the values stand for.
-pub record ComesTo (insns : List Insn) (place : ℕ) (registers : Registers) (words : List ℕ) : Type 0 where
+-- The run over the words comes to a place with registers that the values abstract.
+pub record ComesTo (insns : List Insn) (place : ℕ) (registers : KnownRegisters) (words : List ℕ) : Type 0 where
   pub state : State
   pub earlier : List State
   pub chain : IsChain insns words start state earlier
@@ -39,17 +39,17 @@ EndsWith (DivideByIndex next) i answer = answer ≡ Some (record { 0 = 0 })
 EndsWith _ i answer = ⊥
 
 -- An end of a filter, at the place where a run of it ends: only what is in the accumulator isn't known there.
-pub record IsFilterEnd (insns : List Insn) (leaf : FilterLeaf) : Type 0 where
+pub record IsFilterEnd (insns : List Insn) (leaf : SideLeaf) : Type 0 where
   pub insn : Insn
   pub operation : Operation
   pub stands : Stands insns leaf.at insn operation
   pub ends : EndsWith (control_flow_at operation insn leaf.at) insn leaf.answer
 
-abbrev pub filter_is_node : List Insn → Registers → FilterNode → Type 0
+abbrev pub filter_is_node : List Insn → KnownRegisters → FilterNode → Type 0
 filter_is_node insns registers (At place) = (place < length insns) × AreValues registers
 filter_is_node insns registers (Stopped answer at) = IsFilterEnd insns (record { answer = Some answer; at = at })
 
-abbrev pub filter_reaches : List Insn → Registers → FilterNode → List ℕ → Type 0
+abbrev pub filter_reaches : List Insn → KnownRegisters → FilterNode → List ℕ → Type 0
 filter_reaches insns registers (At place) words = ComesTo insns place registers words
 filter_reaches insns registers (Stopped answer at) words = RunAnswers insns words answer.0
 
@@ -58,12 +58,12 @@ filter_size insns (At place) = tree_size insns place
 filter_size insns (Stopped answer at) = 1
 
 -- a plain program has a plain value in its accumulator, and divides nothing
-abbrev pub filter_is_plain : List Insn → Registers → FilterNode → Type 0
+abbrev pub filter_is_plain : List Insn → KnownRegisters → FilterNode → Type 0
 filter_is_plain insns registers (At place) = IsPlainProgram insns × IsPlainValue registers.a
 filter_is_plain insns registers (Stopped answer at) = ⊥
 
 -- the tree, for what is known of the registers at its nodes
-abbrev pub filter_tree : List Insn → Registers → Tree FilterNode
+abbrev pub filter_tree : List Insn → KnownRegisters → Tree FilterNode
 filter_tree insns registers = record {
   is_node = filter_is_node insns registers;
   reaches = filter_reaches insns registers;
@@ -71,11 +71,11 @@ filter_tree insns registers = record {
   is_plain = filter_is_plain insns registers;
 }
 
-abbrev pub leaves_of_filter : List Insn → Leaves FilterLeaf
+abbrev pub leaves_of_filter : List Insn → Leaves SideLeaf
 leaves_of_filter insns = filter_leaves (IsFilterEnd insns) (RunAnswers insns)
 
 -- the ways on from a test
-abbrev pub IsStepOf : Decision → FilterNode → FilterNode → Step FilterNode FilterLeaf → Type 0
+abbrev pub IsStepOf : Decision → FilterNode → FilterNode → Step FilterNode SideLeaf → Type 0
 IsStepOf (Decided outcome) if_true if_false step = step ≡ Next (if outcome then if_true else if_false)
 IsStepOf (Asks atoms holds) if_true if_false step =
     step ≡ (if holds then Branch (Some atoms) if_true if_false else Branch (Some atoms) if_false if_true)

@@ -10,12 +10,13 @@ use Rattle.scf_insn.specs.declared.operation.Operation.TheVariants.{Compute, Jum
 use Rattle.scf_insn.specs.Codes.{operation_of}
 use Rattle.scf_compare.specs.declared.filter.FilterNode.{FilterNode}
 use Rattle.scf_compare.specs.declared.filter.FilterNode.TheVariants.{At, Stopped}
+use Rattle.scf_compare.specs.declared.pair.PairKnown.{PairKnown}
 use Rattle.scf_compare.specs.declared.pair.PairNode.{PairNode}
-use Rattle.scf_compare.specs.declared.pair.PairNode.TheVariants.{AtFilter, AtProfile}
-use Rattle.scf_compare.specs.declared.registers.Registers.{Registers}
+use Rattle.scf_compare.specs.declared.pair.PairNode.TheVariants.{AtLeft, AtRight}
+use Rattle.scf_compare.specs.declared.registers.KnownRegisters.{KnownRegisters}
 use Rattle.scf_compare.specs.declared.stack.StackNode.{StackNode}
 use Rattle.scf_compare.specs.declared.stack.StackNode.TheVariants.{Empty, At as InStack}
-use Rattle.scf_compare.specs.internal.Stacks.{filter_at, stack_size, stack_tree}
+use Rattle.scf_compare.specs.internal.Stacks.{filter_at, stack_tree}
 use Rattle.scf_compare.specs.declared.profile.ProfileNode.{ProfileNode}
 use Rattle.scf_compare.specs.declared.profile.ProfileNode.TheVariants.{Architecture, Range, Number, Condition as OfCondition, Answer as Answers}
 use Rattle.scf_compare.specs.declared.question.ConditionPart.{ConditionPart}
@@ -23,10 +24,15 @@ use Rattle.scf_compare.specs.declared.question.ConditionPart.TheVariants.{High, 
 use Rattle.scf_profile.specs.declared.rule.Rule.{Rule}
 use Rattle.scf_compare.specs.internal.Conditions.{part_size}
 use Rattle.scf_compare.specs.Effort.{spread, stack_paths}
-use Rattle.scf_compare.specs.internal.Profiles.{numbers_size, profile_tree}
+use Rattle.scf_compare.specs.internal.Profiles.{profile_tree}
 use Rattle.scf_compare.specs.internal.Filters.{filter_size, filter_tree}
 use Rattle.scf_compare.specs.Paths.{size_of_insn, tree_sizes, tree_size}
+use Rattle.scf_compare.specs.declared.side.Side.{Side}
+use Rattle.scf_compare.specs.declared.side.Side.TheVariants.{Stack, Profile as OfProfile}
+use Rattle.scf_compare.specs.Findings.{Compared}
+use Rattle.scf_compare.specs.Sides.{behavior_of}
 use Rattle.scf_compare.specs.internal.Pairs.{pair_tree}
+use Rattle.scf_compare.specs.internal.Trees.{Tree}
 use Rattle.scf_compare.specs.internal.NumberedProfiles.{NumberedProfile}
 
 -- one node and two trees behind it, with the same tree at each of their ends
@@ -55,7 +61,7 @@ place_counts (i ∷ insns) zero = insn_counts (operation_of i.code) i (tree_size
 place_counts (i ∷ insns) (suc place) = place_counts insns place
 
 -- each node of a filter's tree counts
-pub node_counts : (insns : List Insn) (registers : Registers) (node : FilterNode)
+pub node_counts : (insns : List Insn) (registers : KnownRegisters) (node : FilterNode)
     → 0 < (filter_tree insns registers).size node
 node_counts insns registers (At place) = place_counts insns place
 node_counts insns registers (Stopped answer at) = omega arith
@@ -66,7 +72,7 @@ paths_count (filter ∷ filters) =
     scaled_counts (tree_size filter 0) (stack_paths filters) (place_counts filter 0) (paths_count filters)
 
 -- each node of a stack's tree counts
-pub stack_node_counts : (filters : List (List Insn)) (registers : Registers) (node : StackNode)
+pub stack_node_counts : (filters : List (List Insn)) (registers : KnownRegisters) (node : StackNode)
     → 0 < (stack_tree filters registers).size node
 stack_node_counts filters registers Empty = omega arith
 stack_node_counts filters registers (InStack place older node) =
@@ -90,10 +96,16 @@ profile_node_counts s (Answers answer) = omega arith
 pub spread_counts : (rules : List Rule) → 0 < spread rules
 spread_counts rules = omega arith
 
--- each node of a pair counts
-pub pair_counts : (filters : List (List Insn)) (s : NumberedProfile) (registers : Registers) (node : PairNode)
-    → 0 < (pair_tree filters s registers).size node
-pair_counts filters s registers (AtFilter node) =
-    scaled_counts (stack_size filters node) (8 + numbers_size s.numbers) (stack_node_counts filters registers node)
-    (omega arith)
-pair_counts filters s registers (AtProfile leaf node) = profile_node_counts s node
+pub side_size_counts : (side : Side) → 0 < (behavior_of side).size
+side_size_counts (Stack filters) = paths_count filters.now
+side_size_counts (OfProfile p) = spread_counts p.now.rules
+
+-- each node of a pair counts, where those of both sides do
+pub pair_counts : {K M A B : Type 0} (compared : Compared) (left : K → Tree A) (right : M → Tree B)
+    → ((known : K) (node : A) → 0 < (left known).size node)
+    → ((known : M) (node : B) → 0 < (right known).size node)
+    → 0 < compared.right.size
+    → (known : PairKnown K M) (node : PairNode A B) → 0 < (pair_tree compared left right known).size node
+pair_counts compared left right of_left of_right whole known (AtLeft node) =
+    scaled_counts ((left known.left).size node) compared.right.size (of_left known.left node) whole
+pair_counts compared left right of_left of_right whole known (AtRight leaf node) = of_right known.right node

@@ -1,40 +1,51 @@
--- What the ends of trees tell.
-use Rattle.std.specs.Prelude.{◌≡◌, ◌⊎◌, ℕ, List, Option, Some, IfSome, IsSome}
-use Rattle.scf_compare.specs.declared.comparison.FilterLeaf.{FilterLeaf}
+-- What the leaves of trees tell.
+use Rattle.std.specs.Prelude.{◌≡◌, ◌⊎◌, ℕ, List, Option, Some, IfNone, IfSome, IsSome}
+use Rattle.scf_insn.specs.Words.{IsWords, call_of}
 use Rattle.scf_compare.specs.declared.comparison.PairLeaf.{PairLeaf}
-use Rattle.scf_compare.specs.declared.verdict.Verdict.{Verdict}
-use Rattle.scf_compare.specs.declared.verdict.Verdict.TheVariants.{Same, Differs, Undecided, Unfinished}
-use Rattle.scf_compare.specs.internal.Compared.{Compared, WordsRelated}
+use Rattle.scf_compare.specs.declared.finding.Finding.{Finding}
+use Rattle.scf_compare.specs.declared.finding.Finding.TheVariants.{Holds, Fails, Undecided, Unfinished}
+use Rattle.scf_compare.specs.declared.finding.Which.{Which}
+use Rattle.scf_compare.specs.declared.finding.Which.TheVariants.{Right}
+use Rattle.scf_compare.specs.declared.side_tree.SideLeaf.{SideLeaf}
+use Rattle.scf_compare.specs.Findings.{Compared, IsOpenEnd, WordsRelated}
+use Rattle.scf_compare.specs.Sides.{Behavior}
 use Rattle.scf_compare.specs.internal.Trees.{Leaves}
 
--- a place where ends are
-abbrev pub IsPlaceOf : (FilterLeaf → Type 0) → ℕ → Type 0
-IsPlaceOf is_leaf at = (leaf : FilterLeaf) × is_leaf leaf × (leaf.at ≡ at)
+-- the words of a call record of the scope
+abbrev pub AreWordsIn : Compared → List ℕ → Type 0
+AreWordsIn compared words = IsWords words × compared.in_scope (call_of words)
 
--- an end of the filter's tree tells its answer to words, where it knows it
-abbrev pub FilterTells : (List ℕ → ℕ → Type 0) → FilterLeaf → List ℕ → Type 0
-FilterTells answers leaf words = IfSome leaf.answer (λ answer. answers words answer.0)
+-- a leaf of a side's tree tells its answer to words, where it knows it
+abbrev pub SideTells : (List ℕ → ℕ → Type 0) → SideLeaf → List ℕ → Type 0
+SideTells answers leaf words = IfSome leaf.answer (λ answer. answers words answer.0)
+
+-- a leaf of a side's tree knows its answer
+abbrev pub KnowsAnswer : SideLeaf → Type 0
+KnowsAnswer leaf = IsSome leaf.answer
+
+-- a leaf is where the side ends, and may be open there if it doesn't know its answer
+abbrev pub IsSideLeaf : Behavior → SideLeaf → Type 0
+IsSideLeaf behavior leaf = behavior.ends_at leaf.at × IfNone leaf.answer (behavior.is_open_at leaf.at)
+
+-- the leaves of trees of filters that answer so
+abbrev pub filter_leaves : (SideLeaf → Type 0) → (List ℕ → ℕ → Type 0) → Leaves SideLeaf
+filter_leaves is_leaf answers = record { is_leaf = is_leaf; tells = SideTells answers; tells_all = KnowsAnswer }
+
+-- the leaves of a side's tree
+abbrev pub side_leaves : Behavior → Leaves SideLeaf
+side_leaves behavior = filter_leaves (IsSideLeaf behavior) behavior.answers
 
 abbrev pub Tells : Compared → PairLeaf → List ℕ → Type 0
 Tells compared leaf words =
-    FilterTells compared.filter_answers leaf.filter words × compared.profile_answers words leaf.profile.0
+    SideTells compared.left.answers leaf.left words × SideTells compared.right.answers leaf.right words
 
 abbrev pub IsLeaf : Compared → PairLeaf → Type 0
-IsLeaf compared leaf = compared.is_place leaf.filter.at
+IsLeaf compared leaf = IsSideLeaf compared.left leaf.left × IsSideLeaf compared.right leaf.right
 
--- an end of the filter's tree knows its answer
-abbrev pub KnowsAnswer : FilterLeaf → Type 0
-KnowsAnswer leaf = IsSome leaf.answer
-
--- the ends of a tree of filters that answer so
-abbrev pub filter_leaves : (FilterLeaf → Type 0) → (List ℕ → ℕ → Type 0) → Leaves FilterLeaf
-filter_leaves is_leaf answers = record { is_leaf = is_leaf; tells = FilterTells answers; tells_all = KnowsAnswer }
-
--- the profile's answer is always known
 abbrev pub KnowsBoth : PairLeaf → Type 0
-KnowsBoth leaf = KnowsAnswer leaf.filter
+KnowsBoth leaf = KnowsAnswer leaf.left × KnowsAnswer leaf.right
 
--- the ends of a comparison's tree
+-- the leaves of a comparison's tree
 abbrev pub pair_leaves : Compared → Leaves PairLeaf
 pair_leaves compared = record { is_leaf = IsLeaf compared; tells = Tells compared; tells_all = KnowsBoth }
 
@@ -42,25 +53,35 @@ pair_leaves compared = record { is_leaf = IsLeaf compared; tells = Tells compare
 abbrev pub IsOnlyAnswer : (List ℕ → ℕ → Type 0) → List ℕ → ℕ → Type 0
 IsOnlyAnswer answers words answer = (other : ℕ) → answers words other → other ≡ answer
 
--- An end is left open: the filter's answer isn't known there, or isn't related to the profile's.
-abbrev pub IsUndecidedLeaf : Compared → PairLeaf → Type 0
-IsUndecidedLeaf compared leaf = IfSome leaf.filter.answer (λ answer. compared.related answer.0 leaf.profile.0 → ⊥)
+-- the side and the instruction of an undecided leaf
+abbrev pub IsFirstUndecided : Compared → Which × ℕ → Type 0
+IsFirstUndecided compared first = IsOpenEnd compared first.0 first.1
 
--- The words come to an end that is left open.
+-- A leaf is undecided: an answer isn't known there, or the two aren't related.
+abbrev pub IsUndecidedLeaf : Compared → PairLeaf → Type 0
+IsUndecidedLeaf compared leaf =
+    IfSome leaf.left.answer (λ left. IfSome leaf.right.answer (λ right. compared.related left.0 right.0 → ⊥))
+
+-- The words come to an undecided leaf.
 pub record ComesToUndecidedLeaf (compared : Compared) (words : List ℕ) : Type 0 where
   pub leaf : PairLeaf
   pub is_leaf : IsLeaf compared leaf
   pub is_undecided : IsUndecidedLeaf compared leaf
   pub tells : Tells compared leaf words
 
--- Words that were seen: their answers are related, or they come to an end that is left open, and one was found.
-abbrev pub WereSeen : Compared → Option ℕ → List ℕ → Type 0
+-- Words that were seen: their answers are related, or they come to an undecided leaf, and one was found.
+abbrev pub WereSeen : Compared → Option (Which × ℕ) → List ℕ → Type 0
 WereSeen compared found words = WordsRelated compared words ⊎ (IsSome found × ComesToUndecidedLeaf compared words)
 
 -- With Undecided all words of the scope were seen.
-abbrev pub WereAllSeen : Compared → Verdict → Type 0
-WereAllSeen compared (Same steps) = Unit {0}
-WereAllSeen compared (Differs call filter profile) = Unit {0}
-WereAllSeen compared (Undecided at) =
-    (words : List ℕ) → compared.in_scope words → WereSeen compared (Some at) words
+abbrev pub WereAllSeen : Compared → Finding → Type 0
+WereAllSeen compared (Holds steps) = Unit {0}
+WereAllSeen compared (Fails call left right) = Unit {0}
+WereAllSeen compared (Undecided side at) =
+    (words : List ℕ) → AreWordsIn compared words → WereSeen compared (Some (side, at)) words
 WereAllSeen compared Unfinished = Unit {0}
+
+-- a finding that can be a verdict on a filter, which is the left side, and a profile
+abbrev pub IsOnTheLeft : Finding → Type 0
+IsOnTheLeft (Undecided Right at) = ⊥
+IsOnTheLeft finding = Unit {0}

@@ -1,13 +1,12 @@
 -- A profile as a tree of questions, whose numbers are asked in their order, and the rules of one in theirs.
-use Rattle.std.specs.Prelude.{◌≡◌, ◌≢◌, ◌+◌, ◌<◌, ℕ, List, [], true, false, All, Some, length, map, take, drop, slice_get, slice_index_or, sum_by, ⊤}
-use Rattle.scf_insn.specs.declared.answer.Answer.{Answer}
+use Rattle.std.specs.Prelude.{◌≡◌, ◌≢◌, ◌+◌, ◌<◌, ℕ, List, [], true, false, All, Some, length, map, take, drop, slice_get, slice_index_or, sum_by}
 use Rattle.scf_insn.specs.declared.record.CallRecord.{CallRecord}
 use Rattle.scf_insn.specs.Kernel.{audit_arch_x86_64}
 use Rattle.scf_insn.specs.Words.{call_of, argument}
 use Rattle.scf_profile.specs.declared.condition.Condition.{Condition}
 use Rattle.scf_profile.specs.declared.number_rules.NumberRules.{NumberRules}
 use Rattle.scf_profile.specs.Rule.{all_hold, meets}
-use Rattle.scf_profile.specs.Profile.{Profile, IsNative}
+use Rattle.scf_profile.specs.Profile.{IsNative}
 use Rattle.scf_profile.specs.PlainProfile.{IsPlainRule}
 use Rattle.scf_profile.specs.ProfileAnswers.{ProfileAnswers}
 use Rattle.scf_profile.specs.declared.rule.Rule.{Rule}
@@ -19,7 +18,7 @@ use Rattle.scf_compare.specs.declared.question.ConditionPart.{ConditionPart}
 use Rattle.scf_compare.specs.internal.Conditions.{IsAtPart, part_size}
 use Rattle.scf_compare.specs.Effort.{conditions_size, rules_size}
 use Rattle.scf_compare.specs.internal.NumberedProfiles.{NumberedProfile}
-use Rattle.scf_compare.specs.internal.Trees.{Leaves, Tree}
+use Rattle.scf_compare.specs.internal.Trees.{Tree}
 
 -- the rules of the number at a place
 abbrev pub own_rules : List NumberRules → ℕ → List Rule
@@ -86,7 +85,7 @@ abbrev pub numbers_size : List NumberRules → ℕ
 numbers_size numbers = sum_by (λ own. 1 + rules_size own.rules.items) numbers
 
 abbrev pub profile_size : NumberedProfile → ProfileNode → ℕ
-profile_size s Architecture = 5 + numbers_size s.numbers
+profile_size s Architecture = 8 + numbers_size s.numbers
 profile_size s Range = 3 + numbers_size s.numbers
 profile_size s (Number place) = 1 + numbers_size (drop place s.numbers)
 profile_size s (OfCondition at part) = part_size part (size_of_rest s.numbers at) (size_behind s.numbers at)
@@ -99,12 +98,4 @@ profile_tree s = record {
   reaches = profile_reaches s;
   size = profile_size s;
   is_plain = λ _. All IsPlainRule s.profile.rules;
-}
-
--- the answer is known at each end
-abbrev pub leaves_of_profile : Profile → Leaves Answer
-leaves_of_profile p = record {
-  is_leaf = λ _. ⊤;
-  tells = λ answer words. ProfileAnswers p (call_of words) answer.0;
-  tells_all = λ _. ⊤;
 }

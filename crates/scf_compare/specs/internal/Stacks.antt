@@ -4,12 +4,12 @@ use Rattle.scf_insn.specs.declared.insn.Insn.{Insn}
 use Rattle.scf_insn.specs.Kernel.{seccomp_ret_allow}
 use Rattle.scf_machine.specs.Plain.{IsPlainProgram}
 use Rattle.scf_machine.specs.Precedence.{StackAnswers}
-use Rattle.scf_compare.specs.declared.comparison.FilterLeaf.{FilterLeaf}
-use Rattle.scf_compare.specs.declared.registers.Registers.{Registers}
+use Rattle.scf_compare.specs.declared.side_tree.SideLeaf.{SideLeaf}
+use Rattle.scf_compare.specs.declared.registers.KnownRegisters.{KnownRegisters}
 use Rattle.scf_compare.specs.declared.stack.StackNode.{StackNode}
 use Rattle.scf_compare.specs.declared.stack.StackNode.TheVariants.{Empty, At}
 use Rattle.scf_compare.specs.Effort.{stack_paths}
-use Rattle.scf_compare.specs.internal.Leaves.{FilterTells, KnowsAnswer, filter_leaves}
+use Rattle.scf_compare.specs.internal.Leaves.{KnowsAnswer, SideTells, filter_leaves}
 use Rattle.scf_compare.specs.internal.Filters.{IsFilterEnd, filter_is_node, filter_reaches, filter_size, filter_is_plain}
 use Rattle.scf_compare.specs.internal.Trees.{Leaves, Tree}
 
@@ -18,26 +18,26 @@ abbrev pub filter_at : List (List Insn) → ℕ → List Insn
 filter_at filters place = slice_index_or filters place []
 
 -- An end of one of the filters, or of none, which allow.
-abbrev pub IsStackLeaf : List (List Insn) → FilterLeaf → Type 0
+abbrev pub IsStackLeaf : List (List Insn) → SideLeaf → Type 0
 IsStackLeaf [] leaf = leaf ≡ record { answer = Some (record { 0 = seccomp_ret_allow }); at = 0 }
 IsStackLeaf (filter ∷ filters) leaf = (one : List Insn) × Contains (filter ∷ filters) one × IsFilterEnd one leaf
 
 -- what the filters before a place decide, from the second one on
-abbrev pub IsOlder : List (List Insn) → ℕ → Option FilterLeaf → Type 0
+abbrev pub IsOlder : List (List Insn) → ℕ → Option SideLeaf → Type 0
 IsOlder filters place None = place ≡ 0
 IsOlder filters place (Some leaf) = IsStackLeaf filters leaf
 
 -- what is known of what they decide is so
-abbrev pub OlderTells : List (List Insn) → ℕ → Option FilterLeaf → List ℕ → Type 0
-OlderTells filters place older words = IfSome older (λ leaf. FilterTells (StackAnswers (take place filters)) leaf words)
+abbrev pub OlderTells : List (List Insn) → ℕ → Option SideLeaf → List ℕ → Type 0
+OlderTells filters place older words = IfSome older (λ leaf. SideTells (StackAnswers (take place filters)) leaf words)
 
-abbrev pub stack_is_node : List (List Insn) → Registers → StackNode → Type 0
+abbrev pub stack_is_node : List (List Insn) → KnownRegisters → StackNode → Type 0
 stack_is_node filters registers Empty = filters ≡ []
 stack_is_node filters registers (At place older node) =
     (place < length filters) × filter_is_node (filter_at filters place) registers node × IsOlder filters place older
 
 -- the older filters decide so, where that is known, and the words come to the node of the filter
-abbrev pub stack_reaches : List (List Insn) → Registers → StackNode → List ℕ → Type 0
+abbrev pub stack_reaches : List (List Insn) → KnownRegisters → StackNode → List ℕ → Type 0
 stack_reaches filters registers Empty words = Unit {0}
 stack_reaches filters registers (At place older node) words =
     OlderTells filters place older words × filter_reaches (filter_at filters place) registers node words
@@ -48,13 +48,13 @@ stack_size filters Empty = 1
 stack_size filters (At place older node) =
     filter_size (filter_at filters place) node * stack_paths (drop (place + 1) filters)
 
-abbrev pub stack_is_plain : List (List Insn) → Registers → StackNode → Type 0
+abbrev pub stack_is_plain : List (List Insn) → KnownRegisters → StackNode → Type 0
 stack_is_plain filters registers Empty = Unit {0}
 stack_is_plain filters registers (At place older node) =
     All IsPlainProgram filters × IfSome older KnowsAnswer × filter_is_plain (filter_at filters place) registers node
 
 -- the tree, for what is known of the registers at its nodes
-abbrev pub stack_tree : List (List Insn) → Registers → Tree StackNode
+abbrev pub stack_tree : List (List Insn) → KnownRegisters → Tree StackNode
 stack_tree filters registers = record {
   is_node = stack_is_node filters registers;
   reaches = stack_reaches filters registers;
@@ -62,5 +62,5 @@ stack_tree filters registers = record {
   is_plain = stack_is_plain filters registers;
 }
 
-abbrev pub leaves_of_stack : List (List Insn) → Leaves FilterLeaf
+abbrev pub leaves_of_stack : List (List Insn) → Leaves SideLeaf
 leaves_of_stack filters = filter_leaves (IsStackLeaf filters) (StackAnswers filters)

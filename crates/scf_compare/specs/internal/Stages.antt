@@ -6,33 +6,33 @@ use Rattle.scf_compare.specs.declared.explore.Stage.{Stage}
 use Rattle.scf_compare.specs.declared.explore.Stage.TheVariants.{At, AllSeen, Found}
 use Rattle.scf_compare.specs.declared.frontier.Frontier.{Frontier}
 use Rattle.scf_compare.specs.declared.step.Step.{Step}
-use Rattle.scf_compare.specs.declared.verdict.Verdict.{Verdict}
-use Rattle.scf_compare.specs.declared.verdict.Verdict.TheVariants.{Same, Undecided}
-use Rattle.scf_compare.specs.Verdicts.{IsWithin, IsDecided, IsStepCount}
-use Rattle.scf_compare.specs.internal.Compared.{Compared, AllRelated, IsTrueVerdict}
-use Rattle.scf_compare.specs.internal.Leaves.{Tells, KnowsBoth, WereSeen, WereAllSeen}
+use Rattle.scf_compare.specs.declared.finding.Finding.{Finding}
+use Rattle.scf_compare.specs.declared.finding.Finding.TheVariants.{Holds, Undecided}
+use Rattle.scf_compare.specs.declared.finding.Which.{Which}
+use Rattle.scf_compare.specs.Findings.{AllRelated, Compared, IsFindingDecided, IsFindingWithin, IsStepCount, IsTrueFinding}
+use Rattle.scf_compare.specs.internal.Leaves.{AreWordsIn, Tells, KnowsBoth, WereSeen, WereAllSeen}
 use Rattle.scf_compare.specs.internal.Frontier.{IsInBranch, IsAhead, IsFrontier, AreExact, IsExact, open_size}
 use Rattle.scf_compare.specs.internal.Trees.{Tree, GoesOn, StaysPlain, step_size}
 
--- A verdict that was found is true, is neither Same nor Unfinished, and decides.
-pub record IsFound (compared : Compared) (verdict : Verdict) : Type 0 where
-  pub holds : IsTrueVerdict compared verdict
-  pub within : (limit effort : ℕ) → IsWithin limit effort verdict
-  pub decided : (limit effort : ℕ) → IsDecided (AllRelated compared) limit effort verdict
-  pub seen : WereAllSeen compared verdict
-  pub counted : (limit taken : ℕ) → 0 < taken → IsStepCount limit verdict taken
+-- A finding of a leaf is true, is neither Holds nor Unfinished, and decides.
+pub record IsFound (compared : Compared) (finding : Finding) : Type 0 where
+  pub holds : IsTrueFinding compared finding
+  pub within : (limit effort : ℕ) → IsFindingWithin limit effort finding
+  pub decided : (limit effort : ℕ) → IsFindingDecided (AllRelated compared) limit effort finding
+  pub seen : WereAllSeen compared finding
+  pub counted : (limit taken : ℕ) → 0 < taken → IsStepCount limit finding taken
 
--- the verdict once all was seen, in so many steps
-abbrev pub verdict_of_all : ℕ → Option ℕ → Verdict
-verdict_of_all steps (Some at) = Undecided at
-verdict_of_all steps None = Same steps
+-- the finding once all was seen, in so many steps
+abbrev pub finding_of_all : ℕ → Option (Which × ℕ) → Finding
+finding_of_all steps (Some first) = Undecided first.0 first.1
+finding_of_all steps None = Holds steps
 
 -- The tree at a node is the one for what is known there.
 module _ {F K N : Type 0} (store : Store F) (compared : Compared) (tree : K → Tree N) (old new : Frontier F K N) where
   -- A turn at one frontier leads to a node at another: no words are lost, no steps are added, and what exact facts
   -- decide they still decide.
   pub record LeadsTo (here : Tree N) (step : Step N PairLeaf) (next : N) : Type 0 where
-    pub frontier : IsFrontier store tree compared.in_scope new
+    pub frontier : IsFrontier store tree (AreWordsIn compared) new
     pub node : here.is_node next
     pub words : (words : List ℕ) → IsAhead store tree old (GoesOn here (Tells compared) step) words
         → IsAhead store tree new (here.reaches next) words
@@ -42,7 +42,7 @@ module _ {F K N : Type 0} (store : Store F) (compared : Compared) (tree : K → 
 
   -- The newest branch was taken, and the exploration is at its node: the words of all branches are still ahead.
   pub record IsTaken (there : Tree N) (next : N) : Type 0 where
-    pub frontier : IsFrontier store tree compared.in_scope new
+    pub frontier : IsFrontier store tree (AreWordsIn compared) new
     pub node : there.is_node next
     pub words : (words : List ℕ) → IsInBranch store tree old words → IsAhead store tree new (there.reaches next) words
     pub size : open_size tree new + there.size next ≡ open_size tree old
@@ -51,8 +51,8 @@ module _ {F K N : Type 0} (store : Store F) (compared : Compared) (tree : K → 
   -- A step goes over from a node to another, and a place is known of an end that is left open, if one was found: the
   -- words that were ahead still are, or were seen; at least one step fewer is left; and what exact facts decide they
   -- still decide.
-  pub record GoesOver (here : Tree N) (from : N) (there : Tree N) (found : Option ℕ) (next : N) : Type 0 where
-    pub frontier : IsFrontier store tree compared.in_scope new
+  pub record GoesOver (here : Tree N) (from : N) (there : Tree N) (found : Option (Which × ℕ)) (next : N) : Type 0 where
+    pub frontier : IsFrontier store tree (AreWordsIn compared) new
     pub node : there.is_node next
     pub words : (words : List ℕ) → IsAhead store tree old (here.reaches from) words
         → WereSeen compared found words ⊎ IsAhead store tree new (there.reaches next) words
@@ -61,8 +61,8 @@ module _ {F K N : Type 0} (store : Store F) (compared : Compared) (tree : K → 
         → IsExact store tree new (there.is_plain next) (there.reaches next)
 
   -- what a stage says that comes after a node
-  abbrev pub IsStageAfter : Tree N → N → Tree N → Option ℕ → Stage N → Type 0
+  abbrev pub IsStageAfter : Tree N → N → Tree N → Option (Which × ℕ) → Stage N → Type 0
   IsStageAfter here node there found (At next) = GoesOver here node there found next
   IsStageAfter here node there found AllSeen =
       (words : List ℕ) → IsAhead store tree old (here.reaches node) words → WereSeen compared found words
-  IsStageAfter here node there found (Found verdict) = IsFound compared verdict
+  IsStageAfter here node there found (Found finding) = IsFound compared finding

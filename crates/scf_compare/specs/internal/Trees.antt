@@ -75,3 +75,11 @@ pub record IsStep {N E : Type 0} (leaves : Leaves E) (given : List ℕ → Type 
   pub leads : (words : List ℕ) → given words → here.reaches node words → GoesOn there leaves.tells step words
   pub costs : Costs there step (here.size node)
   pub plain : here.is_plain node → StaysPlain there leaves.tells_all step
+
+-- The given words of a step come to one of its nodes.
+pub record IsDecidedNext {N E : Type 0} (leaves : Leaves E) (given : List ℕ → Type 0) (tree : Tree N) (step : Step N E)
+    (next : N) : Type 0 where
+  pub node : tree.is_node next
+  pub reached : (words : List ℕ) → given words → GoesOn tree leaves.tells step words → tree.reaches next words
+  pub size : tree.size next ≤ step_size tree step
+  pub plain : StaysPlain tree leaves.tells_all step → tree.is_plain next

@@ -6,7 +6,7 @@ use Rattle.scf_compare.specs.declared.value.Value.{Value}
 use Rattle.scf_compare.specs.declared.value.Value.TheVariants.{Known, Slice, AffineTerm, ZeroTest, Unknown}
 use Rattle.scf_compare.specs.declared.value.Decision.{Decision}
 use Rattle.scf_compare.specs.declared.value.Decision.TheVariants.{Known as Decided, Asks, Open}
-use Rattle.scf_compare.specs.declared.registers.Registers.{Registers}
+use Rattle.scf_compare.specs.declared.registers.KnownRegisters.{KnownRegisters}
 use Rattle.scf_compare.specs.declared.conjunction.Conjunction.{Conjunction}
 use Rattle.scf_compare.specs.internal.Asking.{AsksOfWords, atoms_answer, KeepsEither}
 use Rattle.scf_compare.specs.internal.Conjunctions.{IsConjunction, ConjunctionHolds}
@@ -25,13 +25,13 @@ IsValue Unknown = Unit {0}
 abbrev pub IsZeroTest : Conjunction → List ℕ → ℕ → Type 0
 IsZeroTest conjunction words x = (x ≡ 0) ↔ ConjunctionHolds conjunction words
 
--- over the words a value stands for a number
-abbrev pub StandsFor : Value → List ℕ → ℕ → Type 0
-StandsFor (Known value) words x = x ≡ value
-StandsFor (Slice bit_slice) words x = x ≡ bit_slice_value bit_slice words
-StandsFor (AffineTerm affine_term) words x = x ≡ affine_value affine_term words
-StandsFor (ZeroTest conjunction) words x = (x < 2 ^ 32) × IsZeroTest conjunction words x
-StandsFor Unknown words x = Unit {0}
+-- over the words a value abstracts a number
+abbrev pub Abstracts : Value → List ℕ → ℕ → Type 0
+Abstracts (Known value) words x = x ≡ value
+Abstracts (Slice bit_slice) words x = x ≡ bit_slice_value bit_slice words
+Abstracts (AffineTerm affine_term) words x = x ≡ affine_value affine_term words
+Abstracts (ZeroTest conjunction) words x = (x < 2 ^ 32) × IsZeroTest conjunction words x
+Abstracts Unknown words x = Unit {0}
 
 -- a decision asks of some of the sixteen words
 abbrev pub IsTestDecision : Decision → Type 0
@@ -59,14 +59,14 @@ IsPlainDecision (Decided outcome) = Unit {0}
 IsPlainDecision (Asks asked holds) = KeepsEither asked
 IsPlainDecision Open = ⊥
 
-pub record AreValues (registers : Registers) : Type 0 where
+pub record AreValues (registers : KnownRegisters) : Type 0 where
   pub a : IsValue registers.a
   pub x : IsValue registers.x
   pub scratch : All IsValue registers.scratch
 
--- Over the words the values stand for the registers of a state, and for the scratch words that were stored.
-pub record Describes (registers : Registers) (words : List ℕ) (s : State) : Type 0 where
-  pub a : StandsFor registers.a words s.a
-  pub x : StandsFor registers.x words s.x
+-- Over the words the values abstract the registers of a state, and the scratch words that were stored.
+pub record Describes (registers : KnownRegisters) (words : List ℕ) (s : State) : Type 0 where
+  pub a : Abstracts registers.a words s.a
+  pub x : Abstracts registers.x words s.x
   pub scratch : (n value : ℕ) (past : Value) → n < bpf_memwords → word_at s.scratch n ≡ Some value
-      → StandsFor (slice_index_or registers.scratch n past) words value
+      → Abstracts (slice_index_or registers.scratch n past) words value

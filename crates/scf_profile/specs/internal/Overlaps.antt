@@ -2,11 +2,11 @@
 use Rattle.std.specs.Prelude.{◌≡◌, ℕ, ◌<◌, ◌^◌, true, List, All}
 use Rattle.scf_insn.specs.Kernel.{seccomp_data_args}
 use Rattle.scf_profile.specs.declared.condition.Condition.{Condition}
-use Rattle.scf_profile.specs.Condition.{holds}
+use Rattle.scf_profile.specs.Condition.{condition_holds}
 
 -- the conditions on an argument hold of a number
 abbrev pub HoldAt : List Condition → ℕ → ℕ → Type 0
-HoldAt conditions index number = All (λ c. c.index ≡ index → holds c number ≡ true) conditions
+HoldAt conditions index number = All (λ c. c.index ≡ index → condition_holds c number ≡ true) conditions
 
 -- the conditions of both lists on an argument hold of some 64-bit number
 pub record OverlapAt (cs ds : List Condition) (index : ℕ) : Type 0 where

@@ -12,5 +12,5 @@ loaded_of s = record {
 }
 
 -- just this is loaded, and no two of its rules conflict
-abbrev pub IsLoaded : Stated → Loaded → Type 0
-IsLoaded s loaded = (loaded ≡ loaded_of s) × HaveNoConflict s.rules.items
+abbrev pub IsWithoutConflict : Stated → Loaded → Type 0
+IsWithoutConflict s loaded = (loaded ≡ loaded_of s) × HaveNoConflict s.rules.items

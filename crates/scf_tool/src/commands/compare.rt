@@ -17,107 +17,127 @@ ghost use Rattle.std.specs.Prelude.{
   Err,
 };
 ghost use Rattle.std.specs.Option.{option_map_or};
+ghost use Rattle.scf_tool.specs.CallReports.{joint_of};
 ghost use Rattle.scf_tool.specs.Commands.{Compares, ComparesParts, HoldsBundle, ReadsInput};
-ghost use Rattle.scf_tool.specs.Statuses.{LeavesWhole, verdict_status};
+ghost use Rattle.scf_tool.specs.Reports.{finding_status};
+ghost use Rattle.scf_tool.specs.Statuses.{LeavesWhole};
 ghost use Rattle.scf_request.specs.Bundle.{IsBundleFault};
 ghost use Rattle.scf_request.specs.Contents.{rest_of};
-ghost use Rattle.scf_tool.specs.internal.Reporting.{IsReportOn};
+ghost use Rattle.scf_request.specs.declared.request.Comparison.{Comparison};
 
-use crate::call_reporting::{joint_verdict, report_calls_by};
-use crate::call_verification::compare_named_calls;
+use crate::call_reporting::{joint_finding, report_calls};
+use crate::call_verification::{CallFinding, verify_calls};
 use crate::commands::{only, whole_input};
 use crate::fault::Fault;
-use crate::inputs::{Inputs, inputs_in};
 use crate::reply::Reply;
-use crate::reporting::report_by;
-use crate::stack_verification::compare_inputs;
+use crate::reporting::{finding_of_verdict, report_by};
+use crate::stack_verification::verify_by;
 use crate::status::Status;
-use crate::verification::VerifyFault;
-use scf_compare::Verdict;
-use scf_insn::{Memory, Source};
+use crate::verify_fault::VerifyFault;
+use scf_compare::Finding;
+use scf_insn::Source;
 use scf_profile::{Relation, Scope};
-use scf_request::{BundleFault, Contents, Limits, PartReader, Scopes};
+use scf_request::{BundleFault, Comparison, Contents, Limits, PartReader, Scopes};
 use std::alloc::Global;
 
-/// The exit status that goes with a verdict.
-fn status_of_verdict(verdict: &Verdict) -> Status
-    ensures { result ≡ verdict_status verdict.now }
+/// The exit status that goes with a finding.
+pub(super) fn status_of_finding(finding: &Finding) -> Status
+    ensures { result ≡ finding_status finding.now }
 {
-    match verdict {
-        Verdict::Same { .. } => Status::Well,
-        Verdict::Differs { .. } => Status::Refused,
-        Verdict::Undecided { .. } | Verdict::Unfinished => Status::Open,
+    match finding {
+        Finding::Holds { .. } => Status::Well,
+        Finding::Fails { .. } => Status::Differs,
+        Finding::Undecided { .. } | Finding::Unfinished => Status::Open,
     }
 }
 
-/// The exit status that goes with the verdict that speaks for calls.
-fn status_of_joint(joint: Option<Verdict>) -> Status
-    ensures { result ≡ option_map_or verdict_status joint Status.Well }
+/// The exit status that goes with the finding that speaks for calls.
+pub(super) fn status_of_calls(calls: &[CallFinding]) -> Status
+    ensures { result ≡ option_map_or finding_status (joint_of calls.now) Status.Well }
 {
-    joint.map_or(Status::Well, |verdict| status_of_verdict(&verdict))
+    joint_finding(calls).map_or(Status::Well, |finding| status_of_finding(&finding))
 }
 
-/// The report on parties over the calls that are asked for and by a relation.
-fn report_on(
-    alloc: Global,
-    scopes: Scopes,
-    relation: Relation,
-    inputs: Inputs,
-    limits: Limits,
-) -> Result<Reply, Memory>
-    ensures { IfOk result (IsReportOn scopes relation limits inputs) }
-{
-    match scopes {
-        Scopes::AtOnce(scope) => {
-            let outcome = compare_inputs(alloc, inputs, scope, relation, limits.each)?;
-            let status = status_of_verdict(&outcome.verdict);
-            let text = report_by(alloc, relation, &outcome)?;
-            Ok(Reply::Compared { text, status })
-        }
-        Scopes::EachCall => {
-            let outcome = compare_named_calls(alloc, inputs, relation, limits)?;
-            let status = status_of_joint(joint_verdict(&outcome.calls));
-            let text = report_calls_by(alloc, relation, &outcome)?;
-            Ok(Reply::Compared { text, status })
-        }
-    }
-}
-
-/// What filters, a profile and a table come to.
-fn compare_parts(
+/// The report on a stack and a profile over the records of a scope.
+fn compare_at_once(
     alloc: Global,
     filters: &mut [PartReader<'_>],
-    profile: &[u8],
-    table: &[u8],
-    scopes: Scopes,
+    profile: &mut PartReader<'_>,
+    table: &mut PartReader<'_>,
+    scope: Scope,
     relation: Relation,
     limits: Limits,
 ) -> Result<Reply, VerifyFault>
-    ensures reply { IfOk result (λ reply.
-        ComparesParts scopes relation limits (map rest_of filters.old) profile.now table.now (Ok reply)) }
-    ensures fault { IfErr result (λ fault.
-        ComparesParts scopes relation limits (map rest_of filters.old) profile.now table.now
-        (Err (Fault.Verify fault))) }
+    ensures reply { IfOk result (λ reply. ComparesParts (Scopes.AtOnce scope) relation limits
+        (map rest_of filters.old) (rest_of profile.old) (rest_of table.old) (Ok reply)) }
+    ensures fault { IfErr result (λ fault. ComparesParts (Scopes.AtOnce scope) relation limits
+        (map rest_of filters.old) (rest_of profile.old) (rest_of table.old) (Err (Fault.Verify fault))) }
 {
-    let inputs = inputs_in(alloc, filters, profile, table)?;
-    Ok(report_on(alloc, scopes, relation, inputs, limits)?)
+    let outcome = verify_by(alloc, filters, profile, table, scope, relation, limits.each)?;
+    let status = status_of_finding(&finding_of_verdict(&outcome.verdict));
+    let text = report_by(alloc, relation, &outcome)?;
+    Ok(Reply::Compared { text, status })
 }
 
-/// The filters, the profile and the table of a bundle, where it holds one filter or more and one of each other kind.
+/// The report on a stack and a profile, call by call of the table.
+fn compare_each_call(
+    alloc: Global,
+    filters: &mut [PartReader<'_>],
+    profile: &mut PartReader<'_>,
+    table: &mut PartReader<'_>,
+    relation: Relation,
+    limits: Limits,
+) -> Result<Reply, VerifyFault>
+    ensures reply { IfOk result (λ reply. ComparesParts Scopes.EachCall relation limits
+        (map rest_of filters.old) (rest_of profile.old) (rest_of table.old) (Ok reply)) }
+    ensures fault { IfErr result (λ fault. ComparesParts Scopes.EachCall relation limits
+        (map rest_of filters.old) (rest_of profile.old) (rest_of table.old) (Err (Fault.Verify fault))) }
+{
+    let outcome = verify_calls(alloc, filters, profile, table, relation, limits)?;
+    let status = status_of_calls(&outcome.calls);
+    let text = report_calls(alloc, relation, &outcome)?;
+    Ok(Reply::Compared { text, status })
+}
+
+/// The report on a stack and a profile, over the records that are asked for.
+fn compare_parts(
+    alloc: Global,
+    filters: &mut [PartReader<'_>],
+    profile: &mut PartReader<'_>,
+    table: &mut PartReader<'_>,
+    asked: Comparison,
+) -> Result<Reply, VerifyFault>
+    ensures reply { IfOk result (λ reply. ComparesParts asked.scopes asked.relation asked.limits
+        (map rest_of filters.old) (rest_of profile.old) (rest_of table.old) (Ok reply)) }
+    ensures fault { IfErr result (λ fault. ComparesParts asked.scopes asked.relation asked.limits
+        (map rest_of filters.old) (rest_of profile.old) (rest_of table.old) (Err (Fault.Verify fault))) }
+{
+    let limits = asked.limits;
+    let relation = asked.relation;
+    match asked.scopes {
+        Scopes::AtOnce(scope) => compare_at_once(
+            alloc, filters, profile, table, scope, relation, limits,
+        ),
+        Scopes::EachCall => compare_each_call(alloc, filters, profile, table, relation, limits),
+    }
+}
+
+/// The readers of the filters, the profile and the table of a bundle, where it holds one filter or more and one of each
+/// other kind.
 fn compared_parts<'a>(
     alloc: Global,
     bytes: &'a [u8],
-) -> Result<Option<(Vec<PartReader<'a>>, &'a [u8], &'a [u8])>, BundleFault>
+) -> Result<Option<(Vec<PartReader<'a>>, PartReader<'a>, PartReader<'a>)>, BundleFault>
     // Where it holds other parts, that is what any comparison ends with.
     ensures parts { (told : Option (List ℕ)) → ReadsInput told (Ok bytes.now) → IfOk result (λ parts.
         MatchOption parts
-        (Compares Scopes.EachCall Relation.Same (record { each = 0; total = 0 }) told (Err Fault.Parts))
+        ((asked : Comparison) → Compares asked told (Err Fault.Parts))
         (λ own. (1 ≤ length (map rest_of own.0.items))
-        × HoldsBundle told (map rest_of own.0.items) (own.1.now ∷ []) (own.2.now ∷ []))) }
+        × HoldsBundle told (map rest_of own.0.items) (rest_of own.1 ∷ []) (rest_of own.2 ∷ []))) }
     ensures fault { IfErr result (IsBundleFault bytes.now) }
 {
     let contents = Contents::of(alloc, bytes)?;
-    match only(&contents.profiles).zip(only(&contents.tables)) {
+    match only(contents.profiles).zip(only(contents.tables)) {
         Some((profile, table)) if !contents.filters.is_empty() => {
             Ok(Some((contents.filters, profile, table)))
         }
@@ -128,26 +148,15 @@ fn compared_parts<'a>(
 /// `compare`: whether a stack of filters answers as a profile does, or is no more or no less permissive.
 pub(super) fn compare_bundle<R: Source>(
     alloc: Global,
-    limits: Limits,
-    scopes: Scopes,
-    relation: Relation,
+    asked: Comparison,
     input: &mut R,
 ) -> Result<Reply, Fault>
-    ensures answer { Compares scopes relation limits (R.remaining input.old) result }
+    ensures answer { Compares asked (R.remaining input.old) result }
     ensures left { LeavesWhole R.remaining R.failures input.old result input.new }
 {
     let bytes = whole_input(alloc, input)?;
-    let Some((mut filters, profile, table)) = compared_parts(alloc, &bytes)? else {
+    let Some((mut filters, mut profile, mut table)) = compared_parts(alloc, &bytes)? else {
         return Err(Fault::Parts);
     };
-    let reply = compare_parts(
-        alloc,
-        &mut filters,
-        profile,
-        table,
-        scopes,
-        relation,
-        limits,
-    )?;
-    Ok(reply)
+    Ok(compare_parts(alloc, &mut filters, &mut profile, &mut table, asked)?)
 }

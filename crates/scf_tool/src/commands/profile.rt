@@ -4,6 +4,7 @@ ghost use Rattle.std.specs.Prelude.{ℕ, List, Option, ◌∷◌, [], IfOk, IfEr
 ghost use Rattle.scf_machine.specs.Machine.{RunAnswers};
 ghost use Rattle.scf_profile.specs.SameAnswers.{SameAnswers};
 ghost use Rattle.scf_request.specs.Bundle.{IsBundleFault};
+ghost use Rattle.scf_request.specs.Contents.{rest_of};
 ghost use Rattle.scf_tool.specs.Commands.{
   CantLoad,
   Compiles,
@@ -18,14 +19,13 @@ ghost use Rattle.scf_tool.specs.Statuses.{LeavesWhole};
 use crate::buffer::encoding_of;
 use crate::commands::{only, whole_input};
 use crate::fault::Fault;
-use crate::profile_inputs::profile_inputs;
 use crate::reply::Reply;
-use crate::verification::VerifyFault;
+use crate::verify_fault::VerifyFault;
 use scf_compile::{CompileFault, compile};
 use scf_insn::{CallRecord, Source};
 use scf_machine::Program;
-use scf_profile::Loaded;
-use scf_request::{BundleFault, Contents};
+use scf_profile::{CallTable, Loaded, load};
+use scf_request::{BundleFault, Contents, PartReader};
 use std::alloc::Global;
 
 /// What a profile and a table state, however long they are.
@@ -33,9 +33,8 @@ fn loaded(alloc: Global, profile: &[u8], table: &[u8]) -> Result<Loaded, VerifyF
     ensures stated { IfOk result (IsStated profile.now table.now) }
     ensures fault { IfErr result (CantLoad profile.now table.now) }
 {
-    let most = profile.len().max(table.len());
-    let said = profile_inputs(alloc, profile, table, most)?;
-    Ok(said.loaded)
+    let names = CallTable::read(alloc, table)?;
+    Ok(load(alloc, profile, &names)?)
 }
 
 /// The filter of a profile and a table.
@@ -64,18 +63,18 @@ fn filter_bytes(alloc: Global, profile: &[u8], table: &[u8]) -> Result<Vec<u8>, 
 fn profile_and_table<'a>(
     alloc: Global,
     bytes: &'a [u8],
-) -> Result<Option<(&'a [u8], &'a [u8])>, BundleFault>
+) -> Result<Option<(PartReader<'a>, PartReader<'a>)>, BundleFault>
     ensures parts { (told : Option (List ℕ)) → ReadsInput told (Ok bytes.now) → IfOk result (λ parts.
         MatchOption parts
         (EndsOnProfile told (λ _ _ _. ⊥) (Err Fault.Parts))
-        (λ both. HoldsBundle told [] (both.0.now ∷ []) (both.1.now ∷ []))) }
+        (λ both. HoldsBundle told [] (rest_of both.0 ∷ []) (rest_of both.1 ∷ []))) }
     ensures fault { IfErr result (IsBundleFault bytes.now) }
 {
     let contents = Contents::of(alloc, bytes)?;
     if !contents.filters.is_empty() {
         return Ok(None);
     }
-    Ok(only(&contents.profiles).zip(only(&contents.tables)))
+    Ok(only(contents.profiles).zip(only(contents.tables)))
 }
 
 /// `compile`: the filter that answers as a profile does.
@@ -87,7 +86,7 @@ pub(super) fn compile_profile<R: Source>(alloc: Global, input: &mut R) -> Result
     let Some((profile, table)) = profile_and_table(alloc, &bytes)? else {
         return Err(Fault::Parts);
     };
-    Ok(Reply::Bytes(filter_bytes(alloc, profile, table)?))
+    Ok(Reply::Bytes(filter_bytes(alloc, profile.rest(), table.rest())?))
 }
 
 /// `ask`: what a profile answers to a call, and why.
@@ -103,7 +102,7 @@ pub(super) fn ask_profile<R: Source>(
     let Some((profile, table)) = profile_and_table(alloc, &bytes)? else {
         return Err(Fault::Parts);
     };
-    let loaded = loaded(alloc, profile, table)?;
+    let loaded = loaded(alloc, profile.rest(), table.rest())?;
     Ok(Reply::Asked {
         answer: loaded.profile.answer(call),
         reason: loaded.profile.reason(call),

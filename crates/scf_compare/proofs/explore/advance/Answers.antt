@@ -2,8 +2,8 @@ use Rattle.scf_compare.proofs.Common.{None, Some, Branch, arith, inl, inr}
 use Rattle.scf_compare.proofs.Stages.{led, ended}
 use Rattle.scf_compare.proofs.explore.advance.Goals as goal
 
-pub returns-in-Branch-Some-default-default-clause-stage : goal.returns-in-Branch-Some-default-default-clause-stage
-returns-in-Branch-Some-default-default-clause-stage g c =
+pub returns-in_ok-next-in-Branch-Some-default-default-clause-stage : goal.returns-in_ok-next-in-Branch-Some-default-default-clause-stage
+returns-in_ok-next-in-Branch-Some-default-default-clause-stage g c =
     let C = g.C.Comparison in
     let comparison = c.args.comparison.now in
     let tree = C.tree comparison in
@@ -27,8 +27,8 @@ returns-in-Some-2-clause-stage g c =
     (λ words allowed reached. c.in_default.ensures.seen words allowed (leaf.leads words allowed reached))
     leaf.costs taken
 
-pub returns-in-Branch-None-default-default-clause-stage : goal.returns-in-Branch-None-default-default-clause-stage
-returns-in-Branch-None-default-default-clause-stage g c =
+pub returns-in_ok-next-in-Branch-None-default-default-clause-stage : goal.returns-in_ok-next-in-Branch-None-default-default-clause-stage
+returns-in_ok-next-in-Branch-None-default-default-clause-stage g c =
     let C = g.C.Comparison in
     let comparison = c.args.comparison.now in
     let tree = C.tree comparison in
@@ -57,16 +57,16 @@ returns-in-Next-clause-stage g c = let step = c.in-Next.ensures in record {
   };
 }
 
-pub returns-clause-stage : goal.returns-clause-stage
-returns-clause-stage g c = λ words ahead.
+pub returns-in-None-clause-stage : goal.returns-in-None-clause-stage
+returns-in-None-clause-stage g c = λ words ahead.
     let none = rw c.in-None.is at c.in_ok-next-in-Leaf.ensures in
     elim ahead [
       | inl branch ↦ absurd (none words branch)
       | inr here ↦ c.in_default.ensures.seen words here.0 (c.in-Leaf.ensures.leads words here.0 here.1)
     ]
 
-pub returns-clause-exact : goal.returns-clause-exact
-returns-clause-exact g c = λ all. let leaf = c.in-Leaf.ensures in
+pub returns-in-None-clause-exact : goal.returns-in-None-clause-exact
+returns-in-None-clause-exact g c = λ all. let leaf = c.in-Leaf.ensures in
     c.in_default.ensures.exact all.facts (leaf.plain all.plain)
     (λ words allowed. leaf.leads words allowed (all.reached words allowed))
 

@@ -1,9 +1,10 @@
-use Rattle.scf_compare.proofs.Common.{◌≡◌, ◌+◌, ◌<◌, ◌≤◌, ◌⊎◌, ◌∙◌, ℕ, List, inl, inr, arith, refl, Option, None, Some, IfSome, IsSome, IsDecided, Compared, AllRelated, IsTrueVerdict, WereSeen, WereAllSeen, verdict_of_all}
-use Rattle.scf_compare.specs.Verdicts.{AreSteps, IsStepCount, IsWithin}
+use Rattle.std.specs.Prelude.{sum_by}
+use Rattle.scf_compare.proofs.Common.{ap, length, open_size, sym, ◌≡◌, ◌+◌, ◌<◌, ◌≤◌, ◌⊎◌, ◌∙◌, ℕ, List, inl, inr, arith, refl, Option, None, Some, IfSome, IsSome, IsWords-words_of, call_of-words_of, words_of, Compared, AllRelated, IsFindingDecided, IsTrueFinding, Which, AreWordsIn, IsFirstUndecided, WereSeen, WereAllSeen, finding_of_all}
+use Rattle.scf_compare.specs.Findings.{AreSteps, IsStepCount, IsFindingWithin}
 use Rattle.scf_compare.proofs.explore.explore.Goals as goal
 
 -- what was seen stays so
-still_seen : (compared : Compared) (old new : Option ℕ) (words : List ℕ) → (IsSome old → new ≡ old)
+still_seen : (compared : Compared) (old new : Option (Which × ℕ)) (words : List ℕ) → (IsSome old → new ≡ old)
     → WereSeen compared old words → WereSeen compared new words
 still_seen compared old new words first seen = elim seen [
   | inl related ↦ inl related
@@ -11,31 +12,68 @@ still_seen compared old new words first seen = elim seen [
 ]
 
 -- words that were seen before, or are seen now, were seen
-all_seen : (compared : Compared) (old new : Option ℕ) (words : List ℕ) (ahead : Type 0) → (IsSome old → new ≡ old)
+all_seen : (compared : Compared) (old new : Option (Which × ℕ)) (words : List ℕ) (ahead : Type 0) → (IsSome old → new ≡ old)
     → WereSeen compared old words ⊎ ahead → (ahead → WereSeen compared new words) → WereSeen compared new words
 all_seen compared old new words ahead first seen now = elim seen [
   | inl before ↦ still_seen compared old new words first before
   | inr ahead ↦ now ahead
 ]
 
--- so the verdict is true, all was seen, and it decides where nothing is left open
-of_all : (compared : Compared) (steps limit effort : ℕ) (first_undecided : Option ℕ) → IfSome first_undecided compared.is_place
-    → ((words : List ℕ) → compared.in_scope words → WereSeen compared first_undecided words)
+-- so the finding is true, all was seen, and it decides where nothing is left open
+of_all : (compared : Compared) (steps limit effort : ℕ) (first_undecided : Option (Which × ℕ))
+    → IfSome first_undecided (IsFirstUndecided compared)
+    → ((words : List ℕ) → AreWordsIn compared words → WereSeen compared first_undecided words)
     → (0 < limit) × (steps ≤ limit) × (steps ≤ effort)
-    → let verdict = verdict_of_all steps first_undecided in
-    IsTrueVerdict compared verdict × WereAllSeen compared verdict × IsWithin limit effort verdict
-    × (first_undecided ≡ None → IsDecided (AllRelated compared) limit effort verdict)
+    → let finding = finding_of_all steps first_undecided in
+    IsTrueFinding compared finding × WereAllSeen compared finding × IsFindingWithin limit effort finding
+    × (first_undecided ≡ None → IsFindingDecided (AllRelated compared) limit effort finding)
 of_all compared steps limit effort None place seen bounds =
-    let all : AllRelated compared = λ words within.
-    elim (seen words within) [ inl related ↦ related | inr open_end ↦ absurd (let none = open_end.0 in cc) ] in
+    let all : AllRelated compared = λ call is_record in_scope.
+    let within : AreWordsIn compared (words_of call) =
+    (IsWords-words_of call is_record, rw (call_of-words_of call is_record) in_scope) in
+    elim (seen (words_of call) within) [
+      | inl related ↦ related
+      | inr undecided ↦ absurd (let none = undecided.0 in cc)
+    ] in
     (all, tt, (bounds.1, bounds.2), λ _. all)
-of_all compared steps limit effort (Some at) place seen bounds = (place, seen, bounds.0, λ e. absurd (cc))
+of_all compared steps limit effort (Some first) place seen bounds = (place, seen, bounds.0, λ e. absurd (cc))
 
 -- as many steps as were taken, which is one or more
-counts_all : (steps limit : ℕ) (first_undecided : Option ℕ) → 0 < steps
-    → IsStepCount limit (verdict_of_all steps first_undecided) steps
+counts_all : (steps limit : ℕ) (first_undecided : Option (Which × ℕ)) → 0 < steps
+    → IsStepCount limit (finding_of_all steps first_undecided) steps
 counts_all steps limit None some = refl
-counts_all steps limit (Some at) some = some
+counts_all steps limit (Some first) some = some
+
+pub loop-steps-init : goal.loop-steps-init
+loop-steps-init g c =
+    let new = c.new-frontier.ensures in
+    let tree = g.C.Comparison.tree c.args.comparison.now in
+    let none : open_size tree c.new-frontier.result ≡ 0 =
+    ap (sum_by (λ branch. (tree branch.known).size branch.node)) new.branches in
+    rw new.facts (record {
+      frontier = record {
+        marks = c.requires.unmarked ∙ sym (ap length new.branches);
+        branches = λ place branch stands. absurd (let no_branch = rw new.branches at stands in cc);
+        within = λ level up_to words allowed.
+            let first : level ≡ 0 = omega (arith, ap length new.branches) in
+            (c.requires.scope words).0 (rw first at allowed);
+      };
+      node = c.requires.node;
+      place = tt;
+      words = λ words within.
+          inr (inr (rw c.requires.unmarked ((c.requires.scope words).1 within), c.requires.reached words within));
+      size = omega (arith, none);
+      exact = λ exact plain. (
+        refl,
+        record {
+          branches = λ place branch stands. absurd (let no_branch = rw new.branches at stands in cc);
+          facts = rw c.requires.unmarked exact;
+          plain = plain;
+          reached = λ words allowed.
+              c.requires.reached words ((c.requires.scope words).0 (rw c.requires.unmarked at allowed));
+        },
+      );
+    })
 
 pub returns-in-AllSeen : goal.returns-in-AllSeen
 returns-in-AllSeen g c =
@@ -55,7 +93,7 @@ returns-in-AllSeen g c =
       taken = record {
         within_limit = omega arith;
         within_effort = omega (arith, c.loop-steps.invariant.size, counts);
-        of_verdict = counts_all (c.loop-steps.steps + 1) c.args.limit c.advance.new.first_undecided (omega arith);
+        of_finding = counts_all (c.loop-steps.steps + 1) c.args.limit c.advance.new.first_undecided (omega arith);
       };
       seen = all.1;
       decided = λ exact plain.
@@ -72,7 +110,7 @@ returns-in-Found g c =
       taken = record {
         within_limit = omega arith;
         within_effort = omega (arith, c.loop-steps.invariant.size, counts);
-        of_verdict = found.counted _ (c.loop-steps.steps + 1) (omega arith);
+        of_finding = found.counted _ (c.loop-steps.steps + 1) (omega arith);
       };
       seen = found.seen;
       decided = λ _ _. found.decided _ _;

@@ -1,4 +1,4 @@
-use Rattle.scf_compare.proofs.Common.{◌≡◌, ◌+◌, ◌≤◌, ◌⊎◌, ℕ, List, IsTrue, IfSome, None, WereSeen, IsAhead, IsFrontier, IsExact, open_size}
+use Rattle.scf_compare.proofs.Common.{◌≡◌, ◌+◌, ◌≤◌, ◌⊎◌, ℕ, List, IsTrue, IfSome, None, AreWordsIn, IsFirstUndecided, WereSeen, IsAhead, IsFrontier, IsExact, open_size}
 use Rattle.scf_compare.proofs.explore.explore.Given as goal
 
 abbrev pub invariant-loop-steps : goal.invariant-loop-steps
@@ -9,10 +9,10 @@ invariant-loop-steps g l =
     let here = tree l.known in
     let whole = tree l.fn.start in
     record {
-      frontier : IsFrontier store tree compared.in_scope l.frontier;
+      frontier : IsFrontier store tree (AreWordsIn compared) l.frontier;
       node : here.is_node l.node;
-      place : IfSome l.first_undecided compared.is_place;
-      words : (words : List ℕ) → compared.in_scope words
+      place : IfSome l.first_undecided (IsFirstUndecided compared);
+      words : (words : List ℕ) → AreWordsIn compared words
           → WereSeen compared l.first_undecided words ⊎ IsAhead store tree l.frontier (here.reaches l.node) words;
       size : l.steps + (open_size tree l.frontier + here.size l.node) ≤ whole.size l.fn.root;
       exact : IsTrue (store.is_exact l.fn.facts 0) → whole.is_plain l.fn.root

@@ -16,6 +16,7 @@ returns-then-rest-header-clause-fault c =
       refl,
       header.kind,
       header.count,
+      c.in-Some.ensures.kind,
       record {
         header = take header.length rest;
         rest = drop header.length rest;
@@ -32,5 +33,5 @@ returns-clause-part c =
     let sum : c.args.offset + header.length + header.count - c.args.offset ≡ header.length + header.count =
     omega arith in
     let whole = tail c.args.offset c.args.bytes.now in
-    rw sum (part_in_front c.args.offset rest _ header.length (rw whole at c.in-Some.ensures.some.0)
+    rw sum (part_in_front c.args.kinds.now c.args.offset rest _ header.length c.in-Some.ensures.kind (rw whole at c.in-Some.ensures.some.0)
     (rw whole at c.if-rest-header.false) (rw whole at c.in-Some.ensures.some.1) refl)

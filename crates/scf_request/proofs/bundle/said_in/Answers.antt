@@ -1,5 +1,16 @@
-use Rattle.scf_request.proofs.HeaderLemmas.{no_kind}
+use Rattle.scf_request.proofs.Common.{ℕ, List, ◌++◌, All-contains, All-more, codes, take_all, PartKind, IsHeader}
 use Rattle.scf_request.proofs.bundle.said_in.Goals as goal
 
-pub returns-in-None : goal.returns-in-None
-returns-in-None c = no_kind _ c.in_default.ensures c.in_default-count_in.ensures c.in-None.ensures
+-- no header of a kind stands on the line
+abbrev IsOther : List ℕ → PartKind → Type 0
+IsOther line kind = (n : ℕ) → IsHeader (line ++ codes "\n") kind n → ⊥
+
+pub loop-kind-preserved : goal.loop-kind-preserved
+loop-kind-preserved c =
+    All-more (IsOther c.args.line.now) c.args.kinds.now c.loop-kind.kind-index _ c.loop-kind-test.true
+    c.loop-kind.invariant c.in_default.ensures
+
+pub returns : goal.returns
+returns c = λ kind n among.
+    All-contains (IsOther c.args.line.now) c.args.kinds.now kind
+    (rw (take_all c.loop-kind.kind-index c.args.kinds.now c.loop-kind-test.false) at c.loop-kind.invariant) among n

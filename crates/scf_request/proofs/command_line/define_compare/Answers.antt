@@ -6,14 +6,19 @@ use Rattle.scf_request.proofs.command_line.define_compare.Goals as goal
 pub returns : goal.returns
 returns c =
     let first = c.in_ok-command_with.ensures
-    ∙ ap (λ (options : List NumberOption). program_alone (shape_with (codes "compare") options)) c.limit_options.ensures.kept in
+    ∙ ap (λ (options : List NumberOption). program_alone (shape_with (codes "compare") options))
+    c.comparison_options.ensures.kept in
     let second = c.in_ok-arg.ensures.shape c.flag_argument.ensures.local
     ∙ ap₂ with_rule first c.flag_argument.ensures.rule in
     let third = c.in_ok-arg-2.ensures.shape c.flag_argument-2.ensures.local
     ∙ ap₂ with_rule second c.flag_argument-2.ensures.rule in
     let fourth = c.in_ok-arg-3.ensures.shape c.flag_argument-3.ensures.local
     ∙ ap₂ with_rule third c.flag_argument-3.ensures.rule in
-    IfOk-weaker c.arg-4.result _ _
-    (λ command (added : AddsArg c.in_ok-arg-3.field-0 c.flag_argument-4.result command).
-    added.shape c.flag_argument-4.ensures.local ∙ ap₂ with_rule fourth c.flag_argument-4.ensures.rule)
-    c.arg-4.ensures
+    let fifth = c.in_ok-arg-4.ensures.shape c.flag_argument-4.ensures.local
+    ∙ ap₂ with_rule fourth c.flag_argument-4.ensures.rule in
+    let sixth = c.in_ok-arg-5.ensures.shape c.flag_argument-5.ensures.local
+    ∙ ap₂ with_rule fifth c.flag_argument-5.ensures.rule in
+    IfOk-weaker c.arg-6.result _ _
+    (λ command (added : AddsArg c.in_ok-arg-5.field-0 c.flag_argument-6.result command).
+    added.shape c.flag_argument-6.ensures.local ∙ ap₂ with_rule sixth c.flag_argument-6.ensures.rule)
+    c.arg-6.ensures

@@ -31,6 +31,16 @@ returns-in_err-write_answer g c =
     (fails_then c.in_ok-write_arguments.ensures
     (fails_then c.in_ok-write_whole.ensures (fails_first _ c.in_err-write_answer.ensures))))
 
+pub returns-in_err-write_whole-2 : goal.returns-in_err-write_whole-2
+returns-in_err-write_whole-2 g c =
+    let p = err_from_is_err_and c.from_residual-in_err-write_whole-2.result
+    c.from_residual-in_err-write_whole-2.ensures.1 in
+    rw p.1
+    (fails_then (rw c.failing.ensures at c.in_ok-write_fragments.ensures)
+    (fails_then c.in_ok-write_arguments.ensures
+    (fails_then c.in_ok-write_whole.ensures
+    (fails_then c.in_ok-write_answer.ensures (fails_first _ c.in_err-write_whole-2.ensures)))))
+
 pub returns : goal.returns
 returns g c =
     writes_then g.S.Sink.contents g.S.Sink.failures _ _ _ _ _ _
@@ -38,4 +48,5 @@ returns g c =
     (writes_then g.S.Sink.contents g.S.Sink.failures _ _ _ _ _ _ c.in_ok-write_arguments.ensures
     (writes_then g.S.Sink.contents g.S.Sink.failures _ _ _ _ _ _ c.in_ok-write_whole.ensures
     (writes_then g.S.Sink.contents g.S.Sink.failures _ _ _ _ _ _ c.in_ok-write_answer.ensures
-    c.write_answer_line.ensures)))
+    (writes_then g.S.Sink.contents g.S.Sink.failures _ _ _ _ _ _ c.in_ok-write_whole-2.ensures
+    c.write_answer_line.ensures))))

@@ -10,14 +10,14 @@ returns-then-from-numbers g c =
     let from = c.first_possible-from.result in
     let past : length s.numbers ≤ from =
     omega (arith, ap length c.numbers-numbers.ensures.numbers, c.if-from-numbers.true) in
-    record {
-      proper = tt;
+    rw c.of_profile.ensures (record {
+      proper = (refl, tt);
       leads = λ words given r. rw (c.default_answer-default_answer.ensures, c.profile.ensures)
           (of_no_number s (call_of words) c.numbers-numbers.ensures.numbered r.0
           (rw (take_all from s.numbers past) at (c.first_possible-from.ensures.told words given.0 given.1 r.1)));
       costs = omega arith;
-      plain = λ plain. tt;
-    }
+      plain = λ plain. refl;
+    })
 
 pub returns-then-is_known_below : goal.returns-then-is_known_below
 returns-then-is_known_below g c =
@@ -27,16 +27,16 @@ returns-then-is_known_below g c =
     let own = c.index-numbers-from.result in
     let here = read_at _ s.numbers from own c.numbers-numbers.ensures.numbers c.if-from-numbers.false
     c.index-numbers-from.is in
-    record {
-      proper = tt;
+    rw c.of_profile-then-is_known_below.ensures (record {
+      proper = (refl, tt);
       leads = λ words given r. rw (c.default_answer-default_answer.ensures, c.profile.ensures)
           (of_no_number s (call_of words) numbered r.0
           (from_above s.numbers s.profile.rules numbered.numbers (call_of words) from own here
           (c.first_possible-from.ensures.told words given.0 given.1 r.1)
           (c.if-is_known_below.ensures refl words given.0 given.1)));
       costs = omega arith;
-      plain = λ plain. tt;
-    }
+      plain = λ plain. refl;
+    })
 
 pub returns : goal.returns
 returns g c =

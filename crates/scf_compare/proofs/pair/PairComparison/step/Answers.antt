@@ -1,40 +1,46 @@
-use Rattle.scf_compare.proofs.Common.{◌+◌, ◌≤◌, arith, mul-le-mul_left, scaled_costs, numbers_size, stack_size}
+use Rattle.scf_compare.proofs.Common.{◌≤◌, arith, mul-le-mul_left, scaled_costs}
 use Rattle.scf_compare.proofs.pair.PairComparison.step.Goals as goal
 
 pub returns-in-Next : goal.returns-in-Next
 returns-in-Next g c =
-    let step = rw c.in-Next.is at c.step_in_stack.ensures in
-    let size = stack_size c.args.self.now.filters.now in
-    rw c.in-AtFilter.is (record {
+    let step = rw c.in-Next.is at c.step.ensures in
+    let tree = g.L.SideTree.tree c.args.self.now.left in
+    let whole = (g.R.SideTree.behavior c.args.self.now.right).size in
+    let counts = g.met.R.SideTree.size_counts c.args.self.now.right in
+    rw c.in-AtLeft.is (record {
       proper = step.proper;
-      leads = λ words given on. (on.0, step.leads words on.0 on.1);
+      leads = λ words given on. (on.0, step.leads words (on.0, given) on.1);
       costs = omega (
         arith,
-        scaled_costs (size c.in-Next.next) 0 (size c.in-AtFilter.node)
-            (8 + numbers_size c.args.self.now.profile.numbers) (omega (arith, step.costs)) (omega arith),
+        scaled_costs ((tree c.step.new.known).size c.in-Next.next) 0
+            ((tree c.args.known.now.left).size c.in-AtLeft.node) whole (omega (arith, step.costs)) counts,
       );
       plain = λ plain. (step.plain plain.0, plain.1);
     })
 
 pub returns-in-Branch : goal.returns-in-Branch
 returns-in-Branch g c =
-    let step = rw c.in-Branch.is at c.step_in_stack.ensures in
-    let size = stack_size c.args.self.now.filters.now in
-    rw c.in-AtFilter.is (record {
+    let step = rw c.in-Branch.is at c.step.ensures in
+    let tree = g.L.SideTree.tree c.args.self.now.left in
+    let after = tree c.step.new.known in
+    let whole = (g.R.SideTree.behavior c.args.self.now.right).size in
+    let counts = g.met.R.SideTree.size_counts c.args.self.now.right in
+    rw c.in-AtLeft.is (record {
       proper = step.proper;
-      leads = λ words given on. grind (arith, step.leads words on.0 on.1);
-      costs = scaled_costs (size c.in-Branch.if_true) (size c.in-Branch.if_false) (size c.in-AtFilter.node)
-          (8 + numbers_size c.args.self.now.profile.numbers) step.costs (omega arith);
+      leads = λ words given on. grind (arith, step.leads words (on.0, given) on.1);
+      costs = scaled_costs (after.size c.in-Branch.if_true) (after.size c.in-Branch.if_false)
+          ((tree c.args.known.now.left).size c.in-AtLeft.node) whole step.costs counts;
       plain = λ plain. let stays = step.plain plain.0 in (stays.0, (stays.1, plain.1), (stays.2, plain.1));
     })
 
 pub returns-in-Leaf : goal.returns-in-Leaf
 returns-in-Leaf g c =
-    let step = rw c.in-Leaf.is at c.step_in_stack.ensures in
-    let asked = c.ask_profile.ensures c.step_in_stack.new.registers in
-    let counts : 1 ≤ stack_size c.args.self.now.filters.now c.in-AtFilter.node = step.costs in
-    let all = mul-le-mul_left (8 + numbers_size c.args.self.now.profile.numbers) counts in
-    rw c.in-AtFilter.is (grind (arith, asked, step.leads, all))
+    let step = rw c.in-Leaf.is at c.step.ensures in
+    let asked = c.ask_right.ensures c.step.new.known in
+    let tree = g.L.SideTree.tree c.args.self.now.left in
+    let counts : 1 ≤ (tree c.args.known.now.left).size c.in-AtLeft.node = step.costs in
+    let all = mul-le-mul_left (g.R.SideTree.behavior c.args.self.now.right).size counts in
+    rw c.in-AtLeft.is (grind (arith, asked, step.leads, all))
 
-pub returns-in-AtProfile : goal.returns-in-AtProfile
-returns-in-AtProfile g c = rw c.in-AtProfile.is (c.ask_profile-in-AtProfile.ensures c.args.known.now)
+pub returns-in-AtRight : goal.returns-in-AtRight
+returns-in-AtRight g c = rw c.in-AtRight.is (c.ask_right-in-AtRight.ensures c.args.known.now.left)

@@ -1,20 +1,13 @@
-use Rattle.scf_tool.proofs.Common.{err_from_is_err_and}
-use Rattle.scf_tool.proofs.PartyLemmas.{parties_are_read}
 use Rattle.scf_tool.proofs.commands.compare.compare_parts.Goals as goal
 
-pub returns-in_err-inputs-clause-fault : goal.returns-in_err-inputs-clause-fault
-returns-in_err-inputs-clause-fault c =
-    let p = err_from_is_err_and c.from_residual.result c.from_residual.ensures.1 in
-    rw (p.1, p.2) (c.in_err-inputs.ensures.read, c.in_err-inputs.ensures.refused)
+pub returns-in-AtOnce-clause-reply : goal.returns-in-AtOnce-clause-reply
+returns-in-AtOnce-clause-reply c = rw c.in-AtOnce.is c.compare_at_once.ensures.reply
 
-pub returns-in_err-report_on-clause-fault : goal.returns-in_err-report_on-clause-fault
-returns-in_err-report_on-clause-fault c =
-    let p = err_from_is_err_and c.from_residual-in_err-report_on.result
-    c.from_residual-in_err-report_on.ensures.1 in
-    rw (p.1, p.2) (
-      record { of_filter = λ is. cc; of_table = λ is. cc; of_profile = λ is. cc },
-      parties_are_read _ _ _ _ c.in_ok-inputs.ensures.inputs,
-    )
+pub returns-in-AtOnce-clause-fault : goal.returns-in-AtOnce-clause-fault
+returns-in-AtOnce-clause-fault c = c.compare_at_once.ensures.fault
 
-pub returns-clause-reply : goal.returns-clause-reply
-returns-clause-reply c = c.in_ok-report_on.ensures _ _ _ c.in_ok-inputs.ensures.inputs
+pub returns-in-EachCall-clause-reply : goal.returns-in-EachCall-clause-reply
+returns-in-EachCall-clause-reply c = rw c.in-EachCall.is c.compare_each_call.ensures.reply
+
+pub returns-in-EachCall-clause-fault : goal.returns-in-EachCall-clause-fault
+returns-in-EachCall-clause-fault c = c.compare_each_call.ensures.fault

@@ -1,0 +1,55 @@
+-- What an instruction that goes on does to what is known.
+use Rattle.scf_compare.proofs.Common.{◌≡◌, ℕ, Bool, true, false, Option, None, Some, refl, subst, arith, Register, State, Fault, Goes, unless, loads, sets, word_below, Describes}
+use Rattle.scf_compare.proofs.BitSlices.{of_whole_word}
+use Rattle.scf_compare.proofs.registers.KnownRegisters.apply.Goals as goal
+
+pub returns-in-LoadWord-clause-describes : goal.returns-in-LoadWord-clause-describes
+returns-in-LoadWord-clause-describes c = λ words s t w d e.
+    let word = c.of_word-word.ensures in
+    let loaded = of_whole_word c.of_word-word.result words _ word.whole word.word (word_below words w _) in
+    grind (arith, c.set.ensures.describes words s _ d loaded)
+
+pub returns-in-LoadLength-clause-describes : goal.returns-in-LoadLength-clause-describes
+returns-in-LoadLength-clause-describes c = λ words s t w d e.
+    let set = c.set-in-LoadLength.ensures.describes words s _ d refl in grind arith
+
+pub returns-in-LoadConstant-clause-describes : goal.returns-in-LoadConstant-clause-describes
+returns-in-LoadConstant-clause-describes c = λ words s t w d e.
+    let set = c.set-in-LoadConstant.ensures.describes words s _ d refl in grind arith
+
+-- a scratch word that is loaded was stored
+loaded : (b : Bool) (f : Fault) (r : Register) (s t : State) (found : Option ℕ)
+    → unless b f (loads r s found) ≡ Goes t → (value : ℕ) × (found ≡ Some value) × (sets r s value ≡ t)
+loaded true f r s t (Some value) e = (value, refl, cc)
+loaded true f r s t None e = absurd (cc)
+loaded false f r s t found e = absurd (cc)
+
+pub returns-in-LoadScratch-clause-describes : goal.returns-in-LoadScratch-clause-describes
+returns-in-LoadScratch-clause-describes c = λ words s t w d. rw c.in-LoadScratch.is (λ e.
+    let (value, found, same) = loaded _ _ _ s t _ e in
+    let stored = d.scratch c.args.insn.k value _ ((rw c.in-LoadScratch.is at c.requires.scratch) tt) found in
+    subst (Describes c.set-in-LoadScratch.new.self words) same
+    (c.set-in-LoadScratch.ensures.describes words s value d stored))
+
+pub returns-in-StoreScratch-clause-describes : goal.returns-in-StoreScratch-clause-describes
+returns-in-StoreScratch-clause-describes c = λ words s t w d e.
+    let store = c.store.ensures.describes words s _ d (c.get-value.ensures.stands words s d) in grind arith
+
+pub returns-in-Compute-clause-describes : goal.returns-in-Compute-clause-describes
+returns-in-Compute-clause-describes c = λ words s t w d e.
+    let operand = c.operand_in_computation-value.ensures.stands words s d in
+    let computed = c.computed-computed.ensures.stands words s.a _ d.a operand in
+    grind (arith, c.set-in-Compute.ensures.describes words s _ d computed)
+
+pub returns-in-Negate-clause-describes : goal.returns-in-Negate-clause-describes
+returns-in-Negate-clause-describes c = λ words s t w d e.
+    let negated = c.taken_from-negated.ensures.stands words s.a d.a in
+    grind (arith, c.set-in-Negate.ensures.describes words s _ d negated)
+
+pub returns-in-CopyToIndex-clause-describes : goal.returns-in-CopyToIndex-clause-describes
+returns-in-CopyToIndex-clause-describes c = λ words s t w d e.
+    let set = c.set-in-CopyToIndex.ensures.describes words s _ d d.a in grind arith
+
+pub returns-in-CopyToAccumulator-clause-describes : goal.returns-in-CopyToAccumulator-clause-describes
+returns-in-CopyToAccumulator-clause-describes c = λ words s t w d e.
+    let set = c.set-in-CopyToAccumulator.ensures.describes words s _ d d.x in grind arith

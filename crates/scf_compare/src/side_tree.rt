@@ -1,0 +1,72 @@
+//! A side of a comparison as a tree of questions about the words of a call record.
+
+ghost use Rattle.std.specs.Prelude.{◌≡◌, ◌<◌, ℕ, List, Some};
+ghost use Rattle.scf_insn.specs.Words.{words_of, IsWords};
+ghost use Rattle.scf_compare.specs.Sides.{Behavior};
+ghost use Rattle.scf_compare.specs.internal.Leaves.{IsOnlyAnswer, side_leaves};
+ghost use Rattle.scf_compare.specs.internal.Trees.{Tree, IsStep};
+
+use crate::step::Step;
+use scf_facts::WordFacts;
+use scf_insn::{Answer, CallRecord};
+
+/// A leaf of a side's tree: its answer, if it is known, and the index of the instruction there, 0 in a profile.
+#[derive(Clone, Copy)]
+pub(crate) struct SideLeaf {
+    pub(crate) answer: Option<Answer>,
+    pub(crate) at: usize,
+}
+
+impl SideLeaf {
+    /// A leaf of a profile's tree.
+    pub(crate) fn of_profile(answer: Answer) -> SideLeaf
+        ensures { result ≡ record { answer = Some answer; at = 0 } }
+    {
+        SideLeaf {
+            answer: Some(answer),
+            at: 0,
+        }
+    }
+}
+
+/// A side as a tree of questions.
+pub(crate) trait SideTree {
+    /// What is known at a node beside the store: the registers of a filter.
+    type Known: Copy;
+
+    type Node: Copy;
+
+    ghost behavior: { Self → Behavior };
+
+    /// The tree, given what is known at its nodes.
+    ghost tree: { Self → Self.Known → Tree Self.Node };
+
+    /// What is known at the root, and the root.
+    fn start(&self) -> (Self::Known, Self::Node)
+        ensures node { (tree self.now result.0).is_node result.1 }
+        ensures reached { (words : List ℕ) → (tree self.now result.0).reaches result.1 words }
+        ensures size { (tree self.now result.0).size result.1 ≡ (behavior self.now).size }
+        ensures plain { (behavior self.now).is_plain → (tree self.now result.0).is_plain result.1 };
+
+    /// The step from a node, for the words that the store allows, and what is known after it.
+    fn step<F: WordFacts>(
+        &self,
+        facts: &F,
+        known: &mut Self::Known,
+        node: Self::Node,
+    ) -> Step<Self::Node, SideLeaf>
+        requires { (tree self.now known.old).is_node node }
+        ensures { IsStep (side_leaves (behavior self.now))
+            (λ words. IsWords words × F.allows facts.now (F.level facts.now) words)
+            (tree self.now known.old) node (tree self.now known.new) result };
+
+    /// The answer to a call, which is the only one.
+    fn answer(&self, call: &CallRecord) -> Answer
+        ensures of_words { (behavior self.now).answers (words_of call.now) result.0 }
+        ensures only { IsOnlyAnswer (behavior self.now).answers (words_of call.now) result.0 };
+
+    /// Each node has a size above 0.
+    ghost counts: { (side : Self) (known : Self.Known) (node : Self.Node) → 0 < (tree side known).size node };
+
+    ghost size_counts: { (side : Self) → 0 < (behavior side).size };
+}

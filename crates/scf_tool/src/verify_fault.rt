@@ -1,0 +1,106 @@
+//! Why inputs weren't compared.
+
+use scf_insn::{InputFault, Memory, ReadFault};
+use scf_machine::{CheckFault, PushFault};
+use scf_profile::{LoadFault, TableFault};
+use thiserror::Error;
+
+/// Why inputs weren't compared.
+#[derive(Clone, Copy, Debug, PartialEq, Eq, Error)]
+pub enum VerifyFault {
+    #[error("filter: {0}")]
+    FilterRead(ReadFault),
+    #[error("filter: {0}")]
+    Check(CheckFault),
+    /// A filter isn't pushed onto the stack. `verify` never returns this.
+    #[error("stack: {0}")]
+    Stack(PushFault),
+    #[error("table: {0}")]
+    TableRead(InputFault),
+    #[error("table: {0}")]
+    Table(TableFault),
+    #[error("profile: {0}")]
+    ProfileRead(InputFault),
+    #[error("profile: {0}")]
+    Profile(LoadFault),
+    #[error("out of memory")]
+    Memory,
+}
+
+impl From<ReadFault> for VerifyFault {
+    ghost use Rattle.std.specs.Prelude.{◌≡◌};
+    ghost use Rattle.scf_tool.specs.declared.verify_fault.VerifyFault.TheVariants.{FilterRead};
+
+    ghost from_gives = { λ fault e. e ≡ FilterRead fault };
+
+    fn from(fault: ReadFault) -> VerifyFault {
+        VerifyFault::FilterRead(fault)
+    }
+}
+
+impl From<TableFault> for VerifyFault {
+    ghost use Rattle.std.specs.Prelude.{◌≡◌};
+    ghost use Rattle.scf_tool.specs.declared.verify_fault.VerifyFault.TheVariants.{Table};
+
+    ghost from_gives = { λ fault e. e ≡ Table fault };
+
+    fn from(fault: TableFault) -> VerifyFault {
+        VerifyFault::Table(fault)
+    }
+}
+
+impl From<LoadFault> for VerifyFault {
+    ghost use Rattle.std.specs.Prelude.{◌≡◌};
+    ghost use Rattle.scf_tool.specs.declared.verify_fault.VerifyFault.TheVariants.{Profile};
+
+    ghost from_gives = { λ fault e. e ≡ Profile fault };
+
+    fn from(fault: LoadFault) -> VerifyFault {
+        VerifyFault::Profile(fault)
+    }
+}
+
+impl From<Memory> for VerifyFault {
+    ghost use Rattle.std.specs.Prelude.{◌≡◌};
+    ghost use Rattle.scf_tool.specs.declared.verify_fault.VerifyFault.TheVariants as faults;
+
+    ghost from_gives = { λ _ e. e ≡ faults.Memory };
+
+    fn from(_refused: Memory) -> VerifyFault {
+        VerifyFault::Memory
+    }
+}
+
+/// Why two stacks weren't compared.
+#[derive(Clone, Copy, Debug, PartialEq, Eq, Error)]
+pub enum BesideFault {
+    /// A filter of the first stack is refused, or a table, or memory ran out during the comparison.
+    #[error("{0}")]
+    Verify(VerifyFault),
+    /// A filter of the stack beside it is refused.
+    #[error("beside: {0}")]
+    Beside(VerifyFault),
+}
+
+impl From<VerifyFault> for BesideFault {
+    ghost use Rattle.std.specs.Prelude.{◌≡◌};
+    ghost use Rattle.scf_tool.specs.declared.verify_fault.BesideFault.TheVariants.{Verify};
+
+    ghost from_gives = { λ fault e. e ≡ Verify fault };
+
+    fn from(fault: VerifyFault) -> BesideFault {
+        BesideFault::Verify(fault)
+    }
+}
+
+impl From<Memory> for BesideFault {
+    ghost use Rattle.std.specs.Prelude.{◌≡◌};
+    ghost use Rattle.scf_tool.specs.declared.verify_fault.BesideFault.TheVariants.{Verify};
+    ghost use Rattle.scf_tool.specs.declared.verify_fault.VerifyFault.TheVariants as faults;
+
+    ghost from_gives = { λ _ e. e ≡ Verify faults.Memory };
+
+    fn from(_refused: Memory) -> BesideFault {
+        BesideFault::Verify(VerifyFault::Memory)
+    }
+}
