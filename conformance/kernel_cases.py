@@ -13,7 +13,7 @@ import kernel_child
 import kernel_profiles
 from kernel_child import Kernel, Setting
 from kernel_programs import HARMLESS, Calls
-from scftools import bundles, program
+from scftools import bundles, client
 from scftools.answers import I386, MAX_ERRNO, X86_64, Answer
 from scftools.calls import Call
 
@@ -28,18 +28,18 @@ class Scf:
     """What scf says: its commands."""
 
     def check(self, data: bytes) -> str:
-        return program.scf(["check"], data).lines[0]
+        return client.run(["check"], data).lines[0]
 
     def run(self, data: bytes, call: Call) -> str:
         """The answer, without the steps."""
-        return program.scf(["run", *call.words()], data).lines[0].split(" steps ")[0]
+        return client.run(["run", *call.words()], data).lines[0].split(" steps ")[0]
 
     def decide(self, filters: Sequence[bytes], call: Call) -> str:
-        return program.scf(["decide", *call.words()], bundles.of_stack(filters)).lines[0]
+        return client.run(["decide", *call.words()], bundles.of_stack(filters)).lines[0]
 
     def compile(self, profile: bytes, table: bytes) -> bytes | str:
         """The filter, or the line that refuses the profile."""
-        done = program.scf(["compile"], bundles.of_compilation(profile, table))
+        done = client.run(["compile"], bundles.of_compilation(profile, table))
         return done.lines[0] if done.status else done.out
 
 

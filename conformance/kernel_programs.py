@@ -4,12 +4,12 @@ from __future__ import annotations
 import random
 import struct
 from collections.abc import Iterator, Sequence
-from dataclasses import replace
 from typing import NamedTuple
 
 from kernel_child import NR_SECCOMP, SITE, SITES, call_at, is_gate
 from scftools.answers import I386, X86_64
 from scftools.calls import Call
+from scftools.values import replace
 
 WORD = 1 << 32
 MOST, MOST_OF_HEADER = 4096, 65535

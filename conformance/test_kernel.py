@@ -19,9 +19,9 @@ import kernel_child  # noqa: E402
 import kernel_exceptions  # noqa: E402
 import kernel_profiles  # noqa: E402
 import kernel_programs as programs  # noqa: E402
-from common import ALLOW, TOP, Case, insn, jeq, load, ret, taken  # noqa: E402
+from common import ALLOW, Case, insn, jeq, load, ret, taken  # noqa: E402
 from kernel_child import Setting  # noqa: E402
-from scftools.answers import REFUSED, Answer  # noqa: E402
+from scftools.answers import DENIED, Answer  # noqa: E402
 from scftools.calls import Call  # noqa: E402
 from stand_in import OF_ANSWERS, OF_CHECKER, StandIn  # noqa: E402
 
@@ -128,7 +128,7 @@ class Dispositions(unittest.TestCase):
             with self.subTest(action=hex(action)):
                 self.assertEqual(kernel.ask([ret(action | 5)], [getpid]).texts, [kernel_child.PROCESS_ENDS])
                 answer = Answer.read(StandIn().printed(action | 5))
-                self.assertEqual((answer.refuses, answer.lets_through, answer.disposition), (True, False, REFUSED))
+                self.assertEqual((answer.denies, answer.allows, answer.disposition), (True, False, DENIED))
                 self.assertIn("the process is killed", answer.does())
 
 

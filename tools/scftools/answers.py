@@ -4,7 +4,8 @@ from __future__ import annotations
 
 import errno
 import re
-from dataclasses import dataclass
+
+from .values import dataclass
 
 # linux/seccomp.h: the actions by the high half of an answer, the strictest first.
 ACTIONS = {0x8000: "KILL_PROCESS", 0x0000: "KILL_THREAD", 0x0003: "TRAP", 0x0005: "ERRNO", 0x7FC0: "USER_NOTIF",
@@ -21,11 +22,11 @@ DOES = {
     "UNNAMED": "the process is killed, since seccomp(2) has no such action",
 }
 # The actions that allow a syscall, and those that deny it.
-LETS_THROUGH = ("ALLOW", "LOG")
-REFUSES = ("ERRNO", "TRAP", "KILL_THREAD", "KILL_PROCESS", "UNNAMED")
+ALLOWING = ("ALLOW", "LOG")
+DENYING = ("ERRNO", "TRAP", "KILL_THREAD", "KILL_PROCESS", "UNNAMED")
 # The disposition of a syscall, the strictest first. It follows from the action alone; the rank of an answer only says
 # which of a stack's answers decides.
-DISPOSITIONS = REFUSED, REFERRED, MADE = "denied", "delegated to a supervisor or tracer", "allowed"
+DISPOSITIONS = DENIED, DELEGATED, ALLOWED = "denied", "delegated to a supervisor or tracer", "allowed"
 # Actions whose data is always printed, even if it is 0.
 HAS_DATA = ("ERRNO", "TRACE", "TRAP", "UNNAMED")
 # Linux's names of errno(3); of two names for a number, the one that the header defines by the number.
@@ -55,6 +56,12 @@ class Answer:
         found = PRINTED.fullmatch(text)
         return cls(found[1], int(found[2], 0)) if found and found[1] in (*DOES, "ERRNO") else None
 
+    @classmethod
+    def of_word(cls, word: int) -> Answer:
+        """The answer of the 32 bits that a filter returns."""
+        action = ACTIONS.get(word >> 16)
+        return cls("UNNAMED", word) if action is None else cls(action, word & 0xFFFF)
+
     def __str__(self) -> str:
         """The action, with its data unless that means nothing."""
         if self.action == "UNNAMED":
@@ -62,12 +69,12 @@ class Answer:
         return f"{self.action} {self.data}" if self.data or self.action in HAS_DATA else self.action
 
     @property
-    def lets_through(self) -> bool:
-        return self.action in LETS_THROUGH
+    def allows(self) -> bool:
+        return self.action in ALLOWING
 
     @property
-    def refuses(self) -> bool:
-        return self.action in REFUSES
+    def denies(self) -> bool:
+        return self.action in DENYING
 
     @property
     def word(self) -> int:
@@ -79,7 +86,7 @@ class Answer:
     @property
     def disposition(self) -> str:
         """The disposition of the syscall."""
-        return MADE if self.lets_through else REFUSED if self.refuses else REFERRED
+        return ALLOWED if self.allows else DENIED if self.denies else DELEGATED
 
     def does(self) -> str:
         """What the kernel does with it."""
@@ -106,4 +113,7 @@ class Answer:
         return f'{{"defaultAction": "SCMP_ACT_{self.action}"{errno_member}}}'.encode()
 
     def as_json(self) -> dict[str, object]:
-        return {"action": self.action, "data": self.data}
+        found: dict[str, object] = {"action": self.action, "data": self.data}
+        if self.action == "ERRNO" and self.data in ERRNOS:
+            found["errno"] = ERRNOS[self.data]
+        return found

@@ -7,7 +7,7 @@ from . import program
 from .answers import X86_64
 
 PREFIX = "SCMP_ARCH_"
-X32 = f"{PREFIX}X32"
+NATIVE, X32 = f"{PREFIX}X86_64", f"{PREFIX}X32"
 # By the names of libseccomp (seccomp.h), the numbers of linux/audit.h: a machine of linux/elf-em.h, with 0x80000000
 # where it has 64 bits, 0x40000000 where it is little-endian, and 0x20000000 for the N32 calls of MIPS. The record of an
 # x32 syscall has x86-64's.
@@ -42,9 +42,9 @@ def number_in(text: str) -> str:
         return f"0x{text}"
     meant = next((name for name, number in NUMBERS.items() if text == f"{number:08x}"), None)
     if meant is not None:
-        raise program.Refused(f"--arch {text} is ambiguous: write 0x{text} for {meant}, as the audit log has it, or "
+        raise program.ToolError(f"--arch {text} is ambiguous: write 0x{text} for {meant}, as the audit log has it, or "
                               f"{int(text):#x} for the decimal number")
     if re.match("[A-Za-z_]", text):
-        raise program.Refused(f"unknown architecture '{text}': write a name such as i386, x32 or SCMP_ARCH_AARCH64, "
+        raise program.ToolError(f"unknown architecture '{text}': write a name such as i386, x32 or SCMP_ARCH_AARCH64, "
                               f"or a number")
     return text

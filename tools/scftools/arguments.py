@@ -1,6 +1,7 @@
 """Arguments of syscalls: how many each has and of which kind, from tables/x86_64.arguments."""
 from __future__ import annotations
 
+import functools
 import os
 
 from . import program
@@ -10,6 +11,7 @@ FILE = os.path.join(program.TOP, "tables", "x86_64.arguments")
 HALF, WHOLE, ADDRESS = "i", "w", "p"
 
 
+@functools.lru_cache(None)
 def read() -> dict[str, str]:
     """A letter for each argument, by the syscall's name."""
     found: dict[str, str] = {}

@@ -1,23 +1,29 @@
-"""Two surfaces compared: the syscalls that differ, and those that are undecided."""
+"""Two surfaces compared: the syscalls that get different answers, and those that are undecided, as scf compares the
+filters of both."""
 from __future__ import annotations
 
-from collections.abc import Iterator
-from dataclasses import dataclass
+from collections.abc import Callable, Iterator, Sequence
 
-from . import other_abis, program
+from . import client, constants, other_abis, unnamed
+from .compare import CALLS
+from .filters import Filter
 from .groups import Groups
-from .surface_output import LEAST, details, fitted, grouped, of_whole, row_json, wrapped
-from .surfaces import DEPENDS, Row, Surface, disposition_of, word_of
+from .stack_comparison import StackComparison
+from .surface_output import LEAST, details, details_as_c, fitted, grouped, of_whole, row_json, wrapped
+from .surfaces import DEPENDS, Row, Surface, word_of
+from .values import dataclass
+from .verdicts import NamedCall, Verdict
 
 BESIDE = "beside"
 
 
 @dataclass(frozen=True)
 class Pair:
-    """A syscall in two surfaces."""
+    """A syscall in two surfaces, and scf's line on its answers: they differ, or that is undecided."""
 
     one: Row
     other: Row
+    line: NamedCall
 
     @property
     def number(self) -> int:
@@ -29,7 +35,18 @@ class Pair:
 
     @property
     def is_told(self) -> bool:
-        return self.one.is_told and self.other.is_told
+        return self.line.verdict.fails
+
+    @property
+    def example(self) -> str:
+        """The call that scf shows and both answers, if the rows alone don't tell them apart; else nothing."""
+        verdict = self.line.verdict
+        one, other = self.one, self.other
+        is_alike = one.said == other.said and (one.said == DEPENDS or one.answer == other.answer)
+        if not is_alike or verdict.call is None or verdict.filters is None or verdict.profile is None:
+            return ""
+        told = constants.call_told(self.names[0], verdict.call.arguments)
+        return f"such as {told}: {verdict.filters.named()} {BESIDE} {verdict.profile.named()}"
 
 
 @dataclass(frozen=True)
@@ -38,57 +55,48 @@ class Beside:
 
     one: Surface
     other: Surface
-    # the syscalls that differ, or are undecided on one side
     pairs: tuple[Pair, ...]
-    # those that depend on both sides and agree in the examples, which proves nothing about the others
-    alike: tuple[Pair, ...]
+    # scf's verdicts on the numbers that the table doesn't name, and on the syscalls of other ABIs
+    of_unnamed: tuple[Verdict | None, ...]
+    of_foreign: tuple[Verdict | None, ...]
 
     @property
     def foreign_differ(self) -> bool:
-        """Whether only one side allows some syscall of another ABI, as far as that is proved."""
-        both = zip(self.one.foreign, self.other.foreign)
-        return any(one.lets_none_through != other.lets_none_through for one, other in both
-                   if isinstance(one, other_abis.Proved) and isinstance(other, other_abis.Proved))
+        """Whether some syscall of another ABI gets different answers."""
+        return any(it is not None and it.fails for it in self.of_foreign)
 
     @property
     def unnamed_differ(self) -> bool:
-        one, other = self.one.unnamed, self.other.unnamed
-        return not one.untold and not other.untold and one.let_through != other.let_through
+        return any(it is not None and it.fails for it in self.of_unnamed)
 
     @property
     def status(self) -> int:
         """1 if they differ, 4 if something is undecided, else 0."""
         if any(pair.is_told for pair in self.pairs) or self.foreign_differ or self.unnamed_differ:
-            return program.REFUSED
-        is_told = self.one.is_told and self.other.is_told and not self.alike
-        return program.WELL if is_told or self.are_the_same else program.UNKNOWN
-
-    @property
-    def are_the_same(self) -> bool:
-        """Whether the filters are the same, byte by byte."""
-        return list(self.one.asker.filters) == list(self.other.asker.filters)
+            return client.NEGATIVE
+        are_same = all(it is not None and it.holds for it in (*self.of_unnamed, *self.of_foreign))
+        return client.SUCCESS if are_same and not self.pairs else client.UNKNOWN
 
 
-def _fares_otherwise(row: Row, surface: Surface) -> bool:
-    """Whether an example of a row has another disposition in the other surface."""
-    for disposition, shown in row.shown.items():
-        answer = surface.asker.decided(shown.call) if shown.is_whole else None
-        if answer is not None and disposition_of(answer) != disposition:
-            return True
-    return False
+def _filters(surface: Surface, before: Sequence[bytes] = ()) -> list[Filter]:
+    return [Filter("", data) for data in (*before, *surface.asker.filters)]
 
 
 def of_surfaces(one: Surface, other: Surface) -> Beside:
-    """Compares two surfaces. If a syscall depends on both sides, the examples of each are run on the other."""
-    pairs, alike = [], []
-    for pair in map(Pair, one.rows, other.rows):
-        if not pair.is_told or pair.one.said != pair.other.said:
-            pairs.append(pair)
-        elif pair.one.said == DEPENDS:
-            is_otherwise = _fares_otherwise(pair.one, other) or _fares_otherwise(pair.other, one)
-            (pairs if is_otherwise else alike).append(pair)
-    found = Beside(one, other, tuple(pairs), tuple(alike))
-    return Beside(one, other, (), ()) if found.are_the_same else found
+    """Compares two surfaces."""
+    limit = one.asker.limit
+    comparison = StackComparison(_filters(one), _filters(other), one.table, limit)
+    status, whole = comparison.run()
+    if whole.fault is not None:
+        raise client.Refusal(whole.lines[0], status)
+    if whole.verdict is not None and whole.verdict.holds:
+        return Beside(one, other, (), (), ())
+    lines = {line.number: line for line in comparison.run(CALLS)[1].calls}
+    pairs = tuple(Pair(*rows, lines[rows[0].number]) for rows in zip(one.rows, other.rows) if rows[0].number in lines)
+    of_unnamed = tuple(comparison.of_numbers(first, end - 1) for first, end in unnamed.gaps(one.table))
+    of_kinds = (StackComparison(_filters(one, [kind.alone]), _filters(other, [kind.alone]), one.table, limit)
+                for kind in other_abis.KINDS)
+    return Beside(one, other, pairs, of_unnamed, tuple(it.run()[1].verdict for it in of_kinds))
 
 
 def _of_whole(found: Beside) -> Iterator[str]:
@@ -99,9 +107,9 @@ def _of_whole(found: Beside) -> Iterator[str]:
             yield f"{BESIDE}: {other}"
 
 
-def _told(pair: Pair) -> list[str]:
+def _told(pair: Pair, details_of: Callable[[Row], list[str]]) -> list[str]:
     """Both sides of a pair, each with its examples."""
-    return [" ".join([word_of(row.said), *details(row)]) for row in (pair.one, pair.other)]
+    return [" ".join([word_of(row.said), *details_of(row)]) for row in (pair.one, pair.other)]
 
 
 def _as_table(found: Beside, groups: Groups, width: int) -> Iterator[str]:
@@ -113,8 +121,8 @@ def _as_table(found: Beside, groups: Groups, width: int) -> Iterator[str]:
         if before == 1:
             yield group
         for pair in pairs:
-            one, other = _told(pair)
-            parts = [*pair.names, f"({pair.number})"], one.split(), [f"{BESIDE}:", *other.split()]
+            one, other = _told(pair, details_as_c)
+            parts = [*pair.names, f"({pair.number})"], one.split(), [f"{BESIDE}:", *other.split()], pair.example.split()
             for at, words in enumerate(parts):
                 for line in wrapped(words, width - before - 2 * (at > 0)):
                     yield f"{heading or ' ' * before}{'  ' * (at > 0)}{line}"
@@ -131,17 +139,26 @@ def lines(found: Beside, groups: Groups, width: int | None) -> Iterator[str]:
     else:
         for group, pairs in grouped(found.pairs, groups):
             for pair in pairs:
-                one, other = _told(pair)
-                yield f"{group} {pair.number} {','.join(pair.names)} {one} {BESIDE} {other}"
-    if found.alike:
-        names = ", ".join(",".join(pair.names) for pair in found.alike)
-        told = f"syscalls that depend on both sides, and agree where tried, which isn't proved for all: {names}"
-        yield from fitted([told], width)
+                one, other = _told(pair, details)
+                yield " ".join(filter(None, [group, str(pair.number), ",".join(pair.names), one, BESIDE, other,
+                                             pair.example]))
+    for what, differ in (("numbers without a name", found.unnamed_differ), ("syscalls of other ABIs",
+                                                                           found.foreign_differ)):
+        if differ:
+            yield from fitted([f"{what}: some get different answers"], width)
+
+
+def _pair_json(pair: Pair, groups: Groups) -> dict[str, object]:
+    verdict = pair.line.verdict
+    found: dict[str, object] = {"one": row_json(pair.one, groups), "other": row_json(pair.other, groups),
+                                "verdict": verdict.word}
+    if verdict.call is not None and verdict.filters is not None and verdict.profile is not None:
+        found.update(arguments=[hex(it) for it in verdict.call.arguments], filter=verdict.filters.as_json(),
+                     beside=verdict.profile.as_json())
+    return found
 
 
 def as_json(found: Beside, groups: Groups) -> dict[str, object]:
     """The members of JSON beyond those of the first surface."""
-    return {"differs": [{"one": row_json(pair.one, groups), "other": row_json(pair.other, groups)}
-                        for pair in found.pairs],
-            "alike": [pair.number for pair in found.alike], "foreign_differ": found.foreign_differ,
+    return {"differs": [_pair_json(pair, groups) for pair in found.pairs], "foreign_differ": found.foreign_differ,
             "unnamed_differ": found.unnamed_differ}

@@ -5,6 +5,8 @@ import re
 from collections.abc import Iterable, Sequence
 
 KINDS = ("filter", "profile", "table")
+# The kind of a filter of the other side, which only `scf compare --beside` reads.
+BESIDE = "beside"
 # The most bytes that scf reads; it refuses a longer bundle.
 LIMIT = 1 << 24
 HEADER = re.compile(rb"(filter|profile|table) ([0-9]{1,8})\n")
@@ -42,6 +44,12 @@ def of_stack(filters: Sequence[bytes]) -> bytes:
 def of_comparison(filters: Sequence[bytes], profile: bytes, table: bytes) -> bytes:
     """What `scf compare` reads: filters, oldest first, a profile and a call table."""
     return bundle([*(("filter", data) for data in filters), ("profile", profile), ("table", table)])
+
+
+def of_stacks(left: Sequence[bytes], right: Sequence[bytes], table: bytes | None = None) -> bytes:
+    """What `scf compare --beside` reads: two stacks, each oldest first, and with --calls a call table."""
+    of_table = [] if table is None else [("table", table)]
+    return bundle([*(("filter", data) for data in left), *((BESIDE, data) for data in right), *of_table])
 
 
 def of_compilation(profile: bytes, table: bytes) -> bytes:

@@ -2,11 +2,11 @@
 from __future__ import annotations
 
 import re
-from dataclasses import dataclass
 
-from . import architectures
+from . import architectures, constants, tables
 from .answers import ARCHITECTURES, X32, X86_64
 from .tables import Table
+from .values import dataclass
 
 # The fields of a record, by the names of scf's options, in scf's order.
 OPTIONS = ("nr", "arch", "ip", "a0", "a1", "a2", "a3", "a4", "a5")
@@ -55,6 +55,14 @@ class Call:
             return architectures.X32
         return architectures.profile_name(self.architecture)
 
+    def names(self, table: Table) -> list[str]:
+        """Its names: an x86-64 syscall's in this table, another one's in the table of its architecture."""
+        if self.is_native:
+            return table.names_of(self.number)
+        abi = self.other_abi
+        own = None if abi is None else tables.of_architecture(abi)
+        return [] if own is None else own.names_of(self.number - (X32 if abi == architectures.X32 else 0))
+
     def words(self) -> list[str]:
         """The options of scf that give this record."""
         numbers = (self.number, self.architecture, self.pointer, *self.arguments)
@@ -64,28 +72,26 @@ class Call:
         """The syscall's name and number."""
         if self.number == SKIPPED:
             return number_text(self.number)
+        named = " or ".join(self.names(table))
         if self.architecture != X86_64:
             shown = ARCHITECTURES.get(self.architecture, hex(self.architecture))
-            return f"number {self.number} of the architecture {shown}"
+            return (f"{named} ({self.number})" if named else f"number {self.number}") + f" of the architecture {shown}"
         if self.number >= NO_CALL:
             return f"number {self.number} ({hex(self.number)}), which no syscall has"
         if self.number >= X32:
-            return f"number {self.number} (0x40000000 + {self.number - X32}), an x32 syscall"
-        named = " or ".join(table.names_of(self.number))
+            return f"{named or f'number {self.number}'} (0x40000000 + {self.number - X32}), an x32 syscall"
         return f"{named} ({self.number})" if named else f"number {self.number}, which the table doesn't name"
+
+    def as_c(self, table: Table) -> str | None:
+        """The syscall as C would have it, with constants for its arguments; None if it has no name on x86-64."""
+        named = self.names(table) if self.is_native else []
+        return constants.call_told(named[0], self.arguments) if named else None
 
     def left_out_of_native(self) -> str:
         """What --native leaves out, of which this foreign syscall is a part."""
         return "other architectures" if self.architecture != X86_64 else "numbers from 0x40000000 on"
 
     def as_json(self, table: Table) -> dict[str, object]:
-        return {"number": self.number, "names": table.names_of(self.number) if self.is_native else [],
+        return {"number": self.number, "names": self.names(table), "c": self.as_c(table),
                 "architecture": hex(self.architecture), "pointer": None if self.pointer is None else hex(self.pointer),
                 "arguments": [hex(it) for it in self.arguments]}
-
-
-def number_in(text: str) -> int | None:
-    """Parses a number as scf's options do: decimal, or hexadecimal after 0x."""
-    if re.fullmatch("0[xX][0-9a-fA-F]{1,40}", text):
-        return int(text, 16)
-    return int(text) if re.fullmatch("[0-9]{1,40}", text) else None

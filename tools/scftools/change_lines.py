@@ -3,7 +3,7 @@ from __future__ import annotations
 
 from collections.abc import Iterator
 
-from . import reasons
+from . import constants, reasons
 from .changes import KINDS, NEW, OLD, OTHERWISE, Change, Changes, Source
 from .engines import STUB
 from .reasons import Reason
@@ -38,11 +38,13 @@ def line_of(change: Change, sources: dict[str, Source]) -> str:
 
 
 def _conditions(changes: Changes, change: Change) -> Iterator[str]:
-    """The conditions of both profiles' entries that the example meets."""
+    """The conditions of both profiles' entries that the example meets, and the example as C would have it."""
     for side, reason in change.reasons.items():
         source = changes.sources[side]
         for line in list(reasons.told(reason, source.data, change.call, source.origins))[1:]:
             yield f"{side}: {line}"
+    if change.names and change.call is not None and any(change.call.arguments):
+        yield f"the syscall is {constants.call_told(change.names[0], change.call.arguments)}"
 
 
 def _entries(changes: Changes) -> Iterator[str]:

@@ -3,18 +3,19 @@ from __future__ import annotations
 
 import json
 from collections.abc import Iterator, Sequence
-from dataclasses import dataclass, field, replace
 
-from . import bundles, entries, newer, program, reasons, unnamed
+from . import bundles, client, entries, newer, program, reasons, unnamed
 from .answers import DISPOSITIONS, Answer
 from .calls import Call
-from .comparing import CALLS, NATIVE, Comparison
+from .client import Refusal
+from .compare import CALLS, NATIVE, Comparison
 from .engines import STUB, Origin
 from .filters import Filter, answering_from
 from .questions import checked
 from .reasons import Reason
 from .tables import Table
-from .verdicts import (DIFFERS, LESS, MORE, NO_LESS, NO_MORE, SAME, UNDECIDED, UNFINISHED, Fault, NamedCall, Report,
+from .values import dataclass, field, replace
+from .verdicts import (DIFFERS, LESS, MORE, NO_LESS, NO_MORE, SAME, UNDECIDED, UNFINISHED, NamedCall, Report,
                        Verdict)
 
 OLD, NEW = "old", "new"
@@ -23,14 +24,6 @@ OTHERWISE = "otherwise"
 KINDS = (MORE, LESS, OTHERWISE, UNDECIDED, UNFINISHED)
 # The word of each relation if it fails.
 FAILED = {SAME: DIFFERS, NO_MORE: MORE, NO_LESS: LESS}
-
-
-class Faulty(Exception):
-    """scf refuses a profile or the table: its exit status, the fault, and the side."""
-
-    def __init__(self, status: int, fault: Fault, word: str, data: bytes):
-        super().__init__(status)
-        self.status, self.fault, self.word, self.data = status, fault, word, data
 
 
 @dataclass(frozen=True)
@@ -87,11 +80,12 @@ class Side:
 
 
 def side_of(word: str, data: bytes, table: Table) -> Side:
-    done = program.scf(["compile"], bundles.of_compilation(data, table.data))
-    fault = None if done.status == program.WELL else Fault.read(done.text.split("\n", 1)[0])
-    if fault is not None:
-        raise Faulty(done.status, fault, word, data)
-    return Side(word, data, Filter(word, done.out))
+    """A side with its filter. Raises Refusal, whose subject is the side."""
+    try:
+        return Side(word, data, Filter(word, client.compile_profile(bundles.of_compilation(data, table.data))))
+    except Refusal as why:
+        why.subject = word, data
+        raise
 
 
 @dataclass(frozen=True)
@@ -115,7 +109,7 @@ class Given:
             comparison = replace(comparison, filters=[Filter(one.word, alike)])
         status, report = comparison.run(scope)
         if report.fault is not None:
-            raise Faulty(status, report.fault, other.word, other.data)
+            raise Refusal(report.fault.line, status, (other.word, other.data))
         return checked(status, report, scope)
 
     def asked(self, call: Call) -> dict[str, Reason]:
@@ -167,7 +161,7 @@ class Changes:
 
     @property
     def status(self) -> int:
-        return program.REFUSED if self.fails else program.WELL if self.whole.holds else program.UNKNOWN
+        return program.NEGATIVE if self.fails else program.SUCCESS if self.whole.holds else program.UNKNOWN
 
     @property
     def counts(self) -> dict[str, int]:

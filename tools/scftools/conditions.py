@@ -134,7 +134,7 @@ class Denials:
     def _told(self, name: str, number: int, one: Condition, pair: tuple[dict[int, int], dict[int, int]]) -> \
             Finding | None:
         (denied, _), (allowed, by) = (self._answer(number, it) for it in pair)
-        if denied is None or allowed is None or not denied.refuses or not allowed.lets_through:
+        if denied is None or allowed is None or not denied.denies or not allowed.allows:
             return None
         low, high = (it[one.index] for it in pair)
         where = "by the default" if by is None else f"by entry {by}"

@@ -10,11 +10,11 @@ from __future__ import annotations
 import os
 import re
 from collections.abc import Callable, Iterator
-from dataclasses import dataclass
 
 from . import output
 from .hold import Unreadable
 from .ptrace import Kernel
+from .values import dataclass
 
 # The cgroup hierarchies in which a container is searched for, in this order: that of version 2, which names no
 # controllers, and of version 1 those of systemd and of the pids controller.

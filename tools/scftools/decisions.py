@@ -3,14 +3,15 @@ from __future__ import annotations
 
 import re
 from collections.abc import Callable, Iterable, Iterator, Sequence
-from dataclasses import dataclass
 
-from . import architectures, bundles, explanation, inputs, output, paths, program, verdicts
+from . import architectures, bundles, client, explanation, inputs, output, paths, program, tables, verdicts
 from .answers import X32, X86_64
-from .calls import OPTIONS, SKIPPED, Call, number_in
-from .comparing import fault_of_one, named
+from .calls import OPTIONS, SKIPPED, Call
+from .constants import argument_in, number_in
 from .filters import Filter
+from .refusals import faulty_filters, named
 from .tables import Table
+from .values import dataclass
 from .verdicts import Decision
 
 TYPE_CHECKING = False
@@ -57,7 +58,8 @@ def _add_numbers(parser: Parser) -> None:
     parser.add_argument("--arch", metavar="ARCH", help="the architecture, by name (i386, x32, SCMP_ARCH_AARCH64 ..) or "
                                                        "number, also as in the audit log (c000003e) [default: x86_64]")
     for name in OPTIONS[2:]:
-        parser.add_argument(f"--{name}", metavar="N", help=f"{HELP[name]} [default: 0]")
+        takes = "" if name == "ip" else ": a number, or constants such as AF_INET or CLONE_NEWUSER|SIGCHLD"
+        parser.add_argument(f"--{name}", metavar="N", help=f"{HELP[name]}{takes if name == 'a0' else ''} [default: 0]")
 
 
 def add_one_call(parser: Parser, what: str) -> None:
@@ -80,43 +82,50 @@ def add_options(parser: Parser) -> None:
 
 @dataclass(frozen=True)
 class Numbering:
-    """How a syscall number is given: by a name of the table, which has only those of x86-64, or as a number."""
+    """How the fields of a record are given: a syscall by a name of its architecture's table or by a number, an argument
+    by constants or a number. `table` is that of x86-64."""
 
     table: Table
     # --arch as given, or None
     architecture: str | None
 
     @property
-    def is_x32(self) -> bool:
-        return self.architecture is not None and architectures.name_in(self.architecture) == architectures.X32
-
-    @property
-    def is_native(self) -> bool:
-        return self.architecture is None or not self.is_x32 and (
-            number_in(architectures.number_in(self.architecture)) == X86_64)
+    def abi(self) -> str:
+        """The OCI name of the architecture, or of one that has none its text."""
+        if self.architecture is None:
+            return architectures.NATIVE
+        number = number_in(architectures.number_in(self.architecture))
+        return (architectures.name_in(self.architecture)
+                or (None if number is None else architectures.profile_name(number)) or self.architecture)
 
     def number_of(self, text: str) -> str:
         """The number, as scf takes it, of a syscall given by name or number."""
+        is_x32 = self.abi == architectures.X32
         if re.match("[A-Za-z_]", text):
-            return str(self._named(text))
+            return str(self._named(text) + (X32 if is_x32 else 0))
         if text == "-1":
             return hex(SKIPPED)
         number = number_in(text)
         # an x32 number has bit 30, whether or not it was given with it
-        return hex(number | X32) if self.is_x32 and number is not None and number < X32 else text
+        return hex(number | X32) if is_x32 and number is not None and number < X32 else text
 
     def _named(self, name: str) -> int:
-        if not self.is_native:
-            raise program.Refused(f"the table has x86-64 syscalls: with --arch {self.architecture}, give the number of "
-                                  f"'{name}'")
-        number = self.table.number_of(name)
+        is_native = self.abi == architectures.NATIVE
+        table = self.table if is_native else tables.of_architecture(self.abi)
+        if table is None:
+            raise program.ToolError(f"there is no table of --arch {self.architecture}: give the number of '{name}'")
+        # C's constants for it are SYS_read and __NR_read
+        bare = re.sub("^(?:SYS_|__NR_)", "", name)
+        number = table.number_of(bare if table.number_of(name) is None else name)
         if number is None:
-            from . import tables  # pylint: disable=import-outside-toplevel
-
-            near = tables.nearest(name, self.table)
-            raise program.Refused(f"the table has no syscall '{name}'"
-                                  + (f"; the nearest name is '{near}'" if near else ""))
+            near, whose = tables.nearest(bare, table), "the table" if is_native else f"{self.architecture}'s table"
+            raise program.ToolError(f"{whose} has no syscall '{name}'"
+                                    + (f"; the nearest name is '{near}'" if near else ""))
         return number
+
+    def argument(self, text: str) -> str:
+        """An argument as scf takes it."""
+        return argument_in(text, self.abi)
 
 
 def _lines_of(name: str) -> Iterator[list[str]]:
@@ -125,34 +134,35 @@ def _lines_of(name: str) -> Iterator[list[str]]:
         given = line.split()
         if given and not given[0].startswith("#"):
             if len(given) > 7 or "\0" in line or max(map(len, given)) > LONGEST_WORD:
-                raise program.Refused(f"a line of the list isn't a syscall and up to six numbers: {line[:80]}")
+                raise program.ToolError(f"a line of the list isn't a syscall and up to six numbers: {line[:80]}")
             yield given
 
 
-def _rest_of(given: object) -> tuple[tuple[str, str], ...]:
+def _rest_of(given: object, numbering: Numbering) -> tuple[tuple[str, str], ...]:
     """The given fields of a record beside its number."""
     texts = {name: getattr(given, name) for name in OPTIONS[1:] if getattr(given, name) is not None}
-    if "arch" in texts:
-        texts["arch"] = architectures.number_in(texts["arch"])
+    for name, text in texts.items():
+        texts[name] = architectures.number_in(text) if name == "arch" else numbering.argument(text)
     return tuple(texts.items())
 
 
 def one_asked(given: object, table: Table) -> Asked | None:
     """The record that a command line requests, or None."""
-    number, rest = getattr(given, "nr"), _rest_of(given)
+    number, numbering = getattr(given, "nr"), Numbering(table, getattr(given, "arch"))
+    rest = _rest_of(given, numbering)
     if number is None and not rest:
         return None
-    numbering = Numbering(table, getattr(given, "arch"))
     return Asked((("nr", numbering.number_of("0" if number is None else number)), *rest))
 
 
 def asked(given: object, table: Table) -> list[Asked]:
     """The records that a command line requests, in order."""
-    rest, numbering = _rest_of(given), Numbering(table, getattr(given, "arch"))
+    numbering = Numbering(table, getattr(given, "arch"))
+    rest = _rest_of(given, numbering)
     found = [Asked((("nr", numbering.number_of(text)), *rest)) for text in getattr(given, "nr")]
     if getattr(given, "calls_from") is not None:
         for number, *arguments in _lines_of(getattr(given, "calls_from")):
-            own = tuple(zip(OPTIONS[3:], arguments))
+            own = tuple(zip(OPTIONS[3:], map(numbering.argument, arguments)))
             left = tuple(pair for pair in rest if pair[0] not in dict(own))
             found.append(Asked((("nr", numbering.number_of(number)), *left, *own)))
         return found
@@ -161,7 +171,7 @@ def asked(given: object, table: Table) -> list[Asked]:
 
 def of_fault(filters: Sequence[Filter], decision: Decision) -> Iterator[str]:
     """Which filter of several causes a fault."""
-    found = fault_of_one(filters, decision.fault) if decision.fault and len(filters) > 1 else []
+    found = faulty_filters(filters, decision.fault) if decision.fault and len(filters) > 1 else []
     if found:
         yield f"the filter is {named(found)}"
 
@@ -192,14 +202,8 @@ def added(filters: Sequence[Filter], one: Asked, decision: Decision, table: Tabl
 
 def decide(filters: Sequence[Filter], one: Asked) -> tuple[int, Decision]:
     """scf's exit status, and what the stack answers."""
-    done = program.scf(["decide", *one.words()], bundles.of_stack([it.data for it in filters]))
+    done = client.run(["decide", *one.words()], bundles.of_stack([it.data for it in filters]))
     return done.status, verdicts.decision(done.text)
-
-
-def worst(statuses: Sequence[int]) -> int:
-    """The status of several runs: a failure before a usage error before a refusal."""
-    order = (program.FAILED, program.WRONG_WORDS, program.REFUSED, program.UNKNOWN, program.WELL)
-    return next((status for status in order if status in statuses), max(statuses, default=program.WELL))
 
 
 def _json_of(filters: Sequence[Filter], one: Asked, decision: Decision, table: Table) -> dict[str, object]:
@@ -213,7 +217,7 @@ def _json_of(filters: Sequence[Filter], one: Asked, decision: Decision, table: T
     if decision.fault:
         found["fault"] = {**decision.fault.as_json(), "sentences": list(explanation.of_fault(decision.fault, table))}
         if len(filters) > 1:
-            found["filters"] = fault_of_one(filters, decision.fault)
+            found["filters"] = faulty_filters(filters, decision.fault)
     return found
 
 
@@ -269,5 +273,5 @@ def tell(calls: Sequence[Asked], answer: Callable[[Asked], Told], is_json: bool)
         for line in answered.added():
             output.put_line(f"# {line}")
     if is_json:
-        output.put_json({"status": worst(statuses), "calls": found})
-    return worst(statuses)
+        output.put_json({"status": client.worst(statuses), "calls": found})
+    return client.worst(statuses)

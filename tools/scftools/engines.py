@@ -9,10 +9,10 @@ import errno
 import json
 import re
 from collections.abc import Callable, Iterator, Sequence
-from dataclasses import dataclass
 
 from . import profiles
 from .profiles import NUMBER, SECCOMP, TEXT, VERSION, where_in
+from .values import dataclass
 
 TYPE_CHECKING = False
 if TYPE_CHECKING:

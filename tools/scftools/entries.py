@@ -7,10 +7,10 @@ from __future__ import annotations
 import itertools
 import json
 from collections.abc import Callable, Iterable, Iterator, Sequence
-from typing import NamedTuple
 
 from .profiles import LONGEST_NUMBER
 from .reasons import HOLDS
+from .values import dataclass, replace
 
 TYPE_CHECKING = False
 if TYPE_CHECKING:
@@ -24,7 +24,8 @@ TWICE_NAMED = {"SCMP_ACT_KILL": "SCMP_ACT_KILL_THREAD"}
 WITH_ERRNO = ("SCMP_ACT_ERRNO", "SCMP_ACT_TRACE")
 
 
-class Condition(NamedTuple):
+@dataclass(frozen=True)
+class Condition:
     """A condition of an entry on an argument."""
 
     index: int
@@ -49,7 +50,8 @@ class Condition(NamedTuple):
 Conditions = Sequence[Condition]
 
 
-class Entry(NamedTuple):
+@dataclass(frozen=True)
+class Entry:
     """An entry of `syscalls`: those of its names that the table has, each once, and whether it has others."""
 
     place: int
@@ -66,7 +68,7 @@ class Entry(NamedTuple):
 
     def allowing(self, names: Sequence[str]) -> Entry:
         """The entry for some names, with ALLOW as its action."""
-        return self._replace(names=tuple(names), answer=("SCMP_ACT_ALLOW", 0))
+        return replace(self, names=tuple(names), answer=("SCMP_ACT_ALLOW", 0))
 
 
 def profile_of(default: tuple[str, int], entries: Iterable[Entry]) -> bytes:

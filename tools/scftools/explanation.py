@@ -3,7 +3,7 @@ from __future__ import annotations
 
 from collections.abc import Iterator
 
-from . import faults, verdicts
+from . import faults, tables, verdicts
 from .answers import Answer
 from .calls import Call
 from .tables import Table
@@ -17,8 +17,10 @@ def of_fault(fault: Fault, table: Table | None) -> Iterator[str]:
 
 
 def of_call(call: Call, table: Table, is_native: bool | None = None) -> Iterator[str]:
-    """A syscall's name, and whether --native leaves it out, if that could be given."""
-    yield f"the syscall is {call.told(table)}"
+    """A syscall's name, with the arguments as C would have them, and whether --native leaves it out, if that could be
+    given."""
+    shown = call.as_c(table) if any(call.arguments) else None
+    yield f"the syscall is {call.told(table)}" + (f": {shown}" if shown is not None else "")
     if is_native is False and not call.is_native:
         yield f"--native leaves out {call.left_out_of_native()}"
 
@@ -56,8 +58,6 @@ def of_skipped(report: Report, table: Table, default_lets_through: bool) -> Iter
     """What the skipped names are, and what is lost with them."""
     if not report.skipped:
         return
-    from . import tables  # pylint: disable=import-outside-toplevel
-
     found = tables.told_apart(report.skipped, table)
     yield (f"names in the profile that were skipped because the table doesn't have them: {len(report.skipped)}"
            + (", all of them syscalls of other architectures" if not found.left_out and not found.unknown else ""))

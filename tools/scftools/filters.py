@@ -3,18 +3,22 @@ from __future__ import annotations
 
 import struct
 from collections.abc import Sequence
-from dataclasses import dataclass
 
-from . import bundles, inputs
+from . import bundles, forms, inputs, output, program
+from .values import dataclass
 
 # linux/filter.h: struct sock_filter, and BPF_MAXINSNS.
 INSTRUCTION = struct.Struct("<HBBI")
 LONGEST = 4096
+# The most bytes of a filter as text.
+LONGEST_TEXT = 1 << 20
 # linux/bpf_common.h: the codes that the tools write or read.
-LOAD_WORD, LOAD_CONSTANT, RETURN_CONSTANT, JUMP = 0x20, 0x00, 0x06, 0x05
+LOAD_WORD, LOAD_CONSTANT, RETURN_CONSTANT, JUMP, AND = 0x20, 0x00, 0x06, 0x05, 0x54
 # The offsets of the halves of the instruction pointer in struct seccomp_data (linux/seccomp.h).
 POINTER = (8, 12)
 JEQ, JGT, JGE, JSET, BY_X = 0x10, 0x20, 0x30, 0x40, 0x08
+# The 41 codes that the kernel takes (seccomp_check_filter of kernel/seccomp.c).
+CODES = frozenset(bytes.fromhex("208081000160610203040c141c242c343c444c545c646c747ca4ac8405151d252d353d454d06160787"))
 # The most instructions of a stack, in which each older filter counts some more (MAX_INSNS_PER_PATH in
 # kernel/seccomp.c, which counts the kernel's own translation).
 LONGEST_STACK, MORE_OF_OLDER = 32768, 4
@@ -33,9 +37,31 @@ class Filter:
         return len(self.data) // INSTRUCTION.size
 
 
+def are_codes(data: bytes) -> bool:
+    """Whether bytes are complete instructions with codes that the kernel takes."""
+    whole = bool(data) and len(data) % INSTRUCTION.size == 0
+    return whole and CODES.issuperset(data[::INSTRUCTION.size]) and not any(data[1::INSTRUCTION.size])
+
+
 def read(name: str) -> Filter:
-    """The filter of a file, a pipe or standard input."""
-    return Filter(name, inputs.read(name, "filter"))
+    """The filter of a file, a pipe or standard input: raw, or a text in one of the forms of `forms`, which is told on
+    standard error."""
+    return taken(name, inputs.read(name, "filter", most=LONGEST_TEXT))
+
+
+def taken(name: str, data: bytes) -> Filter:
+    """The filter in what was read of an input."""
+    # what is raw and too long is cut so far that scf says so
+    raw = Filter(name, data[:inputs.LIMITS["filter"] + 1])
+    if data[1:2] == b"\0":
+        return raw
+    form = forms.form_of(data, inputs.told(name))
+    if form is None:
+        if forms.is_text(data):
+            output.say(program.name(), f"{inputs.told(name)} is text, in none of the forms that `check --help` names")
+        return raw
+    output.say(program.name(), f"{inputs.told(name)} is read as {form.name}, instructions: {form.count}")
+    return Filter(name, form.data)
 
 
 def read_stack(names: Sequence[str]) -> list[Filter]:
@@ -69,7 +95,28 @@ def answering_from(data: bytes, number: int, answer: int) -> bytes:
             + instruction(LOAD_CONSTANT, 0) + data)
 
 
-def answering_below(data: bytes, number: int, answer: int) -> bytes:
-    """A filter that gives this answer below this syscall number, and otherwise runs these bytes."""
-    return (instruction(LOAD_WORD, 0) + instruction(JUMP | JGE, number, 1, 0) + instruction(RETURN_CONSTANT, answer)
+def _tests(number: int, conditions: Sequence[tuple[int, int, int]]) -> bytes:
+    """Tests that go on behind them for a syscall of this number whose arguments meet these conditions, each an index, a
+    mask and a value, and otherwise skip one more instruction."""
+    tests = [(0, 0xFFFFFFFF, number)]
+    for index, mask, value in conditions:
+        tests += [(16 + 8 * index, mask & 0xFFFFFFFF, value & mask & 0xFFFFFFFF),
+                  (20 + 8 * index, mask >> 32, (value & mask) >> 32)]
+    code = b""
+    for place, mask, value in reversed(tests):
+        masked = instruction(AND, mask) if mask != 0xFFFFFFFF else b""
+        skipped = len(code) // INSTRUCTION.size + 1
+        code = instruction(LOAD_WORD, place) + masked + instruction(JUMP | JEQ, value, 0, skipped) + code
+    return code
+
+
+def with_exception(data: bytes, number: int, conditions: Sequence[tuple[int, int, int]], answer: int) -> bytes:
+    """A filter that gives this answer to a syscall of this number whose arguments meet these conditions, each an index,
+    a mask and a value, and otherwise runs these bytes."""
+    return _tests(number, conditions) + instruction(RETURN_CONSTANT, answer) + instruction(LOAD_CONSTANT, 0) + data
+
+
+def only_on(data: bytes, number: int, conditions: Sequence[tuple[int, int, int]], answer: int) -> bytes:
+    """A filter that runs these bytes for such a syscall, and otherwise gives this answer."""
+    return (_tests(number, conditions) + instruction(JUMP, 1) + instruction(RETURN_CONSTANT, answer)
             + instruction(LOAD_CONSTANT, 0) + data)

@@ -100,7 +100,7 @@ class Hold:
     """Threads that are stopped, and that run on where the block that holds them ends, whatever ends it."""
 
     def __init__(self, kernel: Kernel, listed: Callable[[], dict[int, int]], patience: float,
-                 is_forced: bool = False) -> None:
+                 is_forced: bool = False, restarts: restart.Restarts | None = None) -> None:
         self.kernel = kernel
         self.listed = listed
         self.patience = patience
@@ -113,7 +113,8 @@ class Hold:
         self.seized: set[int] = set()
         self.stopping: set[int] = set()
         self.stopped: dict[int, int] = {}
-        self.restarts = restart.Restarts(kernel)
+        # Its answers are kept, so it may be that of an earlier hold.
+        self.restarts = restarts or restart.Restarts(kernel)
         self.passed_over: dict[int, str] = {}
         # Those that aren't to be held any more, and couldn't be let go: they end, and are waited for.
         self.leaving: set[int] = set()

@@ -19,12 +19,12 @@ import stat
 import sys
 import time
 from collections.abc import Callable, Iterator, Sequence
-from dataclasses import dataclass
 
-from . import (comparing, containers, engines, hold, inputs, output, processes, profiles, program, runtimes, verdicts,
-               verifying)
+from . import (compare, containers, engines, hold, inputs, output, processes, profiles, program, runtimes,
+               verdicts, verify)
 from .processes import Found, Kernel
 from .tables import Table
+from .values import dataclass
 from .watchdog import Watchdog, Worker
 
 TYPE_CHECKING = False
@@ -121,13 +121,18 @@ def contents(name: str) -> bytes:
 
 
 def configured(container: Container) -> dict[str, Any] | None:
-    """What the container's config.json says about seccomp, as a config.json with nothing else in it, or None if it says
-    nothing. Runtimes read only `linux.seccomp`, whatever else is in it."""
+    """What the container's config.json says about seccomp, as `seccomp_in`."""
     name = os.path.join(container.bundle, CONFIG)
     try:
         value = engines.read(contents(name))
-    except (program.Refused, engines.Refused) as why:
+    except (program.ToolError, engines.Refused) as why:
         raise Failed(f"the container's configuration: {why}") from why
+    return seccomp_in(value, name)
+
+
+def seccomp_in(value: Any, name: str) -> dict[str, Any] | None:
+    """What a configuration with this name says about seccomp, as a config.json with nothing else in it, or None if it
+    says nothing. Runtimes read only `linux.seccomp`, whatever else is in it."""
     linux = member(value, "linux", name)
     seccomp = None if linux is None else member(linux, "seccomp", name)
     return None if seccomp is None else {"linux": {"seccomp": seccomp}}
@@ -144,11 +149,11 @@ def member(value: Any, wanted: str, path: str) -> Any:
 
 
 def asked_of(config: dict[str, Any], runtime: str | None, keeps_first: bool, table: Table, limit: str | None,
-             relation: str) -> verifying.Asked:
+             relation: str) -> verify.Asked:
     """The question about a container with this configuration, as its runtime applies it."""
     try:
         if runtime is not None:
-            return verifying.Asked.of_runtime(runtimes.applied(config, runtime), table, limit, comparing.NATIVE,
+            return verify.Asked.of_runtime(runtimes.applied(config, runtime), table, limit, compare.NATIVE,
                                               relation)
         text = json.dumps(config)
         if keeps_first:
@@ -156,7 +161,7 @@ def asked_of(config: dict[str, Any], runtime: str | None, keeps_first: bool, tab
             profile = resolver.resolved(config)
             resolver.keep_first(profile)
             text = engines.printed(profile)
-        return verifying.Asked(text.encode(), table, limit, comparing.NATIVE, relation)
+        return verify.Asked(text.encode(), table, limit, compare.NATIVE, relation)
     except RecursionError as error:
         raise Failed("the container's configuration: the profile is nested too deep") from error
     except engines.Refused as why:
@@ -337,27 +342,27 @@ class Result:
     value: dict[str, object]
 
 
-def verdict_of(block: verifying.Block) -> str | None:
+def verdict_of(block: verify.Block) -> str | None:
     if block.report is None:
         return "strict" if block.stack.is_strict else "unconfined"
     return block.report.verdict.word if block.report.verdict else None
 
 
-def finding_of(found: Found, asked: verifying.Asked, members: Members) -> Finding:
+def finding_of(found: Found, asked: verify.Asked, members: Members) -> Finding:
     """What is said of each distinct stack, but for the names that were left out, which are counted."""
-    blocks, others = verifying.blocks(found, asked), members.others_told()
-    status, verdict = verifying.worst(blocks), verdict_of(blocks[0])
-    if others is not None and status == program.WELL:
+    blocks, others = verify.blocks(found, asked), members.others_told()
+    status, verdict = verify.worst(blocks), verdict_of(blocks[0])
+    if others is not None and status == program.SUCCESS:
         status, verdict = program.UNKNOWN, None
     remarks = [*asked.remarks, *members.remarks, *([others] if others else [])]
 
     def lines() -> list[str]:
-        own = [line for line in verifying.lines(blocks, found, asked.scope)
+        own = [line for line in verify.lines(blocks, found, asked.scope)
                if line and not line.startswith(verdicts.LEFT_OUT)]
         return own + [f"# {it}" for it in remarks]
 
     def value() -> dict[str, object]:
-        own = verifying.as_json(blocks, found, asked.scope, None)
+        own = verify.as_json(blocks, found, asked.scope, None)
         return {**own, "status": status, "verdict": verdict, "remarks": remarks}
 
     return Finding(status, verdict, lines, value)
@@ -365,7 +370,7 @@ def finding_of(found: Found, asked: verifying.Asked, members: Members) -> Findin
 
 def stated(status: int, verdict: str | None, line: str) -> Finding:
     """A finding of a single line."""
-    value: dict[str, object] = {"status": status, "scope": comparing.NATIVE, "verdict": verdict}
+    value: dict[str, object] = {"status": status, "scope": compare.NATIVE, "verdict": verdict}
     return Finding(status, verdict, lambda: [line], lambda: value if verdict else {**value, "why": line})
 
 
@@ -375,11 +380,11 @@ def result(finding: Finding) -> Result:
 
 def unstated(is_allowed: bool) -> Finding:
     """The configuration has no profile."""
-    return stated(program.WELL if is_allowed else program.REFUSED, "unstated",
+    return stated(program.SUCCESS if is_allowed else program.NEGATIVE, "unstated",
                   "the configuration has no seccomp profile: the container isn't confined")
 
 
-def failed(why: str, status: int = program.FAILED) -> Finding:
+def failed(why: str, status: int = program.IO_ERROR) -> Finding:
     return stated(status, None, why)
 
 
@@ -412,8 +417,8 @@ def unknown(status: int | None, seconds: float) -> Finding:
     """The finding if a worker reports nothing: it ended with a status, or still runs."""
     if status is None:
         return failed(f"undecided after {seconds:g} seconds", program.UNKNOWN)
-    if status == program.NO_PROGRAM:
-        return failed("scf can't be run", program.NO_PROGRAM)
+    if status == program.NOT_BUILT:
+        return failed("scf can't be run", program.NOT_BUILT)
     how = f"signal {-status}" if status < 0 else f"status {status}"
     return failed(f"the check ended with {how}")
 
@@ -436,13 +441,13 @@ class Examination:
             worker = Worker(lambda send: report(guarded(find), is_json, send),
                             [self.watchdog.end] if self.watchdog else [])
         except OSError as error:
-            self.settle(program.FAILED)
+            self.settle(program.IO_ERROR)
             return result(failed(f"no process can be started: {error.strerror}"))
         return result_of(worker, self.seconds, is_json, self.settle)
 
     def settle(self, status: int) -> None:
         """Acts on the status: kills the container on request, and dismisses the watchdog."""
-        if self.kills and status != program.WELL:
+        if self.kills and status != program.SUCCESS:
             self.killed.append(self.process.kill())
         if self.watchdog is not None:
             self.watchdog.dismiss()
@@ -452,7 +457,7 @@ class Examination:
         killed = self.process.kill()
         line = f"{self.process.container.told}: the hook was ended or stopped: {killed.line}"
         output.say(program.name(), line)
-        write_log(program.name(), program.FAILED, [line])
+        write_log(program.name(), program.IO_ERROR, [line])
 
 
 def write_log(name: str, status: int, lines: Sequence[str]) -> None:
@@ -460,7 +465,7 @@ def write_log(name: str, status: int, lines: Sequence[str]) -> None:
     import syslog  # pylint: disable=import-outside-toplevel
 
     syslog.openlog(output.escaped(name), syslog.LOG_PID, syslog.LOG_DAEMON)
-    level = syslog.LOG_INFO if status == program.WELL else syslog.LOG_ERR
+    level = syslog.LOG_INFO if status == program.SUCCESS else syslog.LOG_ERR
     for line in lines:
         syslog.syslog(level, output.escaped(line))
     syslog.closelog()
@@ -469,11 +474,19 @@ def write_log(name: str, status: int, lines: Sequence[str]) -> None:
 def verdict_line(container: Container | None, result: Result) -> str:
     """A line that says how it came out."""
     who = container.told if container else "a container"
-    if result.status == program.WELL:
+    if result.status == program.SUCCESS:
         return f"{who}: confined as configured ({result.verdict})"
-    if result.status == program.REFUSED and result.verdict is not None:
+    if result.status == program.NEGATIVE and result.verdict is not None:
         return f"{who}: not confined as configured ({result.verdict})"
     return f"{who}: unknown whether it is confined as configured"
+
+
+def dry_run_line(status: int, kills: bool) -> str:
+    """A line that says what a hook would have done that only reports."""
+    if status == program.SUCCESS:
+        return "dry run: the status is 0 without --dry-run, too"
+    killed = ", and the container would be killed" if kills else ""
+    return f"dry run: without --dry-run the status would be {status}{killed}"
 
 
 def hook_words(words: Sequence[str]) -> list[str]:
@@ -510,9 +523,9 @@ def guarded(find: Callable[[], Finding]) -> Finding:
     """What is found; if anything fails, why."""
     try:
         return find()
-    except (Failed, program.Refused) as why:
-        return failed(str(why), program.NO_PROGRAM if getattr(why, "status", None) == program.NO_PROGRAM
-                      else program.FAILED)
+    except (Failed, program.ToolError) as why:
+        return failed(str(why), program.NOT_BUILT if getattr(why, "status", None) == program.NOT_BUILT
+                      else program.IO_ERROR)
     except processes.Unreadable as why:
         return failed(f"{why} (--force stops it)" if isinstance(why, hold.Waiting) else str(why))
     except processes.Interrupted as came:

@@ -13,12 +13,19 @@ from . import output, program
 # read: an engine's profile, a kernel header, a list of syscalls to try.
 LIMITS = {"bundle": 1 << 24, "filter": 1 << 15, "profile": 1 << 22, "table": 1 << 22,
           "engine's profile": 1 << 24, "header": 1 << 22, "list of syscalls": 1 << 16,
+          # only for why: of a core what holds its notes
+          "core": 1 << 24,
           # only for oci-hook: a container's state
           "state": 1 << 20}
 
 
+def told(name: str) -> str:
+    """How messages call an input."""
+    return "standard input" if name == "-" else f"'{output.escaped(name)}'"
+
+
 def why(name: str, kind: str, error: OSError) -> str:
-    shown = "standard input" if name == "-" else f"'{output.escaped(name)}'"
+    shown = told(name)
     if error.errno == errno.EISDIR:
         return f"the {kind} {shown} is a folder"
     if error.errno == errno.ENOENT:
@@ -26,10 +33,10 @@ def why(name: str, kind: str, error: OSError) -> str:
     return f"the {kind} {shown} can't be read: {error.strerror}"
 
 
-def read(name: str, kind: str, status: int = program.WRONG_WORDS) -> bytes:
-    """The bytes of an input (`-` is standard input): at most one more than its kind may have. Raises Refused with this
-    status if it can't be read."""
-    room = LIMITS[kind] + 1
+def read(name: str, kind: str, status: int = program.USAGE_ERROR, most: int | None = None) -> bytes:
+    """The bytes of an input (`-` is standard input): at most one more than its kind may have, or than `most`. Raises
+    ToolError with this status if it can't be read."""
+    room = (LIMITS[kind] if most is None else most) + 1
     found = []
     try:
         file = os.dup(0) if name == "-" else os.open(name, os.O_RDONLY | os.O_CLOEXEC | os.O_NOCTTY)
@@ -43,27 +50,11 @@ def read(name: str, kind: str, status: int = program.WRONG_WORDS) -> bytes:
         finally:
             os.close(file)
     except OSError as error:
-        raise program.Refused(why(name, kind, error), status) from error
+        raise program.ToolError(why(name, kind, error), status) from error
     except UnicodeEncodeError as error:
         # an unpaired surrogate, which no file name has
-        raise program.Refused(f"there is no file '{output.escaped(name)}'", status) from error
+        raise program.ToolError(f"there is no file '{output.escaped(name)}'", status) from error
     return b"".join(found)
-
-
-def read_profile(name: str, is_runtimes: bool = False) -> bytes:
-    """The bytes of a profile that scf takes. Refuses one with members that only podman reads otherwise than scf, or, if a
-    runtime is said to apply it, that any program in Go does; scf itself refuses the other members of engines."""
-    from . import profiles  # pylint: disable=import-outside-toplevel
-
-    data = read(name, "profile")
-    found = profiles.errno_by_name(data)
-    if found is not None:
-        hint = "--runtime podman takes it" if is_runtimes else "tools/resolve-profile resolves it"
-        raise program.Refused(f"{found}, which only podman reads: {hint}", program.REFUSED)
-    misread = profiles.misread_members(data) if is_runtimes else []
-    if misread:
-        raise program.Refused(f"{misread[0].told()}", program.REFUSED)
-    return data
 
 
 def is_too_long(data: bytes, kind: str) -> bool:
@@ -74,6 +65,5 @@ def read_whole(name: str, kind: str) -> bytes:
     """The bytes of an input that scf doesn't see; raises Refused if there are too many."""
     data = read(name, kind)
     if is_too_long(data, kind):
-        shown = "standard input" if name == "-" else f"'{output.escaped(name)}'"
-        raise program.Refused(f"the {kind} {shown} has more than {LIMITS[kind]} bytes")
+        raise program.ToolError(f"the {kind} {told(name)} has more than {LIMITS[kind]} bytes")
     return data

@@ -2,12 +2,12 @@
 from __future__ import annotations
 
 from collections.abc import Iterable, Iterator, Sequence
-from typing import NamedTuple
 
-from .answers import ACTIONS, ARCHITECTURES, X32, X86_64
-from .calls import number_text
+from .answers import ACTIONS, ARCHITECTURES, X32, X86_64, Answer
+from .calls import Call, number_text
 from .filters import BY_X, INSTRUCTION, JEQ, JGE, JGT, JSET, JUMP, LOAD_WORD, RETURN_CONSTANT
 from .tables import Table
+from .values import dataclass, replace
 
 # The 32-bit words of a record, by their index (struct seccomp_data in linux/seccomp.h).
 NUMBER, ARCHITECTURE, ARGUMENTS, END = 0, 1, 4, 16
@@ -17,7 +17,8 @@ WORDS = {NUMBER: "the syscall number", ARCHITECTURE: "the architecture", 2: "the
 LOADS, ALU, JUMPS, RETURNS, TXA = 0, 4, 5, 6, 0x87
 
 
-class Instruction(NamedTuple):
+@dataclass(frozen=True)
+class Instruction:
     """An instruction of a filter (struct sock_filter in linux/filter.h)."""
 
     code: int
@@ -57,7 +58,8 @@ def instructions(data: bytes) -> list[Instruction]:
     return [Instruction(*fields) for fields in INSTRUCTION.iter_unpack(data)]
 
 
-class Known(NamedTuple):
+@dataclass(frozen=True)
+class Known:
     """What holds at an instruction on every path to it: the word in A, and the record's architecture."""
 
     word: int | None = None
@@ -72,15 +74,15 @@ class Known(NamedTuple):
 def _after(insn: Instruction, known: Known) -> Iterator[Known]:
     """What holds after an instruction, for each of its targets."""
     if insn.changes_a:
-        yield known._replace(word=insn.word)
+        yield replace(known, word=insn.word)
         return
     # a test whose targets are the same tells neither side anything
     is_test = insn.code == JUMP | JEQ and known.word == ARCHITECTURE and insn.if_true != insn.if_false
-    yield known._replace(architecture=insn.k) if is_test else known
+    yield replace(known, architecture=insn.k) if is_test else known
     yield known
 
 
-def _held(insns: Sequence[Instruction]) -> list[Known]:
+def held(insns: Sequence[Instruction]) -> list[Known]:
     """What holds at each instruction; all jumps go forwards."""
     found: dict[int, Known] = {0: Known()}
     for place, insn in enumerate(insns):
@@ -90,11 +92,12 @@ def _held(insns: Sequence[Instruction]) -> list[Known]:
     return [found.get(place, Known()) for place in range(len(insns))]
 
 
-def _name_of(k: int, architecture: int | None, table: Table) -> str:
+def name_of(k: int, architecture: int | None, table: Table) -> str:
     """The name of a syscall number that a filter tests."""
+    named = " or ".join(Call(k, architecture or X86_64).names(table))
     if architecture not in (None, X86_64):
-        return f"number {k} of {ARCHITECTURES.get(architecture, hex(architecture))}"
-    return " or ".join(table.names_of(k)) or number_text(k)
+        return f"{named or f'number {k}'} of {ARCHITECTURES.get(architecture, hex(architecture))}"
+    return f"x32 {named}" if named and k >= X32 else named or number_text(k)
 
 
 def _tested(insn: Instruction, known: Known, table: Table) -> str | None:
@@ -106,7 +109,7 @@ def _tested(insn: Instruction, known: Known, table: Table) -> str | None:
         return ARCHITECTURES.get(insn.k) if test == JEQ else None
     if insn.k == X32 and test in (JGE, JSET):
         return "x32"
-    name = _name_of(insn.k, known.architecture, table)
+    name = name_of(insn.k, known.architecture, table)
     return {JEQ: name, JGT: f"above {name}", JGE: f"from {name} on"}.get(test)
 
 
@@ -117,7 +120,7 @@ def _meaning(place: int, insn: Instruction, known: Known, table: Table, count: i
         return WORDS.get(insn.word) or f"argument {at // 2}, {'high' if at % 2 else 'low'} half"
     if insn.code == RETURN_CONSTANT:
         action, data = ACTIONS.get(insn.k >> 16, "an unknown action"), insn.k & 0xFFFF
-        return f"{action} {data}" if data or action == "ERRNO" else action
+        return Answer(action, data).named() if data or action == "ERRNO" else action
     if insn.kind != JUMPS or (insn.code != JUMP and insn.code & 0xF0 not in (JEQ, JGT, JGE, JSET)):
         return None
     shown = [f"{it}" if it < count else f"{it}, which is out of range" for it in insn.targets(place)]
@@ -136,6 +139,6 @@ def listed(data: bytes, lines: Sequence[str], table: Table) -> Iterator[str]:
     """The lines of `scf dis`, each after its index and before its comment."""
     insns = instructions(data)
     place_width, line_width = len(str(len(lines) - 1)), max(map(len, lines), default=0)
-    for place, (line, insn, known) in enumerate(zip(lines, insns, _held(insns))):
+    for place, (line, insn, known) in enumerate(zip(lines, insns, held(insns))):
         means = _meaning(place, insn, known, table, len(insns))
         yield f"{place:{place_width}}  " + (f"{line:{line_width}}  // {means}" if means else line)

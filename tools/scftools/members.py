@@ -4,11 +4,11 @@ from __future__ import annotations
 
 import difflib
 from collections.abc import Iterator, Sequence
-from dataclasses import dataclass, field
 
 from . import profiles, tables
 from .entries import Object
 from .findings import MOST, Finding, shown
+from .values import dataclass
 
 # How similar a member must be to be the nearest.
 LIKENESS = 0.7
@@ -25,7 +25,7 @@ ENGINES = {"defaultErrno": "only podman reads defaultErrno, an errno's name or i
 class Members:
     """A walk over the members of a profile's objects; how many nearest names are still to be searched for."""
 
-    nearest: int = field(default=MOST)
+    nearest: int = MOST
 
     def _near(self, name: str, known: Sequence[str]) -> str | None:
         """The member most similar to this one, ignoring case."""

@@ -7,7 +7,7 @@ from collections.abc import Iterator, Sequence
 from . import tables
 from .entries import Object
 from .findings import Finding, listed, shown
-from .profiles import LETS_THROUGH
+from .profiles import ACTIONS, LETS_THROUGH
 from .reasons import HOLDS
 from .tables import Table
 
@@ -17,8 +17,6 @@ ARCHITECTURES = tuple(f"SCMP_ARCH_{it}" for it in (
     "X86_64 X86 X32 ARM AARCH64 LOONGARCH64 M68K MIPS MIPS64 MIPS64N32 MIPSEL MIPSEL64 MIPSEL64N32 PARISC PARISC64 PPC "
     "PPC64 PPC64LE RISCV64 S390 S390X SH SHEB").split())
 FLAGS = tuple(f"SECCOMP_FILTER_FLAG_{it}" for it in "TSYNC LOG SPEC_ALLOW WAIT_KILLABLE_RECV".split())
-ACTIONS = tuple(f"SCMP_ACT_{it}" for it in
-                "ALLOW LOG ERRNO TRACE TRAP NOTIFY KILL KILL_THREAD KILL_PROCESS".split())
 # Other names for these architectures.
 ALIASES = {"AMD64": "X86_64", "X86-64": "X86_64", "X64": "X86_64", "ARM64": "AARCH64"}
 

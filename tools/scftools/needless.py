@@ -8,11 +8,11 @@ entries can be removed together, and each by itself.
 from __future__ import annotations
 
 from collections.abc import Callable, Iterator, Sequence
-from dataclasses import dataclass
 
 from .calls import Call
 from .entries import Conditions, Entry, profile_of, record_of
 from .trials import Trial
+from .values import dataclass, replace
 from .verdicts import MORE, SAME, Verdict
 
 REFUSES, ALLOWS = ("SCMP_ACT_ERRNO", 1), ("SCMP_ACT_ALLOW", 0)
@@ -94,7 +94,7 @@ class Search:
     def _kept(self, gone: set[Named]) -> Iterator[Entry]:
         """The entries without these names."""
         for entry in self.entries.values():
-            yield entry._replace(names=tuple(it for it in entry.names if (entry.place, it) not in gone))
+            yield replace(entry, names=tuple(it for it in entry.names if (entry.place, it) not in gone))
 
     def _settle(self, doubtful: Sequence[Named]) -> None:
         """Removes what scf proves to be without effect: all of it, or else the same for its halves."""

@@ -1,29 +1,28 @@
 """Syscalls with numbers above all that a profile names, which the filters deny with another answer than the profile.
 
 runc makes its filters answer them with ENOSYS, so that programs fall back on older syscalls
-(libcontainer/seccomp/patchbpf of runc). The results hold for every x86-64 syscall, since they are comparisons of scf:
-of the same filters with a few instructions before each that answer the numbers on one side of a bound.
+(libcontainer/seccomp/patchbpf of runc). The results hold for every x86-64 syscall, since they are comparisons of scf
+over the numbers on each side of a bound.
 """
 from __future__ import annotations
 
 import json
 from collections.abc import Iterator, Sequence
-from dataclasses import dataclass, replace
 
-from . import bundles, program, verdicts
+from . import bundles, client, verdicts
 from .answers import Answer
 from .calls import Call
 from .engines import STUB
-from .filters import Filter, answering_below, answering_from
 from .tables import Table
-from .verdicts import DIFFERS, SAME, NamedCall, Report, Verdict
+from .values import dataclass, replace
+from .verdicts import CALLS, DIFFERS, SAME, NamedCall, Report, Verdict
 
 TYPE_CHECKING = False
 if TYPE_CHECKING:
-    from .comparing import Comparison
+    from .compare import Comparison
 
 
-# The answer of runc's stub, ENOSYS: as a profile that answers nothing else, and as the filter's return value.
+# The answer of runc's stub, ENOSYS: as a profile that answers nothing else, and as a filter's return value.
 ENOSYS_PROFILE, ENOSYS = b'{"defaultAction": "SCMP_ACT_ERRNO", "defaultErrnoRet": 38}', 0x00050000 | 38
 
 
@@ -54,17 +53,18 @@ def compared_with_stub(comparison: Comparison, scope: str, first: int | None) ->
     below are answered as the profile says, and that those from there on all get ENOSYS.
     """
     status, report = comparison.run(scope)
-    default = default_of(comparison) if first is not None and comparison.relation == SAME else None
-    if first is None or default is None or report.verdict is None or not report.verdict.fails:
+    if first is None or comparison.relation != SAME or report.verdict is None or not report.verdict.fails:
         return status, report, False
-    below = [Filter(one.name, answering_from(one.data, first, default[1].word)) for one in comparison.filters]
-    above = [Filter(one.name, answering_below(one.data, first, ENOSYS)) for one in comparison.filters]
-    status, report = replace(comparison, filters=below).run(scope)
+    if scope == CALLS:
+        expected = replace(comparison, profile=with_stub(comparison.profile, comparison.table, first), _facts=[])
+        status, report = expected.run(CALLS)
+        return status, report, report.verdict is not None and report.verdict.holds
+    status, report = comparison.of_numbers(0, first)
     if report.verdict is None or not report.verdict.holds:
         return status, report, False
-    _, beyond = replace(comparison, filters=above, profile=ENOSYS_PROFILE, _facts=[]).run(scope)
+    beyond_status, beyond = replace(comparison, profile=ENOSYS_PROFILE, _facts=[]).of_numbers(first)
     if beyond.verdict is None or not beyond.verdict.holds:
-        return (program.REFUSED if beyond.verdict and beyond.verdict.fails else program.UNKNOWN), beyond, False
+        return beyond_status, beyond, False
     return status, report, True
 
 
@@ -101,38 +101,34 @@ def default_of(comparison: Comparison) -> tuple[bytes, Answer] | None:
     if comparison.facts is None:
         return None
     alone = comparison.facts.default_alone()
-    compiled = program.scf(["compile"], bundles.of_compilation(alone, comparison.table.data))
-    answer = verdicts.decision(program.scf(["run"], compiled.out).text).answer if compiled.status == 0 else None
+    compiled = client.run(["compile"], bundles.of_compilation(alone, comparison.table.data))
+    answer = verdicts.decision(client.run(["run"], compiled.out).text).answer if compiled.status == 0 else None
     return None if answer is None else (alone, answer)
 
 
 def calls_of(comparison: Comparison) -> Newer | None:
     """The syscalls above all that the profile names, from the first that differs on, if both sides deny them all."""
-    greatest, default = greatest_named(comparison), default_of(comparison)
-    if greatest is None or default is None or not default[1].refuses:
+    greatest = greatest_named(comparison)
+    verdict = None if greatest is None else comparison.of_numbers(greatest + 1)[1].verdict
+    if greatest is None or verdict is None or verdict.call is None or not verdict.both_deny:
         return None
-    alone, refused = default
-    above = [answering_below(one.data, greatest + 1, refused.word) for one in comparison.filters]
-    verdict = comparison.native(above, alone).verdict
-    if verdict is None or verdict.call is None or verdict.filters is None or not verdict.filters.refuses:
-        return None
-    least, most = greatest + 1, verdict.call.number
-    while least < most:
-        middle = (least + most + 1) // 2
-        if comparison.is_same([answering_from(data, middle, refused.word) for data in above], alone):
-            least = middle
-        else:
-            most = middle - 1
-    # whatever the search found: from there on every syscall has this one answer, which isn't the profile's
+    assert verdict.filters is not None and verdict.profile is not None
     answer = verdict.filters.as_profile()
-    others = [answering_below(one.data, least, verdict.filters.word) for one in comparison.filters]
-    return Newer(least, verdict.filters, refused) if answer and comparison.is_same(others, answer) else None
+    if not answer:
+        return None
+    alike = replace(comparison, profile=answer, _facts=[])
+    # what isn't all of them is said of those from the example on, if none below differs
+    for first in dict.fromkeys((greatest + 1, verdict.call.number)):
+        below = comparison.of_numbers(greatest + 1, first)[1].verdict if first > greatest + 1 else None
+        beyond = alike.of_numbers(first)[1].verdict
+        if (below is None or below.holds) and beyond is not None and beyond.holds:
+            return Newer(first, verdict.filters, verdict.profile)
+    return None
 
 
 def another_call(comparison: Comparison, found: Newer) -> Verdict | None:
     """The verdict on the x86-64 syscalls that aren't among these, or None if they are the same."""
-    filters = [answering_from(one.data, found.first, found.profile.word) for one in comparison.filters]
-    verdict = comparison.native(filters).verdict or Verdict(DIFFERS)
+    verdict = comparison.of_numbers(0, found.first)[1].verdict or Verdict(DIFFERS)
     return None if verdict.word == SAME else verdict
 
 
@@ -141,10 +137,10 @@ def of_named_calls(comparison: Comparison, calls: Sequence[NamedCall]) -> Iterat
     greatest = greatest_named(comparison)
     if greatest is None:
         return
-    above = [call for call in calls if call.number > greatest and call.verdict.both_refuse]
+    above = [call for call in calls if call.number > greatest and call.verdict.both_deny]
     if not above:
         return
-    others = [call.verdict.word for call in calls if call.number <= greatest or not call.verdict.both_refuse]
+    others = [call.verdict.word for call in calls if call.number <= greatest or not call.verdict.both_deny]
     for word in dict.fromkeys(others):
         yield f"other syscalls that {'differ' if word == DIFFERS else f'are {word}'}: {others.count(word)}"
     yield f"{_told('syscalls in the table', not others, above[0].number, comparison.table)}: {len(above)}"

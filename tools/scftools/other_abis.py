@@ -9,16 +9,17 @@ kind. If scf can't decide, some syscalls are tried by `scf decide`, and the resu
 from __future__ import annotations
 
 from collections.abc import Iterable, Sequence
-from dataclasses import dataclass
 
-from . import architectures, bundles, effort, program, verdicts
-from .answers import I386, MADE, X32, X86_64, Answer
+from . import architectures, bundles, client, verdicts
+from .answers import ALLOWED, I386, X32, X86_64, Answer
 from .calls import NO_CALL, Call, number_text
 from .filters import JEQ, JGE, JSET, JUMP, LOAD_WORD, RETURN_CONSTANT, instruction
+from .tables import Table
+from .values import dataclass
 from .verdicts import MORE, NO_MORE
 
 ALLOWS_NATIVE = b'{"defaultAction": "SCMP_ACT_ALLOW"}'
-ALLOWED, REFUSED = (instruction(RETURN_CONSTANT, Answer(action, 0).word) for action in ("ALLOW", "KILL_PROCESS"))
+ALLOW, KILL = (instruction(RETURN_CONSTANT, Answer(action, 0).word) for action in ("ALLOW", "KILL_PROCESS"))
 # struct seccomp_data in linux/seccomp.h
 NUMBER, ARCHITECTURE = instruction(LOAD_WORD, 0), instruction(LOAD_WORD, 4)
 OTHERS = "other ABIs: the kernel has no others"
@@ -43,13 +44,16 @@ class Kind:
     @property
     def alone(self) -> bytes:
         """The filter that allows only these syscalls."""
-        return self.tests + ALLOWED + REFUSED
+        return self.tests + ALLOW + KILL
 
     def told(self, number: int) -> str:
         """A syscall's name and number."""
-        name = next((name for name, one in self.calls if one == number), None)
-        shown = number_text(number, self.architecture)
-        return f"{name} ({shown.partition(' ')[2]})" if name else shown
+        shown, names = number_text(number, self.architecture), self.names(number)
+        return f"{names[0]} ({shown.partition(' ')[2]})" if names else shown
+
+    def names(self, number: int) -> list[str]:
+        """The names of a syscall in the table of its architecture."""
+        return Call(number, self.architecture).names(Table(b""))
 
 
 # arch/x86/entry/syscalls/syscall_32.tbl, and the x32 rows of syscall_64.tbl.
@@ -75,7 +79,7 @@ def denial_filters(profile_names: Iterable[str]) -> list[bytes]:
             tests += [kind.tests for kind in KINDS if kind.profile_name == name]
         elif name in architectures.NUMBERS:
             tests.append(ARCHITECTURE + jump(JEQ, architectures.NUMBERS[name], 0, 1))
-    return [one + REFUSED + ALLOWED for one in tests]
+    return [one + KILL + ALLOW for one in tests]
 
 
 @dataclass(frozen=True)
@@ -93,12 +97,13 @@ class Proved:
     def told(self) -> str:
         if self.call is None or self.answer is None:
             return f"{self.kind.name}: every syscall is denied"
-        which = "some syscalls are allowed" if self.answer.disposition == MADE else "not every syscall is denied"
+        which = "some syscalls are allowed" if self.answer.disposition == ALLOWED else "not every syscall is denied"
         return f"{self.kind.name}: {which}, such as {self.kind.told(self.call.number)}: {self.answer}"
 
     def as_json(self) -> dict[str, object]:
         shown = [] if self.call is None or self.answer is None else [
-            {"number": self.call.number, "architecture": hex(self.call.architecture), "answer": self.answer.as_json()}]
+            {"number": self.call.number, "names": self.kind.names(self.call.number),
+             "architecture": hex(self.call.architecture), "answer": self.answer.as_json()}]
         return {"kind": self.kind.name, "is_decided": True, "let_through": shown}
 
 
@@ -126,7 +131,7 @@ class Tried:
 def _proved(filters: Sequence[bytes], kind: Kind, limit: str | None) -> Proved | None:
     """scf's result for all syscalls of a kind, or None if it can't decide."""
     given = bundles.of_comparison([kind.alone, *filters], ALLOWS_NATIVE, b"")
-    done = effort.compare(["--no-more"], given, limit)
+    done = client.compare(["--no-more"], given, limit)
     verdict = verdicts.report(done.text).verdict
     if verdict is None:
         return None
@@ -140,11 +145,11 @@ def _tried(filters: Sequence[bytes], kind: Kind) -> Tried | None:
     given = bundles.of_stack(filters)
     found = []
     for name, number in kind.calls:
-        done = program.scf(["decide", *Call(number, kind.architecture).words()], given)
+        done = client.run(["decide", *Call(number, kind.architecture).words()], given)
         answer = verdicts.decision(done.text).answer
         if answer is None:
             return None
-        if answer.lets_through:
+        if answer.allows:
             found.append((name, number, answer))
     return Tried(kind, tuple(found))
 

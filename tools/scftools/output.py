@@ -37,6 +37,27 @@ def escaped(text: str | bytes) -> str:
     return CONTROL.sub(_bytes_of, data.decode("utf-8", "backslashreplace"))
 
 
+# Verdicts, and how other lines begin that say as much: in green, in red and in yellow (ECMA-48), where output is coloured.
+VERDICTS = {"same": 32, "no more": 32, "no less": 32, "differs": 31, "more": 31, "less": 31, "unfinished": 33}
+BEGINNINGS = {"accepted ": 32, "fault ": 31, "undecided at ": 33, "undetermined: ": 33}
+# `always`, `never`, or `auto`, which colours at a terminal unless NO_COLOR is set (no-color.org).
+color = "auto"
+
+
+def _is_colored() -> bool:
+    if color == "auto":
+        return sys.stdout is not None and sys.stdout.isatty() and not os.environ.get("NO_COLOR")
+    return color == "always"
+
+
+def _colored(line: str) -> str:
+    """A line, safe by itself, in the colour of what it says; the tools' own lines are faint."""
+    found = VERDICTS.get(line) or next((it for word, it in BEGINNINGS.items() if line.startswith(word)), None)
+    if found is None and not line.startswith("# "):
+        return line
+    return f"\x1b[{f'1;{found}' if found else 2}m{line}\x1b[0m"
+
+
 class Failed(OSError):
     """Output can't be written."""
 
@@ -52,8 +73,8 @@ def put(text: str | bytes) -> None:
 
 
 def put_line(text: str) -> None:
-    """Prints a line, escaped."""
-    put(f"{escaped(text)}\n")
+    """Prints a line, escaped, in colour where that is wanted."""
+    put(f"{_colored(escaped(text)) if _is_colored() else escaped(text)}\n")
 
 
 def say(name: str, text: str) -> None:
@@ -75,8 +96,30 @@ def flush() -> None:
         raise Failed(error.errno, error.strerror) from error
 
 
-def put_json(value: object) -> None:
-    """Prints a value as a line of JSON, in which control characters and those beyond ASCII are escaped."""
+# The version of docs/JSON.md: members may be added to it; one that goes or changes its meaning makes another version.
+SCHEMA = 1
+
+
+def put_json(value: dict[str, object]) -> None:
+    """Prints an object as a line of JSON, in which control characters and those beyond ASCII are escaped."""
     import json  # pylint: disable=import-outside-toplevel
 
-    put(json.dumps(value).replace("\x7f", "\\u007f") + "\n")
+    put(json.dumps({**value, "schema": SCHEMA}).replace("\x7f", "\\u007f") + "\n")
+
+
+def replace_file(path: str, text: str) -> None:
+    """Writes a file at once: who reads it meanwhile sees the old one or the new one."""
+    import tempfile  # pylint: disable=import-outside-toplevel
+
+    try:
+        file, name = tempfile.mkstemp(prefix=".scf-", dir=os.path.dirname(path) or ".")
+    except OSError as error:
+        raise OSError(error.errno, error.strerror, path) from error
+    try:
+        with os.fdopen(file, "wb") as opened:
+            opened.write(text.encode("utf-8", "backslashreplace"))
+        os.chmod(name, 0o644)
+        os.replace(name, path)
+    except BaseException:
+        os.unlink(name)
+        raise

@@ -3,14 +3,14 @@ from __future__ import annotations
 
 import re
 from collections.abc import Iterator, Sequence
-from dataclasses import dataclass
 
-from . import listing, program, verdicts
+from . import client, listing, verdicts
 from .answers import Answer
 from .calls import Call
 from .filters import Filter
 from .listing import Instruction
 from .tables import Table
+from .values import dataclass
 from .verdicts import Decision
 
 PRINTED = re.compile(r"path((?: [0-9]+)+)")
@@ -45,7 +45,7 @@ def _stretches(places: Sequence[int]) -> list[tuple[int, int]]:
 
 def of(data: bytes, words: Sequence[str], with_path: bool = True) -> Path:
     """A filter's answer to the record that scf's options give, and on request the path to it."""
-    done = program.scf(["run", *["--path"] * with_path, *words], data)
+    done = client.run(["run", *["--path"] * with_path, *words], data)
     found = PRINTED.fullmatch("".join(done.lines[1:2]))
     return Path(done.status, tuple(done.lines), verdicts.decision(done.text),
                 tuple(map(int, found[1].split())) if found else ())
@@ -114,6 +114,6 @@ def _tests(insns: Sequence[Instruction], places: Sequence[int], call: Call) -> I
 def last_tests(data: bytes, path: Path, call: Call, table: Table) -> tuple[int, list[str]]:
     """The last tests on a path and its end, as lines of the listing; and the number of tests before them."""
     insns = listing.instructions(data)
-    lines = list(listing.listed(data, program.scf(["dis"], data).lines, table))
+    lines = list(listing.listed(data, client.run(["dis"], data).lines, table))
     found = [f"{lines[place]}{way}" for place, way in _tests(insns, path.places, call)]
     return max(len(found) - MOST, 0), found[-MOST:]

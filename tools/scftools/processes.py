@@ -10,7 +10,6 @@ from __future__ import annotations
 import os
 import signal
 from collections.abc import Callable, Sequence
-from dataclasses import dataclass, field
 
 from . import child, output, program
 from .child import Interrupted
@@ -18,11 +17,13 @@ from .containers import Container, container_of
 from .filters import Filter
 from .hold import Ended, Hold, Unreadable, Waiting, called, require_rights, stack_of
 from .ptrace import Kernel
+from .values import dataclass, field
 
 TYPE_CHECKING = False
 if TYPE_CHECKING:
     from typing import TypeVar
 
+    from .restart import Restarts
     from .words import Parser
 
     Read = TypeVar("Read")
@@ -121,10 +122,11 @@ def found_in(kernel: Kernel, hold: Hold) -> Found:
 
 
 def read_threads(kernel: Kernel, listed: Callable[[], dict[int, int]], patience: float,
-                 is_forced: bool = False) -> Found:
-    """Stops all threads that are listed, reads what each has, and lets them run on."""
+                 is_forced: bool = False, restarts: Restarts | None = None) -> Found:
+    """Stops all threads that are listed, reads what each has, and lets them run on. `restarts` is that of an earlier
+    call, if there was one."""
     require_rights(kernel)
-    with Hold(kernel, listed, patience, is_forced) as hold:
+    with Hold(kernel, listed, patience, is_forced, restarts) as hold:
         while True:
             hold.stop_all()
             try:
@@ -204,11 +206,11 @@ def read_or_end(read: Callable[[], Read], has_force: bool = False, is_json: bool
     except Unreadable as error:
         why = f"{error} (--force stops it)" if has_force and isinstance(error, Waiting) else str(error)
         if is_json:
-            output.put_json({"status": program.FAILED, "verdict": None, "stacks": [], "why": output.escaped(why)})
-        raise program.Refused(why, program.FAILED) from error
+            output.put_json({"status": program.IO_ERROR, "verdict": None, "stacks": [], "why": output.escaped(why)})
+        raise program.ToolError(why, program.IO_ERROR) from error
     except Interrupted as came:
         number = came.args[0]
         output.say(program.name(), f"ended by {signal.Signals(number).name}; all stopped threads continue")
         signal.signal(number, signal.SIG_DFL)
         os.kill(os.getpid(), number)
-        raise program.Refused("the signal didn't end it", program.FAILED) from came
+        raise program.ToolError("the signal didn't end it", program.IO_ERROR) from came

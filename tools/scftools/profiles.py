@@ -8,17 +8,23 @@ import functools
 import json
 import re
 from collections.abc import Callable, Iterator
-from dataclasses import dataclass
+
+from . import json_places
+from .values import dataclass
 
 TYPE_CHECKING = False
 if TYPE_CHECKING:
     from typing import Any
 
 DEEPEST = 127
+# Half of a character, which stands alone.
+SURROGATE = re.compile("[\ud800-\udfff]")
 # No number that scf takes has more digits.
 LONGEST_NUMBER = 40
 # The default actions that allow what no rule names.
 LETS_THROUGH = ("SCMP_ACT_ALLOW", "SCMP_ACT_LOG")
+ACTIONS = tuple(f"SCMP_ACT_{it}" for it in
+                "ALLOW LOG ERRNO TRACE TRAP NOTIFY KILL KILL_THREAD KILL_PROCESS".split())
 
 # The members of a profile, in the form of the OCI runtime specification (config-linux.md: Seccomp) and in those of the
 # engines (profiles/seccomp of moby, pkg/seccomp of containers-common), each with what its value is: a text, a whole
@@ -36,6 +42,13 @@ CONFIG = {**SECCOMP, "linux": {"seccomp": SECCOMP}}
 # Letters that encoding/json of Go takes for others in the name of a member (equalFoldRight in fold.go): of ASCII those
 # of the other case, and U+017F and U+212A.
 _FOLD = {**{upper: upper + 32 for upper in range(ord("A"), ord("Z") + 1)}, 0x17F: ord("s"), 0x212A: ord("k")}
+
+
+class Made(bytes):
+    """A profile that a tool made of another one: no line and no column of it is one of the user's file. `within` is the
+    member of the file that it is, or None if the file has other entries."""
+
+    within: str | None = None
 
 
 @dataclass(frozen=True)
@@ -180,11 +193,6 @@ def errno_by_name(data: bytes) -> str | None:
         return None
 
 
-def _place(text: str, at: int) -> str:
-    line = text.count("\n", 0, at) + 1
-    return f"line {line}, column {at - (text.rfind(chr(10), 0, at) + 1) + 1}"
-
-
 def _too_deep(text: str) -> int | None:
     """Where JSON nests deeper than scf's parser allows."""
     depth, is_text, escaped = 0, False, -1
@@ -210,22 +218,40 @@ def _refuse(number: str) -> None:
     raise ValueError(f"the profile has {number}, which isn't a JSON number")
 
 
+def _odd_value(text: str) -> str | None:
+    """A value that Python's reader takes, and scf's doesn't: NaN and the like, a number out of range, an unpaired
+    surrogate."""
+    for at, path, token in json_places.values(text):
+        where = f"at {json_places.place(text, at)} {json_places.path_told(path) or 'the profile'}"
+        if token in ("NaN", "Infinity", "-Infinity"):
+            return f"{where} is {token}, which isn't a JSON number"
+        if token[0] in "-0123456789" and len(token) <= LONGEST_NUMBER and abs(float(token)) == float("inf"):
+            return f"{where} is a number out of range"
+        if token[0] == '"' and "\\u" in token and SURROGATE.search(json.loads(token)):
+            return f"{where} has an unpaired surrogate"
+    return None
+
+
 def where_json_ends(data: bytes) -> str:
     """Where and why a profile is malformed that scf refuses as `Json`."""
     try:
         text = data.decode("utf-8")
     except UnicodeDecodeError as error:
         before = data[:error.start].decode("utf-8")
-        return f"the profile isn't UTF-8 from {_place(before, len(before))} on"
+        return f"the profile isn't UTF-8 from {json_places.place(before, len(before))} on"
     try:
         deep = _too_deep(text)
         if deep is not None:
-            return f"at {_place(text, deep)} the profile is nested more than {DEEPEST} deep"
+            return f"at {json_places.place(text, deep)} the profile is nested more than {DEEPEST} deep"
         json.loads(text, parse_int=str, parse_float=str, parse_constant=_refuse)
     except json.JSONDecodeError as error:
-        return f"the JSON is malformed at {_place(text, error.pos)}: {error.msg}"
+        # where a comma lacks, the next value isn't the one that is meant
+        within = json_places.where_in(text, error.pos - ("delimiter" in error.msg))
+        return (f"the JSON is malformed at {json_places.place(text, error.pos)}: {error.msg}"
+                + (f" ({within})" if within else ""))
     except ValueError as error:
-        return str(error)
+        return _odd_value(text) or str(error)
     except RecursionError:
         pass
-    return "Python's JSON parser accepts it: look for unpaired surrogates, and for numbers out of range"
+    return _odd_value(text) or ("Python's JSON parser accepts it: look for unpaired surrogates, and for numbers out of "
+                                "range")

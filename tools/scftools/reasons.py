@@ -5,19 +5,17 @@ from __future__ import annotations
 import json
 import re
 from collections.abc import Iterator, Sequence
-from dataclasses import dataclass
 
-from . import bundles, comparing, explanation, paths, profiles, program
+from . import bundles, client, explanation, paths, profiles, program
 from .answers import Answer
 from .calls import Call
-from .comparing import Comparison
-from .decisions import Asked, Told
-from .filters import RETURN_CONSTANT, Filter, instruction
 from .tables import Table
-from .verdicts import FOR_OTHER_ABI, UNDETERMINED, Fault, Verdict
+from .values import dataclass
+from .verdicts import Fault, Verdict
 
 TYPE_CHECKING = False
 if TYPE_CHECKING:
+    from .compare import Comparison
     from .engines import Origin
 
 PRINTED = re.compile(r"(\w+ \w+) (?:entry ([0-9]+)|(default)|(foreign))")
@@ -50,7 +48,7 @@ class Reason:
 
 def of(profile: bytes, table: Table, words: Sequence[str]) -> Reason:
     """A profile's reason for the record that scf's options give."""
-    done = program.scf(["ask", *words], bundles.of_compilation(profile, table.data))
+    done = client.run(["ask", *words], bundles.of_compilation(profile, table.data))
     return _read(done.status, done.text)
 
 
@@ -64,7 +62,7 @@ def _read(status: int, text: str) -> Reason:
 
 def meaning(text: str, call: Call | None, table: Table) -> Iterator[str]:
     """What output of `scf ask` means without the profile."""
-    reason = _read(program.WELL, text)
+    reason = _read(program.SUCCESS, text)
     if reason.answer:
         if call is not None:
             yield from explanation.of_call(call, table)
@@ -121,17 +119,6 @@ def told(reason: Reason, profile: bytes, call: Call | None, origins: Sequence[Or
                 yield held
 
 
-def _added(reason: Reason, profile: bytes, call: Call | None, table: Table) -> Iterator[str]:
-    """The lines after scf's."""
-    if reason.fault:
-        yield from comparing.of_fault(reason.fault, profile, table)
-    elif reason.answer:
-        if call is not None:
-            yield from explanation.of_call(call, table)
-        yield explanation.of_answer(reason.answer)
-        yield from told(reason, profile, call)
-
-
 def as_json(reason: Reason, profile: bytes, call: Call | None,
             origins: Sequence[Origin] | None = None) -> dict[str, object]:
     """What gives the answer, as members of an object."""
@@ -145,35 +132,6 @@ def as_json(reason: Reason, profile: bytes, call: Call | None,
         held = [_held(it, call) for it in _conditions(entry)] if call else []
         found.update(place=index, entry=entry, held=[it for it in held if it])
     return found
-
-
-def _json_of(reason: Reason, profile: bytes, call: Call | None, table: Table) -> dict[str, object]:
-    found: dict[str, object] = {}
-    if call:
-        found["call"] = call.as_json(table)
-    if reason.answer:
-        found["answer"] = {**reason.answer.as_json(), "does": reason.answer.does()}
-    if reason.fault:
-        found["fault"] = {**reason.fault.as_json(),
-                          "sentences": list(comparing.of_fault(reason.fault, profile, table))}
-    return {**found, **as_json(reason, profile, call)}
-
-
-def _architectures(profile: bytes, table: Table) -> tuple[str, ...]:
-    """The architectures of a profile beside x86-64, which a comparison without a step reports."""
-    allows = instruction(RETURN_CONSTANT, Answer("ALLOW", 0).word)
-    return Comparison([Filter("", allows)], profile, table, "0").run(comparing.NATIVE)[1].architectures
-
-
-def ask(profile: bytes, one: Asked, table: Table) -> Told:
-    """What a profile answers to a syscall, and why."""
-    reason = of(profile, table, one.words())
-    if reason.is_foreign and one.call is not None and one.call.other_abi in _architectures(profile, table):
-        call = one.call
-        return Told(program.UNKNOWN, [FOR_OTHER_ABI], lambda: explanation.of_call(call, table),
-                    lambda: {"call": call.as_json(table), "reason": UNDETERMINED})
-    return Told(reason.status, [reason.line] if reason.line else [], lambda: _added(reason, profile, one.call, table),
-                lambda: _json_of(reason, profile, one.call, table))
 
 
 def of_difference(comparison: Comparison, verdict: Verdict) -> Iterator[str]:

@@ -11,12 +11,12 @@ from __future__ import annotations
 
 import errno
 from collections.abc import Sequence
-from dataclasses import dataclass
 
-from . import bundles, paths, program, verdicts
-from .answers import I386, MADE, REFUSED, X32, X86_64, Answer
+from . import bundles, client, paths, program, verdicts
+from .answers import ALLOWED, DENIED, I386, X32, X86_64, Answer
 from .filters import INSTRUCTION, LOAD_WORD, POINTER, RETURN_CONSTANT
 from .ptrace import Kernel
+from .values import dataclass
 
 # linux/errno.h. What a handler of a signal doesn't interrupt begins anew by each of them but the last, by which it goes
 # on by restart_syscall; a handler interrupts by NOHAND and by RESTARTBLOCK alike.
@@ -128,9 +128,9 @@ class Restarts:
         if not filters:
             return interrupted.number
         calls = interrupted.calls
-        if interrupted.goes_on and all(self.becomes(filters, call.restart) == MADE for call in calls):
+        if interrupted.goes_on and all(self.becomes(filters, call.restart) == ALLOWED for call in calls):
             return ERESTART_RESTARTBLOCK
-        return errno.EINTR if any(self.becomes(filters, call) == REFUSED for call in calls) else interrupted.anew
+        return errno.EINTR if any(self.becomes(filters, call) == DENIED for call in calls) else interrupted.anew
 
     def goes_to_supervisor_again(self, thread: int, filters: tuple[bytes, ...]) -> bool:
         """Whether a stopped thread's call begins anew, and is one that a supervisor answers."""
@@ -157,13 +157,10 @@ class Restarts:
 
 
 def run(words: Sequence[str], given: bytes) -> str:
-    """What scf prints; nothing if it isn't built, since building it takes long."""
-    path = program.built()
-    if path is None:
-        return ""
+    """What scf prints; nothing if it isn't built, since building it takes long, or can't be run."""
     try:
-        return program.run(path, words, given).text
-    except (program.Refused, OSError):
+        return client.run(words, given, may_build=False).text
+    except (program.ToolError, OSError):
         return ""
 
 
@@ -175,7 +172,7 @@ def answer_of(filters: tuple[bytes, ...], call: Call) -> Answer | None:
 def is_by_number(data: bytes, call: Call) -> bool:
     """Whether a filter answers a syscall without loading its arguments or its instruction pointer: then every syscall
     with that number and architecture takes the same path."""
-    found = paths.PRINTED.fullmatch("".join(program.lines_of(run(["run", "--path", *call.words()], data))[1:2]))
+    found = paths.PRINTED.fullmatch("".join(client.lines_of(run(["run", "--path", *call.words()], data))[1:2]))
     insns = list(INSTRUCTION.iter_unpack(data))
     return found is not None and not any(insns[int(place)][0] == LOAD_WORD and insns[int(place)][3] >= POINTER[0]
                                          for place in found[1].split())

@@ -16,10 +16,10 @@ from __future__ import annotations
 import argparse
 import os
 from collections.abc import Iterator, Sequence
-from dataclasses import dataclass, field, replace
 
-from . import engines, inputs, program
+from . import engines, profile_inputs, program, tables
 from .engines import OCI_ARCH, Origin, Refused, Setting, listed, told
+from .values import dataclass, field, replace
 
 TYPE_CHECKING = False
 if TYPE_CHECKING:
@@ -134,8 +134,6 @@ class Library:
             self._resolve.argtypes = [ctypes.c_uint32, ctypes.c_char_p]
             self.is_there = True
         except (OSError, AttributeError, ValueError):
-            from . import tables  # pylint: disable=import-outside-toplevel
-
             self._table, self.is_there = tables.read(None), False
 
     def number_of(self, name: str) -> int | None:
@@ -405,6 +403,6 @@ def applied(value: Any, name: str, setting: Setting | None = None) -> Applied:
 def read(path: str, name: str, setting: Setting) -> Applied:
     """What a runtime makes of the profile in a file; ends the tool where it refuses it."""
     try:
-        return applied(engines.read(inputs.read_whole(path, "engine's profile")), name, setting)
+        return applied(engines.read(profile_inputs.read_engines(path)), name, setting)
     except Refused as why:
-        raise program.Refused(f"{path}: {why}", program.REFUSED) from why
+        raise program.ToolError(f"{path}: {why}", program.NEGATIVE) from why

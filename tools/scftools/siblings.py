@@ -28,7 +28,7 @@ def of_siblings(table: Table, ask: Callable[[Call], Reason], found: Sequence[Ent
     for name in dict.fromkeys(name for it in found for name in it.names if name in SIBLINGS):
         denied = _ask(table, ask, name)
         if denied is None or denied.entry is None or name in conditional or denied.answer is None or \
-                not denied.answer.refuses or (denied.answer.action, denied.answer.data) == ENOSYS:
+                not denied.answer.denies or (denied.answer.action, denied.answer.data) == ENOSYS:
             continue
         others = [it for it in SIBLINGS[name].split() if it not in conditional and _is_allowed(table, ask, it)]
         if others:
@@ -44,4 +44,4 @@ def _ask(table: Table, ask: Callable[[Call], Reason], name: str) -> Reason | Non
 
 def _is_allowed(table: Table, ask: Callable[[Call], Reason], name: str) -> bool:
     reason = _ask(table, ask, name)
-    return reason is not None and reason.answer is not None and reason.answer.lets_through
+    return reason is not None and reason.answer is not None and reason.answer.allows

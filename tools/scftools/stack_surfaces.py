@@ -2,18 +2,17 @@
 from __future__ import annotations
 
 from collections.abc import Iterator, Sequence
-from dataclasses import dataclass
 
-from . import beside, explanation, output, program, surface_output, surfaces, verifying
+from . import beside, client, explanation, output, program, row_conditions, surface_output, surfaces, verify
 from .beside import Beside
-from .comparing import fault_of_one, named
+from .client import Fault, Refusal
 from .filters import Filter
 from .groups import Groups
 from .processes import Found, Stack
-from .questions import Faulty
+from .refusals import faulty_filters, named
 from .surfaces import Surface
 from .tables import Table
-from .verdicts import Report
+from .values import dataclass
 
 
 @dataclass(frozen=True)
@@ -23,28 +22,33 @@ class Asked:
     table: Table
     limit: str | None
     other: Sequence[Filter]
+    # whether to say which arguments get which answer
+    has_conditions: bool = False
 
 
 @dataclass(frozen=True)
 class Block:
-    """A stack with its surface, or scf's report if it refuses the stack, or neither without a filter."""
+    """A stack with its surface, or the fault if scf refuses the stack, or neither without a filter."""
 
     status: int
     filters: Sequence[Filter] = ()
     surface: Surface | None = None
     beside: Beside | None = None
-    refusal: Report | None = None
+    fault: Fault | None = None
     threads: Stack | None = None
 
     @property
     def is_of_all(self) -> bool:
         """Whether every stack would have this fault."""
-        fault = self.refusal.fault if self.refusal is not None else None
-        return fault is not None and fault.source in verifying.OF_ALL
+        return self.fault is not None and self.fault.source in verify.OF_ALL
 
 
 def _surface(filters: Sequence[Filter], asked: Asked) -> Surface:
-    return surfaces.of_filters([one.data for one in filters], asked.table, asked.limit)
+    data = [one.data for one in filters]
+    found = surfaces.of_filters(data, asked.table, asked.limit)
+    if asked.has_conditions:
+        row_conditions.add(data, asked.table, asked.limit, found.rows)
+    return found
 
 
 def of_stack(filters: Sequence[Filter], asked: Asked, threads: Stack | None = None) -> Block:
@@ -53,11 +57,11 @@ def of_stack(filters: Sequence[Filter], asked: Asked, threads: Stack | None = No
     try:
         one = _surface(filters, asked)
         if not asked.other:
-            return Block(program.WELL if one.is_told else program.UNKNOWN, filters, one, threads=threads)
+            return Block(program.SUCCESS if one.is_told else program.UNKNOWN, filters, one, threads=threads)
         refused = asked.other
         both = beside.of_surfaces(one, _surface(asked.other, asked))
-    except Faulty as faulty:
-        return Block(faulty.status, refused, refusal=faulty.report, threads=threads)
+    except Refusal as why:
+        return Block(why.status, refused, fault=why.fault, threads=threads)
     return Block(both.status, filters, one, both, threads=threads)
 
 
@@ -71,22 +75,17 @@ def of_process(found: Found, asked: Asked) -> list[Block]:
                 break
         else:
             # strict mode allows four syscalls, and isn't a filter
-            blocks.append(Block(program.UNKNOWN if stack.is_strict else program.REFUSED, threads=stack))
-    return sorted(blocks, key=lambda it: verifying.WORST_FIRST.index(it.status))
-
-
-def worst(blocks: Sequence[Block]) -> int:
-    return min((block.status for block in blocks), key=verifying.WORST_FIRST.index)
+            blocks.append(Block(program.UNKNOWN if stack.is_strict else program.NEGATIVE, threads=stack))
+    return sorted(blocks, key=lambda it: client.rank(it.status))
 
 
 def _of_refusal(block: Block) -> Iterator[str]:
     """scf's lines, followed by what they mean."""
-    if block.refusal is None or block.refusal.fault is None:
+    if block.fault is None:
         return
-    yield from block.refusal.printed
-    fault = block.refusal.fault
-    yield from (f"# {line}" for line in explanation.of_fault(fault, None))
-    those = fault_of_one(block.filters, fault) if len(block.filters) > 1 else []
+    yield block.fault.line
+    yield from (f"# {line}" for line in explanation.of_fault(block.fault, None))
+    those = faulty_filters(block.filters, block.fault) if len(block.filters) > 1 else []
     if those:
         yield f"# the filter is {named(those)}"
 
@@ -103,17 +102,16 @@ def lines(blocks: Sequence[Block], found: Found | None, width: int | None) -> It
         elif block.surface is not None:
             yield from surface_output.lines(block.surface, groups, width)
         if block.threads is not None and found is not None and not block.is_of_all:
-            yield from (f"# {line}" for line in verifying.of_threads(block.threads, found))
+            yield from (f"# {line}" for line in verify.of_threads(block.threads, found))
     if found is not None:
         yield from (f"# {note}" for note in found.notes)
 
 
 def _json_of(block: Block, found: Found | None, groups: Groups) -> dict[str, object]:
     said: dict[str, object] = {"status": block.status}
-    if block.refusal is not None and block.refusal.fault is not None:
-        fault = block.refusal.fault
-        said["fault"] = {**fault.as_json(), "sentences": list(explanation.of_fault(fault, None))}
-        said["files"] = fault_of_one(block.filters, fault)
+    if block.fault is not None:
+        said["fault"] = {**block.fault.as_json(), "sentences": list(explanation.of_fault(block.fault, None))}
+        said["files"] = faulty_filters(block.filters, block.fault)
     if block.surface is not None:
         said.update(surface_output.as_json(block.surface, groups))
     if block.beside is not None:
@@ -131,5 +129,6 @@ def as_json(blocks: Sequence[Block], found: Found | None) -> dict[str, object]:
     groups = Groups()
     if found is None:
         return _json_of(blocks[0], None, groups)
-    return {"status": worst(blocks), "stacks": [_json_of(block, found, groups) for block in blocks],
+    return {"status": client.worst(block.status for block in blocks),
+            "stacks": [_json_of(block, found, groups) for block in blocks],
             "asked_again": [{"process": process, "thread": thread} for process, thread in found.asked_again]}

@@ -54,10 +54,21 @@ def of_whole(surface: Surface) -> list[str]:
 
 
 def details(row: Row) -> list[str]:
-    """The examples of a number, by disposition, or else one answer."""
+    """The conditions of a number, or its examples by disposition, or else one answer."""
+    if row.conditions is not None:
+        return [row.conditions.told()]
     if row.shown:
         return [f"{word_of(disposition)} {shown.told()}" for disposition, shown in row.shown.items()]
     return [str(row.answer)] if row.answer else []
+
+
+def details_as_c(row: Row) -> list[str]:
+    """The same for a table, which is read by people: syscalls as C would have them, and errnos by name."""
+    if row.conditions is not None:
+        return [row.conditions.told()]
+    if row.shown:
+        return [f"{word_of(disposition)} {shown.told_as_c(row.names[0])}" for disposition, shown in row.shown.items()]
+    return [row.answer.named()] if row.answer else []
 
 
 def plain(rows: Iterable[Row], groups: Groups) -> Iterator[str]:
@@ -77,13 +88,13 @@ def grouped(rows: Iterable[Row], groups: Groups) -> list[tuple[str, list[Row]]]:
 
 def _cell(said: str, rows: Sequence[Row], width: int) -> list[str]:
     """A group's syscalls with the same disposition: their names, or with examples a line or more each."""
-    if not any(row.shown for row in rows):
+    if not any(row.shown or row.conditions for row in rows):
         names = [" or ".join(row.names) for row in rows]
         return wrapped([f"{name}," for name in names[:-1]] + names[-1:], width)
     lines: list[str] = []
     for row in rows:
         lines += wrapped([*" or ".join(row.names).split(), f"({row.number})"], width)
-        for detail in details(row):
+        for detail in details_as_c(row):
             lines += [f"  {line}" for line in wrapped(detail.split(), width - 2)]
     return lines
 
@@ -122,6 +133,8 @@ def row_json(row: Row, groups: Groups) -> dict[str, object]:
         found["never"] = row.never
     elif row.answer:
         found["answer"] = row.answer.as_json()
+    if row.conditions is not None:
+        found["conditions"] = row.conditions.as_json()
     return found
 
 

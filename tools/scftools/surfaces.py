@@ -3,18 +3,22 @@ from __future__ import annotations
 
 from collections import Counter
 from collections.abc import Iterable, Sequence
-from dataclasses import dataclass, field
 
-from . import answers, other_abis, unnamed
+from . import answers, constants, other_abis, unnamed
 from .answers import Answer
 from .calls import Call
 from .questions import IS_MADE, IS_NEVER_MADE, IS_NEVER_REFUSED, IS_REFUSED, Asker, Question
 from .tables import Table
 from .unnamed import Unnamed
+from .values import dataclass, field
 from .verdicts import UNDECIDED, UNFINISHED, NamedCall
 
+TYPE_CHECKING = False
+if TYPE_CHECKING:
+    from .row_conditions import Conditions
+
 MADE, REFERRED, REFUSED, DEPENDS = "made", "referred", "refused", "depends"
-DISPOSITIONS = {answers.MADE: MADE, answers.REFERRED: REFERRED, answers.REFUSED: REFUSED}
+DISPOSITIONS = {answers.ALLOWED: MADE, answers.DELEGATED: REFERRED, answers.DENIED: REFUSED}
 # What may hold for all syscalls of a number, in the order in which it is printed; the last two if scf can't decide.
 SAID = (MADE, DEPENDS, REFERRED, REFUSED, UNDECIDED, UNFINISHED)
 # The words of text output; JSON has those above.
@@ -42,6 +46,11 @@ class Shown:
         at = f"ip {self.call.pointer:#x} " if self.call.pointer else "" if self.is_whole else "at some ip "
         return f"{at}args {' '.join(map(hex, self.call.arguments))} {self.answer}"
 
+    def told_as_c(self, name: str) -> str:
+        """The same, as C would have the syscall, and with the name of an errno."""
+        at = f"ip {self.call.pointer:#x} " if self.call.pointer else "" if self.is_whole else "at some ip "
+        return f"{at}{constants.call_told(name, self.call.arguments)} {self.answer.named()}"
+
     def as_json(self) -> dict[str, object]:
         return {"arguments": [hex(it) for it in self.call.arguments], "is_whole": self.is_whole,
                 "pointer": hex(self.call.pointer or 0) if self.is_whole else None,
@@ -57,6 +66,8 @@ class Row:
     lines: dict[Question, NamedCall | None]
     # an example for each disposition that occurs, if it depends or is undecided
     shown: dict[str, Shown] = field(default_factory=dict)
+    # which arguments get which answer, on request
+    conditions: Conditions | None = None
 
     def holds(self, question: Question) -> bool:
         return question in self.lines and self.lines[question] is None
@@ -135,7 +146,7 @@ def _shown(asker: Asker, question: Question, line: NamedCall) -> Shown:
     assert call is not None and answer is not None
     if asker.decided(call) == answer:
         return Shown(call, answer, True)
-    alone = asker.of_number(question, line.number)
+    alone = asker.of_numbers(question, line.number, line.number)
     if alone is not None and alone.call is not None and alone.filters is not None:
         if disposition_of(alone.filters) == disposition_of(answer) and asker.decided(alone.call) == alone.filters:
             return Shown(alone.call, alone.filters, True)

@@ -1,12 +1,17 @@
 """Syscall tables: the names of numbers; and what names are that a table doesn't have."""
 from __future__ import annotations
 
+import functools
+import os
 import re
 from collections.abc import Iterable, Sequence
-from dataclasses import dataclass
 
 from . import inputs, program
+from .values import dataclass
 
+# The tables of other architectures that come with scf, by OCI names; x32's has its numbers without 0x40000000.
+OTHERS = {f"SCMP_ARCH_{it}": os.path.join(program.TOP, "tables", f"{file}.table") for it, file in (
+    ("X86", "i386"), ("X32", "x32"), ("AARCH64", "aarch64"), ("ARM", "arm"))}
 LINE = re.compile(rb"[ \t]*([A-Za-z_][A-Za-z0-9_]*)[ \t]+0*([0-9]{1,10})[ \t]*\r?")
 # At most so many unknown names are listed, and longer ones get no nearest name.
 TOLD, LONGEST = 20, 64
@@ -55,6 +60,16 @@ class Table:
 def read(name: str | None) -> Table:
     """The table in a file, or by default the one that comes with scf."""
     return Table(inputs.read_whole(program.TABLE if name is None else name, "table"))
+
+
+@functools.lru_cache(None)
+def of_architecture(name: str) -> Table | None:
+    """The table of another architecture, by its OCI name, or None if none comes with scf."""
+    try:
+        with open(OTHERS[name], "rb") as file:
+            return Table(file.read())
+    except (KeyError, FileNotFoundError):
+        return None
 
 
 def names_elsewhere() -> set[str]:

@@ -2,19 +2,12 @@
 from __future__ import annotations
 
 from collections.abc import Sequence
-from dataclasses import dataclass
 
-from . import bundles, effort, program, verdicts
+from . import bundles, client, verdicts
+from .client import Refusal
 from .tables import Table
+from .values import dataclass
 from .verdicts import UNFINISHED, Report, Verdict
-
-
-class Unanswered(Exception):
-    """scf refuses a profile or a comparison: the line of its fault, and its exit status."""
-
-    def __init__(self, line: str, status: int):
-        super().__init__(line)
-        self.line, self.status = line, status
 
 
 @dataclass
@@ -27,18 +20,15 @@ class Trial:
 
     def filter_of(self, profile: bytes) -> bytes:
         """The filter of a profile."""
-        done = program.scf(["compile"], bundles.of_compilation(profile, self.table.data))
-        if done.status != program.WELL:
-            raise Unanswered(done.text.split("\n", 1)[0], done.status)
-        return done.out
+        return client.compile_profile(bundles.of_compilation(profile, self.table.data))
 
     def report(self, filters: Sequence[bytes], profile: bytes, table: bytes, *words: str) -> Report:
         """scf's report on filters compared with a profile, by a table."""
         self.count += 1
-        done = effort.compare(words, bundles.of_comparison(filters, profile, table), self.limit)
+        done = client.compare(words, bundles.of_comparison(filters, profile, table), self.limit)
         report = verdicts.report(done.text)
         if report.verdict is None:
-            raise Unanswered(report.lines[0] if report.lines else "", done.status)
+            raise Refusal(report.lines[0] if report.lines else "", done.status)
         return report
 
     def verdict(self, filters: Sequence[bytes], profile: bytes, *words: str) -> Verdict:

@@ -12,10 +12,10 @@ import json
 import os
 import re
 from collections.abc import Callable, Iterator, Sequence
-from dataclasses import dataclass, field
 
 from . import number_sources, output, program
 from .engines import OCI_ARCH
+from .values import dataclass, field
 
 PROPERTIES = ("Id", "LoadState", "NeedDaemonReload", "FragmentPath", "DropInPaths", "SystemCallFilter",
               "SystemCallErrorNumber", "SystemCallArchitectures", "SystemCallLog")
@@ -233,15 +233,17 @@ def printed_by(words: Sequence[str]) -> str:
 
     try:
         done = subprocess.run(words, stdin=subprocess.DEVNULL, stdout=subprocess.PIPE, stderr=subprocess.PIPE,
-                              check=False, env={**os.environ, "LC_ALL": "C", "SYSTEMD_COLORS": "0"})
+                              check=False, env={**os.environ, "LC_ALL": "C", "SYSTEMD_COLORS": "0",
+                                                # in a container of the machine, too
+                                                "SYSTEMD_IGNORE_CHROOT": "1"})
     except OSError as error:
-        raise program.Refused(f"{words[0]} can't be run: {error.strerror}", program.FAILED) from error
+        raise program.ToolError(f"{words[0]} can't be run: {error.strerror}", program.IO_ERROR) from error
     if done.returncode:
         said = done.stderr.decode("utf-8", "backslashreplace").strip().split("\n")[0]
-        raise program.Refused(f"{words[0]} ended with status {done.returncode}" + (f": {said}" if said else ""),
-                              program.FAILED)
+        raise program.ToolError(f"{words[0]} ended with status {done.returncode}" + (f": {said}" if said else ""),
+                              program.IO_ERROR)
     if len(done.stdout) > MOST_PRINTED:
-        raise program.Refused(f"{words[0]} printed more than {MOST_PRINTED} bytes", program.FAILED)
+        raise program.ToolError(f"{words[0]} printed more than {MOST_PRINTED} bytes", program.IO_ERROR)
     return done.stdout.decode("utf-8", "surrogateescape")
 
 
@@ -266,13 +268,22 @@ def assignments_of(text: str, section: str, setting: str) -> Iterator[str]:
             yield value
 
 
+def _systemds_root() -> str:
+    """What stands before a path of systemd's: a tool in a container of the machine has another root."""
+    try:
+        return "" if os.path.samefile("/proc/1/root", "/") else "/proc/1/root"
+    except OSError:
+        # only root may look; others aren't in a container with the machine's processes
+        return ""
+
+
 def files_of(shown: dict[str, str]) -> Iterator[str]:
     """The texts of the files from which systemd read a unit: its own file, and the drop-ins in their order."""
     import shlex  # pylint: disable=import-outside-toplevel
 
     for path in [shown.get("FragmentPath", ""), *shlex.split(shown.get("DropInPaths", ""))]:
         try:
-            with open(path, "rb") as file:
+            with open(_systemds_root() + path, "rb") as file:
                 data = file.read(MOST_BYTES + 1)
         except OSError as error:
             raise Unknown(f"'{output.escaped(path)}' can't be read: {error.strerror}") from error
@@ -303,21 +314,32 @@ def denied_by(shown: dict[str, str], allowed: CallList, reader: Reader) -> dict[
     return own
 
 
+def shown_by_systemctl(names: Sequence[str]) -> list[dict[str, str]]:
+    """What systemctl shows of some units, by the names of the properties."""
+    text = printed_by(["systemctl", "--no-pager", "show", *(f"--property={name}" for name in PROPERTIES), "--",
+                       *names])
+    return [{name: value for name, equals, value in (line.partition("=") for line in block.split("\n")) if equals}
+            for block in text.split("\n\n")]
+
+
 def of_unit(unit: str, reader: Reader) -> Settings:
     """A unit's settings, as systemctl shows them."""
-    text = printed_by(["systemctl", "--no-pager", "show", *(f"--property={name}" for name in PROPERTIES), "--", unit])
-    shown = {name: value for name, equals, value in (line.partition("=") for line in text.split("\n")) if equals}
+    return settings_in(shown_by_systemctl([unit])[0], unit, reader)
+
+
+def settings_in(shown: dict[str, str], unit: str, reader: Reader) -> Settings:
+    """The settings of a unit of which systemctl shows this."""
     if shown.get("LoadState", "loaded") != "loaded":
-        raise program.Refused(f"the unit {unit} isn't loaded: {shown['LoadState']}", program.FAILED)
+        raise program.ToolError(f"the unit {unit} isn't loaded: {shown['LoadState']}", program.IO_ERROR)
     if "SystemCallFilter" not in shown:
-        raise program.Refused(f"the unit {unit} runs no processes of its own: it has no SystemCallFilter",
-                              program.FAILED)
+        raise program.ToolError(f"the unit {unit} runs no processes of its own: it has no SystemCallFilter",
+                              program.IO_ERROR)
     found = reader.shown(shown["SystemCallFilter"])
     if found is not None and not found.is_inverted:
         try:
             found.calls.update(denied_by(shown, found, reader))
         except (Unknown, ValueError) as why:
-            raise program.Refused("it can't be known which syscalls the allow-list denies with an errno of their own, "
+            raise program.ToolError("it can't be known which syscalls the allow-list denies with an errno of their own, "
                                   f"which systemctl show doesn't print: {why}", program.UNKNOWN) from why
     return Settings(found, refusal_of(shown.get("SystemCallErrorNumber", "")),
                     architectures_of(shown.get("SystemCallArchitectures", "")),

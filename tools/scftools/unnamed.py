@@ -2,12 +2,12 @@
 from __future__ import annotations
 
 from collections.abc import Iterator, Sequence
-from dataclasses import dataclass
 
 from .answers import X32
-from .filters import INSTRUCTION, JEQ, JGE, JGT, JUMP, LONGEST, answering_below, answering_from
-from .questions import IS_MADE, IS_NEVER_REFUSED, IS_REFUSED, Asker, Faulty, Question
+from .filters import INSTRUCTION, JEQ, JGE, JGT, JUMP
+from .questions import IS_MADE, IS_NEVER_REFUSED, IS_REFUSED, Asker
 from .tables import Table
+from .values import dataclass
 from .verdicts import Verdict
 
 # The most ranges of numbers to check.
@@ -78,18 +78,6 @@ class _Counting:
         self.asker, self.found, self.left = asker, found, MOST
         self.turns = sorted(tested(asker.filters))
 
-    def said(self, question: Question, first: int, end: int) -> Verdict | None:
-        """The verdict on the numbers from `first` on and below `end`; None if scf can't be asked."""
-        word = question.filters_elsewhere.word
-        filters = [answering_below(answering_from(data, end, word), first, word) for data in self.asker.filters]
-        if any(len(data) > LONGEST * INSTRUCTION.size for data in filters):
-            return None
-        try:
-            return self.asker.of_stretch(question, filters)
-        except Faulty:
-            # the stack is too long
-            return None
-
     def divided(self, first: int, end: int) -> list[tuple[int, int]]:
         """A range in pieces, split where the filters' tests change, else in half."""
         turns = [turn for turn in self.turns if first < turn < end] or [(first + end) // 2]
@@ -98,14 +86,14 @@ class _Counting:
     def count(self, stretches: list[tuple[int, int]]) -> None:
         while stretches:
             first, end = stretches.pop()
-            some = self.said(IS_REFUSED, first, end) if self.left else None
+            some = self.asker.of_numbers(IS_REFUSED, first, end - 1) if self.left else None
             self.left -= self.left > 0
             if some is not None and some.holds:
                 continue
             if some is not None and some.call is not None:
                 self.found.shown = self.found.shown or some
             is_some = some is not None and some.fails and end - first == 1
-            every = None if is_some or some is None else self.said(IS_NEVER_REFUSED, first, end)
+            every = None if is_some or some is None else self.asker.of_numbers(IS_NEVER_REFUSED, first, end - 1)
             if is_some or every is not None and every.holds:
                 self.found.let_through += end - first
             elif some is None or end - first == 1:
@@ -118,17 +106,8 @@ def of_filters(asker: Asker, table: Table) -> Unnamed:
     """What filters allow of the numbers that a table doesn't name."""
     stretches = list(gaps(table))
     found = Unnamed(sum(end - first for first, end in stretches))
-    try:
-        some = asker.of_others(IS_REFUSED, table)
-        if some is not None and some.holds:
-            return found
-        found.shown = some if some is not None and some.call is not None else None
-        every = asker.of_others(IS_MADE, table)
-        if every is not None and every.holds:
-            found.let_through, found.are_made = found.count, True
-            return found
-    except Faulty:
-        # more names than a profile may have; the ranges are checked one by one
-        pass
     _Counting(asker, found).count(stretches[::-1])
+    if found.let_through == found.count:
+        found.are_made = all(it is not None and it.holds for it in (
+            asker.of_numbers(IS_MADE, first, end - 1) for first, end in stretches))
     return found

@@ -8,13 +8,16 @@ from __future__ import annotations
 
 import re
 from collections.abc import Sequence
-from dataclasses import dataclass, replace
 
-from . import program
+from . import client
 from .answers import Answer
 from .calls import Call
+from .client import Fault
 from .tables import Table
+from .values import dataclass, replace
 
+# The sets of syscalls that are compared.
+ALL, NATIVE, CALLS = "all", "native", "calls"
 SAME, DIFFERS, UNDECIDED, UNFINISHED = "same", "differs", "undecided", "unfinished"
 # Only from the tools: the syscall that decides is of an architecture that the profile also names, which scf doesn't
 # judge.
@@ -22,38 +25,18 @@ UNDETERMINED = "undetermined"
 FOR_OTHER_ABI = f"{UNDETERMINED}: the profile is for this architecture, too"
 # The first two with --no-more and --no-less.
 NO_MORE, MORE, NO_LESS, LESS = "no more", "more", "no less", "less"
-HOLDS, FAILS = (SAME, NO_MORE, NO_LESS), (DIFFERS, MORE, LESS)
-FAULT = re.compile(r"fault ([a-z]+) ([A-Za-z0-9]+)((?: [a-z]+ [0-9]+)*)")
+# With --disposition.
+SAME_DISPOSITION = "same disposition"
+HOLDS, FAILS = (SAME, NO_MORE, NO_LESS, SAME_DISPOSITION), (DIFFERS, MORE, LESS)
 NAMED = re.compile(r"([0-9]+) ([A-Za-z0-9_,]+) (differs|more|less|undecided|unfinished)\b(.*)")
-ANSWERED = re.compile(r" args((?: 0x[0-9a-f]+){6}) filter (\w+ \w+) profile (\w+ \w+)")
+ANSWERED = re.compile(r" args((?: 0x[0-9a-f]+){6}) filter (\w+ \w+) (?:profile|beside) (\w+ \w+)")
 LEFT_OUT = ("skipped ", "other ")
-
-
-@dataclass(frozen=True)
-class Fault:
-    """A fault: `fault SOURCE KIND` and the kind's numbers by name."""
-
-    line: str
-    source: str
-    kind: str
-    numbers: dict[str, int]
-
-    @classmethod
-    def read(cls, line: str) -> Fault | None:
-        found = FAULT.fullmatch(line)
-        if not found:
-            return None
-        words = found[3].split()
-        return cls(line, found[1], found[2], {name: int(value) for name, value in zip(words[::2], words[1::2])})
-
-    def as_json(self) -> dict[str, object]:
-        return {"source": self.source, "kind": self.kind, "numbers": self.numbers}
 
 
 @dataclass(frozen=True)
 class Verdict:
     """A verdict, with its example and both answers if it is `differs`, `more` or `less`, and an instruction index if
-    `undecided`."""
+    `undecided`. `profile` is the answer of the side that the filters are compared with: a profile, or other filters."""
 
     word: str
     call: Call | None = None
@@ -70,8 +53,8 @@ class Verdict:
         return self.word in FAILS
 
     @property
-    def both_refuse(self) -> bool:
-        return bool(self.filters and self.profile and self.filters.refuses and self.profile.refuses)
+    def both_deny(self) -> bool:
+        return bool(self.filters and self.profile and self.filters.denies and self.profile.denies)
 
 
 @dataclass(frozen=True)
@@ -167,7 +150,7 @@ def report(text: str, profile_names: Sequence[str] | None = None, table: Table |
     If the names of the profile are known, a name that contains lines `skipped ..` or `other ..` is distinguished from
     several names. The records of lines get this instruction pointer, None if it matters and is unknown.
     """
-    lines = program.lines_of(text)
+    lines = client.lines_of(text)
     count = next((at for at, line in enumerate(lines) if line.startswith(LEFT_OUT)), len(lines))
     own, rest = lines[:count], lines[count:]
     skipped, architectures = _names(rest)

@@ -38,7 +38,7 @@ def _begun(run: Callable[[], object]) -> int:
     try:
         run()
     finally:
-        os._exit(program.FAILED)
+        os._exit(program.IO_ERROR)
 
 
 def _ended(child: int) -> int | None:

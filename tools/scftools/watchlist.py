@@ -9,7 +9,6 @@ from __future__ import annotations
 import os
 import re
 from collections.abc import Callable, Iterator, Sequence
-from dataclasses import dataclass
 
 from . import program
 from .answers import Answer
@@ -18,6 +17,7 @@ from .entries import Condition, Entry, profile_of
 from .findings import Finding, listed
 from .reasons import Reason
 from .trials import Trial
+from .values import dataclass
 from .verdicts import NamedCall
 
 FILE = os.path.join(program.TOP, "tables", "dangerous.calls")
@@ -161,8 +161,8 @@ class Watch:
                 continue
             answer, where, entry = self._answer(Call(numbers[0]))
             instead = [self._answer(Call(numbers[1], arguments=(it, *[0] * 5)))[0] for it in first_arguments]
-            if answer and answer.refuses and (answer.action, answer.data) != ("ERRNO", ENOSYS) and \
-                    any(it and it.lets_through for it in instead):
+            if answer and answer.denies and (answer.action, answer.data) != ("ERRNO", ENOSYS) and \
+                    any(it and it.allows for it in instead):
                 yield Finding("no-fallback", f"{newer} ({numbers[0]}) is answered {where} {answer}, and {older} is "
                               f"allowed: libc calls {older} instead only after ENOSYS, which is errno {ENOSYS}",
                               {"name": newer, "instead": older, "entry": entry})

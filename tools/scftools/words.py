@@ -2,15 +2,18 @@
 from __future__ import annotations
 
 import argparse
+import re
 import sys
 from collections.abc import Iterable
 
-from . import effort, output, program, verdicts
+from . import client, output, program, verdicts
 
 TYPE_CHECKING = False
 if TYPE_CHECKING:
     from typing import Any, NoReturn
 
+# argparse would look for translations of its messages at each start, and the tools have none.
+argparse._ = str  # type: ignore
 EPILOG = "Exit status: 0 success, 1 refused or differs, 2 usage error, 3 I/O error, 4 undecided or unfinished."
 # Of tools that compare nothing.
 OF_RUNS = "Exit status: 0 success, 1 refused, 2 usage error, 3 I/O error."
@@ -23,7 +26,14 @@ class Version(argparse.Action):
         super().__init__(option_strings, dest, nargs=0, default=argparse.SUPPRESS, help="print the version and exit")
 
     def __call__(self, parser: argparse.ArgumentParser, *_: Any) -> None:
-        program.finish(program.print_version())
+        program.finish(client.print_version())
+
+
+class Color(argparse.Action):
+    """`--color`."""
+
+    def __call__(self, parser: argparse.ArgumentParser, namespace: Any, values: Any, *_: Any) -> None:
+        output.color = values
 
 
 class Formatter(argparse.HelpFormatter):
@@ -39,7 +49,19 @@ class Parser(argparse.ArgumentParser):
     def __init__(self, doc: str, epilog: str = EPILOG, **settings: Any):
         super().__init__(prog=output.escaped(program.name()), description=doc.split("\n", 1)[0], epilog=epilog,
                          allow_abbrev=False, formatter_class=Formatter, **settings)
+        self.examples = re.findall(r"(?m)^    (.*)$", doc.rpartition("\nExamples:\n")[2])
         self.add_argument("--version", action=Version)
+        self.add_argument("--color", action=Color, choices=("auto", "always", "never"), default=argparse.SUPPRESS,
+                          help="whether verdicts are coloured [default: auto, at a terminal unless NO_COLOR is set]")
+
+    def parse_args(self, *given: Any, **named: Any) -> Any:
+        """The given words; for what makes completions of the options, these are printed instead."""
+        if sys._xoptions.get("scf") == "options":  # pylint: disable=protected-access
+            output.put_json({"options": [{"names": it.option_strings, "help": (it.help or "").split(" [default")[0],
+                              "value": None if it.nargs == 0 else it.metavar or "", "choices": it.choices and [*it.choices]}
+                                         for it in self._actions if it.option_strings]})
+            program.finish(program.SUCCESS)
+        return super().parse_args(*given, **named)
 
     def error(self, message: str) -> NoReturn:
         try:
@@ -47,11 +69,12 @@ class Parser(argparse.ArgumentParser):
                 self.print_usage(sys.stderr)
         except (OSError, AttributeError):
             pass
-        raise program.Refused(message)
+        raise program.ToolError(message)
 
     def print_help(self, file: Any = None) -> None:
         """Prints the help like any other output."""
         output.put(self.format_help())
+        output.put("".join(["\nexamples:\n", *(f"  {it}\n" for it in self.examples)] if self.examples else []))
 
     def table(self, dash: str = "; - is standard input") -> None:
         """Adds `--table`."""
@@ -59,20 +82,24 @@ class Parser(argparse.ArgumentParser):
 
     def limit(self) -> None:
         """Adds `--limit`."""
-        self.add_argument("--limit", metavar="N", help=effort.HELP)
+        self.add_argument("--limit", metavar="N", help=client.LIMIT_HELP)
 
     def verbose(self) -> None:
         """Adds `--verbose`."""
         self.add_argument("--verbose", action="store_true",
                           help="list the names in the profile that were skipped, not only their count")
 
-    def relation(self) -> None:
-        """Adds `--no-more` and `--no-less`, which exclude each other."""
+    def relation(self, with_disposition: bool = False, other: str = "the profile") -> None:
+        """Adds `--no-more` and `--no-less`, on request `--disposition`, which exclude each other."""
         group = self.add_mutually_exclusive_group()
         group.add_argument("--no-more", dest="relation", action="store_const", const=verdicts.NO_MORE,
-                           default=verdicts.SAME, help="only check that nothing is more permissive than the profile")
+                           default=verdicts.SAME, help=f"only check that nothing is more permissive than {other}")
         group.add_argument("--no-less", dest="relation", action="store_const", const=verdicts.NO_LESS,
-                           default=verdicts.SAME, help="only check that nothing is stricter than the profile")
+                           default=verdicts.SAME, help=f"only check that nothing is stricter than {other}")
+        if with_disposition:
+            group.add_argument("--disposition", dest="relation", action="store_const",
+                               const=verdicts.SAME_DISPOSITION, default=verdicts.SAME,
+                               help="only check that both sides deny, delegate and allow the same")
 
     def one_standard_input(self, names: Iterable[str | None]) -> None:
         """Rejects a command line that names standard input twice."""

@@ -99,7 +99,7 @@ class OnProgram(unittest.TestCase):
 
     @classmethod
     def setUpClass(cls):
-        subprocess.run([SCF, "--help"], stdin=subprocess.DEVNULL, stdout=subprocess.DEVNULL, check=True)
+        subprocess.run([SCF, "--version"], stdin=subprocess.DEVNULL, stdout=subprocess.DEVNULL, check=True)
 
     def prints(self, words, given, text, status=0):
         """What the program prints on these bytes, and its status."""

@@ -58,7 +58,7 @@ class Numbers(unittest.TestCase):
                                         "for the decimal number"),
                            ("40000028", "0x40000028 for SCMP_ARCH_ARM"), ("80000016", "0x80000016 for SCMP_ARCH_S390X"),
                            ("i387", "unknown architecture 'i387'"), ("SCMP_ARCH_", "unknown architecture")):
-            with self.assertRaises(program.Refused) as caught:
+            with self.assertRaises(program.ToolError) as caught:
                 architectures.number_in(text)
             self.assertIn(says, str(caught.exception))
             self.assertEqual(caught.exception.status, 2)
@@ -98,16 +98,19 @@ class Words(Case):
         found = json.loads(self.run_tool("decide", "--json", "--arch=x32", self.x32)[1])
         self.assertEqual(found["calls"][0]["call"]["number"], X32)
 
-    def test_a_name_is_that_of_x86_64(self):
-        """41 is dup on i386, and so is what a name of x86-64's table would ask for there."""
+    def test_a_name_is_that_of_the_architecture(self):
+        """socket is 359 on i386, 41 of x32, and 198 on aarch64 (asm/unistd*.h)."""
         calls = self.file("calls", b"socket 2\n")
-        for word in ("i386", "0x40000003", "x32", "aarch64", "0"):
+        for word in ("0", "s390x", "0xffffffff"):
             for words in (("decide", "--nr=socket", self.i386), ("run", "--nr=socket", self.i386),
                           ("list", "--nr=socket", self.i386), ("ask", "--nr=socket", self.profile),
                           ("decide", "--calls-from", calls, self.i386)):
                 status, out, err = self.run_tool(words[0], "--arch", word, *words[1:])
                 self.assertEqual((status, out), (2, ""), words)
-                self.assertIn(f"the table has x86-64 syscalls: with --arch {word}, give the number of 'socket'", err)
+                self.assertIn(f"there is no table of --arch {word}: give the number of 'socket'", err)
+        for word, number in (("i386", 359), ("0x40000003", 359), ("x32", X32 + 41), ("aarch64", 198), ("arm", 281)):
+            found = json.loads(self.run_tool("decide", "--json", "--nr=socket", "--arch", word, self.i386)[1])
+            self.assertEqual(found["calls"][0]["call"]["number"], number, word)
         for word in ("x86_64", "SCMP_ARCH_X86_64", "0xc000003e", "3221225534", "c000003e"):
             self.assertEqual(self.answer("--nr=socket", "--arch", word, self.i386), "ALLOW 0", word)
 

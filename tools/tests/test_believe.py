@@ -296,7 +296,7 @@ class TrustedBase(Case):
         lists = " ".join(re.findall(r"<!-- believe .*?<!-- end -->", self.page(), re.S))
         with open(os.path.join(TOP, "docs", "TRUST.md"), encoding="utf-8") as file:
             paragraphs = re.findall(r"^Read: .*$", file.read(), re.M)
-        self.assertEqual(len(paragraphs), 2)
+        self.assertEqual(len(paragraphs), 3)
         for name in re.findall(r"`(\w+)`", " ".join(paragraphs)):
             self.assertIn(f"`{name}`", lists)
 

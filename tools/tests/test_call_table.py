@@ -1,10 +1,16 @@
 """tools/call-table, and the tables that come with scf."""
+import ctypes
 import ctypes.util
 import os
 import re
+import sys
 import unittest
 
-from common import TABLE, TOP, Case, limited, part, tool
+from common import I386, TABLE, TOP, Case, limited, part, tool
+
+sys.path.append(os.path.join(TOP, "tools"))
+
+from scftools import tables  # noqa: E402
 
 HEADER = """#ifndef _ASM_UNISTD_64_H
 /* #define __NR_commented 9 */
@@ -46,7 +52,37 @@ SOURCE = """#
 547\tx32\tpwritev2\t\tcompat_sys_pwritev64v2
 # This is the end of the legacy x32 range.
 """
-LIMIT = 4194304
+LIMIT, X32 = 4194304, 0x40000000
+# AUDIT_ARCH_AARCH64 and AUDIT_ARCH_ARM (linux/audit.h), which libseccomp takes, too; its x32 is a number of its own.
+AARCH64, ARM = 0xC00000B7, 0x40000028
+HEADERS = "/usr/include/x86_64-linux-gnu/asm"
+# As Debian's linux-libc-dev 6.12 has asm/unistd_x32.h, and asm/unistd-eabi.h and asm/unistd.h of arm.
+OF_X32 = """#define __X32_SYSCALL_BIT\t0x40000000
+#define __NR_read (__X32_SYSCALL_BIT + 0)
+#define __NR_execve (__X32_SYSCALL_BIT + 520)
+"""
+OF_ARM_EABI = """#define __NR_restart_syscall (__NR_SYSCALL_BASE + 0)
+#define __NR_arm_sync_file_range (__NR_SYSCALL_BASE + 341)
+"""
+OF_ARM = """#define __NR_OABI_SYSCALL_BASE\t0x900000
+#define __NR_SYSCALL_MASK\t0x0fffff
+#if defined(__thumb__) || defined(__ARM_EABI__)
+#define __NR_SYSCALL_BASE\t0
+#include <asm/unistd-eabi.h>
+#else
+#define __NR_SYSCALL_BASE\t__NR_OABI_SYSCALL_BASE
+#endif
+#define __NR_sync_file_range2\t\t__NR_arm_sync_file_range
+#define __ARM_NR_BASE\t\t\t(__NR_SYSCALL_BASE+0x0f0000)
+#define __ARM_NR_breakpoint\t\t(__ARM_NR_BASE+1)
+#define __ARM_NR_set_tls\t\t(__ARM_NR_BASE+5)
+"""
+
+
+def rows(path):
+    """The names and numbers of a table."""
+    with open(path, encoding="ascii") as file:
+        return [line.split() for line in file if line[0] != "#"]
 
 
 class CallTable(Case):
@@ -73,6 +109,26 @@ class CallTable(Case):
         self.assertEqual(self.run_tool("call-table", self.file("syscall_64.tbl", SOURCE)), (0, table, ""))
         self.assertEqual(self.run_tool("call-table", "--comment", "of it", given=SOURCE.encode()),
                          (0, "# of it\n" + table, ""))
+
+    def test_other_architectures(self):
+        def printed(name, *texts):
+            files = [self.file(f"{at}.h", text) for at, text in enumerate(texts)]
+            return self.run_tool("call-table", "--architecture", name, *files)
+
+        self.assertEqual(printed("x32", OF_X32), (0, "read 0\nexecve 520\n", ""))
+        arm = "restart_syscall 0\narm_sync_file_range 341\nsync_file_range2 341\nbreakpoint 983041\nset_tls 983045\n"
+        self.assertEqual(printed("arm", OF_ARM_EABI, OF_ARM), (0, arm, ""))
+        for name in ("i386", "aarch64"):
+            self.assertEqual(printed(name, "#define __NR_exit 1\n"), (0, "exit 1\n", ""))
+        self.assertEqual(printed("x32", SOURCE)[:2],
+                         (0, "read 0\nexit 60\nfile_setattr 469\nrt_sigaction 512\npwritev2 547\n"))
+        # x86-64's have nothing added, and those of one aren't taken for another's
+        for name, text in (("x86_64", OF_X32), ("x86_64", OF_ARM_EABI), ("x32", OF_ARM_EABI), ("i386", SOURCE)):
+            status, out, err = printed(name, text)
+            self.assertEqual((status, out), (2, ""), name)
+            self.assertIn("has no syscall", err)
+        self.assertEqual(self.run_tool("call-table", "--architecture", "mips")[:2], (2, ""))
+        self.assertIn("only one input can be '-'", self.run_tool("call-table", "-", "-")[2])
 
     def refuses(self, given, said):
         done = self.run_tool("call-table", given=given)
@@ -194,6 +250,54 @@ class Table(Case):
             given = part("profile", b'{"defaultAction":"SCMP_ACT_ALLOW"}') + part("table", file.read())
         status, _, _ = self.run_words([os.path.join(TOP, "scf"), "compile"], given, stdout=-3)
         self.assertEqual(status, 0)
+
+
+class OtherTables(Case):
+    """tables/i386.table, x32.table, aarch64.table and arm.table."""
+
+    @unittest.skipUnless(ctypes.util.find_library("seccomp"), "there is no libseccomp here")
+    def test_libseccomp_says_the_same(self):
+        """What scmp_sys_resolver prints, without a process for each."""
+        library = ctypes.CDLL("libseccomp.so.2")
+        resolve = library.seccomp_syscall_resolve_num_arch
+        resolve.restype, resolve.argtypes = ctypes.c_char_p, [ctypes.c_uint32, ctypes.c_int]
+        number_of = library.seccomp_syscall_resolve_name_arch
+        number_of.restype, number_of.argtypes = ctypes.c_int, [ctypes.c_uint32, ctypes.c_char_p]
+        # SCMP_ARCH_X32 is EM_X86_64 and __AUDIT_ARCH_LE (seccomp.h)
+        for name, token, least in (("X86", I386, 430), ("X32", 0x4000003E, 350), ("AARCH64", AARCH64, 300),
+                                   ("ARM", ARM, 400)):
+            table, both = tables.of_architecture(f"SCMP_ARCH_{name}"), 0
+            for number in table.numbers():
+                theirs = resolve(token, number | (X32 if name == "X32" else 0))
+                if theirs is not None:
+                    both += 1
+                    self.assertIn(theirs.decode(), table.names_of(number), (name, number))
+            self.assertGreater(both, least, name)
+            bit = X32 if name == "X32" else 0
+            theirs = {each: number_of(token, each.encode()) for each in table.names()}
+            # numbers below 0 are libseccomp's own, for names that it knows of other architectures
+            self.assertEqual({each: number for each, number in theirs.items()
+                              if number >= 0 and number != table.number_of(each) | bit}, {}, name)
+
+    @unittest.skipUnless(os.path.exists(f"{HEADERS}/unistd_x32.h"), "there are no kernel headers here")
+    def test_the_headers_here_say_the_same(self):
+        for name, header in (("i386", "unistd_32.h"), ("x32", "unistd_x32.h")):
+            made = self.run_tool("call-table", "--architecture", name, f"{HEADERS}/{header}")
+            here = [line.split() for line in made[1].split("\n") if line]
+            self.assertGreater(len(here), 340)
+            table = dict(rows(os.path.join(TOP, "tables", f"{name}.table")))
+            self.assertEqual([row for row in here if table.get(row[0], row[1]) != row[1]], [])
+            self.assertLess(len([row for row in here if row[0] not in table]), 2)
+
+    def test_their_names_are_known(self):
+        """Each is one of x86-64, or stands among those that only other architectures have."""
+        # of Linux 7.2, which is newer than x86-64's table
+        newer = {"listns", "rseq_slice_yield"}
+        known = {row[0] for row in rows(TABLE)} | tables.names_elsewhere() | newer
+        for path in tables.OTHERS.values():
+            self.assertEqual({row[0] for row in rows(path)} - known, set(), path)
+            with open(path, encoding="ascii") as file:
+                self.assertRegex(file.readline(), r"^# The syscalls of \w+, from \S+\.h .*linux-libc-dev 7\.2\.12")
 
 
 class OtherArchitectures(Case):

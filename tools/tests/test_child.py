@@ -20,7 +20,7 @@ class Child(Case):
         self.assertNotEqual(child.run(os.getpid, 60), os.getpid())
 
     def test_exceptions(self):
-        for error in (OSError(2, "none"), program.Refused("no", 3), MemoryError(), KeyError("x")):
+        for error in (OSError(2, "none"), program.ToolError("no", 3), MemoryError(), KeyError("x")):
             with self.assertRaises(type(error)) as caught:
                 child.run(lambda error=error: self.fails(error), 60)
             self.assertEqual(caught.exception.args, error.args)

@@ -1,6 +1,7 @@
 """tools/compare, tools/decide and tools/explain."""
 import json
 import os
+import re
 import shutil
 import unittest
 
@@ -82,9 +83,9 @@ class Compare(Case):
                     + filter_of([READ, WRITE]))
 
         for arch, number, says in (
-                (I386, 5, "number 5 of the architecture i386\n# --native leaves out other architectures\n"),
+                (I386, 5, "open (5) of the architecture i386\n# --native leaves out other architectures\n"),
                 (0xC0FFEE, 5, "number 5 of the architecture 0xc0ffee\n# --native leaves out other architectures\n"),
-                (X86_64, 0x40000005, "number 1073741829 (0x40000000 + 5), an x32 syscall\n"
+                (X86_64, 0x40000005, "fstat (0x40000000 + 5), an x32 syscall\n"
                                      "# --native leaves out numbers from 0x40000000 on\n"),
                 (X86_64, 0x80000007, "number 2147483655 (0x80000007), which no syscall has\n"
                                      "# --native leaves out numbers from 0x40000000 on\n"),
@@ -151,7 +152,9 @@ class Compare(Case):
         status, out, _ = self.run_tool("compare", self.same, self.file("c", conflict))
         self.assertEqual(status, 1)
         self.assertTrue(out.startswith("fault profile Conflict number 41 first 0 second 1\n# Two entries"), out)
-        self.assertTrue(out.endswith("# the syscall is socket (41)\n"), out)
+        columns = [it.start() + 1 for it in re.finditer(rb'\{"names"', conflict)]
+        self.assertTrue(out.endswith("# the syscall is socket (41)\n# the entries begin at line 1, column "
+                                     f"{columns[0]} and at line 1, column {columns[1]}\n"), out)
 
     def test_unfinished_and_limit(self):
         status, out, _ = self.run_tool("compare", "--limit", "0", self.same, self.profile)
@@ -436,7 +439,7 @@ class Decide(Case):
         self.assertTrue(self.run_tool("decide", "--ip", "9", self.file("ip.bpf", ip))[1].startswith("ALLOW 0\n"))
         out = self.run_tool("decide", "--arch", "0x40000003", self.filter)[1]
         self.assertEqual(out,
-                         "KILL_PROCESS 0\n# the syscall is number 0 of the architecture i386\n"
+                         "KILL_PROCESS 0\n# the syscall is restart_syscall (0) of the architecture i386\n"
                          "# KILL_PROCESS: the process is killed\n# the path in the filter: 0-2\n")
 
     def test_filters_stand_oldest_first(self):
@@ -497,7 +500,7 @@ class Explain(Case):
 
     def test_what_scf_prints_stands_first_as_it_is(self):
         for words, given in ((("check",), ret(0)), (("asm",), b"ret #1\n"), (("dis",), ret(1) * 3),
-                             (("--help",)[:0] + ("help",), b"")):
+                             (("check", "--help"), b"")):
             expected = self.run_words([SCF, *words], given)
             self.assertEqual(self.run_tool("explain", *words, given=given), expected)
 

@@ -352,8 +352,9 @@ class Runtimes(Case):
             f"132 utime otherwise {NO_ARGUMENTS} old ERRNO 38 stub new ERRNO 1 default"]))
         self.assertIn("# old: the ENOSYS that runc puts before the filter", lines)
         found = json.loads(self.lines(old, new, "--runtime", "runc", "--table", table, "--json")[1][0])
-        self.assertEqual(found["changes"][0]["old"], {"answer": {"action": "ERRNO", "data": 38, "does":
-                         "the syscall fails with ENOSYS"}, "reason": "stub"})
+        self.assertEqual(found["changes"][0]["old"], {"answer": {
+            "action": "ERRNO", "data": 38, "errno": "ENOSYS", "does": "the syscall fails with ENOSYS"},
+            "reason": "stub"})
         status, lines, _ = self.lines(old, new, "--runtime", "crun", "--table", table)
         self.assertEqual(lines[:2], ["differs", "more 1, less 0, otherwise 0"])
         # above both stubs the defaults are no difference, and below them they are

@@ -8,7 +8,7 @@ from common import (ALLOW, EPERM, KILL_PROCESS, TABLE, TOP, X86_64, Case, filter
 
 sys.path.append(os.path.join(TOP, "tools"))
 
-from scftools import effort, program  # noqa: E402
+from scftools import client, program  # noqa: E402
 
 # Seconds of a processor, and bytes of address space, that a tool and all that it runs may take.
 SECONDS, MEMORY = 10, 500 << 20
@@ -80,19 +80,19 @@ class Limits(Case):
 
     def compared(self, seconds, most, *words):
         """What a tool whose time is over is told."""
-        kept = program.is_tool, effort.SECONDS, effort.ALL_SECONDS, effort._is_told
-        program.is_tool, effort.SECONDS, effort.ALL_SECONDS, effort._is_told = True, seconds, most, True
+        kept = program.is_tool, client.SECONDS, client.ALL_SECONDS, client._is_spent_reported
+        program.is_tool, client.SECONDS, client.ALL_SECONDS, client._is_spent_reported = True, seconds, most, True
         try:
-            return effort.compare(words, self.given, None)
+            return client.compare(words, self.given, None)
         finally:
-            program.is_tool, effort.SECONDS, effort.ALL_SECONDS, effort._is_told = kept
+            program.is_tool, client.SECONDS, client.ALL_SECONDS, client._is_spent_reported = kept
 
     def test_no_time(self):
         """Few steps, and then none: each is as with a limit of so many."""
-        for most, limit in ((1 << 30, effort.FEW_STEPS), (0, "0")):
+        for most, limit in ((1 << 30, client.FEW_STEPS), (0, "0")):
             for words in ((), ("--native",), ("--calls",), ("--calls", "--no-more")):
                 self.assertEqual(self.compared(0, most, *words),
-                                 program.scf(["compare", *words, "--limit", limit], self.given))
+                                 client.run(["compare", *words, "--limit", limit], self.given))
         self.assertEqual(self.compared(0, 0, "--calls").status, program.UNKNOWN)
         self.assertEqual(self.compared(0, 1 << 30, "--calls").out, b"same\n")
 

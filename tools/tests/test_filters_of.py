@@ -80,7 +80,7 @@ class Programs(Confined):
             for name, words in (("verify-process", (str(pid), profile)), ("surface", ("--pid", str(pid)))):
                 status, out, err = self.run_tool(name, "--json", *words)
                 self.assertEqual((status, err), (3, f"{name}: {why}\n"))
-                self.assertEqual(json.loads(out), {"status": 3, "verdict": None, "stacks": [], "why": why})
+                self.assertEqual(json.loads(out), {"status": 3, "verdict": None, "stacks": [], "why": why, "schema": 1})
 
     @here
     def test_a_zombie(self):
@@ -373,8 +373,8 @@ class VerifyProcess(Confined):
                                                                                          "SCMP_ARCH_X86"]))
         said = comments(out)
         self.assertEqual((status, out.split("\n")[0]), (0, "same"))
-        self.assertIn("i386: some syscalls are allowed, such as number 0: ALLOW; the profile also names SCMP_ARCH_X86",
-                      said)
+        self.assertIn("i386: some syscalls are allowed, such as restart_syscall (0): ALLOW; the profile also names "
+                      "SCMP_ARCH_X86", said)
         self.assertIn("x32: some syscalls are allowed, such as read (0x40000000 + 0): ALLOW", said)
         logs_one = (load(4) + jeq(I386, 1, 0) + ret(ALLOW) + load(0) + jeq(3, 0, 1) + ret(0x7FFC0000)
                     + ret(EPERM))
@@ -403,7 +403,7 @@ class VerifyProcess(Confined):
         self.assertEqual({thread: stack["verdict"] for thread, stack in by_thread.items()},
                          {main: "same", other: "differs", free: "unconfined"})
         self.assertEqual(by_thread[other]["call"]["names"], ["umount2"])
-        self.assertEqual(by_thread[other]["filter"], {"action": "ERRNO", "data": 1})
+        self.assertEqual(by_thread[other]["filter"], {"action": "ERRNO", "data": 1, "errno": "EPERM"})
         self.assertEqual(by_thread[other]["profile"], {"action": "ALLOW", "data": 0})
         self.assertEqual((by_thread[main]["skipped"], by_thread[main]["filters"]), (["umont2"], [9]))
         self.assertEqual([kind["let_through"] for kind in by_thread[main]["foreign"]], [[], []])

@@ -57,7 +57,7 @@ def run(words, data):
 class Hostile(Case):
     @classmethod
     def setUpClass(cls):
-        subprocess.run([SCF, "--help"], stdin=subprocess.DEVNULL, stdout=subprocess.DEVNULL, check=True)
+        subprocess.run([SCF, "--version"], stdin=subprocess.DEVNULL, stdout=subprocess.DEVNULL, check=True)
 
     def ends(self, words, data, *expected, most=MEGABYTES):
         """It ends soon, in little memory, with one of these statuses and outputs; an output of None may be any."""

@@ -28,8 +28,10 @@ class Install(Case):
         return sorted(os.path.relpath(os.path.join(at, name), self.prefix) for at, _, names in os.walk(self.prefix)
                       for name in names if not name.endswith(".pyc"))
 
-    def whole(self):
-        return sorted(["bin/scf", *(f"bin/scf-{name}" for name in TOOLS), "lib/scf/scf",
+    def whole(self, zsh="site-functions"):
+        return sorted(["bin/scf", *(f"bin/scf-{name}" for name in TOOLS), "lib/scf/program",
+                       "share/bash-completion/completions/scf", "share/fish/vendor_completions.d/scf.fish",
+                       f"share/zsh/{zsh}/_scf",
                        *(f"lib/scf/tools/{name}" for name in TOOLS),
                        *(f"lib/scf/tools/scftools/{name}" for name in MODULES),
                        *(f"lib/scf/tables/{name}" for name in TABLES), "lib/scf/docs/FAULTS.md",
@@ -50,9 +52,11 @@ class Install(Case):
         self.file("f.bpf", filter_of([0, 1, 231]))
         self.file("p.json", profile_of("read", "write"))
         self.assertEqual(self.run_installed("scf", "check", given=filter_of([])), (0, "accepted 8\n", ""))
-        status, out, err = self.run_installed("scf-compare", "f.bpf", "p.json")
-        self.assertEqual((status, err), (1, ""))
-        self.assertIn("exit_group (231)", out)
+        for words in (["scf-compare"], ["scf", "compare"]):
+            status, out, err = self.run_installed(*words, "f.bpf", "p.json")
+            self.assertEqual((status, err), (1, ""))
+            self.assertIn("exit_group (231)", out)
+        self.assertIn("usage: scf lint ", self.run_installed("scf", "help", "lint")[1])
         self.assertEqual(self.run_installed("scf-explain", "run", given=b"x")[0], 3)
 
     def test_each_tool_has_help_a_version_and_a_page_and_names_itself_as_it_was_called(self):
@@ -85,7 +89,7 @@ class Install(Case):
             for name in (*folders, *names):
                 mode = stat.S_IMODE(os.lstat(os.path.join(at, name)).st_mode)
                 place = os.path.relpath(os.path.join(at, name), self.prefix)
-                is_program = place == "lib/scf/scf" or os.path.dirname(place) == "lib/scf/tools"
+                is_program = place == "lib/scf/program" or os.path.dirname(place) == "lib/scf/tools"
                 self.assertEqual(mode, 0o755 if name in folders or is_program else 0o644, place)
 
     def test_python_need_not_compile_the_modules_again(self):
@@ -123,7 +127,7 @@ class Install(Case):
         self.make("install", "PREFIX=/usr", f"DESTDIR={stage}")
         self.assertEqual(os.listdir(stage), ["usr"])
         self.prefix = os.path.join(stage, "usr")
-        self.assertEqual(self.files(), self.whole())
+        self.assertEqual(self.files(), self.whole("vendor-completions"))
         for at, _, names in os.walk(self.prefix):
             for name in names:
                 path = os.path.join(at, name)

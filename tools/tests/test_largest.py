@@ -49,7 +49,7 @@ def differs(number, filter_answer, profile_answer):
 class Largest(Case):
     @classmethod
     def setUpClass(cls):
-        subprocess.run([SCF, "--help"], stdin=subprocess.DEVNULL, stdout=subprocess.DEVNULL, check=True)
+        subprocess.run([SCF, "--version"], stdin=subprocess.DEVNULL, stdout=subprocess.DEVNULL, check=True)
 
     def ends(self, words, data, status, out):
         """It prints this and nothing else; where it doesn't, the first line that is another one is shown."""

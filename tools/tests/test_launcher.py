@@ -34,40 +34,41 @@ class Launcher(Case):
             return len(file.readlines())
 
     def test_scf_is_built_where_it_never_was(self):
-        status, out, err = self.run_here("scf", "a", "b c")
-        self.assertEqual((status, out), (0, "one a b c\n"))
+        status, out, err = self.run_here("scf", "check", "--b c")
+        self.assertEqual((status, out), (0, "one check --b c\n"))
         self.assertEqual(err, "build: proving and building scf; the first time this may take half an hour\n")
-        self.assertEqual(self.run_here("scf", "x"), (0, "one x\n", ""))
+        self.assertEqual(self.run_here("scf", "dis"), (0, "one dis\n", ""))
         self.assertEqual(self.asked(), 1)
 
     def test_build_has_the_kit_build_again(self):
-        self.run_here("scf")
+        self.run_here("scf", "check")
         self.file("tree/crates/scf/src/main.rt", "two")
-        self.assertEqual(self.run_here("scf")[1], "one\n")
+        self.assertEqual(self.run_here("scf", "check")[1], "one check\n")
         self.assertEqual(self.run_here("build"), (0, "", ""))
-        self.assertEqual(self.run_here("scf")[1], "two\n")
+        self.assertEqual(self.run_here("scf", "check")[1], "two check\n")
 
     def test_its_input_is_not_read_by_the_build(self):
         self.file("tree/crates/scf/src/main.rt", "$(cat)")
-        self.assertEqual(self.run_words([os.path.join(self.tree, "scf")], b"mine", env=self.env)[:2], (0, "mine\n"))
+        self.assertEqual(self.run_words([os.path.join(self.tree, "scf"), "dis"], b"mine", env=self.env)[:2],
+                         (0, "mine dis\n"))
 
     def test_without_a_kit_what_was_built_runs(self):
-        self.run_here("scf")
-        self.assertEqual(self.run_here("scf", "x", PATH="/usr/bin:/bin"), (0, "one x\n", ""))
+        self.run_here("scf", "check")
+        self.assertEqual(self.run_here("scf", "dis", PATH="/usr/bin:/bin"), (0, "one dis\n", ""))
 
     def test_status_125(self):
-        self.assertEqual(self.run_here("scf", PATH="/usr/bin:/bin"),
+        self.assertEqual(self.run_here("scf", "check", PATH="/usr/bin:/bin"),
                          (125, "", "build: rt, the Rattle kit's command, isn't on the PATH\n"))
-        status, out, err = self.run_here("scf", FAILS="1")
+        status, out, err = self.run_here("scf", "check", FAILS="1")
         self.assertEqual((status, out), (125, ""))
         self.assertIn("build: scf wasn't built\n", err)
         self.assertEqual(self.run_here("build", "none")[0], 125)
 
     def test_through_links(self):
-        self.run_here("scf")
+        self.run_here("scf", "check")
         os.makedirs(os.path.join(self.folder, "links", "scf"))
         os.symlink("../../tree/scf", os.path.join(self.folder, "links", "scf", "far"))
         os.symlink("links/scf/far", os.path.join(self.folder, "near"))
-        self.assertEqual(self.run_words([os.path.join(self.folder, "near"), "z"], env=self.env), (0, "one z\n", ""))
-        status, out, _ = self.run_words(["sh", "-c", "CDPATH=/ sh tree/build && tree/scf z"], env=self.env)
-        self.assertEqual((status, out), (0, "one z\n"))
+        self.assertEqual(self.run_words([os.path.join(self.folder, "near"), "dis"], env=self.env), (0, "one dis\n", ""))
+        status, out, _ = self.run_words(["sh", "-c", "CDPATH=/ sh tree/build && tree/scf dis"], env=self.env)
+        self.assertEqual((status, out), (0, "one dis\n"))

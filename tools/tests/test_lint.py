@@ -13,7 +13,7 @@ from test_output import HOSTILE
 sys.path.append(os.path.join(TOP, "tools"))
 
 import kernel_profiles  # noqa: E402
-from scftools import actions, arguments, program, siblings, tables, watchlist  # noqa: E402
+from scftools import actions, arguments, client, siblings, tables, watchlist  # noqa: E402
 
 ALLOW, ERRNO, TOP_OF = "SCMP_ACT_ALLOW", "SCMP_ACT_ERRNO", (1 << 64) - 1
 ACTIONS = ("ALLOW", "LOG", "ERRNO", "TRACE", "TRAP", "NOTIFY", "KILL", "KILL_THREAD", "KILL_PROCESS")
@@ -70,7 +70,7 @@ class Usage(Linted):
         clean = profile(entry("read", "write", comment="as it is"), defaultErrnoRet=38)
         for words in ((), ("--strict",)):
             self.assertEqual(self.run_lint(clean, *words), (0, "# no findings\n", ""))
-        self.assertEqual(self.report(clean, "--strict"), {"status": 0, "findings": [], "untold": []})
+        self.assertEqual(self.report(clean, "--strict"), {"schema": 1, "status": 0, "findings": [], "untold": []})
 
     def test_strict_and_except(self):
         odd = profile(entry("umont2"), default=ALLOW)
@@ -393,7 +393,7 @@ class Running(Linted):
 
     def compiled(self, given):
         text = json.dumps(given).encode()
-        return program.scf(["compile"], part("profile", text) + part("table", TABLE_TEXT)).out
+        return client.run(["compile"], part("profile", text) + part("table", TABLE_TEXT)).out
 
     def start(self, given, calls):
         """The processes that make these syscalls, each a number and arguments, a text being a buffer's bytes."""
@@ -863,7 +863,7 @@ class Beside(Linted):
     def is_same(self, filters, entries):
         text = json.dumps(profile(*(it for it in entries if it["names"]))).encode()
         given = part("filter", filters) + part("profile", text) + part("table", TABLE_TEXT)
-        return program.scf(["compare"], given).lines[0] == "same"
+        return client.run(["compare"], given).lines[0] == "same"
 
     @staticmethod
     def without(entries, gone):
@@ -875,7 +875,7 @@ class Beside(Linted):
         for _ in range(30):
             entries = self.random_profile(random_of)
             text = json.dumps(profile(*entries)).encode()
-            data = program.scf(["compile"], part("profile", text) + part("table", TABLE_TEXT)).out
+            data = client.run(["compile"], part("profile", text) + part("table", TABLE_TEXT)).out
             found = self.found(profile(*entries), kinds=("covered", "without-effect"))
             gone = {(it["entry"], name) for it in found for name in it["names"]}
             told += len(gone)

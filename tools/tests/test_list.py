@@ -1,7 +1,13 @@
 """tools/list."""
+import itertools
 import re
+import shutil
+import subprocess
+import unittest
 
 from common import ALLOW, EPERM, I386, KILL_PROCESS, SCF, X86_64, Case, filter_of, insn, jeq, jge, load, ret
+from scftools import flow_graph, paths, tables
+from scftools.calls import Call
 
 GATE = load(4) + jeq(X86_64, 1, 0) + ret(KILL_PROCESS) + load(0) + jge(0x40000000, 0, 1) + ret(EPERM) + jeq(231, 0,
     1) + ret(ALLOW) + ret(0x00050026)
@@ -30,10 +36,10 @@ class List(Case):
             "2  ret #0x80000000        // KILL_PROCESS",
             "3  ld [0]                 // the syscall number",
             "4  jge #0x40000000, 0, 1  // x32: to 5, else 6",
-            "5  ret #0x50001           // ERRNO 1",
+            "5  ret #0x50001           // ERRNO 1 (EPERM)",
             "6  jeq #0xe7, 0, 1        // exit_group: to 7, else 8",
             "7  ret #0x7fff0000        // ALLOW",
-            "8  ret #0x50026           // ERRNO 38",
+            "8  ret #0x50026           // ERRNO 38 (ENOSYS)",
         ])
 
     def test_it_is_the_listing_of_dis_with_more_around_it(self):
@@ -55,7 +61,7 @@ class List(Case):
         tests = (jeq(0, 0, 0), insn(0x25, 1, 0, 0), jge(2, 0, 0), insn(0x45, 3, 0, 0), jeq(99999, 0, 0),
                  jeq(0x40000007, 0, 0), jeq(0xFFFFFFFF, 0, 0),
                  insn(0x45, 0x40000000, 0, 0), insn(0x1D, 0, 0, 0))
-        names = ["read: ", "above write: ", "from open on: ", "", "number 99999: ", "number 0x40000000 + 7: ",
+        names = ["read: ", "above write: ", "from open on: ", "", "number 99999: ", "x32 poll: ",
                  "number -1, which a tracer sets to skip a syscall: ", "x32: ", ""]
         for test, name in zip(tests, names):
             self.assertEqual(self.meanings(load(0) + test + ret(0))[1], f"{name}to 2, else 2")
@@ -78,12 +84,12 @@ class List(Case):
         data = load(4) + jeq(I386, 0, 0) + load(0) + jeq(1, 0, 0) + ret(0)
         self.assertEqual(self.meanings(data)[1::2], ["i386: to 2, else 2", "write: to 4, else 4"])
         known = load(4) + jeq(I386, 0, 3) + jeq(X86_64, 0, 0) + load(0) + jeq(1, 0, 0) + ret(0)
-        self.assertEqual(self.meanings(known)[4], "number 1 of i386: to 5, else 5")
+        self.assertEqual(self.meanings(known)[4], "exit of i386: to 5, else 5")
 
     def test_calls_of_another_architecture_are_not_named(self):
         data = load(4) + jeq(I386, 0, 2) + load(0) + jeq(1, 0, 0) + load(0) + jeq(1, 0, 0) + ret(0)
         self.assertEqual(self.meanings(data), ["the architecture", "i386: to 2, else 4", "the syscall number",
-                                               "number 1 of i386: to 4, else 4", "the syscall number",
+                                               "exit of i386: to 4, else 4", "the syscall number",
                                                "write: to 6, else 6", "KILL_THREAD"])
 
     def test_words_of_a_call(self):
@@ -117,3 +123,69 @@ class List(Case):
         status, _, err = self.closed_output("list", "-", given=GATE)
         self.assertEqual(status, 3)
         self.assertIn("the output failed", err)
+
+
+class Graph(Case):
+    """--dot: the control flow as a graph."""
+
+    def graph_of(self, data, *words):
+        status, out, err = self.run_tool("list", "--dot", *words, self.file("f.bpf", data))
+        self.assertEqual((status, err), (0, ""))
+        return out
+
+    def test_a_graph(self):
+        """The search for a number is one node, and equal returns are one."""
+        data = (load(4) + jeq(X86_64, 1, 0) + ret(KILL_PROCESS) + load(0) + jge(3, 0, 2) + jeq(9, 0, 3) + ret(EPERM)
+                + jeq(1, 0, 1) + ret(EPERM) + ret(ALLOW))
+        self.assertEqual(self.graph_of(data), """digraph filter {
+    node [shape=box, fontname=monospace];
+    edge [fontname=monospace];
+    n0 [label="0 ld [4] // the architecture\\lthe architecture? (1)\\l"];
+    r2147483648 [shape=ellipse, style=filled, fillcolor=lightpink, label="KILL_PROCESS\\l"];
+    n3 [label="3 ld [0] // the syscall number\\lthe syscall number? (3 tests, the last is 7)\\l"];
+    r327681 [shape=ellipse, style=filled, fillcolor=lightpink, label="ERRNO 1 (EPERM)\\l"];
+    r2147418112 [shape=ellipse, style=filled, fillcolor=palegreen, label="ALLOW\\l"];
+    n0 -> r2147483648 [label="all others\\l"];
+    n0 -> n3 [label="x86-64\\l"];
+    n3 -> r327681 [label="write\\lmmap\\l"];
+    n3 -> r2147418112 [label="all others\\l"];
+}
+""")
+        marked = [line.strip() for line in self.graph_of(data, "--nr=mmap").split("\n") if "color=red" in line]
+        self.assertEqual([line.split(" [")[0] for line in marked], ["n0", "n3", "r327681", "n0 -> n3", "n3 -> r327681"])
+
+    def test_each_path_is_one_of_the_graph(self):
+        """Of filters with every kind of test, by the paths that scf takes: an edge has the value that was tested."""
+        tests = (jeq(5, 1, 0), jge(7, 0, 2), insn(0x25, 9, 1, 0), insn(0x45, 6, 0, 1), load(16), jeq(3, 0, 1),
+                 ret(EPERM), insn(0x05, 1), ret(ALLOW), load(0), jge(2, 0, 1), ret(EPERM), insn(0x54, 3), jeq(1, 0, 1),
+                 ret(ALLOW), ret(0x00050026))
+        chain = b"".join(jeq(it, 0, 1) + insn(0x05, 0) for it in range(9))
+        for data in (b"".join(tests), filter_of(range(0, 40, 3)), load(0) + chain + ret(ALLOW)):
+            graph = flow_graph.Graph(data)
+            for number, first in itertools.product(range(12), (0, 1, 3, 2**32 + 3)):
+                call = Call(number, arguments=(first, *[0] * 5))
+                places = paths.of(data, call.words()).places
+                way = flow_graph.Drawing(graph, [""] * (len(data) // 8), tables.read(None), places).way
+                self.assertEqual(way[0], graph.behind_jumps(0))
+                self.assertEqual(way[-1], graph.behind_jumps(places[-1]))
+                words = {0: number, 1: X86_64, 4: first & 0xFFFFFFFF, 5: first >> 32}
+                for place, target in zip(way, way[1:]):
+                    node = graph.nodes[place]
+                    self.assertIn(target, node.targets)
+                    if node.word is not None:
+                        self.assertTrue(any(low <= words[node.word] <= high for low, high in node.targets[target]))
+
+    def test_a_long_filter_is_folded(self):
+        """As the engines': 1,000 tests are a few nodes, and take no time."""
+        tests = b"".join(jeq(number, 0, 1) + ret(ALLOW) for number in range(0, 2000, 2))
+        data = load(0) + tests + ret(EPERM)
+        out = self.run_tool("list", "--dot", self.file("f.bpf", data), seconds=5)[1]
+        self.assertLess(out.count(" -> "), 10)
+        self.assertIn("and 988 more ranges", out)
+
+    @unittest.skipUnless(shutil.which("dot"), "there is no graphviz here")
+    def test_graphviz_draws_it(self):
+        for data in (GATE, insn(0x05, 9), b"".join(insn(code, 0) for code in EVERY_CODE)):
+            done = subprocess.run(["dot", "-Tsvg"], input=self.graph_of(data).encode(), stdout=subprocess.PIPE,
+                                  stderr=subprocess.PIPE, check=False)
+            self.assertEqual((done.returncode, done.stderr), (0, b""))

@@ -10,11 +10,11 @@ import sys
 import time
 import unittest
 
-from common import TOP, Case, for_developers, limited, profile_of, taken, tool
+from common import TOP, Case, limited, profile_of, taken, tool
 
 sys.path.append(os.path.join(TOP, "tools"))
 
-from scftools import straces, tables  # noqa: E402
+from scftools import strace, tables  # noqa: E402
 
 TABLE = tables.read(None)
 
@@ -29,7 +29,7 @@ BEGUN = re.compile(r"(?m)^(?:\[pid +\d+\] |\d+ +)? *(?:[\d:.]+ +)?(?:\[[0-9a-f]+
 
 def log_of(text, looked_at=()):
     """The calls of a log: for each name and values how often; and the counts of what wasn't read, or is foreign."""
-    found = straces.Log(lambda name: tuple(looked_at))
+    found = strace.Log(lambda name: tuple(looked_at))
     for number, line in enumerate(text.split("\n"), 1):
         found.add(number, line)
     found.end()
@@ -50,7 +50,7 @@ class Values(unittest.TestCase):
                              0xFFFFFFFF80000011), ("0 /* PER_LINUX */|0x40000 /* ADDR_NO_RANDOMIZE */", 0x40000),
                             ("3</tmp/a>(deleted)", 3), ("0</dev/null<char 1:3>>", 0), ("4<pipe:[7]>", 4),
                             ('5<UNIX:[7,@"x\\"]>, 9, 9<"]>', 5), ("6<TCPv6:[[::1]:22->[::1]:23]>", 6)):
-            self.assertEqual(straces.values_of(text), (value,), text)
+            self.assertEqual(strace.values_of(text), (value,), text)
 
     def test_names(self):
         """By the manual pages and headers: socket(2), clone(2), personality(2), linux/sched.h, asm/ioctls.h."""
@@ -60,26 +60,26 @@ class Values(unittest.TestCase):
                             ("O_RDWR|O_CREAT|O_LARGEFILE", 0o100102), ("TIOCSTI", 0x5412), ("PROT_READ|PROT_EXEC", 5),
                             ("S_IFIFO|0644", 0o10644), ("077777", 0o77777), ("AF_INET|1", 3), ("PR_SET_SECCOMP", 22),
                             ("CLONE_IO|0xffffffff00000000|SIGCHLD", 0xFFFFFFFF80000011)):
-            self.assertEqual(straces.values_of(text), (value,), text)
+            self.assertEqual(strace.values_of(text), (value,), text)
 
     def test_an_upper_half_is_zero_or_the_sign(self):
         for text, number in (("-1", -1), ("-100", -100), ("AT_FDCWD", -100), ("AT_FDCWD</tmp>", -100),
                              ("-2147483648", -(1 << 31)), ("0xffffffff", -1), ("4294967295", -1),
                              ("0x80000000", -(1 << 31)), ("CLONE_IO|SIGCHLD", 17 - (1 << 31)),
                              ("0xffffffff /* CAP_??? */", -1), ("PR_SET_PTRACER_ANY", -1)):
-            self.assertEqual(straces.values_of(text), (number + (1 << 32), number + HIGH), text)
+            self.assertEqual(strace.values_of(text), (number + (1 << 32), number + HIGH), text)
 
     def test_the_upper_bits_of_a_mode(self):
         """The kernel takes a mode as umode_t, which is an unsigned short (linux/types.h), and strace prints that."""
         for text, number in (("0177777", 0xFFFF), ("S_IFREG|0644", 0o100644)):
-            self.assertEqual(straces.values_of(text), (number, number | 0xFFFF0000, number | HIGH - 0x10000), text)
+            self.assertEqual(strace.values_of(text), (number, number | 0xFFFF0000, number | HIGH - 0x10000), text)
 
     def test_what_is_not_known(self):
         for text in ("", "AF_NONE", "AF_NONE|1", "AT_FDCWD|1", "htons(ETH_P_ALL)", "3</a", "3<</a>", "3<a:[7>", "1|",
                      "|1", "1 | 1", "_IOC(_IOC_NONE, 0x56, 0x78, 0x1234)", "1|" * 5000 + "1", '"3"', "[3]", "{3}",
                      "1<<3", "1|-1", "08", "0xg", "3x",
                      "18446744073709551616", "0x10000000000000000", "-9223372036854775809", "9" * 5000, "a=3", "~3"):
-            self.assertIsNone(straces.values_of(text), text)
+            self.assertIsNone(strace.values_of(text), text)
 
 
 class Arguments(unittest.TestCase):
@@ -96,13 +96,13 @@ class Arguments(unittest.TestCase):
                                ("(0</dev/null<char 1:3>>, 5)", ["0</dev/null<char 1:3>>", " 5"]),
                                ('(3</q\\"[x]\\76, 7\\74>(deleted), 5)', ['3</q\\"[x]\\76, 7\\74>(deleted)', " 5"]),
                                ("(6<TCPv6:[[::1]:1->[::1]:2]>, 5)", ["6<TCPv6:[[::1]:1->[::1]:2]>", " 5"])):
-            found, end = straces.arguments_in(text, 1)
+            found, end = strace.arguments_in(text, 1)
             self.assertEqual((found, end), (expected, len(text)), text)
 
     def test_what_is_cut(self):
         for text, expected in (("(1, 2", ["1"]), ('(1, "ab', ["1"]), ("(1, [2, 3", ["1"]), ("(1, 3</a", ["1"]),
                                ("(1, 2 /* x", ["1"]), ("(", [])):
-            self.assertEqual(straces.arguments_in(text, 1), (expected, None), text)
+            self.assertEqual(strace.arguments_in(text, 1), (expected, None), text)
 
 
 class Forms(unittest.TestCase):
@@ -227,7 +227,8 @@ class Needs(Judged):
                               f"# once in line 4 of the log\n{COUNTED}: allowed 1, not allowed 2, depends 0\n")
         first = report["calls"][0]
         self.assertEqual((first["number"], first["count"], first["line"], first["refused"]["answer"],
-                          first["refused"]["reason"]), (2, 2, 1, {"action": "ERRNO", "data": 1}, "default"))
+                          first["refused"]["reason"]), (2, 2, 1, {"action": "ERRNO", "data": 1, "errno": "EPERM"},
+                                                       "default"))
 
     def test_arguments_that_a_condition_looks_at(self):
         _, report, out = self.judged("socket(40, 1, 0) = 3\nsocket(0x28, 2, 0) = 3\nsocket(1, 1, 0) = 3\n", 1)
@@ -245,7 +246,7 @@ class Needs(Judged):
             one = report["calls"][0]
             self.assertEqual(one["depends_on"], [0])
             self.assertEqual((one["refused"]["call"]["arguments"][0], one["refused"]["answer"]),
-                             ("0x28", {"action": "ERRNO", "data": 22}))
+                             ("0x28", {"action": "ERRNO", "data": 22, "errno": "EINVAL"}))
             self.assertNotEqual(one["made"]["arguments"][0], "0x28")
             self.assertRegex(out.split("\n")[1],
                              r"^# allowed with args 0x[0-9a-f]+( 0x0){5}; with args 0x28( 0x0){5} it is ERRNO 22$")
@@ -276,10 +277,10 @@ class Needs(Judged):
         fates, report, out = self.judged(log, 4)
         self.assertEqual((fates, report["not_judged"]),
                          ({"read": "made"},
-                          {"names": {"no_such_call": 1}, "foreign": 1, "cut": 0, "more": 0, "lines": 1}))
+                          {"names": {"no_such_call": 1}, "foreign": 1, "cut": 0, "more": 0, "lines": 1, "lost": 0}))
         for line in ("# not judged, since the table doesn't have it: no_such_call, times: 1",
                      "# syscalls not judged, since their processes don't run in 64-bit mode: 1",
-                     "# lines not judged, since they aren't strace's or can't be parsed: 1"):
+                     "# lines not judged, since they can't be parsed: 1"):
             self.assertIn(f"{line}\n", out)
         self.assertEqual(self.judged("read(1) = 1\nwhat\n", 4)[0], {"read": "made"})
         out = self.judged("read(1) = 1\nmmap2(1) = 1\n" + "".join(f"no{it}(1) = 1\n" for it in range(30)), 4)[2]
@@ -416,7 +417,7 @@ class Least(Judged):
     def test_arguments_that_are_not_known(self):
         made, err = self.least("socket(AF_NONE, 1, 0) = 3\nsocket(1, 1, 0) = 3\n")
         self.assertEqual(made["syscalls"], [{"names": ["socket", *ALWAYS], "action": ALLOW}])
-        self.assertEqual(err, "needs: socket: strace doesn't show arguments 0 as numbers: they may be any\n")
+        self.assertEqual(err, "needs: socket: the log doesn't show arguments 0 as numbers: they may be any\n")
 
     def test_many_values(self):
         made, _ = self.least("".join(f"socket({it}, 1, 0) = 3\n" for it in range(200)))
@@ -444,7 +445,8 @@ class Hostile(Judged):
                   b"/*", b"3<", b"1 ", b", ", b"\xff", b"[ Process PID=7 runs in 32 bit mode. ]", b"+++ ", b"strace: "
                   b"Process 7 attached")
         for _ in range(30):
-            log = b"".join(random_of.choice(pieces) for _ in range(2000))
+            # (what begins with a brace is a profile)
+            log = b"1 " + b"".join(random_of.choice(pieces) for _ in range(2000))
             status, out, err = self.needs(log)
             self.assertIn(status, (0, 1, 4))
             self.assertEqual(err, "")
@@ -568,41 +570,17 @@ class Registers(Case):
         for words in ((), ("-X", "raw"), ("-X", "verbose"), ("-e", "raw=all"), ("-yy",)):
             known = shown = 0
             for (number, *registers), line in zip(calls, self.traced(calls, *words)):
-                leader = straces.LEADER.match(line)
+                leader = strace.LEADER.match(line)
                 self.assertEqual(int(leader[3]), number)
-                name = straces.CALL.match(line, leader.end())
-                printed = straces.arguments_in(line, name.end())[0]
-                for place, text in straces._in_registers(name[1], printed).items():
-                    values = straces.values_of(text)
+                name = strace.CALL.match(line, leader.end())
+                printed = strace.arguments_in(line, name.end())[0]
+                for place, text in strace._in_registers(name[1], printed).items():
+                    values = strace.values_of(text)
                     shown, known = shown + 1, known + (values is not None)
                     # what stands above the 16 bits of a mode is neither zero nor the sign
                     if values is not None and not (text.strip()[:3] == "001" and registers[place] == 0x80000001):
                         self.assertIn(registers[place] % HIGH, values, line)
             self.assertGreater(known, shown * 9 // 10, words)
-
-
-@unittest.skipUnless(shutil.which("cc"), "there is no C compiler here")
-class Symbols(Case):
-    """tables/arguments.symbols."""
-
-    def test_it_is_what_the_headers_say(self):
-        status, out, err = self.run_words([for_developers("symbol-table")])
-        if status == 3 and "cc: " in err:
-            self.skipTest(f"a header isn't there: {err}")
-        self.assertEqual((status, err), (0, ""))
-        here = dict(line.split() for line in out.split("\n") if line and line[0] != "#")
-        with open(straces.SYMBOLS, encoding="ascii") as file:
-            table = dict(line.split() for line in file if line[0] != "#")
-        unlike = {name for name in here if name in table and here[name] != table[name]}
-        # these grow with each kernel
-        self.assertEqual(unlike - {"AF_MAX", "IPPROTO_MAX", "PTRACE_O_MASK", "SCHED_FLAG_ALL"}, set())
-        self.assertGreater(len(here.keys() & table.keys()), 1000)
-
-    def test_usage(self):
-        self.assertEqual(self.run_words([for_developers("symbol-table"), "a"])[:2], (2, ""))
-        self.assertEqual(self.run_words([for_developers("symbol-table"), "--help"])[::2], (0, ""))
-        status, out, err = self.run_words([sys.executable, for_developers("symbol-table")], env={"PATH": self.folder})
-        self.assertEqual((status, out, err), (3, "", "symbol-table: cc can't be run: No such file or directory\n"))
 
 
 @unittest.skipUnless(shutil.which("strace"), "there is no strace here")
@@ -632,7 +610,7 @@ class Real(Judged):
                 self.assertEqual((status, err), (1, ""), words)
                 report = json.loads(out)
                 self.assertEqual({key: it for key, it in report["not_judged"].items() if key != "lines"},
-                                 {"names": {}, "foreign": 0, "cut": 0, "more": 0}, words)
+                                 {"names": {}, "foreign": 0, "cut": 0, "more": 0, "lost": 0}, words)
                 self.assertEqual(report["not_judged"]["lines"], 0, words)
                 found = {it["name"] for it in report["calls"]}
                 with open(log, encoding="utf-8", errors="replace") as file:

@@ -238,6 +238,28 @@ class OfProcesses(Hook):
         self.assertEqual(self.hook(child, refuses("umount2"), "--kill")[0], 0)
         self.runs_on(child)
 
+    def test_dry_run(self):
+        """It only reports, also where its own words are wrong, and whatever fails."""
+        child = self.child([refusing(UMOUNT2)])
+        for profile, words, first, last in (
+                (refuses("umount2"), (), "confined as configured (same)", "the status is 0 without --dry-run, too"),
+                (refuses("mount"), (), "not confined as configured (differs)",
+                 "without --dry-run the status would be 1"),
+                (refuses("mount"), ("--kill",), "not confined as configured (differs)",
+                 "without --dry-run the status would be 1, and the container would be killed"),
+                (b"{", ("--kill",), "unknown whether it is confined as configured",
+                 "without --dry-run the status would be 3, and the container would be killed")):
+            status, lines = self.hook(child, profile, "--dry-run", *words)
+            self.assertEqual((status, lines[0], lines[-1]), (0, f"container box: {first}", f"dry run: {last}"))
+        given = self.state(child.pid, self.bundle(refuses("mount")))
+        status, _, err = self.run_tool("oci-hook", "--kill", "--dry-run", "--wait=x", given=given)
+        self.assertEqual(status, 0)
+        self.assertIn("oci-hook: dry run: usage error: ", err)
+        self.runs_on(child)
+        status, out, _ = self.run_tool("oci-hook", "--dry-run", "--json", given=given)
+        self.assertEqual((status, json.loads(out)["status"], json.loads(out)["dry_run"]), (0, 1, True))
+        self.assertEqual(self.run_tool("oci-hook", "--print-hook", "--dry-run", "--wait", "x")[0], 2)
+
     def test_statuses(self):
         child = self.child([refusing(MOUNT)])
         for profile, words, status in ((refuses("mount"), (), 0), (refuses("umount2"), (), 1),
@@ -551,7 +573,7 @@ class Inside(Hook):
         """It is said, and isn't taken for a process that is confined."""
         for error, says in ((MemoryError(), "out of memory"),
                             (OSError(5, "failed"), "the container can't be inspected: failed"),
-                            (program.Refused("no scf", program.NO_PROGRAM), "no scf"), (hooks.Failed("no"), "no"),
+                            (program.ToolError("no scf", program.NOT_BUILT), "no scf"), (hooks.Failed("no"), "no"),
                             (hold.Waiting("it waits"), "it waits (--force stops it)"),
                             (processes.Unreadable("it can't"), "it can't"),
                             (processes.Interrupted(15), "the check was ended by SIGTERM")):

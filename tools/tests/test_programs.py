@@ -14,7 +14,7 @@ sys.path.append(os.path.join(TOP, "tools"))
 from scftools import tables  # noqa: E402
 
 TOOLS = ("ask", "bundle", "check", "compare", "compare-profiles", "compile", "decide", "explain", "lint", "list",
-         "needs", "run", "surface")
+         "needs", "run", "surface", "why")
 NATIVE = load(4) + jeq(X86_64, 1, 0) + ret(KILL_PROCESS) + load(0) + jge(0x40000000, 0, 1) + ret(KILL_PROCESS)
 # A is the number times the number, which isn't followed where the number isn't known.
 SQUARE = NATIVE + insn(0x07, 0) + insn(0x2C, 0) + jeq(49, 0, 1) + ret(EPERM) + ret(ALLOW)
@@ -36,7 +36,8 @@ class Check(Case):
         status, out, err = self.run_tool("check", good, bad)
         self.assertEqual((status, err), (1, ""))
         self.assertTrue(out.startswith(f"accepted 1\n# {good}\nfault filter Jump at 0\n# {bad}\n# This jump"), out)
-        self.assertEqual(self.run_tool("check", bad, cut)[0], 3)
+        self.assertEqual(self.run_tool("check", bad, cut)[0], 1)
+        self.assertEqual(self.run_tool("check", good, cut)[0], 3)
 
 
 class Compile(Case):
@@ -115,8 +116,8 @@ class Run(Case):
                          (0, "ERRNO 1 steps 6\n# the syscall is write (1)\n# ERRNO 1: the syscall fails with "
                              "EPERM\n", ""))
         status, out, _ = self.run_tool("run", "--arch", hex(I386), self.filter)
-        self.assertEqual((status, out), (0, "KILL_PROCESS 0 steps 3\n# the syscall is number 0 of the architecture i386\n"
-                                            "# KILL_PROCESS: the process is killed\n"))
+        self.assertEqual((status, out), (0, "KILL_PROCESS 0 steps 3\n# the syscall is restart_syscall (0) of the "
+                                            "architecture i386\n# KILL_PROCESS: the process is killed\n"))
         status, out, err = self.run_tool("run", "--nr", "raed", self.filter)
         self.assertEqual((status, out), (2, ""))
         self.assertIn("the table has no syscall 'raed'; the nearest name is 'read'", err)
@@ -154,7 +155,8 @@ class Several(Case):
                                    ("read 1 2 3 4 5 6 7\n", 2, "isn't a syscall and up to six numbers"),
                                    ("read\0\n", 2, "isn't a syscall and up to six numbers"),
                                    ("9" * 300, 2, "isn't a syscall and up to six numbers"),
-                                   ("read x\n", 2, "fault number a0"), ("99999999999\nread\n", 2, "fault number nr")):
+                                   ("read 1x\n", 2, "fault number a0"), ("read x\n", 2, "no constant is known"),
+                                   ("99999999999\nread\n", 2, "fault number nr")):
             found, out, err = self.run_tool("decide", "--calls-from", self.file("calls", text), self.filter)
             self.assertEqual(found, status, text)
             self.assertIn(says, out + err)
@@ -295,7 +297,7 @@ class Json(Case):
                             "at line 2, column 127 the profile is nested more than 127 deep"),
                            (b'{"a": "[[\\"[[' + b"[" * 200 + b'", "b"}', "the JSON is malformed at line 1, column "),
                            (b'{"a": NaN}', "NaN, which isn't a JSON number"),
-                           (b'{"a": "\\ud800"}', "unpaired surrogates")):
+                           (b'{"a": "\\ud800"}', "a has an unpaired surrogate")):
             profile = self.file("p.json", text)
             status, out, _ = self.run_tool("compare", same, profile)
             self.assertEqual((status, out.split("\n")[0]), (1, "fault profile Json"), text)
@@ -319,7 +321,7 @@ class Objects(Case):
             self.assertEqual(err, "")
             self.assertEqual((out.count("\n"), out[-1]), (1, "\n"))
             self.assertEqual(json.loads(out)["status"], status)
-            return json.loads(out)
+            return {name: value for name, value in json.loads(out).items() if name != "schema"}
 
         left_out = {"skipped": ["waitpid", "umont2"], "other": ["SCMP_ARCH_X86"],
                     "unknown": [{"name": "umont2", "nearest": "umount2"}]}
@@ -328,9 +330,10 @@ class Objects(Case):
                          {"status": 0, "scope": "all", "verdict": "same", "calls": [], **left_out})
         self.assertEqual(found(same, profile),
                          {"status": 0, "scope": "native", "verdict": "same", "calls": [], **left_out, **foreign})
-        call = {"number": 231, "names": ["exit_group"], "architecture": "0xc000003e", "pointer": "0x0",
-                "arguments": ["0x0"] * 6}
-        sides = {"call": call, "filter": {"action": "ALLOW", "data": 0}, "profile": {"action": "ERRNO", "data": 1}}
+        call = {"number": 231, "names": ["exit_group"], "c": "exit_group(0)", "architecture": "0xc000003e",
+                "pointer": "0x0", "arguments": ["0x0"] * 6}
+        sides = {"call": call, "filter": {"action": "ALLOW", "data": 0},
+                 "profile": {"action": "ERRNO", "data": 1, "errno": "EPERM"}}
         why = {"reason": "default", "path": {"filter": wrong, "places": [0, 1, 3, 4, 6, 7, 9]}}
         line = {"number": 231, "names": ["exit_group"], "verdict": "differs", **sides}
         fates = {"no_more": "more", "no_less": "no less"}
@@ -355,11 +358,11 @@ class Objects(Case):
 
     def test_decide_and_run(self):
         one, two = self.file("one.bpf", ret(0x00050001)), self.file("two.bpf", ret(0x00050002))
-        call = {"number": 0, "names": ["read"], "architecture": "0xc000003e", "pointer": "0x0",
+        call = {"number": 0, "names": ["read"], "c": "read(7, NULL, 0)", "architecture": "0xc000003e", "pointer": "0x0",
                 "arguments": ["0x7", *["0x0"] * 5]}
-        answer = {"action": "ERRNO", "data": 2, "does": "the syscall fails with ENOENT"}
+        answer = {"action": "ERRNO", "data": 2, "errno": "ENOENT", "does": "the syscall fails with ENOENT"}
         status, out, _ = self.run_tool("decide", "--json", "--a0=7", one, two)
-        self.assertEqual((status, json.loads(out)), (0, {"status": 0, "calls": [
+        self.assertEqual((status, json.loads(out)), (0, {"schema": 1, "status": 0, "calls": [
             {"status": 0, "call": call, "answer": answer, "filters": [two],
              "path": {"filter": two, "places": [0]}}]}))
         status, out, _ = self.run_tool("run", "--json", "--a0=7", "--nr", "read", "--nr", "x", two)
@@ -389,7 +392,7 @@ class Programs(Case):
             os.symlink(tool(name), link)
             self.assertIn(f"usage: scf-{name} ", self.run_words([link, "--help"])[1])
             words = ("filter", "none") if name == "bundle" else \
-                ("none", "none") if name.startswith("compare") or name == "needs" else \
+                ("none", "none") if name.startswith("compare") or name in ("needs", "why") else \
                 ("--table", "none", "check") if name == "explain" else \
                 ("none",)
             status, out, err = self.run_words([link, *words])
@@ -408,8 +411,8 @@ class Programs(Case):
 
     def test_what_is_imported_at_start(self):
         """No module that only some runs need."""
-        script = ("import sys\nsys.path.append(sys.argv[1])\nimport scftools.comparing, scftools.words\n"
-                  "late = {'difflib', 'json', 'subprocess', 'tempfile', 'ctypes', 'typing'}\n"
+        script = ("import sys\nsys.path.append(sys.argv[1])\nimport scftools.compare, scftools.words\n"
+                  "late = {'difflib', 'subprocess', 'tempfile', 'ctypes', 'typing', 'inspect', 'dataclasses'}\n"
                   "print(*sorted(late & set(sys.modules)))")
         done = self.run_words([sys.executable, "-IS", "-c", script, os.path.join(TOP, "tools")])
         self.assertEqual(done, (0, "\n", ""))

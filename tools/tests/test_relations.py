@@ -341,7 +341,7 @@ class Foreign(Case):
 
     def test_told(self):
         told = [one.told() for one in other_abis.let_through([ret(TRACE)])]
-        self.assertEqual(told, ["i386: not every syscall is denied, such as number 0: TRACE 0",
+        self.assertEqual(told, ["i386: not every syscall is denied, such as restart_syscall (0): TRACE 0",
                                 "x32: not every syscall is denied, such as read (0x40000000 + 0): TRACE 0"])
 
     def test_undecided_and_unfinished(self):

@@ -254,7 +254,7 @@ class Restarts(Confined):
     def test_without_a_program_that_tells(self):
         """The call begins anew, whatever the filters say; nothing is built meanwhile."""
         child = self.waiting(ALLOW)
-        with mock.patch.object(restart.program, "SCF", __file__), mock.patch.object(restart.program, "BUILT", ""):
+        with mock.patch.object(restart.client, "PROGRAMS", ()):
             processes.look_at_process(processes.Kernel(), child.pid)
         self.assertEqual(self.next_call_of(child), NANOSLEEP)
         self.ends(child, "nanosleep")
@@ -339,10 +339,10 @@ class Supervised(Confined):
         child, supervisor, call = self.waiting()
         profile = self.file("p", profile_of())
         status, out, err = self.run_tool("verify-process", "--json", str(child.pid), profile)
-        self.assertEqual(status, program.FAILED)
+        self.assertEqual(status, program.IO_ERROR)
         self.assertTrue(err.endswith(" (--force stops it)\n"), err)
         self.assertEqual(json.loads(out), {"status": 3, "verdict": None, "stacks": [],
-                                           "why": err.partition(": ")[2].rstrip("\n")})
+                                           "why": err.partition(": ")[2].rstrip("\n"), "schema": 1})
         self.is_made_once(child, supervisor, call)
 
     def test_a_filter_that_notifies_of_other_calls(self):

@@ -17,8 +17,8 @@ from confined import ended, started
 sys.path.append(os.path.join(TOP, "tools"))
 
 # pylint: disable=wrong-import-position
-from scftools import engines, inputs, newer, processes, program, runtimes, tables  # noqa: E402
-from scftools.comparing import NATIVE, Comparison  # noqa: E402
+from scftools import client, engines, inputs, newer, processes, runtimes, tables  # noqa: E402
+from scftools.compare import NATIVE, Comparison  # noqa: E402
 from scftools.filters import Filter, answering_from  # noqa: E402
 
 ALLOW, ERRNO, LOG, TRAP = "SCMP_ACT_ALLOW", "SCMP_ACT_ERRNO", "SCMP_ACT_LOG", "SCMP_ACT_TRAP"
@@ -406,7 +406,7 @@ class VerifyProcess(Case):
 
 def compiled(data):
     with open(TABLE, "rb") as file:
-        done = program.scf(["compile"], part("profile", data) + part("table", file.read()))
+        done = client.run(["compile"], part("profile", data) + part("table", file.read()))
     assert done.status == 0, done.text
     return done.out
 

@@ -96,6 +96,14 @@ class UnitProfile(Case):
             "SystemCallErrorNumber", "SystemCallFilter", "SystemCallLog")])
         self.assertFalse(os.path.exists(os.path.join(self.folder, "systemd-analyze.words")))
 
+    def test_in_a_container_of_the_machine(self):
+        """There systemctl would ignore its command: it is told not to."""
+        self.shows(SystemCallFilter="read")
+        with open(f"{self.folder}/bin/systemctl", encoding="utf-8") as file:
+            script = file.read()
+        self.stand_in("systemctl", f'[ "$SYSTEMD_IGNORE_CHROOT" = 1 ] || exit 0\n{script}')
+        self.assertEqual(self.printed("box.service")[1], {(ALLOW, None): {"read"}})
+
     def test_a_unit_that_lists_what_is_allowed(self):
         for number, default in ((KILLED, (KILL, None)), ("0", (KILL, None)), ("1", (ERRNO, 1)),
                                 ("4095", (ERRNO, 4095))):

@@ -5,14 +5,13 @@ strace prints a string, a structure, another name or nothing at all, the argumen
 """
 from __future__ import annotations
 
-import functools
-import operator
 import os
 import re
 from collections.abc import Callable, Iterator
-from dataclasses import dataclass, field
 
-from . import inputs, output, program
+from . import constants, inputs, output, program
+from .tables import Table
+from .values import dataclass, field
 
 # The most bytes that are read of a log, of a line, of a syscall that isn't finished yet and of an argument.
 LIMIT, LINE, BEGINNING, ARGUMENT = 1 << 30, 1 << 16, 1 << 13, 1 << 12
@@ -21,7 +20,6 @@ LIMIT, LINE, BEGINNING, ARGUMENT = 1 << 30, 1 << 16, 1 << 13, 1 << 12
 PENDING, KEPT, LEFT, PROCESSES = 10000, 1000, 100000, 1 << 20
 # At most so many processes that are creating one are considered for the mode of a new process.
 MAKERS = 100
-SYMBOLS = os.path.join(program.TOP, "tables", "arguments.symbols")
 # What comes before a syscall: a process, a time, the instruction pointer and the syscall number (strace(1): -f, -Y; -t,
 # -tt, -ttt, -r; -i; -n).
 LEADER = re.compile(
@@ -57,19 +55,11 @@ NAMED = re.compile(r" *([a-z_]+)=")
 FORKS = ("clone(", "clone3(", "fork(", "vfork(")
 
 
-@functools.lru_cache(None)
-def symbols() -> dict[str, int]:
-    """The numbers of the names that strace prints for arguments."""
-    with open(SYMBOLS, encoding="ascii") as file:
-        rows = (line.split() for line in file if not line.startswith("#"))
-        return {name: int(number) for name, number in rows}
-
-
 def _number_of(found: re.Match[str]) -> int | None:
     """The number of a part of an argument."""
     hexadecimal, octal, decimal, name = found.groups()
     if name:
-        return symbols().get(name)
+        return constants.numbers().get(name)
     if decimal:
         return int(decimal) if re.fullmatch("-?(?:0|[1-9].*)", decimal) else None
     return int(hexadecimal, 16) if hexadecimal else int(octal, 8)
@@ -163,12 +153,31 @@ def _in_registers(name: str, printed: list[str]) -> dict[int, str]:
     return dict(zip(order if len(printed) < count else range(6), printed))
 
 
+def is_own(line: str) -> bool:
+    """Whether a line begins as one of strace's does: with a syscall, or with what became of one or of a process."""
+    leader = LEADER.match(line)
+    assert leader
+    return CALL.match(line, leader.end()) is not None or line.startswith(("<... ", "--- ", "+++ "), leader.end())
+
+
+def registers_in(text: str, name: re.Match[str]) -> dict[int, tuple[int, ...] | None]:
+    """The values that the registers of a printed syscall may have, by their arguments' indexes."""
+    return {at: values_of(it) for at, it in _in_registers(name[1], arguments_in(text, name.end())[0]).items()}
+
+
+def number_of(name: str, table: Table) -> int | None:
+    """The number of a syscall by its name in a log; strace prints one without a name as `syscall_0x1c3`."""
+    without_name = re.fullmatch("syscall_0x([1-9a-f][0-9a-f]{0,7})", name)
+    return int(without_name[1], 16) if without_name else table.number_of(name)
+
+
 @dataclass
 class Seen:
-    """How often something stands in a log, and in which line first."""
+    """How often something stands in logs, and in which line of which one first; 0 is no line."""
 
     line: int
     count: int = 0
+    log: str = ""
 
 
 @dataclass
@@ -197,6 +206,13 @@ class Log:
     _line: int = 0
     # whether the current line is longer than what is read of it
     _is_long: bool = False
+    # the file's name
+    _name: str = ""
+
+    def begin(self, name: str) -> None:
+        """Begins a log, with processes of its own."""
+        self._name, self._other_mode = name, None
+        self._modes, self._alive, self._makers = {}, set(), {}
 
     def add(self, number: int, line: str) -> None:
         """Takes a line of the log."""
@@ -236,7 +252,7 @@ class Log:
             return next(iter(self._alive)) if len(self._alive) == 1 else None
         if printed not in self._alive:
             if max(len(self._alive), len(self._modes)) >= PROCESSES:
-                raise program.Refused(f"the log has more than {PROCESSES} processes whose end isn't logged")
+                raise program.ToolError(f"the log has more than {PROCESSES} processes whose end isn't logged")
             self._alive.add(printed)
             self._modes.setdefault(printed, self._mode_of_new())
         return printed
@@ -305,10 +321,10 @@ class Log:
         else:
             self._count(self.cut if found and self.number_of(found[1]) is not None else self.unread, number)
 
-    @staticmethod
-    def _count(seen: Seen, number: int) -> None:
-        seen.line = seen.line or number
-        seen.count += 1
+    def _count(self, seen: Seen, number: int, count: int = 1) -> None:
+        if not seen.count:
+            seen.line, seen.log = number, self._name
+        seen.count += count
 
     def _call(self, number: int, who: str | None, text: str, name: re.Match[str], is_cut: bool = False) -> None:
         """Counts a call: its name, and of what is asked for the values that it shows."""
@@ -321,8 +337,8 @@ class Log:
             self._count(self.foreign, number)
             return
         wanted = self.looked_at(name[1])
-        shown = _in_registers(name[1], arguments_in(text, name.end())[0]) if wanted else {}
-        self._count(self._kept(name[1], tuple(values_of(shown[at]) if at in shown else None for at in wanted)), number)
+        shown = registers_in(text, name) if wanted else {}
+        self._count(self._kept(name[1], tuple(shown.get(at) for at in wanted)), number)
 
     def _kept(self, name: str, values: tuple) -> Seen:
         """Where a syscall is counted: the first one of a name that has a number is always kept."""
@@ -359,14 +375,14 @@ def _pieces(name: str) -> Iterator[bytes]:
                 piece = os.read(file, 1 << 16)
                 room -= len(piece)
                 if room < 0:
-                    raise program.Refused(f"the log '{output.escaped(name)}' has more than {LIMIT} bytes")
+                    raise program.ToolError(f"the log '{output.escaped(name)}' has more than {LIMIT} bytes")
                 if not piece:
                     return
                 yield piece
         finally:
             os.close(file)
     except OSError as error:
-        raise program.Refused(inputs.why(name, "log", error)) from error
+        raise program.ToolError(inputs.why(name, "log", error)) from error
 
 
 def lines(name: str) -> Iterator[str]:
@@ -389,15 +405,3 @@ def is_log(data: bytes) -> bool:
         if CALL.match(text) and " = " in text:
             return True
     return False
-
-
-def read(name: str, looked_at: Callable[[str], tuple[int, ...]], number_of: Callable[[str], int | None]) -> Log:
-    """The contents of a log, with the requested arguments of each syscall."""
-    found = Log(looked_at, number_of)
-    for number, line in enumerate(lines(name), 1):
-        found.add(number, line)
-        if found.left.count > LEFT:
-            raise program.Refused(f"the log has more than {KEPT + LEFT} syscalls with other names or arguments: log "
-                                  "fewer syscalls by strace -e trace=..")
-    found.end()
-    return found

@@ -1,4 +1,4 @@
-"""What a program needs of a profile: the syscalls in a strace log, each judged by scf.
+"""What a program needs of a profile: the syscalls in logs, each judged by scf; and those of the runtime that starts it.
 
 If the arguments that conditions test are known, `scf ask` answers. If one is unknown, scf compares: whether the
 profile's filter allows all syscalls with the known arguments, or none.
@@ -7,19 +7,20 @@ from __future__ import annotations
 
 import itertools
 import json
-import re
 from collections.abc import Iterable, Iterator, Sequence
-from dataclasses import dataclass, field
 
-from . import comparing, entries, output, program, reasons, straces, tables
-from .answers import MADE, Answer
+from . import entries, output, program, reasons, refusals, strace, tables, traces
+from .answers import ALLOWED, Answer
 from .calls import Call
+from .client import Refusal
 from .entries import Condition, Entry, Object
 from .reasons import Reason
-from .straces import Log, Seen
+from .strace import Seen
 from .tables import Table
-from .trials import Trial, Unanswered
-from .verdicts import UNFINISHED, Fault, Verdict
+from .traces import Trace
+from .trials import Trial
+from .values import dataclass, field
+from .verdicts import UNFINISHED, Verdict
 
 TYPE_CHECKING = False
 if TYPE_CHECKING:
@@ -38,6 +39,14 @@ LETS_THROUGH = ("SCMP_ACT_ALLOW", "SCMP_ACT_LOG")
 # What each least profile allows: a process calls these, which a log needn't show, to continue after a stop or a
 # signal, and to end.
 ALWAYS = ("restart_syscall", "rt_sigreturn", "exit", "exit_group")
+# What a container runtime itself calls behind the filter, before it executes the container's program; runc is written
+# in Go, whose own calls come and go. Taken from the kernel's records of containers of runc 1.1 and crun 1.8 under a
+# profile that logs, with and without noNewPrivileges, as root and as a user, with and without a terminal.
+OF_RUNTIMES = {
+    "runc": "capget capset chdir close epoll_ctl execve faccessat2 fchown fcntl fstat fstatfs futex getcwd getdents64 "
+            "getpid getppid newfstatat openat prctl read setgid setgroups setuid write",
+    "crun": "capset close execve prctl rt_sigaction rt_sigprocmask setresgid setresuid write",
+}
 
 
 @dataclass(frozen=True)
@@ -92,6 +101,11 @@ class Needs:
     unread: int = 0
     cut: int = 0
     left: int = 0
+    lost: int = 0
+    # what is the matter with the first record that can't be read
+    fault: str = ""
+    # whether there are several logs, whose names lines then say
+    are_several: bool = False
 
     def of(self, disposition: str) -> list[Judged]:
         return [it for it in self.judged if it.disposition == disposition]
@@ -99,19 +113,14 @@ class Needs:
     @property
     def isnt_whole(self) -> bool:
         """Whether something in the log wasn't judged, or there was nothing to judge."""
-        return bool(self.unnamed or self.foreign or self.unread or self.cut or self.left or not self.judged)
+        return bool(self.unnamed or self.foreign or self.unread or self.cut or self.left or self.lost
+                    or not self.judged)
 
     @property
     def status(self) -> int:
         if self.of(ISNT_MADE):
-            return program.REFUSED
-        return program.UNKNOWN if self.of(DEPENDS) or self.of(UNTOLD) or self.isnt_whole else program.WELL
-
-
-def number_of(name: str, table: Table) -> int | None:
-    """The number of a call by its name in a log; strace prints one without a name as `syscall_0x1c3`."""
-    without_name = re.fullmatch("syscall_0x([1-9a-f][0-9a-f]{0,7})", name)
-    return int(without_name[1], 16) if without_name else table.number_of(name)
+            return program.NEGATIVE
+        return program.UNKNOWN if self.of(DEPENDS) or self.of(UNTOLD) or self.isnt_whole else program.SUCCESS
 
 
 class Judge:
@@ -122,7 +131,7 @@ class Judge:
         self.filter = trial.filter_of(profile)
         top = entries.read(profile)
         if top is None:
-            raise program.Refused("the profile's JSON can't be parsed by this tool", program.FAILED)
+            raise program.ToolError("the profile's JSON can't be parsed by this tool", program.IO_ERROR)
         self.top: Object = top
         looked: dict[int | None, set[int]] = {}
         for entry in entries.entries_of(top, self.table.number_of):
@@ -136,7 +145,7 @@ class Judge:
         return self.looked.get(name, ())
 
     def number_of(self, name: str) -> int | None:
-        return number_of(name, self.table)
+        return strace.number_of(name, self.table)
 
     def of(self, traced: Traced) -> Judged:
         made, refused, line = None, None, ""
@@ -152,14 +161,14 @@ class Judge:
     def _reason(self, call: Call) -> Reason:
         found = reasons.of(self.profile, self.table, call.words())
         if found.answer is None:
-            raise Unanswered(found.line, found.status)
+            raise Refusal(found.line, found.status)
         return found
 
     def _asked(self, traced: Traced, values: dict[int, int]) -> Answers:
         """By `scf ask`: the syscall with these arguments, as one that is allowed or one that isn't."""
         call = Call(traced.number, arguments=tuple(values.get(index, 0) for index in range(6)))
         answer = self._reason(call).answer
-        return (call, None) if answer is None or answer.disposition == MADE else (None, (call, answer))
+        return (call, None) if answer is None or answer.disposition == ALLOWED else (None, (call, answer))
 
     def _verdict(self, traced: Traced, values: dict[int, int], default: str, answer: tuple[str, int],
                  relation: str) -> Verdict:
@@ -179,9 +188,9 @@ class Judge:
         return more.call, (less.call, less.filters) if less.call and less.filters else None
 
 
-def find(log: Log, judge: Judge) -> Needs:
+def find(log: Trace, judge: Judge) -> Needs:
     """The calls of a log, by their numbers, each judged."""
-    found = Needs([], {}, log.foreign.count, log.unread.count, log.cut.count, log.left.count)
+    found = Needs([], {}, log.foreign.count, log.unread.count, log.cut.count, log.left.count, log.lost.count, log.fault)
     traced: list[Traced] = []
     for (name, values), seen in log.calls.items():
         number = judge.number_of(name)
@@ -199,7 +208,15 @@ def find(log: Log, judge: Judge) -> Needs:
     return found
 
 
-def _of_judged(one: Judged) -> Iterator[str]:
+def _where(seen: Seen, are_several: bool) -> str:
+    """Where a syscall stands in the logs."""
+    if not seen.line:
+        return f"made by {seen.log} itself, before it executes the program"
+    log = f"'{seen.log}'" if are_several else "the log"
+    return f"{'once' if seen.count == 1 else f'{seen.count} times, first'} in line {seen.line} of {log}"
+
+
+def _of_judged(one: Judged, are_several: bool) -> Iterator[str]:
     """The lines of a syscall that isn't allowed, or not always."""
     if one.disposition == ISNT_MADE:
         yield f"{one.traced.told()} {one.line}"
@@ -211,8 +228,7 @@ def _of_judged(one: Judged) -> Iterator[str]:
             yield (f"# allowed with {_arguments(one.made)}; with {_arguments(one.refused[0])} it is {one.refused[1]}")
     else:
         yield f"{one.traced.told()} {one.line}"
-    seen = one.traced.seen
-    yield f"# {'once' if seen.count == 1 else f'{seen.count} times, first'} in line {seen.line} of the log"
+    yield f"# {_where(one.traced.seen, are_several)}"
 
 
 def _arguments(call: Call) -> str:
@@ -234,7 +250,11 @@ def _of_unjudged(needs: Needs) -> Iterator[str]:
     if needs.left:
         yield f"syscalls not judged, since there are too many with other arguments: {needs.left}"
     if needs.unread:
-        yield f"lines not judged, since they aren't strace's or can't be parsed: {needs.unread}"
+        yield f"lines not judged, since they can't be parsed: {needs.unread}"
+    if needs.fault:
+        yield needs.fault
+    if needs.lost:
+        yield f"syscalls not judged, since the log has lost them: {needs.lost}"
     if not needs.judged:
         yield "the log has no syscall"
 
@@ -243,7 +263,7 @@ def lines(needs: Needs) -> Iterator[str]:
     """The text output: what isn't allowed, what depends, and counts."""
     for disposition in (ISNT_MADE, DEPENDS, UNTOLD):
         for one in needs.of(disposition):
-            yield from _of_judged(one)
+            yield from _of_judged(one, needs.are_several)
     yield from (f"# {line}" for line in _of_unjudged(needs))
     counts = ", ".join(f"{WORDS[it]} {len(needs.of(it))}" for it in (IS_MADE, ISNT_MADE, DEPENDS, UNTOLD)
                        if it != UNTOLD or needs.of(UNTOLD))
@@ -256,7 +276,8 @@ def as_json(needs: Needs, table: Table) -> dict[str, object]:
         traced = one.traced
         shown: dict[str, object] = {
             "number": traced.number, "name": traced.name, "fate": one.disposition, "count": traced.seen.count,
-            "line": traced.seen.line, "depends_on": traced.unsure if one.disposition == DEPENDS else [],
+            "line": traced.seen.line, "log": traced.seen.log,
+            "depends_on": traced.unsure if one.disposition == DEPENDS else [],
             "arguments": {str(index): None if values is None else list(map(hex, values))
                           for index, values in traced.arguments}}
         if one.refused:
@@ -269,7 +290,7 @@ def as_json(needs: Needs, table: Table) -> dict[str, object]:
         found.append(shown)
     return {"status": needs.status, "calls": found,
             "not_judged": {"names": needs.unnamed, "foreign": needs.foreign, "cut": needs.cut, "more": needs.left,
-                           "lines": needs.unread}}
+                           "lines": needs.unread, "lost": needs.lost}}
 
 
 def _entries(needs: Needs, always: Iterable[str]) -> Iterator[dict[str, object]]:
@@ -305,21 +326,28 @@ def least_profile(needs: Needs, judge: Judge) -> tuple[str, list[str]]:
     remarks = list(_of_unjudged(needs))
     remarks += [f"{it.traced.name} has no name, and isn't in the profile" for it in needs.judged
                 if judge.table.number_of(it.traced.name) is None]
-    remarks += [f"{it.traced.name}: strace doesn't show arguments {', '.join(map(str, it.traced.unknown))} as numbers: "
-                "they may be any" for it in named if it.traced.unknown]
+    remarks += [f"{it.traced.name}: the log doesn't show arguments {', '.join(map(str, it.traced.unknown))} as "
+                "numbers: they may be any" for it in named if it.traced.unknown]
     return json.dumps(found, indent=4) + "\n", remarks
 
 
-def of_refusal(why: Unanswered, profile: bytes, table: Table) -> Iterator[str]:
+def of_refusal(why: Refusal, profile: bytes, table: Table) -> Iterator[str]:
     """scf's line, and what it means."""
     yield why.line
-    fault = Fault.read(why.line)
-    if fault:
-        yield from (f"# {line}" for line in comparing.of_fault(fault, profile, table))
+    if why.fault:
+        yield from (f"# {line}" for line in refusals.sentences(why.fault, profile, table))
 
 
-def read(name: str, judge: Judge) -> Needs:
-    return find(straces.read(name, judge.looked_at, judge.number_of), judge)
+def read(names: Sequence[str], judge: Judge, runtime: str | None = None) -> Needs:
+    """What is in some logs, and what a runtime calls itself before it executes the program."""
+    log = traces.read(names, judge.looked_at, judge.number_of, judge.table)
+    log.begin(runtime or "")
+    for name in OF_RUNTIMES[runtime].split() if runtime else ():
+        if judge.number_of(name) is not None:
+            log.keep(0, name, {})
+    found = find(log, judge)
+    found.are_several = len(names) > 1
+    return found
 
 
 def put(found: Iterator[str]) -> None:

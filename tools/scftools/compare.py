@@ -2,29 +2,31 @@
 from __future__ import annotations
 
 from collections.abc import Iterator, Sequence
-from dataclasses import dataclass, field, replace
 
-from . import bundles, effort, explanation, other_abis, program, verdicts
-from .answers import REFUSED
-from .filters import LONGEST_STACK, MORE_OF_OLDER, Filter, looks_at_pointer
+from . import (bundles, client, explanation, newer, other_abis, profiles, program, reasons, refusals, tables,
+               verdicts)
+from .answers import DENIED
+from .filters import Filter, looks_at_pointer
+from .refusals import faulty_filters
 from .tables import Table
-from .verdicts import (DIFFERS, FOR_OTHER_ABI, LESS, MORE, NO_LESS, NO_MORE, SAME, UNDECIDED, UNDETERMINED, NamedCall,
-                       Report, Verdict)
+from .values import dataclass, field, replace
+from .verdicts import (ALL, CALLS, DIFFERS, FOR_OTHER_ABI, LESS, MORE, NATIVE, NO_LESS, NO_MORE, SAME,
+                       SAME_DISPOSITION, UNDECIDED, UNDETERMINED, NamedCall, Report, Verdict)
 
 TYPE_CHECKING = False
 if TYPE_CHECKING:
     from .engines import Origin
     from .profiles import Profile
 
-ALL, NATIVE, CALLS = "all", "native", "calls"
 SCOPES = {ALL: [], NATIVE: ["--native"], CALLS: ["--calls"]}
 # The line about a scope that leaves out other ABIs.
 LOOKED_AT = {NATIVE: "compared: x86-64 syscalls; other ABIs are only checked for any allowed syscall:",
              CALLS: "compared: each x86-64 syscall in the table; other ABIs are only checked for any allowed syscall:"}
 # The options for each relation, by the verdict if it holds; and what is printed of syscalls that fail it.
-RELATIONS = {SAME: [], NO_MORE: ["--no-more"], NO_LESS: ["--no-less"]}
-FAILED = {DIFFERS: "that differ", MORE: "answered more permissively than by the profile",
-          LESS: "answered more strictly than by the profile"}
+RELATIONS = {SAME: [], NO_MORE: ["--no-more"], NO_LESS: ["--no-less"], SAME_DISPOSITION: ["--disposition"]}
+FAILED = {DIFFERS: "that differ", MORE: "answered more permissively than by {}",
+          LESS: "answered more strictly than by {}"}
+PROFILE = "the profile"
 # At most so many syscalls without a verdict are listed.
 UNTOLD = 20
 
@@ -47,15 +49,13 @@ class Comparison:
     def facts(self) -> Profile | None:
         """What the tools read of the profile themselves."""
         if not self._facts:
-            from . import profiles  # pylint: disable=import-outside-toplevel
-
             self._facts.append(profiles.read(self.profile))
         return self._facts[0]
 
-    def _run(self, scope: str, filters: Sequence[bytes], profile: bytes | None = None,
-             relation: str = SAME) -> tuple[int, Report]:
-        given = bundles.of_comparison(filters, self.profile if profile is None else profile, self.table.data)
-        done = effort.compare([*SCOPES[scope], *RELATIONS[relation]], given, self.limit)
+    def _run(self, scope: str, filters: Sequence[bytes], relation: str = SAME,
+             numbers: Sequence[str] = ()) -> tuple[int, Report]:
+        given = bundles.of_comparison(filters, self.profile, self.table.data)
+        done = client.compare([*SCOPES[scope], *RELATIONS[relation], *numbers], given, self.limit)
         known = self.facts if b"\nskipped " in done.out else None
         pointer = None if scope == CALLS and any(map(looks_at_pointer, filters)) else 0
         return done.status, verdicts.report(done.text, known.names if known else None, self.table, pointer)
@@ -64,7 +64,7 @@ class Comparison:
         """scf's exit status and report, for this relation or the comparison's own. The verdict is `undetermined` if
         the syscall that decides is of an architecture that the profile also names."""
         relation, filters = relation or self.relation, [one.data for one in self.filters]
-        status, report = self._run(scope, filters, None, relation)
+        status, report = self._run(scope, filters, relation)
         call = report.verdict.call if report.verdict is not None else None
         if scope != ALL or call is None or not report.architectures or call.is_native:
             return status, report
@@ -72,24 +72,21 @@ class Comparison:
             return status, report
         # whether anything else decides, and if nothing does, whether a syscall does or only numbers that none has
         for names in (report.architectures, ()):
-            ended, others = self._run(scope, [*other_abis.denial_filters(names), *filters], None, relation)
+            ended, others = self._run(scope, [*other_abis.denial_filters(names), *filters], relation)
             if others.verdict is None or names == () and others.verdict.fails:
                 return program.UNKNOWN, as_undetermined(report if others.verdict is None else others)
             if not others.verdict.holds:
                 return ended, others
         return status, report
 
-    def native(self, filters: Sequence[bytes], profile: bytes | None = None) -> Report:
-        """scf's report on other filters, compared with the profile or another one, over x86-64 syscalls."""
-        return self._run(NATIVE, filters, profile)[1]
-
-    def is_same(self, filters: Sequence[bytes], profile: bytes | None = None) -> bool:
-        """Whether other filters answer every x86-64 syscall as the profile, or another one, does."""
-        verdict = self.native(filters, profile).verdict
-        return verdict is not None and verdict.word == SAME
+    def of_numbers(self, first: int, end: int | None = None) -> tuple[int, Report]:
+        """scf's exit status and report on whether the filters are the same as the profile over the x86-64 syscalls with
+        numbers from `first` on, and below `end` if it is given."""
+        numbers = [f"--nr-from={first}", *([f"--nr-to={end - 1}"] if end is not None else [])]
+        return self._run(ALL, [one.data for one in self.filters], SAME, numbers)
 
     def alone(self, one: Filter, scope: str) -> Report:
-        return self._run(scope, [one.data], None, self.relation)[1]
+        return self._run(scope, [one.data], self.relation)[1]
 
 
 def as_undetermined(report: Report) -> Report:
@@ -97,25 +94,6 @@ def as_undetermined(report: Report) -> Report:
     assert report.verdict is not None
     return replace(report, lines=(FOR_OTHER_ABI, *report.lines[1:3]),
                    verdict=replace(report.verdict, word=UNDETERMINED, profile=None))
-
-
-def named(what: Sequence[str]) -> str:
-    return what[0] if len(what) == 1 else ", ".join(what[:-1]) + f" and {what[-1]}"
-
-
-def fault_of_one(filters: Sequence[Filter], fault: verdicts.Fault) -> list[str]:
-    """The files of the filters that cause a stack's fault."""
-    if fault.source == "filter":
-        for one in filters:
-            if program.scf(["check"], one.data).text.split("\n", 1)[0] == fault.line:
-                return [one.name]
-    if (fault.source, fault.kind) == ("stack", "TooMany"):
-        total = 0
-        for one in filters:
-            if total + one.count > LONGEST_STACK:
-                return [one.name]
-            total += one.count + MORE_OF_OLDER
-    return []
 
 
 def undecided_alone(comparison: Comparison, scope: str) -> Iterator[tuple[Filter, int | None]]:
@@ -134,7 +112,7 @@ def whose_files(comparison: Comparison, report: Report, scope: str) -> list[str]
     if len(comparison.filters) < 2:
         return []
     if report.fault:
-        return fault_of_one(comparison.filters, report.fault)
+        return faulty_filters(comparison.filters, report.fault)
     if report.verdict is None or report.verdict.word != UNDECIDED:
         return []
     return [one.name for one, _ in undecided_alone(comparison, scope)]
@@ -143,18 +121,18 @@ def whose_files(comparison: Comparison, report: Report, scope: str) -> list[str]
 def whose(comparison: Comparison, report: Report, scope: str) -> Iterator[str]:
     """Which filters of a stack cause a fault or are undecided."""
     if len(comparison.filters) > 1 and report.fault:
-        for name in fault_of_one(comparison.filters, report.fault):
+        for name in faulty_filters(comparison.filters, report.fault):
             yield f"the filter is {name}"
     elif len(comparison.filters) > 1 and report.verdict and report.verdict.word == UNDECIDED:
         for one, place in undecided_alone(comparison, scope):
             yield f"alone, {one.name} is undecided at {place}"
 
 
-def _counted(calls: Sequence[NamedCall]) -> Iterator[str]:
-    """The count and the lines of the syscalls that differ, and of those without a verdict."""
+def counted(calls: Sequence[NamedCall], other: str = PROFILE) -> Iterator[str]:
+    """The count and the lines of the syscalls that differ from another side, and of those without a verdict."""
     differing = [call for call in calls if call.verdict.fails]
     if differing:
-        yield f"syscalls in the table {FAILED[differing[0].verdict.word]}: {len(differing)}"
+        yield f"syscalls in the table {FAILED[differing[0].verdict.word].format(other)}: {len(differing)}"
         yield from (call.line for call in differing)
     if len(differing) < len(calls):
         untold = [call.line for call in calls if not call.verdict.fails]
@@ -168,17 +146,15 @@ def of_native_calls(comparison: Comparison, report: Report) -> tuple[list[str], 
 
     Syscalls that are only newer than the profile are reported apart: first if there are no others, else last.
     """
-    from . import newer  # pylint: disable=import-outside-toplevel
-
     by_name = comparison.run(CALLS)[1]
     if by_name.verdict is None or report.verdict is None or report.verdict.call is None:
         return [], []
-    all_named = [f"no syscall in the table is among those {FAILED[report.verdict.word]}"]
+    all_named = [f"no syscall in the table is among those {FAILED[report.verdict.word].format(PROFILE)}"]
     if comparison.relation == SAME:
         all_named = ["each syscall in the table is answered as the profile says"]
     found = newer.calls_of(comparison) if comparison.relation == SAME and comparison.stub is None else None
     if found is None:
-        return [], all_named if by_name.verdict.holds else list(_counted(by_name.calls))
+        return [], all_named if by_name.verdict.holds else list(counted(by_name.calls))
     others = [call for call in by_name.calls if not found.has(call)]
     count, others_differ = len(by_name.calls) - len(others), newer.another_call(comparison, found)
     told = [found.told(others_differ is None, comparison.table)]
@@ -186,7 +162,7 @@ def of_native_calls(comparison: Comparison, report: Report) -> tuple[list[str], 
         told.append(f"syscalls in the table among these: {count}")
     if others_differ is None:
         return told, [] if count else all_named
-    lines = list(_counted(others)) or list(
+    lines = list(counted(others)) or list(
         explanation.of_differing(others_differ, comparison.table, True, len(comparison.filters)))
     return (lines + told, []) if report.verdict.call.number >= found.first else ([], lines + told)
 
@@ -206,29 +182,16 @@ def of_refusing_more(comparison: Comparison, scope: str) -> Iterator[str]:
     if no_less is not None and no_less.holds:
         yield f"{they} {are} neither more permissive nor stricter than the profile: only the answers differ"
     elif no_less is not None and no_less.fails:
-        is_denied = no_less.call is None or no_less.filters is None or no_less.filters.disposition == REFUSED
+        is_denied = no_less.call is None or no_less.filters is None or no_less.filters.disposition == DENIED
         less = f"{are} stricter, and" if is_denied else f"delegate{s} more to a supervisor or tracer, and {are}"
         yield f"{they} {less} never more permissive than the profile"
     else:
         yield f"{they} {are} never more permissive than the profile"
 
 
-def of_fault(fault: verdicts.Fault, profile: bytes, table: Table) -> Iterator[str]:
-    """What a fault is and what to do; if the profile isn't JSON, where the error is."""
-    yield from explanation.of_fault(fault, table)
-    if (fault.source, fault.kind) == ("profile", "Json"):
-        from . import profiles  # pylint: disable=import-outside-toplevel
-
-        yield profiles.where_json_ends(profile)
-
-
 def sentences_of(comparison: Comparison, fault: verdicts.Fault) -> Iterator[str]:
     """The lines about a fault of a comparison."""
-    yield from of_fault(fault, comparison.profile, comparison.table)
-    if comparison.origins is not None and fault.source == "profile":
-        from . import engines  # pylint: disable=import-outside-toplevel
-
-        yield from engines.as_given(fault.numbers, comparison.origins)
+    yield from refusals.sentences(fault, comparison.profile, comparison.table, comparison.origins)
 
 
 def of_left_out(comparison: Comparison, report: Report) -> Iterator[str]:
@@ -262,27 +225,25 @@ def added(comparison: Comparison, report: Report, scope: str) -> Iterator[str]:
         if scope == NATIVE:
             before, behind = of_native_calls(comparison, report)
         elif scope == CALLS and comparison.relation == SAME:
-            from . import newer  # pylint: disable=import-outside-toplevel
-
             before = list(newer.of_named_calls(comparison, report.calls))
     yield from before
     if report.verdict:
         yield from explanation.of_verdict(report, table, scope == NATIVE, count)
         if report.verdict.call:
-            from . import reasons  # pylint: disable=import-outside-toplevel
-
             yield from reasons.of_difference(comparison, report.verdict)
         yield from of_left_out(comparison, report)
     yield from behind
     yield from whose(comparison, report, scope)
 
 
-def compiled(profile: bytes, table: Table) -> tuple[int, bytes, list[str]]:
-    """scf's exit status, a profile's filter, and lines about a refusal, or about what was left out."""
-    done = program.scf(["compile"], bundles.of_compilation(profile, table.data))
-    fault = None if done.status == program.WELL else verdicts.Fault.read(done.text.split("\n", 1)[0])
+def compiled(profile: bytes, table: Table,
+             origins: Sequence[Origin] | None = None) -> tuple[int, bytes, list[str]]:
+    """scf's exit status, a profile's filter, and lines about a refusal, or about what was left out. `origins` are those
+    of a profile that was resolved."""
+    done = client.run(["compile"], bundles.of_compilation(profile, table.data))
+    fault = None if done.status == program.SUCCESS else verdicts.Fault.read(done.line)
     if fault:
-        return done.status, b"", [fault.line, *of_fault(fault, profile, table)]
+        return done.status, b"", [fault.line, *refusals.sentences(fault, profile, table, origins)]
     # without a step the comparison only reports what was left out
     comparison = Comparison([Filter("the compiled one", done.out)], profile, table, "0")
     report = comparison.run(NATIVE)[1]
@@ -317,16 +278,12 @@ def as_json(comparison: Comparison, report: Report, scope: str, status: int) -> 
     if report.verdict:
         found.update(_side_json(report.verdict, table))
         if report.verdict.call:
-            from . import reasons  # pylint: disable=import-outside-toplevel
-
             found.update(reasons.difference_as_json(comparison, report.verdict))
     calls = report.calls
     if report.verdict and report.verdict.word == DIFFERS:
         for member, one in zip(("no_more", "no_less"), of_both_relations(comparison, scope)):
             found[member] = one.verdict.word if one.verdict else None
     if scope == NATIVE and report.verdict and report.verdict.fails:
-        from . import newer  # pylint: disable=import-outside-toplevel
-
         calls = comparison.run(CALLS)[1].calls
         apart = newer.calls_of(comparison) if comparison.relation == SAME and comparison.stub is None else None
         if apart:
@@ -336,8 +293,6 @@ def as_json(comparison: Comparison, report: Report, scope: str, status: int) -> 
                        **_side_json(one.verdict, table)} for one in calls]
     found["skipped"], found["other"] = list(report.skipped), list(report.architectures)
     if report.skipped:
-        from . import tables  # pylint: disable=import-outside-toplevel
-
         found["unknown"] = [{"name": name, "nearest": near}
                             for name, near in tables.told_apart(report.skipped, table).unknown]
     if scope in LOOKED_AT and report.verdict is not None:

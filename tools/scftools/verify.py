@@ -2,17 +2,15 @@
 from __future__ import annotations
 
 from collections.abc import Iterator, Sequence
-from dataclasses import dataclass, replace
 
-from . import comparing, newer, output, program, runtimes, verdicts
-from .comparing import Comparison
+from . import client, compare, newer, output, program, runtimes, verdicts
+from .compare import Comparison
 from .processes import Found, Stack, threads_told
 from .runtimes import Applied
 from .tables import Table
+from .values import dataclass, replace
 from .verdicts import Report
 
-# The statuses of the blocks, the worst first: a difference or a thread without a filter, a failure, undecided, well.
-WORST_FIRST = (program.REFUSED, program.WRONG_WORDS, program.FAILED, program.UNKNOWN, program.WELL)
 # The sources of faults that no stack causes.
 OF_ALL = ("profile", "table", "number", "command", "input")
 
@@ -59,7 +57,7 @@ class Asked:
 def judged(stack: Stack, asked: Asked) -> Block:
     if not stack.filters:
         # strict mode allows four syscalls, which no profile can express
-        return Block(stack, program.UNKNOWN if stack.is_strict else program.REFUSED)
+        return Block(stack, program.UNKNOWN if stack.is_strict else program.NEGATIVE)
     comparison = Comparison(stack.named, asked.profile, asked.table, asked.limit, asked.relation)
     if asked.applied is None:
         status, report = comparison.run(asked.scope)
@@ -77,7 +75,7 @@ def blocks(found: Found, asked: Asked) -> list[Block]:
         if stack.filters and any(block.is_of_all for block in made):
             continue
         made.append(judged(stack, asked))
-    return sorted(made, key=lambda it: WORST_FIRST.index(it.status) if it.status in WORST_FIRST else -1)
+    return sorted(made, key=lambda it: client.rank(it.status))
 
 
 def worst(made: Sequence[Block]) -> int:
@@ -115,15 +113,16 @@ def lines(made: Sequence[Block], found: Found, scope: str, is_verbose: bool = Fa
                 report = replace(report, skipped=(), architectures=())
             is_told = is_told or report.verdict is not None
             yield from report.printed if is_verbose else report.brief
-            yield from (f"# {line}" for line in comparing.added(comparison, report, scope))
+            yield from (f"# {line}" for line in compare.added(comparison, report, scope))
             if block.stub is not None:
                 yield f"# {runtimes.stub_told(block.stub)}"
-            yield from (f"# {line}" for line in comparing.of_foreign(comparison, report, scope))
+            yield from (f"# {line}" for line in compare.of_foreign(comparison, report, scope))
         yield from (f"# {line}" for line in of_threads(block.stack, found))
     yield from (f"# {note}" for note in found.notes)
 
 
-def _threads_json(stack: Stack, found: Found) -> list[dict[str, object]]:
+def threads_json(stack: Stack, found: Found) -> list[dict[str, object]]:
+    """The threads that have a stack."""
     return [{"process": process, "name": output.escaped(found.names[process]), "threads": threads}
             for process, threads in stack.threads.items()]
 
@@ -131,13 +130,13 @@ def _threads_json(stack: Stack, found: Found) -> list[dict[str, object]]:
 def _block_json(block: Block, found: Found, scope: str) -> dict[str, object]:
     own: dict[str, object] = {"status": block.status}
     if block.comparison is not None and block.report is not None:
-        own = comparing.as_json(block.comparison, block.report, scope, block.status)
+        own = compare.as_json(block.comparison, block.report, scope, block.status)
         if block.stub is not None:
             own["stub"] = block.stub
     else:
         own["verdict"] = "strict" if block.stack.is_strict else "unconfined"
     return {**own, "filters": [len(data) // 8 for data in block.stack.filters],
-            "processes": _threads_json(block.stack, found)}
+            "processes": threads_json(block.stack, found)}
 
 
 def as_json(made: Sequence[Block], found: Found, scope: str, container: str | None) -> dict[str, object]:

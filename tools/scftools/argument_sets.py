@@ -1,0 +1,292 @@
+"""Sets of syscall arguments as binary decision diagrams: ordered and reduced, so that equal sets are equal numbers.
+
+A variable is a bit of an argument, from the highest bit of argument 0 to the lowest of argument 5. The variables after
+these stand for what a profile can't test. The results only propose profiles: what is printed was compared by scf.
+"""
+from __future__ import annotations
+
+from collections.abc import Iterable
+
+from .entries import MOST, Condition
+
+# The sets without and with all arguments.
+NONE, ALL = 0, 1
+BITS, ARGUMENTS = 64, 6
+# The first variable that isn't a bit of an argument; the most nodes of all sets together, and the most steps.
+OTHERS, NODES, STEPS = BITS * ARGUMENTS, 1 << 18, 1 << 21
+
+
+class TooMany(Exception):
+    """The sets have more nodes than `NODES`, or took more than `STEPS`."""
+
+
+class Sets:
+    """All sets that were made, by their numbers."""
+
+    def __init__(self) -> None:
+        # of each set the variable that divides it, and its parts where that is 0 and 1
+        self.nodes: list[tuple[int, int, int]] = [(1 << 32, NONE, NONE), (1 << 32, ALL, ALL)]
+        self._numbers: dict[tuple[int, int, int], int] = {}
+        self._memo: dict[tuple[int, int, int], int] = {}
+        self._negated = {NONE: ALL, ALL: NONE}
+        self._weights = {NONE: 0, ALL: 1 << OTHERS}
+        self._steps = STEPS
+
+    def spend(self, steps: int) -> None:
+        """Counts steps."""
+        self._steps -= steps
+        if self._steps < 0:
+            raise TooMany
+
+    def node(self, variable: int, low: int, high: int) -> int:
+        """The set with these parts."""
+        if low == high:
+            return low
+        key = variable, low, high
+        found = self._numbers.get(key)
+        if found is None:
+            if len(self.nodes) == NODES:
+                raise TooMany
+            found = self._numbers[key] = len(self.nodes)
+            self.nodes.append(key)
+        return found
+
+    def _joined(self, one: int, other: int, end: int) -> int:
+        """The intersection of two sets, if `end` is NONE, which ends it, or the union, if it is ALL."""
+        if one > other:
+            one, other = other, one
+        if one in (end, other):
+            return one
+        if one <= ALL:
+            return other
+        key = one, other, end
+        found = self._memo.get(key)
+        if found is None:
+            self.spend(1)
+            first, low, high = self.nodes[one]
+            second, other_low, other_high = self.nodes[other]
+            if first > second:
+                low = high = one
+            elif second > first:
+                other_low = other_high = other
+            found = self._memo[key] = self.node(min(first, second), self._joined(low, other_low, end),
+                                                self._joined(high, other_high, end))
+        return found
+
+    def both(self, one: int, other: int) -> int:
+        """The intersection."""
+        return self._joined(one, other, NONE)
+
+    def either(self, one: int, other: int) -> int:
+        """The union."""
+        return self._joined(one, other, ALL)
+
+    def negated(self, one: int) -> int:
+        """The complement."""
+        found = self._negated.get(one)
+        if found is None:
+            variable, low, high = self.nodes[one]
+            found = self.node(variable, self.negated(low), self.negated(high))
+            self._negated[one], self._negated[found] = found, one
+        return found
+
+    def without(self, one: int, other: int) -> int:
+        return self.both(one, self.negated(other))
+
+    def differ(self, one: int, other: int) -> int:
+        """What is in exactly one of both."""
+        return self.either(self.without(one, other), self.without(other, one))
+
+    def union(self, those: Iterable[int]) -> int:
+        found = NONE
+        for one in those:
+            found = self.either(found, one)
+        return found
+
+    def copied(self, one: int, theirs: Sets) -> int:
+        """A set of others."""
+        memo = {NONE: NONE, ALL: ALL}
+
+        def visit(now: int) -> int:
+            if now not in memo:
+                variable, low, high = theirs.nodes[now]
+                memo[now] = self.node(variable, visit(low), visit(high))
+            return memo[now]
+
+        return visit(one)
+
+    def weight(self, one: int) -> int:
+        """How many arguments a set has; one that depends on other variables has no whole number of them."""
+        found = self._weights.get(one)
+        if found is None:
+            _, low, high = self.nodes[one]
+            found = self._weights[one] = (self.weight(low) + self.weight(high)) >> 1
+        return found
+
+    def variables(self, one: int) -> set[int]:
+        """The variables that a set depends on."""
+        seen, left = {NONE, ALL}, [one]
+        while left:
+            now = left.pop()
+            if now not in seen:
+                seen.add(now)
+                left += self.nodes[now][1:]
+        return {self.nodes[it][0] for it in seen if it > ALL}
+
+    def possible(self, one: int) -> int:
+        """The arguments that are in a set for some value of the variables that aren't bits of arguments."""
+        memo: dict[int, int] = {}
+
+        def visit(now: int) -> int:
+            variable, low, high = self.nodes[now]
+            if variable >= OTHERS:
+                return ALL if now else NONE
+            if now not in memo:
+                memo[now] = self.node(variable, visit(low), visit(high))
+            return memo[now]
+
+        return visit(one)
+
+    def of_argument(self, one: int, index: int) -> int:
+        """The values of an argument in a set, as the set of all arguments with such a value."""
+        memo: dict[int, int] = {}
+        first, end = BITS * index, BITS * (index + 1)
+
+        def visit(now: int) -> int:
+            variable, low, high = self.nodes[now]
+            if variable >= end:
+                return ALL if now else NONE
+            if now not in memo:
+                parts = visit(low), visit(high)
+                memo[now] = self.node(variable, *parts) if variable >= first else self.either(*parts)
+            return memo[now]
+
+        return visit(one)
+
+    def _from(self, one: int, index: int, value: int, flip: int) -> int | None:
+        """The least value of an argument from this one on that is in a set, or None; with every bit flipped if `flip`
+        is 1."""
+        found, now = 0, one
+        # where to go on if the bits of `value` lead nowhere
+        greater: tuple[int, int, int] | None = None
+        for at in range(BITS):
+            variable, *parts = self.nodes[now]
+            if variable != BITS * index + at:
+                parts = [now, now]
+            low, high = parts[flip], parts[1 - flip]
+            if value >> (BITS - 1 - at) & 1:
+                found, now = found << 1 | 1, high
+            else:
+                greater = (at + 1, found << 1 | 1, high) if high else greater
+                found, now = found << 1, low
+            if not now:
+                return None if greater is None else self._least(index, *greater, flip)
+        return found
+
+    def _least(self, index: int, at: int, found: int, now: int, flip: int) -> int:
+        """The least value in a set that isn't empty, from a bit on, after the bits found before."""
+        for place in range(at, BITS):
+            variable, *parts = self.nodes[now]
+            if variable != BITS * index + place:
+                found <<= 1
+                continue
+            low = parts[flip]
+            found, now = (found << 1, low) if low else (found << 1 | 1, parts[1 - flip])
+        return found
+
+    def run_around(self, one: int, index: int, value: int) -> tuple[int, int]:
+        """The first and the last value of the longest run of values of an argument around one that is in a set."""
+        others = self.negated(one)
+        after = self._from(others, index, value, 0)
+        before = self._from(others, index, value ^ MOST, 1)
+        return 0 if before is None else (before ^ MOST) + 1, MOST if after is None else after - 1
+
+    def _has(self, one: int, index: int, value: int) -> bool:
+        """Whether a set of an argument's values has this one."""
+        while one > ALL:
+            variable, *parts = self.nodes[one]
+            one = parts[value >> (BITS * (index + 1) - 1 - variable) & 1]
+        return one == ALL
+
+    def _with_all(self, one: int, index: int, count: int) -> int:
+        """The values of an argument that are in a set whatever their lowest bits are, so many of them."""
+        memo: dict[int, int] = {}
+
+        def visit(now: int) -> int:
+            variable, low, high = self.nodes[now]
+            if variable >= BITS * (index + 1) - count:
+                return ALL if now == ALL else NONE
+            if now not in memo:
+                memo[now] = self.node(variable, visit(low), visit(high))
+            return memo[now]
+
+        return visit(one)
+
+    def widest_mask(self, one: int, index: int, value: int, lowest: int, kept: int) -> int:
+        """A mask such that all values of an argument that agree in it with one are in a set of its values.
+
+        It has the bits to be kept. It lacks the lowest bits, so many of them, which must be possible, those that don't
+        matter, and as many others as can be dropped, from the highest on.
+        """
+        mask, now = kept, self._with_all(one, index, lowest)
+        while now > ALL:
+            variable, *parts = self.nodes[now]
+            bit = 1 << (BITS * (index + 1) - 1 - variable)
+            without = NONE if kept & bit else self.both(*parts)
+            if without and self._has(without, index, value):
+                now = without
+            else:
+                mask, now = mask | bit, parts[bool(value & bit)]
+        return mask
+
+    def least(self, one: int) -> tuple[int, ...]:
+        """The least arguments of a set that isn't empty."""
+        found, now = [0] * ARGUMENTS, one
+        while now != ALL:
+            variable, low, high = self.nodes[now]
+            if not low:
+                index, at = divmod(variable, BITS)
+                found[index] |= 1 << (BITS - 1 - at)
+            now = low or high
+        return tuple(found)
+
+    def bits_of(self, index: int, half: int) -> tuple[int, ...]:
+        """The bits of an argument's upper (1) or lower (0) half, the highest first, each as the set where it is 1."""
+        first = BITS * index + (0 if half else 32)
+        return tuple(self.node(variable, NONE, ALL) for variable in range(first, first + 32))
+
+    def cube(self, index: int, value: int, mask: int) -> int:
+        """The arguments of which one agrees with a value in these bits."""
+        found = ALL
+        for at in range(BITS):
+            if mask >> at & 1:
+                parts = (NONE, found) if value >> at & 1 else (found, NONE)
+                found = self.node(BITS * (index + 1) - 1 - at, *parts)
+        return found
+
+    def from_on(self, index: int, value: int) -> int:
+        """The arguments of which one is at least this value."""
+        found = ALL
+        for at in range(BITS):
+            parts = (NONE, found) if value >> at & 1 else (found, ALL)
+            found = self.node(BITS * (index + 1) - 1 - at, *parts)
+        return found
+
+    def of_condition(self, one: Condition) -> int:
+        """The arguments that meet a condition."""
+        index, op, value, two = one.index, one.op, one.value, one.two
+        if op == "SCMP_CMP_MASKED_EQ":
+            return self.cube(index, two, value)
+        if op in ("SCMP_CMP_EQ", "SCMP_CMP_NE"):
+            found = self.cube(index, value, MOST)
+            return found if op == "SCMP_CMP_EQ" else self.negated(found)
+        # at least `value`, or above it
+        least = value + (op in ("SCMP_CMP_GT", "SCMP_CMP_LE"))
+        found = self.from_on(index, least) if least <= MOST else NONE
+        return found if op in ("SCMP_CMP_GE", "SCMP_CMP_GT") else self.negated(found)
+
+    def of_conditions(self, those: Iterable[Condition]) -> int:
+        found = ALL
+        for one in those:
+            found = self.both(found, self.of_condition(one))
+        return found

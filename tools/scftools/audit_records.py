@@ -1,0 +1,198 @@
+"""Audit records: what the kernel writes of a syscall that a filter answers, and of one that an audit rule logs.
+
+They are read as the kernel's log, auditd and journald have them, and as ausearch prints them, raw or interpreted.
+The kernel writes a record of KILL_THREAD, KILL_PROCESS, LOG and actions without a name if actions_logged has them, and
+one of another action if also the filter that gives the answer was loaded with SECCOMP_FILTER_FLAG_LOG (seccomp_log in
+kernel/seccomp.c). It has neither the arguments nor the data of the action (audit_seccomp in kernel/auditsc.c).
+"""
+from __future__ import annotations
+
+import os
+import re
+from collections.abc import Iterator
+
+from . import architectures, output, program, tables
+from .answers import ACTIONS, X86_64
+from .calls import SKIPPED
+from .tables import Table
+from .values import dataclass
+
+ACTIONS_LOGGED = "/proc/sys/kernel/seccomp/actions_logged"
+KERNEL_LOG = "/dev/kmsg"
+# The most bytes of a message in it (PRINTKRB_RECORD_MAX in include/linux/printk.h is less).
+LONGEST = 1 << 13
+# How the two kinds of records begin: by their number (linux/audit.h), auditd's name, and journald's, where a record is
+# one that it took from the kernel itself.
+KINDS = re.compile(r"(?:\A|\s)(?:type=(1326|SECCOMP|1300|SYSCALL) (?:msg=)?(?=audit\()|"
+                   r"audit(?:\[[0-9]{1,10}\])?: (SECCOMP|SYSCALL) )")
+SECCOMP, SYSCALL = ("1326", "SECCOMP"), ("1300", "SYSCALL")
+# Records of other types, and ausearch's lines between those of one event.
+OTHER = re.compile(r"(?:\A|\s)type=[A-Z0-9_\[\]]{1,40} (?:msg=)?audit\(|\A(?:----|time->.*|<no matches>)\Z")
+# The fields that the kernel writes behind all that a process may choose. A name in quotes has no blank and no quote;
+# one with such characters is in hexadecimal. ausearch -i prints names as they are.
+TAIL = re.compile(r" sig=(\S+)(?: arch=(\S+))? syscall=(\S+) compat=(\S+) ip=(\S+) code=(\S+)")
+WHO = re.compile(r" pid=(\S+) comm=(\"[^\"]*\"|\S+)")
+CALL = re.compile(r" arch=(\S+) syscall=(\S+)(?: per=\S+)?(?: success=\S+ exit=.*?)?"
+                  r" a0=(\S+) a1=(\S+) a2=(\S+) a3=(\S+) ")
+TIME = re.compile(r"audit\(([0-9]{1,12})\.([0-9]{3}):")
+# auditd puts these before what it adds to a record itself, which names what the kernel's part has as numbers.
+ENRICHED = "\x1d"
+# The kernel leaves out records if too many come at once (kauditd_printk_skb in kernel/audit.c).
+SUPPRESSED = re.compile(r"\baudit: kauditd_printk_skb: ([0-9]{1,9}) callbacks suppressed")
+# What ausearch -i calls the actions: those that kill alike (auparse/seccomp-code-table.h of audit 3.0).
+CODES = {"kill": ("KILL_PROCESS", "KILL_THREAD"), "trap": ("TRAP",), "errno": ("ERRNO",),
+         "user-notify": ("USER_NOTIF",), "trace": ("TRACE",), "log": ("LOG",), "allow": ("ALLOW",)}
+UNKNOWN_CODE = re.compile(r"unknown-seccomp-code\((0x[0-9a-f]{1,8})\)")
+
+
+class Malformed(Exception):
+    """A record with a value that the kernel doesn't write: what it is."""
+
+
+@dataclass(frozen=True)
+class Record:
+    """An audit record of seccomp: its syscall, the high halves that the answer may have, and the process."""
+
+    number: int
+    architecture: int
+    pointer: int
+    halves: tuple[int, ...]
+    process: int | None
+    name: str
+    # seconds since 1970, None if the line doesn't have them as a number
+    time: float | None
+
+
+@dataclass(frozen=True)
+class Syscall:
+    """An audit record of a syscall that a rule of auditctl logs: its first four arguments, as they are printed."""
+
+    number: int
+    architecture: int
+    arguments: tuple[str, ...]
+
+
+def _number(text: str, what: str, most: int, base: int = 10) -> int:
+    """A field as a number, from 0 to `most`."""
+    if not re.fullmatch("[0-9]{1,20}" if base == 10 else "(?:0x)?[0-9a-fA-F]{1,16}", text) or int(text, base) > most:
+        raise Malformed(f"{what}={_shown(text)} isn't {'an address' if base == 16 else f'a number up to {most}'}")
+    return int(text, base)
+
+
+def _shown(text: str) -> str:
+    return text if len(text) <= 64 else f"{text[:64]}.."
+
+
+def architecture_of(text: str | None) -> int:
+    """`arch=`: in hexadecimal, or by a name."""
+    if text is None:
+        raise Malformed("the record has no arch=, without which its syscall isn't known")
+    name = architectures.name_in(text)
+    if name is not None:
+        return architectures.NUMBERS[name]
+    if not re.fullmatch("[0-9a-fA-F]{1,8}", text):
+        raise Malformed(f"arch={_shown(text)} isn't an architecture")
+    return int(text, 16)
+
+
+def named_number(name: str, architecture: int, table: Table) -> int | None:
+    """The number of a syscall by its name in an architecture, None if no table has it."""
+    if architecture == X86_64:
+        return table.number_of(name)
+    own = tables.of_architecture(architectures.profile_name(architecture) or "")
+    return None if own is None else own.number_of(name)
+
+
+def number_of(text: str, architecture: int, table: Table) -> int:
+    """`syscall=`: a number, -1, or a name."""
+    if text == "-1":
+        return SKIPPED
+    if re.fullmatch("[0-9]{1,20}", text):
+        return _number(text, "syscall", 0xFFFFFFFF)
+    number = named_number(text, architecture, table)
+    if number is None:
+        raise Malformed(f"syscall={_shown(text)}: the table has no such name: print the record without -i")
+    return number
+
+
+def halves_of(text: str) -> tuple[int, ...]:
+    """`code=`: the high half of an answer, without its data; more than one by the name of those that kill."""
+    if text in CODES:
+        return tuple(half for half, name in ACTIONS.items() if name in CODES[text])
+    unknown = UNKNOWN_CODE.fullmatch(text)
+    text = unknown[1] if unknown else text
+    if not re.fullmatch("0x[0-9a-f]{1,8}", text):
+        raise Malformed(f"code={_shown(text)} isn't an action")
+    if int(text, 16) & 0xFFFF:
+        raise Malformed(f"code={text} has data, which the kernel leaves out")
+    return (int(text, 16) >> 16,)
+
+
+def name_of(text: str) -> str:
+    """`comm=`: in quotes, in hexadecimal, or by ausearch -i as it is."""
+    if text.startswith('"'):
+        return text.strip('"')
+    if re.fullmatch("(?:[0-9A-F]{2}){1,256}", text):
+        return bytes.fromhex(text).decode("latin-1")
+    return text[:256]
+
+
+def kind_of(line: str) -> tuple[str, int] | None:
+    """Which record a line has, by its type's name, and where it begins."""
+    found = KINDS.search(line)
+    return (found[1] or found[2], found.end() - 1) if found else None
+
+
+def record_in(line: str, at: int, table: Table) -> Record:
+    """The record of seccomp that begins there; the last fields count, since those before may have a process's words."""
+    text = line[at:].partition(ENRICHED)[0]
+    tails, who = list(TAIL.finditer(text)), WHO.search(text)
+    if not tails:
+        raise Malformed("the record is cut: it has no sig= arch= syscall= compat= ip= code=")
+    _, arch, number, _, pointer, code = tails[-1].groups()
+    architecture, time = architecture_of(arch), TIME.search(line, at, at + 64)
+    process = who[1] if who and re.fullmatch("[0-9]{1,10}", who[1]) else None
+    return Record(number_of(number, architecture, table), architecture, _number(pointer, "ip", (1 << 64) - 1, 16),
+                  halves_of(code), int(process) if process else None, name_of(who[2]) if who else "",
+                  float(f"{time[1]}.{time[2]}") if time else None)
+
+
+def syscall_in(line: str, at: int, table: Table) -> Syscall:
+    """The record of a syscall that begins there. The kernel writes the arguments in hexadecimal."""
+    text = line[at:].partition(ENRICHED)[0]
+    found = CALL.search(text)
+    if not found:
+        raise Malformed("the record is cut: it has no arch= syscall= a0= a1= a2= a3=")
+    architecture = architecture_of(found[1])
+    return Syscall(number_of(found[2], architecture, table), architecture,
+                   tuple(f"0x{it}" if re.fullmatch("[0-9a-f]{1,16}", it) else it for it in found.groups()[2:]))
+
+
+def kernel_lines() -> Iterator[str]:
+    """The lines of this machine's kernel log, oldest first (/dev/kmsg)."""
+    try:
+        log = os.open(KERNEL_LOG, os.O_RDONLY | os.O_NONBLOCK | os.O_CLOEXEC)
+    except OSError as error:
+        raise program.ToolError(f"the kernel's log can't be read: {KERNEL_LOG}: {error.strerror}",
+                                program.IO_ERROR) from error
+    try:
+        while True:
+            try:
+                message = os.read(log, LONGEST)
+            except BrokenPipeError:
+                # the kernel has written over what was to be read
+                continue
+            except BlockingIOError:
+                return
+            yield message.partition(b";")[2].partition(b"\n")[0].decode("latin-1")
+    finally:
+        os.close(log)
+
+
+def actions_logged() -> str | None:
+    """The actions that this kernel may log, None if it doesn't say."""
+    try:
+        with open(ACTIONS_LOGGED, encoding="ascii") as file:
+            return output.escaped(file.read(256).strip())
+    except (OSError, UnicodeDecodeError):
+        return None

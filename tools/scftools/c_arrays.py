@@ -1,0 +1,183 @@
+"""Filters as C arrays: of struct sock_filter, `{ 0x20, 0, 0, 4 },` or BPF_STMT and BPF_JUMP, and of bytes."""
+from __future__ import annotations
+
+import re
+from collections.abc import Iterator
+
+from . import constants, tables
+
+# (patterns are compiled when they are first used, which is rare)
+COMMENT = r"(?ms)/\*.*?\*/|//[^\n]*|^[ \t]*#[ \t]*include[^\n]*"
+# What may stand before an array and behind it: `static struct sock_filter filter[] =`, `unsigned int length = 8;`.
+HEAD = r"[A-Za-z_][\w\s]{0,200}\[[\w\s]{0,40}\]\s*=\s*(?={)"
+TAIL = r"\s*;(?:\s*(?:[A-Za-z_]\w*\s+){1,6}=\s*\d+\s*;)?\s*"
+CAST = r"\(\s*(?:(?:unsigned|short|int|long|char|__u(?:8|16|32)|uint(?:8|16|32)_t)\s*)+\)"
+OFFSET = (r"(?:__builtin_)?offsetof\s*\(\s*struct\s+seccomp_data\s*,\s*(nr|arch|instruction_pointer|"
+          r"args\s*\[\s*([0-5])\s*\])\s*\)")
+# linux/seccomp.h: struct seccomp_data
+FIELDS = {"nr": 0, "arch": 4, "instruction_pointer": 8}
+MACRO = r"(?s)(BPF_STMT|BPF_JUMP)\s*\((.*)\)"
+TOKEN = r"\s*(?:(0[xX][0-9a-fA-F]+|[0-9]+)[uUlL]*\b|([A-Za-z_]\w*)|(<<|>>|[-|&+~()]))"
+# How tightly operators bind, the loosest first.
+BINDS = (("|",), ("&",), ("<<", ">>"), ("+", "-"))
+X32_BIT = {"__X32_SYSCALL_BIT": 0x40000000, "X32_SYSCALL_BIT": 0x40000000}
+# How deep brackets of an expression may be.
+DEEPEST = 20
+
+
+class Malformed(Exception):
+    """A text isn't an array of instructions, or has something that only a compiler knows."""
+
+
+def _number_of(name: str) -> int:
+    bare = re.sub("^(?:SYS_|__NR_)", "", name)
+    if bare != name:
+        number = tables.read(None).number_of(bare)
+    else:
+        number = X32_BIT.get(name, constants.numbers().get(name))
+    if number is None:
+        raise Malformed(f"'{name[:40]}' is no constant that this tool knows")
+    return number
+
+
+class Expression:
+    """A constant expression of C: numbers, constants, and the operators of BINDS, `~` and brackets."""
+
+    def __init__(self, text: str):
+        self.tokens = list(_tokens(re.sub(OFFSET, lambda it: str(_offset(it)), re.sub(CAST, "", text))))
+        self.at = self.depth = 0
+
+    def value(self) -> int:
+        found = self._binary(0)
+        if self.at < len(self.tokens):
+            raise Malformed(f"'{self.tokens[self.at]}' isn't expected")
+        return found % (1 << 64)
+
+    def _next(self) -> str:
+        return self.tokens[self.at] if self.at < len(self.tokens) else ""
+
+    def _binary(self, level: int) -> int:
+        if level == len(BINDS):
+            return self._unary()
+        found = self._binary(level + 1)
+        while self._next() in BINDS[level]:
+            operator = self.tokens[self.at]
+            self.at += 1
+            found = _applied(operator, found, self._binary(level + 1))
+        return found
+
+    def _unary(self) -> int:
+        token = self._next()
+        self.at, self.depth = self.at + 1, self.depth + 1
+        if self.depth > DEEPEST:
+            raise Malformed("an expression is nested too deep")
+        if token in ("~", "-"):
+            found = ~self._unary() if token == "~" else -self._unary()
+        elif token == "(":
+            found = self._binary(0)
+            if self._next() != ")":
+                raise Malformed("a bracket isn't closed")
+            self.at += 1
+        elif token[:1].isdigit():
+            found = int(token, 16 if token[:2].lower() == "0x" else 8 if token[0] == "0" and token.isdigit() and
+                        set(token) <= set("01234567") else 10)
+        elif token and (token[0].isalpha() or token[0] == "_"):
+            found = _number_of(token)
+        else:
+            raise Malformed(f"'{token}' isn't expected" if token else "a number is missing")
+        self.depth -= 1
+        return found
+
+
+def _offset(found: re.Match[str]) -> int:
+    return 16 + 8 * int(found[2]) if found[2] else FIELDS[found[1]]
+
+
+def _applied(operator: str, left: int, right: int) -> int:
+    if operator in ("<<", ">>"):
+        if not 0 <= right < 64 or left < 0:
+            raise Malformed(f"a shift of {left} by {right}")
+        return left << right if operator == "<<" else left >> right
+    return {"|": left | right, "&": left & right, "+": left + right, "-": left - right}[operator]
+
+
+def _tokens(text: str) -> Iterator[str]:
+    at, text, pattern = 0, text.rstrip(), re.compile(TOKEN)
+    while at < len(text):
+        found = pattern.match(text, at)
+        if not found:
+            raise Malformed(f"'{text[at:at + 20].strip()}' isn't a constant expression")
+        at = found.end()
+        yield found[1] or found[2] or found[3]
+
+
+def _split(text: str) -> Iterator[str]:
+    """The elements of a list, which commas outside of brackets separate; the last comma may end it."""
+    depth = begun = 0
+    for found in re.finditer(r"[(){}\[\],]", text):
+        if found[0] == ",":
+            if not depth:
+                yield text[begun:found.start()].strip()
+                begun = found.end()
+        else:
+            depth += 1 if found[0] in "({[" else -1
+    if text[begun:].strip():
+        yield text[begun:].strip()
+
+
+def _row(text: str) -> list[str]:
+    """The four fields of an element, by its form."""
+    macro = re.fullmatch(MACRO, text)
+    fields = list(_split(macro[2] if macro else text[1:-1]))
+    if macro and macro[1] == "BPF_STMT" and len(fields) == 2:
+        return [fields[0], "0", "0", fields[1]]
+    if macro and macro[1] == "BPF_JUMP" and len(fields) == 4:
+        return [fields[0], fields[2], fields[3], fields[1]]
+    if macro or text[:1] != "{" or text[-1:] != "}" or len(fields) != 4:
+        raise Malformed(f"'{text[:60]}' isn't an instruction: {{ code, jt, jf, k }}, BPF_STMT or BPF_JUMP")
+    return fields
+
+
+def _fields(text: str) -> tuple[int, int, int, int]:
+    values = [Expression(it).value() for it in _row(text)]
+    # a number of 32 bits, which `~` and `-` make negative here
+    values[3] %= 1 << 32 if values[3] >= (1 << 64) - (1 << 32) else 1 << 64
+    for name, value, end in zip(("code", "jt", "jf", "k"), values, (1 << 16, 1 << 8, 1 << 8, 1 << 32)):
+        if value >= end:
+            raise Malformed(f"{name} {value:#x} of '{text[:60]}' is too large")
+    return values[0], values[1], values[2], values[3]
+
+
+def _elements(text: str) -> list[str]:
+    """The elements of the array in a text, which holds nothing else."""
+    head = re.match(HEAD, text)
+    if head:
+        end = text.rfind("}") + 1
+        if not re.fullmatch(TAIL, text[end:]):
+            raise Malformed(f"behind the array stands '{text[end:end + 40].strip()}'")
+        text = text[head.end():end].strip()
+    found = list(_split(text))
+    if len(found) == 1 and found[0][:1] == "{" and found[0][-1:] == "}":
+        inner = list(_split(found[0][1:-1]))
+        # braces around all elements, or one instruction
+        return inner if head or len(inner) != 4 or inner[0][:1] in ("{", "B") else found
+    return found
+
+
+def looks_so(text: str) -> bool:
+    """Whether a text is meant to be such an array."""
+    bare = re.sub(COMMENT, " ", text).lstrip()
+    row = re.match(r"\{\s*(?:[{(0-9]|BPF_)|BPF_(?:STMT|JUMP)\b|0x[0-9a-fA-F]{2}\s*,", bare)
+    return bool(re.match(HEAD, bare) or row)
+
+
+def rows_in(text: str) -> list[tuple[int, int, int, int]] | bytes:
+    """The instructions (code, jt, jf and k) of an array, or the bytes of one of bytes; raises Malformed if a text isn't
+    one, or only a compiler can read it."""
+    elements = _elements(re.sub(COMMENT, " ", text).strip())
+    if elements and all(re.fullmatch("0[xX][0-9a-fA-F]{1,2}|[0-9]{1,3}", it) for it in elements):
+        values = [int(it, 0 if it[:2].lower() == "0x" else 10) for it in elements]
+        if max(values) > 255 or len(values) % 8:
+            raise Malformed("an array of bytes has a multiple of 8, each below 256")
+        return bytes(values)
+    return [_fields(it) for it in elements]

@@ -1,0 +1,233 @@
+"""The client of scf: the one place where the proved program is run, and what comes of a run."""
+from __future__ import annotations
+
+import os
+import re
+from collections.abc import Iterable, Sequence
+
+from . import output, program
+from .program import NEGATIVE, NOT_BUILT, SUCCESS, UNKNOWN, ToolError
+from .values import dataclass
+
+# In the sources the command, which builds the program where it never was; the program, as it is installed or was built.
+SCF = os.path.join(program.TOP, "scf")
+PROGRAMS = (os.path.join(program.TOP, "program"), os.path.join(program.TOP, "crates", "scf", "out", "scf"))
+# SIGKILL (signal(7)), which ends a process that exceeds its limit of CPU time.
+KILLED = 9
+# The most bytes of address space that the tools give scf. Real inputs take a tenth; 4 MiB of `{"":0}` would take 520 MB.
+MAX_MEMORY = 350 << 20
+# A tool's comparisons without --limit: seconds of CPU time for the tool and all that it runs; after the first limit
+# comparisons have few steps, after the second none.
+SECONDS, ALL_SECONDS, FEW_STEPS = 6, 8, "1000"
+LIMIT_HELP = f"at most N steps for each comparison [default: 1000000, and {SECONDS} s of CPU time for all together]"
+SPENT = (f"all comparisons together took {SECONDS} s of CPU time, the most without --limit: what {FEW_STEPS} steps "
+         f"don't decide is unfinished")
+FAULT = re.compile(r"fault ([a-z]+) ([A-Za-z0-9]+)((?: [a-z]+ [0-9]+)*)")
+_is_spent_reported = False
+# The CPU time that was taken before the limits began to count, in seconds.
+_seconds_before = 0.0
+
+
+def lines_of(text: str) -> list[str]:
+    """The lines of a text; the last may lack its newline."""
+    lines = text.split("\n")
+    return lines if lines[-1] else lines[:-1]
+
+
+def rank(status: int) -> tuple[bool, int]:
+    """Sorts statuses, the worst first: what differs, a usage error, an I/O error, what isn't known, then success."""
+    return status == SUCCESS, status
+
+
+def worst(statuses: Iterable[int]) -> int:
+    """The status of several runs or parts."""
+    return min(statuses, key=rank, default=SUCCESS)
+
+
+@dataclass(frozen=True)
+class Fault:
+    """A fault: `fault SOURCE KIND` and the kind's numbers by name."""
+
+    line: str
+    source: str
+    kind: str
+    numbers: dict[str, int]
+
+    @classmethod
+    def read(cls, line: str) -> Fault | None:
+        found = FAULT.fullmatch(line)
+        if not found:
+            return None
+        words = found[3].split()
+        return cls(line, found[1], found[2], {name: int(value) for name, value in zip(words[::2], words[1::2])})
+
+    def as_json(self) -> dict[str, object]:
+        return {"source": self.source, "kind": self.kind, "numbers": self.numbers}
+
+
+class Refusal(Exception):
+    """scf refuses an input, or fails: the line that it printed, its status, and its fault, None if the line isn't one.
+
+    `subject` says which of several inputs was refused, where the caller has several: a name and the input's bytes.
+    """
+
+    def __init__(self, line: str, status: int = NEGATIVE, subject: tuple[str, bytes] = ("", b"")):
+        super().__init__(line)
+        self.line, self.status, self.subject, self.fault = line, status, subject, Fault.read(line)
+
+
+@dataclass(frozen=True)
+class Run:
+    """How a run of scf ended, and what it printed; nothing if it exceeded its time. Names in it are untrusted."""
+
+    status: int
+    out: bytes
+
+    @property
+    def text(self) -> str:
+        return self.out.decode("utf-8", "surrogateescape")
+
+    @property
+    def lines(self) -> list[str]:
+        return lines_of(self.text)
+
+    @property
+    def line(self) -> str:
+        """The first line: a verdict, an answer or a fault."""
+        return self.text.split("\n", 1)[0]
+
+
+def built() -> str | None:
+    """The program, if it exists without a build."""
+    return next((path for path in PROGRAMS if os.access(path, os.X_OK)), None)
+
+
+def _holding(data: bytes) -> int:
+    """A file descriptor with these bytes."""
+    try:
+        file = os.memfd_create("scf")
+    except (AttributeError, OSError):
+        import tempfile  # pylint: disable=import-outside-toplevel
+
+        with tempfile.TemporaryFile() as spare:
+            file = os.dup(spare.fileno())
+    rest = memoryview(data)
+    while rest:
+        rest = rest[os.write(file, rest):]
+    os.lseek(file, 0, os.SEEK_SET)
+    return file
+
+
+def _all_of(file: int) -> bytes:
+    found = []
+    while True:
+        piece = os.read(file, 1 << 16)
+        if not piece:
+            return b"".join(found)
+        found.append(piece)
+
+
+def _limit(child: int, seconds: float | None) -> None:
+    """Limits scf's memory, so that it reports `Memory` instead of taking more, and its CPU time, after which it is killed
+    without a core dump."""
+    import resource  # pylint: disable=import-outside-toplevel
+
+    limits = [(resource.RLIMIT_AS, MAX_MEMORY)]
+    if seconds is not None:
+        limits.append((resource.RLIMIT_CPU, max(1, round(seconds))))
+    for kind, limit in limits:
+        most = resource.getrlimit(kind)[1]
+        limit = limit if most == resource.RLIM_INFINITY else min(limit, most)
+        try:
+            resource.prlimit(child, kind, (limit, limit))
+        except ProcessLookupError:
+            # it has ended
+            pass
+
+
+def run(words: Sequence[str], given: bytes | None = b"", seconds: float | None = None, may_build: bool = True) -> Run:
+    """Runs scf on these bytes, or if they are None on this process's standard input.
+
+    After so many seconds of CPU time it is killed, and the result is empty and UNKNOWN. If scf isn't built, its
+    launcher builds it first, which takes long; without `may_build` the result is then empty and NOT_BUILT.
+    """
+    program_built = built()
+    if program_built is None and not may_build:
+        return Run(NOT_BUILT, b"")
+    path = program_built or SCF
+    ends = os.pipe()
+    actions: list[tuple] = [(os.POSIX_SPAWN_DUP2, ends[1], 1)]
+    source = None if given is None else _holding(given)
+    if source is not None:
+        actions.append((os.POSIX_SPAWN_DUP2, source, 0))
+    try:
+        child = os.posix_spawn(path, ["scf", *words], os.environ, file_actions=actions)
+    except OSError as error:
+        raise ToolError(f"scf can't be run: {path}: {error.strerror}", NOT_BUILT) from error
+    os.close(ends[1])
+    if source is not None:
+        os.close(source)
+    if program_built is not None:
+        _limit(child, seconds)
+    out = _all_of(ends[0])
+    os.close(ends[0])
+    state = os.waitpid(child, 0)[1]
+    if os.WIFSIGNALED(state) and seconds is not None and os.WTERMSIG(state) == KILLED:
+        return Run(UNKNOWN, b"")
+    if os.WIFSIGNALED(state):
+        raise ToolError(f"scf was ended by signal {os.WTERMSIG(state)}", 128 + os.WTERMSIG(state))
+    if os.WEXITSTATUS(state) == NOT_BUILT:
+        # the launcher has printed why
+        program.finish(NOT_BUILT)
+    return Run(os.WEXITSTATUS(state), out)
+
+
+def print_version() -> int:
+    """Prints what `--version` of a tool prints: its version is scf's."""
+    done = run(["--version"])
+    output.put_line(f"{program.name()} of {done.text.rstrip()}")
+    return done.status
+
+
+def compile_profile(bundle: bytes) -> bytes:
+    """The filter of a bundle of a profile and a table. Raises Refusal."""
+    done = run(["compile"], bundle)
+    if done.status != SUCCESS:
+        raise Refusal(done.line, done.status)
+    return done.out
+
+
+def _seconds_taken() -> float:
+    """The CPU time of this process and its ended children since the limits count."""
+    return sum(os.times()[:4]) - _seconds_before
+
+
+def begin_limits() -> None:
+    """Has the limits count from now on, for a tool that does its work again and again."""
+    global _is_spent_reported, _seconds_before  # pylint: disable=global-statement
+    _is_spent_reported, _seconds_before = False, sum(os.times()[:4])
+
+
+def _report_spent() -> None:
+    """Reports once that the time is up."""
+    global _is_spent_reported  # pylint: disable=global-statement
+    if not _is_spent_reported:
+        output.say(program.name(), SPENT)
+    _is_spent_reported = True
+
+
+def compare(words: Sequence[str], bundle: bytes, limit: str | None) -> Run:
+    """`scf compare` with this step limit, a text; a tool without one has scf's own while there is time."""
+    words = ["compare", *words]
+    if limit is not None or not program.is_tool:
+        return run([*words, *(["--limit", limit] if limit is not None else [])], bundle)
+    if built() is None:
+        # the time to build it doesn't count
+        run(["--version"])
+    for steps, until in (([], SECONDS), (["--limit", FEW_STEPS], ALL_SECONDS)):
+        left = until - _seconds_taken()
+        done = run([*words, *steps], bundle, left) if left > 0 else None
+        if done is not None and done.out:
+            return done
+        _report_spent()
+    return run([*words, "--limit", "0"], bundle)

@@ -1,0 +1,241 @@
+"""Constants of C, by which arguments are given and shown: AF_INET, CLONE_NEWUSER|SIGCHLD.
+
+Their numbers on x86-64 are those of tables/arguments.symbols. Some have another number on i386, x32, aarch64 or arm, or
+none (tables/arguments.unlike). For further architectures no constant is known. Which of them an argument of x86-64's
+syscalls is, tables/x86_64.constants says.
+"""
+from __future__ import annotations
+
+import functools
+import operator
+import os
+import re
+from collections.abc import Sequence
+
+from . import architectures, arguments, program
+from .values import dataclass, field
+
+FILE, UNLIKE = (os.path.join(program.TOP, "tables", f"arguments.{it}") for it in ("symbols", "unlike"))
+FAMILIES = os.path.join(program.TOP, "tables", "x86_64.constants")
+NAME = re.compile(r"[A-Za-z_]\w*", re.A)
+# Architectures whose registers have 32 bits.
+NARROW = tuple(f"{architectures.PREFIX}{it}" for it in ("X86", "ARM"))
+# The least similarity of a nearest name, and the longest name that gets one.
+LIKENESS, LONGEST = 0.75, 64
+
+
+def number_in(text: str) -> int | None:
+    """Parses a number as scf's options do: decimal, or hexadecimal after 0x."""
+    if re.fullmatch("0[xX][0-9a-fA-F]{1,40}", text):
+        return int(text, 16)
+    return int(text) if re.fullmatch("[0-9]{1,40}", text) else None
+
+
+@functools.lru_cache(None)
+def numbers() -> dict[str, int]:
+    """The constants and their numbers on x86-64."""
+    with open(FILE, encoding="ascii") as file:
+        rows = (line.split() for line in file if not line.startswith("#"))
+        return {name: int(number) for name, number in rows}
+
+
+@functools.lru_cache(None)
+def _unlike() -> dict[str, set[str]]:
+    """By the OCI name of an architecture the constants that aren't there what they are on x86-64."""
+    found: dict[str, set[str]] = {architectures.NATIVE: set()}
+    with open(UNLIKE, encoding="ascii") as file:
+        for line in file:
+            if not line.startswith("#"):
+                architecture, *names = line.split()
+                found.setdefault(architectures.name_in(architecture) or architecture, set()).update(names)
+    return found
+
+
+def _nearest(name: str) -> str:
+    """What a message says of the constant most like a name."""
+    from difflib import get_close_matches  # pylint: disable=import-outside-toplevel
+
+    upper = name.upper() if len(name) <= LONGEST else ""
+    found = [upper] if upper in numbers() else get_close_matches(upper, numbers(), 1, LIKENESS)
+    return f"; the nearest is {found[0]}" if found else ""
+
+
+def number_of(name: str, architecture: str) -> int:
+    """The number of a constant on the architecture of this OCI name; raises ToolError if it isn't known."""
+    known = _unlike().get(architecture)
+    told = architecture.removeprefix(architectures.PREFIX).lower()
+    if known is None:
+        raise program.ToolError(f"constants are known for x86-64, i386, x32, aarch64 and arm: for {told}, give the "
+                              f"number of '{name}'")
+    if name not in numbers():
+        raise program.ToolError(f"no constant is known by the name '{name}'{_nearest(name)}")
+    if name in known:
+        raise program.ToolError(f"{name} isn't the same on {told} as on x86-64: give its number")
+    return numbers()[name]
+
+
+def _part(text: str, whole: str, architecture: str) -> int:
+    number = number_in(text)
+    if number is None and not NAME.fullmatch(text):
+        raise program.ToolError(f"'{whole}' is neither a number nor constants joined by |")
+    return number_of(text, architecture) if number is None else number
+
+
+def _width(architecture: str) -> int:
+    return 32 if architecture in NARROW else 64
+
+
+def _negative(text: str, architecture: str) -> str | None:
+    number, width = number_in(text[1:]), _width(architecture)
+    if text[:1] != "-" or number is None:
+        return None
+    if number > 1 << width - 1:
+        raise program.ToolError(f"{text} has more than {width} bits")
+    return hex(-number % (1 << width))
+
+
+def argument_in(text: str, architecture: str) -> str:
+    """An argument as scf takes it: given as a number, as a negative one (-1), or as constants and numbers with `|`.
+
+    A negative number has 64 bits, on i386 and arm 32. What is neither is left to scf, which refuses it. Raises
+    ToolError if a constant isn't known on the architecture of this OCI name.
+    """
+    negative = _negative(text, architecture)
+    if negative is not None:
+        return negative
+    parts = [it.strip() for it in text.split("|")]
+    octal = next((it for it in parts if re.fullmatch("0[0-7]{1,30}", it) and int(it) != int(it, 8)), None)
+    if octal is not None:
+        raise program.ToolError(f"{octal} is ambiguous: write {hex(int(octal, 8))} for C's octal number, or {int(octal)} "
+                                f"for the decimal one")
+    if "|" not in text and not NAME.fullmatch(text):
+        return text
+    found = (_part(it, text, architecture) for it in parts)
+    return hex(functools.reduce(operator.or_, found) % (1 << _width(architecture)))
+
+
+# More constants than these are shown as a number, and of so many zeros at the end of a call each by itself. Numbers
+# below SMALL are shown in decimal, and negative ones down to its negative.
+MOST_NAMES, MOST_ZEROS, SMALL = 6, 2, 1 << 16
+WORD, REGISTER = 1 << 32, 1 << 64
+
+
+@dataclass
+class Family:
+    """The constants of one kind of argument. The bits of `mask` are one number, by `of_mask`; each other bit, or some
+    bits together, has a name of its own in `bits`."""
+
+    mask: int = 0
+    patterns: list[tuple[bool, str]] = field(default_factory=list)
+    of_mask: dict[int, str] = field(default_factory=dict)
+    bits: dict[int, str] = field(default_factory=dict)
+    # of each constant the index of its pattern
+    ranks: dict[str, int] = field(default_factory=dict)
+
+    def add(self, word: str) -> None:
+        """Takes a word of the table: the mask, or a pattern of names that are in the family, or after `-` are not."""
+        if word.startswith("0"):
+            self.mask = int(word, 0)
+        else:
+            pattern = re.escape(word.removeprefix("-")).replace(r"\*", r"\w*")
+            self.patterns.append((word[0] != "-", pattern))
+
+    def fill(self) -> None:
+        """Finds its constants. Of two with one number the first in the table is kept."""
+        for name, number in numbers().items():
+            rank = max((at for at, it in enumerate(self.patterns) if re.fullmatch(it[1], name)), default=None)
+            # a bit of the sign of 32 bits would be 33 bits of a register
+            if rank is not None and self.patterns[rank][0] and number > -SMALL:
+                number, self.ranks[name] = number % WORD, rank
+                if number & ~self.mask == 0:
+                    self.of_mask.setdefault(number, name)
+                elif number & self.mask == 0:
+                    self.bits.setdefault(number, name)
+        # what has more bits goes first, as O_SYNC before O_DSYNC
+        self.bits = dict(sorted(self.bits.items(), key=lambda it: (-bin(it[0]).count("1"), it[0])))
+
+    def told(self, value: int) -> str | None:
+        """A value below 2^32 by its constants, or None if it has none."""
+        low, rest = value & self.mask, value & ~self.mask
+        found = [self.of_mask[low]] if low in self.of_mask and (low or self.mask or not rest) else []
+        rest += 0 if found else low
+        for number, name in self.bits.items():
+            if rest & number == number:
+                found.append(name)
+                rest -= number
+        if not found or len(found) > MOST_NAMES:
+            return None
+        return "|".join(sorted(found, key=lambda it: self.ranks[it]) + ([hex(rest)] if rest else []))
+
+
+    def bits_told(self, value: int) -> str | None:
+        """A mask below 2^32 by the constants of its bits, or None if one of them has none."""
+        found, rest = [], value
+        for number, name in self.bits.items():
+            if number and rest & number == number:
+                found.append(name)
+                rest -= number
+        return "|".join(sorted(found, key=lambda it: self.ranks[it])) if found and not rest else None
+
+
+@functools.lru_cache(None)
+def _families() -> tuple[dict[str, Family], dict[str, list[str]]]:
+    """The families by their names, and the family of each argument by the syscall, `-` for none."""
+    families: dict[str, Family] = {}
+    calls: dict[str, list[str]] = {}
+    with open(FAMILIES, encoding="ascii") as file:
+        for line in file:
+            first, *rest = line.split() or "#"
+            if first == "=":
+                for word in rest[1:]:
+                    families.setdefault(rest[0], Family()).add(word)
+            elif first != "#":
+                calls[first] = rest
+    for family in families.values():
+        family.fill()
+    return families, calls
+
+
+def _number_told(value: int, kind: str) -> str:
+    if kind == arguments.ADDRESS:
+        return hex(value) if value else "NULL"
+    if value >= REGISTER - SMALL:
+        return str(value - REGISTER)
+    return str(value) if value < SMALL else hex(value)
+
+
+def _value_told(value: int, kind: str, family: Family | None) -> str:
+    """An argument as C would have it. Of an `int` the sign of 64 bits is that of 32."""
+    known = value
+    if kind == arguments.HALF and value >= REGISTER - WORD // 2:
+        known = value % WORD
+    named = family.told(known) if family is not None and known < WORD else None
+    return _number_told(value, kind) if named is None else named
+
+
+def family_of(name: str, index: int, first: int | None) -> Family | None:
+    """The constants of an argument, given the first one, if that is known."""
+    families, calls = _families()
+    words = calls.get(name, [])
+    if index and first is not None and words and words[0] in families and first < WORD:
+        words = calls.get(f"{name}[{families[words[0]].told(first)}]", words)
+    return families.get(words[index]) if index < len(words) else None
+
+
+def call_told(name: str, values: Sequence[int]) -> str:
+    """A syscall of x86-64 as C would have it: socket(AF_NETLINK, 0, NETLINK_AUDIT). `..` stands for three zeros or more
+    at the end; syscall(SYS_NAME, ..) for a call with more arguments than it is known to have."""
+    families, calls = _families()
+    kinds = arguments.read().get(name, "")
+    words = calls.get(name, [])
+    first = families[words[0]].told(values[0]) if words and words[0] in families and values[0] < WORD else None
+    words = calls.get(f"{name}[{first}]", words)
+    is_whole = name in arguments.read() and not any(values[len(kinds):])
+    shown = []
+    for index, value in enumerate(values[:len(kinds)] if is_whole else values):
+        family = families.get(words[index]) if index < len(words) else None
+        shown.append(_value_told(value, kinds[index] if index < len(kinds) else arguments.WHOLE, family))
+    zeros = next((at for at, value in enumerate(reversed(values[:len(shown)])) if value), len(shown))
+    if zeros > MOST_ZEROS:
+        shown = [*shown[:len(shown) - zeros], ".."]
+    return f"{name}({', '.join(shown)})" if is_whole else f"syscall({', '.join([f'SYS_{name}', *shown])})"

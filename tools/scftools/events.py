@@ -1,0 +1,276 @@
+"""Events: syscalls that a filter denied, delegated or logged, as far as a log, a core or strace tells of them."""
+from __future__ import annotations
+
+import errno
+import itertools
+import re
+from collections.abc import Iterable, Iterator, Sequence
+
+from . import audit_records, strace
+from .answers import ACTIONS, DOES, I386, MAX_ERRNO, X86_64, Answer
+from .audit_records import Malformed
+from .calls import Call
+from .tables import Table
+from .values import dataclass, field, replace
+
+# The most distinct events that are kept of a text, and the most values that unknown bits of arguments may take.
+EVENTS, WAYS = 200, 8
+RECORD, CORE, STRACE = "the record", "the core", "strace's line"
+# What may end a process with a core, and with SIGSYS that strace doesn't show as a signal first (`__seccomp_filter` of
+# kernel/seccomp.c: TRAP sends SIGSYS, and the others end the process themselves).
+KILLS = ("KILL_THREAD", "KILL_PROCESS", "UNNAMED")
+# What may let a syscall fail.
+FAILS = ("ERRNO", "TRACE", "USER_NOTIF")
+# The architectures of strace's modes.
+MODES = {strace.NATIVE: X86_64, "32 bit": I386}
+NUMBERS_OF_ERRNOS = {name: number for number, name in errno.errorcode.items()}
+SIGSYS = re.compile(r"--- SIGSYS \{([^}]{0,1000})\} ---")
+MEMBER = re.compile(r"(si_\w+)=(\w+)")
+KILLED = re.compile(r"\+\+\+ killed by SIGSYS")
+FAILED = re.compile(r" *= -1 (?:(E[A-Z0-9]+) \(|\(errno ([0-9]{1,4})\))")
+
+
+@dataclass(frozen=True)
+class Outcome:
+    """What is known of an answer: the actions that it may have; of one without a name its high half; and its data, or
+    the errno with which the syscall failed."""
+
+    actions: tuple[str, ...]
+    half: int | None = None
+    data: int | None = None
+    is_result: bool = False
+
+    @property
+    def halves(self) -> list[int]:
+        """The high halves that the answer may have, but those of actions without a name that aren't known."""
+        named = [half for half, name in ACTIONS.items() if name in self.actions]
+        return named if self.half is None else [*named, self.half]
+
+    def has(self, answer: Answer) -> bool:
+        """Whether this may be the answer."""
+        if answer.action not in self.actions:
+            return False
+        if answer.action == "UNNAMED":
+            return self.half in (None, answer.data >> 16) and self.data in (None, answer.data & 0xFFFF)
+        if self.is_result:
+            # what a tracer or a supervisor answers isn't known
+            return answer.action != "ERRNO" or min(answer.data, MAX_ERRNO) == self.data
+        return self.data in (None, answer.data)
+
+    def told(self) -> str:
+        """The actions, and what the kernel does with the syscall."""
+        if self.half is not None and self.actions == ("UNNAMED",):
+            return f"UNNAMED {self.half << 16:#010x}: {DOES['UNNAMED']}"
+        if len(self.actions) > 1:
+            return f"{', '.join(self.actions[:-1])} or {self.actions[-1]}"
+        answer = Answer(self.actions[0], self.data or 0)
+        if self.actions == ("ERRNO",) and self.data is None:
+            return "ERRNO: the syscall isn't executed, and returns an errno"
+        return answer.told() if self.data is not None else f"{answer.action}: {answer.does()}"
+
+
+@dataclass(frozen=True)
+class Event:
+    """A syscall, and what is known of the answer to it: what tells of it, the process, and the values that each of the
+    six arguments may have; None if they aren't known, which the call has as 0."""
+
+    source: str
+    call: Call
+    outcome: Outcome
+    arguments: tuple[tuple[int, ...] | None, ...] = (None,) * 6
+    process: int | None = None
+    name: str = ""
+    # seconds since 1970
+    time: float | None = None
+
+    @property
+    def key(self) -> tuple[object, ...]:
+        """What events have in common that are reported together."""
+        return (self.source, self.call.number, self.call.architecture, self.outcome, self.arguments, self.name)
+
+    @property
+    def unknown(self) -> list[int]:
+        """The arguments of which no value is known."""
+        return [index for index, values in enumerate(self.arguments) if values is None]
+
+    def ways(self) -> Iterator[dict[int, int]]:
+        """The values of the known arguments, in each way that they may be; at most WAYS of them."""
+        pairs = [(index, values) for index, values in enumerate(self.arguments) if values is not None]
+        for values in itertools.islice(itertools.product(*(values for _, values in pairs)), WAYS):
+            yield dict(zip((index for index, _ in pairs), values))
+
+    def with_values(self, values: dict[int, int]) -> Call:
+        """The call with these arguments, and 0 as the others."""
+        return replace(self.call, arguments=tuple(values.get(index, 0) for index in range(6)))
+
+    def who(self) -> str:
+        """The process, as far as it is known."""
+        if self.process is None:
+            return self.name or "a process"
+        return f"process {self.process}" + (f" ({self.name})" if self.name else "")
+
+
+@dataclass
+class Found:
+    """What a text has: its events with how often each stands in it, faulty records, and records that the kernel left
+    out."""
+
+    events: dict[tuple[object, ...], list] = field(default_factory=dict)
+    # each with its line, from 1 on
+    faults: list[tuple[int, str]] = field(default_factory=list)
+    suppressed: int = 0
+    # events beyond the most that are kept
+    left: int = 0
+
+    def add(self, event: Event) -> None:
+        kept = self.events.get(event.key)
+        if kept is not None:
+            kept[1] += 1
+        elif len(self.events) < EVENTS:
+            self.events[event.key] = [event, 1]
+        else:
+            self.left += 1
+
+
+def outcome_of(halves: Sequence[int]) -> Outcome:
+    """What a record's code says of the answer."""
+    actions = tuple(ACTIONS.get(half, "UNNAMED") for half in halves)
+    return Outcome(actions, halves[0] if actions == ("UNNAMED",) else None)
+
+
+def of_record(record: audit_records.Record) -> Event:
+    call = Call(record.number, record.architecture, record.pointer)
+    return Event(RECORD, call, outcome_of(record.halves), process=record.process, name=record.name, time=record.time)
+
+
+class _Ends(strace.Log):
+    """A strace log, of which the last syscall of each process is kept, and those that SIGSYS ended."""
+
+    def __init__(self, table: Table):
+        super().__init__(lambda name: (), lambda name: strace.number_of(name, table))
+        self.table = table
+        # the last syscall, and that of each process
+        self.final: _Printed | None = None
+        self.last: dict[str | None, _Printed] = {}
+        self.killed: list[_Printed] = []
+        # each SIGSYS: the process, the signal's members, and the syscall before it
+        self.signals: list[tuple[str | None, str, _Printed | None]] = []
+
+    def _call(self, number: int, who: str | None, text: str, name: re.Match[str], is_cut: bool = False) -> None:
+        if text.startswith(strace.FORKS):
+            self._forked(who, text)
+        self.last.pop(who, None)
+        architecture = MODES.get(self._mode_of(who))
+        nr = None if architecture is None else self.number_of(name[1]) if architecture == X86_64 else \
+            audit_records.named_number(name[1], architecture, self.table)
+        if architecture is None or nr is None:
+            self._count(self.foreign, number)
+            return
+        self.last[who] = self.final = _Printed(who, text[:strace.BEGINNING], name, nr, architecture)
+        if len(self.last) > strace.PENDING:
+            self.last.pop(next(iter(self.last)))
+
+    def _add(self, number: int, who: str | None, text: str) -> None:
+        super()._add(number, who, text)
+        signal = SIGSYS.match(text)
+        if signal and len(self.signals) < EVENTS:
+            self.signals.append((who, signal[1], self.last.pop(who, None)))
+        elif text.startswith("+++ "):
+            ended = self.last.pop(who, None)
+            if ended and KILLED.match(text) and len(self.killed) < EVENTS:
+                self.killed.append(ended)
+
+
+@dataclass(frozen=True)
+class _Printed:
+    """A syscall as strace prints it: its process, the text, the match of its name, its number and architecture."""
+
+    who: str | None
+    text: str
+    name: re.Match[str]
+    number: int
+    architecture: int
+
+    @property
+    def end(self) -> int:
+        """Where its result stands; behind the text if it has none."""
+        end = strace.arguments_in(self.text, self.name.end())[1]
+        return len(self.text) if end is None else end
+
+    def is_its_number(self) -> bool:
+        """Whether it returned its own number, as the kernel shows one that it kills for."""
+        result = strace.RESULT.match(self.text, self.end)
+        return result is not None and result[1] in (str(self.number), hex(self.number))
+
+    def event(self, outcome: Outcome, pointer: int | None = None) -> Event:
+        shown, most = strace.registers_in(self.text, self.name), 1 << (32 if self.architecture == I386 else 64)
+        values = (shown.get(at) for at in range(6))
+        arguments = tuple(None if it is None else tuple(one for one in it if one < most) or None for it in values)
+        return Event(STRACE, Call(self.number, self.architecture, pointer), outcome, arguments,
+                     int(self.who) if self.who else None)
+
+
+def _of_signal(who: str | None, members: str, call: _Printed | None, table: Table) -> Event:
+    """SIGSYS as strace shows it: by TRAP, with the data as si_errno."""
+    found = dict(MEMBER.findall(members))
+    if found.get("si_code") != "SYS_SECCOMP":
+        raise Malformed("SIGSYS isn't a filter's: its si_code isn't SYS_SECCOMP")
+    named, code = found.get("si_syscall", "").removeprefix("__NR_"), found.get("si_errno", "0")
+    architecture = audit_records.architecture_of(found.get("si_arch"))
+    number = int(named, 0) if re.fullmatch("0x[0-9a-f]{1,8}|[0-9]{1,9}", named) else \
+        audit_records.named_number(named, architecture, table)
+    if number is None:
+        raise Malformed(f"si_syscall={named[:64]}: the table has no such name")
+    data = int(code, 0) if re.fullmatch("0x[0-9a-f]{1,4}|[0-9]{1,5}", code) else NUMBERS_OF_ERRNOS.get(code)
+    pointer = re.fullmatch("0x([0-9a-f]{1,16})", found.get("si_call_addr", ""))
+    outcome = Outcome(("TRAP",), data=data)
+    if call is not None and (call.number, call.architecture) == (number, architecture):
+        return call.event(outcome, int(pointer[1], 16) if pointer else None)
+    return Event(STRACE, Call(number, architecture, int(pointer[1], 16) if pointer else None), outcome,
+                 process=int(who) if who else None)
+
+
+def _of_failed(ends: _Ends) -> Event | None:
+    """The last syscall of a log, if it failed: a filter, a supervisor or tracer, or the kernel itself let it fail."""
+    found = FAILED.match(ends.final.text, ends.final.end) if ends.final is not None else None
+    if ends.final is None or found is None:
+        return None
+    code = NUMBERS_OF_ERRNOS.get(found[1]) if found[1] else int(found[2])
+    return None if code is None else ends.final.event(Outcome(FAILS, data=code, is_result=True))
+
+
+def _of_ends(ends: _Ends, found: Found) -> None:
+    """The events of a strace log: each SIGSYS, or else the last syscall."""
+    for who, members, call in ends.signals:
+        try:
+            found.add(_of_signal(who, members, call, ends.table))
+        except Malformed as why:
+            found.faults.append((0, str(why)))
+    numbered = [it for it in ends.killed if it.is_its_number()]
+    if not ends.signals or numbered:
+        # of a process with several threads all are killed, and the syscalls of the others don't end
+        for printed in numbered or ends.killed:
+            found.add(printed.event(Outcome(KILLS if numbered else ("KILL_THREAD",))))
+    failed = None if found.events else _of_failed(ends)
+    if failed is not None:
+        found.add(failed)
+
+
+def read(lines: Iterable[str], table: Table) -> Found:
+    """The events in the lines of a log of any kind."""
+    found, ends = Found(), _Ends(table)
+    for number, line in enumerate(lines, 1):
+        kind, suppressed = audit_records.kind_of(line), audit_records.SUPPRESSED.search(line)
+        # a text that a program writes may look like a record
+        if (kind is None and suppressed is None) or strace.is_own(line):
+            ends.add(number, line)
+        elif suppressed:
+            found.suppressed += int(suppressed[1])
+        elif kind is not None and kind[0] in audit_records.SECCOMP:
+            try:
+                found.add(of_record(audit_records.record_in(line, kind[1], table)))
+            except Malformed as why:
+                found.faults += [(number, str(why))] * (len(found.faults) < EVENTS)
+    ends.end()
+    _of_ends(ends, found)
+    return found

@@ -1,0 +1,225 @@
+"""The control flow of a filter as a graph for graphviz (dot(1)), folded so that long filters are readable.
+
+Tests of one word after another, such as a search for the syscall number, are one node, whose edges have the ranges of
+the word that lead to each target; the instructions before them belong to it. All returns of an answer are one node.
+"""
+from __future__ import annotations
+
+import heapq
+from collections.abc import Iterator, Sequence
+
+from . import answers, output
+from .answers import X32
+from .filters import BY_X, JEQ, JGE, JGT, JUMP, RETURN_CONSTANT
+from .listing import ARCHITECTURE, ARGUMENTS, NUMBER, RETURNS, WORDS, Instruction, Known, held, instructions, name_of
+from .tables import Table
+from .values import dataclass, field
+
+# The greatest value of a word, and the most ranges that an edge names.
+GREATEST, MOST_RANGES = 0xFFFFFFFF, 12
+# Ranges of values, in their order, each with its first and its last one.
+Ranges = list[tuple[int, int]]
+MARK = ", penwidth=3, color=red"
+COLOURS = {answers.ALLOWED: "palegreen", answers.DELEGATED: "khaki", answers.DENIED: "lightpink"}
+
+
+def answer_of(word: int) -> answers.Answer:
+    """The answer that a filter returns as these 32 bits."""
+    action = answers.ACTIONS.get(word >> 16)
+    return answers.Answer("UNNAMED", word) if action is None else answers.Answer(action, word & 0xFFFF)
+
+
+def split(ranges: Ranges, first: int) -> tuple[Ranges, Ranges]:
+    """The values below `first`, and the others."""
+    return ([(low, min(high, first - 1)) for low, high in ranges if low < first],
+            [(max(low, first), high) for low, high in ranges if high >= first])
+
+
+def merged(one: Ranges, other: Ranges) -> Ranges:
+    """The values of both, with neighbours as one range."""
+    found: Ranges = []
+    for low, high in heapq.merge(one, other):
+        if found and low <= found[-1][1] + 1:
+            found[-1] = found[-1][0], max(high, found[-1][1])
+        else:
+            found.append((low, high))
+    return found
+
+
+def _sides(insn: Instruction, ranges: Ranges) -> tuple[Ranges, Ranges]:
+    """The values for which a test holds, and the others."""
+    test = insn.code & 0xF0
+    if test == JEQ:
+        below, rest = split(ranges, insn.k)
+        equal, above = split(rest, insn.k + 1)
+        return equal, merged(below, above)
+    below, rest = split(ranges, insn.k + (test == JGT))
+    return rest, below
+
+
+@dataclass
+class Node:
+    """A node: the indexes of its instructions, the word that it tests, if any, and where the values of that lead."""
+
+    places: list[int]
+    word: int | None = None
+    known: Known = Known()
+    targets: dict[int, Ranges] = field(default_factory=dict)
+
+
+class Graph:
+    """The nodes of a filter that instruction 0 reaches, by their first instructions."""
+
+    def __init__(self, data: bytes) -> None:
+        self.insns = instructions(data)
+        self.known = held(self.insns)
+        self.nodes: dict[int, Node] = {}
+        # the first return of each answer
+        self.returns: dict[int, int] = {}
+        for place, insn in enumerate(self.insns):
+            if insn.code == RETURN_CONSTANT:
+                self.returns.setdefault(insn.k, place)
+        waiting = [self.behind_jumps(0)]
+        while waiting:
+            place = waiting.pop()
+            if place < len(self.insns) and place not in self.nodes:
+                self.nodes[place] = self._node(place)
+                waiting += self.nodes[place].targets
+
+    def behind_jumps(self, place: int) -> int:
+        """The first instruction from there on that isn't an unconditional jump; of equal returns the first."""
+        while place < len(self.insns) and self.insns[place].code == JUMP:
+            place += 1 + self.insns[place].k
+        if place < len(self.insns) and self.insns[place].code == RETURN_CONSTANT:
+            return self.returns[self.insns[place].k]
+        return place
+
+    def _word_tested(self, place: int) -> int | None:
+        """The word that a test compares with a constant, if ranges of it say how it goes on."""
+        insn = self.insns[place]
+        is_of_ranges = insn.is_test and not insn.code & BY_X and insn.code & 0xF0 in (JEQ, JGT, JGE)
+        return self.known[place].word if is_of_ranges else None
+
+    def _node(self, first: int) -> Node:
+        """The instructions from there on up to a test, or to what returns."""
+        places, place = [first], first
+        while not self.insns[place].is_test and self.insns[place].kind != RETURNS:
+            place = self.behind_jumps(place + 1)
+            if place >= len(self.insns) or self.insns[place].kind == RETURNS:
+                return Node(places, targets={place: []})
+            places.append(place)
+        word = self._word_tested(place)
+        if word is not None:
+            return self._switch(places, place, word)
+        return Node(places, targets={self.behind_jumps(it): [] for it in self.insns[place].targets(place)})
+
+    def _switch(self, places: list[int], place: int, word: int) -> Node:
+        """The tests of a word from there on: no jump goes backwards, so each is met after all that lead to it."""
+        node, waiting = Node(places, word, self.known[place]), {place: [(0, GREATEST)]}
+        while waiting:
+            at = min(waiting)
+            ranges = waiting.pop(at)
+            if at < len(self.insns) and self._word_tested(at) == word:
+                if at not in node.places:
+                    node.places.append(at)
+                for target, side in zip(self.insns[at].targets(at), _sides(self.insns[at], ranges)):
+                    target = self.behind_jumps(target)
+                    if side:
+                        waiting[target] = merged(waiting.get(target, []), side)
+            else:
+                node.targets[at] = merged(node.targets.get(at, []), ranges)
+        return node
+
+
+def _value_told(value: int, node: Node, table: Table) -> str:
+    if node.word == NUMBER:
+        return "x32" if value == X32 else name_of(value, node.known.architecture, table)
+    if node.word == ARCHITECTURE:
+        return answers.ARCHITECTURES.get(value, hex(value))
+    return hex(value)
+
+
+def _range_told(low: int, high: int, node: Node, table: Table) -> str:
+    first = _value_told(low, node, table)
+    if low == high:
+        return first
+    return f"from {first} on" if high == GREATEST else f"{first} to {_value_told(high, node, table)}"
+
+
+def _edge_told(ranges: Ranges, is_rest: bool, node: Node, table: Table) -> str:
+    """Which values of a word lead to a target."""
+    if is_rest:
+        return "all others"
+    shown = [_range_told(low, high, node, table) for low, high in ranges[:MOST_RANGES]]
+    more = f"and {len(ranges) - MOST_RANGES} more ranges" if len(ranges) > MOST_RANGES else ""
+    return "\n".join([*shown, *[more] * bool(more)])
+
+
+def _quoted(text: str) -> str:
+    """A text of dot's language, each line of it at the left."""
+    lines = [output.escaped(line).replace("\\", "\\\\").replace('"', '\\"') for line in text.split("\n")]
+    return '"' + "".join(f"{line}\\l" for line in lines) + '"'
+
+
+def _word_name(word: int) -> str:
+    at = word - ARGUMENTS
+    return WORDS.get(word) or f"argument {at // 2}, {'high' if at % 2 else 'low'} half"
+
+
+class Drawing:
+    """The text of a graph; the instructions that run on a syscall are marked."""
+
+    def __init__(self, graph: Graph, lines: Sequence[str], table: Table, path: Sequence[int] = ()) -> None:
+        self.graph, self.table = graph, table
+        # the lines of a listing, each without the spaces that align it
+        self.lines = [" ".join(it.split()) for it in lines]
+        # the nodes on the path, in their order, and the edges between them
+        self.way = list(map(graph.behind_jumps, path[:1]))
+        for place in map(graph.behind_jumps, path[1:]):
+            # (a node may go through a place that is another one's first)
+            if place in graph.nodes[self.way[-1]].targets:
+                self.way.append(place)
+        self.edges = set(zip(self.way, self.way[1:]))
+
+    def name_of(self, place: int) -> str:
+        """The name of a node; of a return the answer's."""
+        insns = self.graph.insns
+        if place >= len(insns):
+            return "end"
+        return f"r{insns[place].k}" if insns[place].code == RETURN_CONSTANT else f"n{place}"
+
+    def _label(self, node: Node) -> str:
+        if node.word is None:
+            return "\n".join(self.lines[it] for it in node.places)
+        before = [self.lines[it] for it in node.places if not self.graph.insns[it].is_test]
+        tests = len(node.places) - len(before)
+        shown = f"{tests} tests, the last is {max(node.places)}" if tests > 1 else f"{node.places[-1]}"
+        return "\n".join([*before, f"{_word_name(node.word)}? ({shown})"])
+
+    def _nodes(self) -> Iterator[str]:
+        for place, node in sorted(self.graph.nodes.items()):
+            name, mark = self.name_of(place), MARK if place in self.way else ""
+            insn = self.graph.insns[place]
+            if insn.code == RETURN_CONSTANT:
+                answer = answer_of(insn.k)
+                yield (f"    {name} [shape=ellipse, style=filled, fillcolor={COLOURS[answer.disposition]}, "
+                       f"label={_quoted(answer.named())}{mark}];")
+            else:
+                yield f"    {name} [label={_quoted(self._label(node))}{mark}];"
+
+    def _edges(self) -> Iterator[str]:
+        for place, node in sorted(self.graph.nodes.items()):
+            sizes = {target: sum(high - low + 1 for low, high in ranges) for target, ranges in node.targets.items()}
+            rest = max(sizes, key=lambda it: sizes[it], default=None) if node.word is not None else None
+            for at, (target, ranges) in enumerate(node.targets.items()):
+                if node.word is not None:
+                    label = _edge_told(ranges, target == rest and len(ranges) > 1, node, self.table)
+                else:
+                    label = ("yes", "no")[at] if len(node.targets) > 1 else ""
+                mark = MARK if (place, target) in self.edges else ""
+                yield f"    {self.name_of(place)} -> {self.name_of(target)} [label={_quoted(label)}{mark}];"
+
+    def text(self) -> str:
+        """The graph in dot's language."""
+        head = ["digraph filter {", "    node [shape=box, fontname=monospace];", "    edge [fontname=monospace];"]
+        return "\n".join([*head, *self._nodes(), *self._edges(), "}"]) + "\n"

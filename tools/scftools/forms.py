@@ -1,0 +1,152 @@
+"""Filters in other forms than their bytes: hexadecimal text, C arrays, decimals of `tcpdump -ddd`, scf's assembler.
+
+The contents decide, not the name of a file. Bytes of which the second is a NUL are a raw filter, whatever else they
+look like: each instruction that the kernel accepts has a code below 256, whose upper byte is a NUL, and no text has
+one. A text is taken for a filter only if it has one of these forms from its first letter to its last; if two forms read
+different instructions, it is refused. What is known to be something else is refused, and named. All else goes to scf as
+it is.
+"""
+from __future__ import annotations
+
+import re
+from collections.abc import Iterable, Iterator, Sequence
+
+from . import c_arrays, client, program
+from .values import dataclass
+
+# The bytes of an instruction.
+SIZE = 8
+MNEMONICS = "ld ldx st stx add sub mul div or and lsh rsh xor neg ja jeq jgt jge jset ret tax txa raw".split()
+# Comments, empty statements and labels before the first mnemonic.
+STATEMENT = r"(?:\s|;|//[^\n]*\n|[A-Za-z_]\w*\s*:)*([A-Za-z]+)\b(?!\s*:)"
+DUMP = r"(?:([0-9a-f]{8}): ((?:[0-9a-f]{2,4} ?)+) .*|([0-9a-f]{8})  ((?:[0-9a-f]{2} +)+)\|.*)"
+HEXADECIMAL, ARRAY, DECIMALS, ASSEMBLER = ("hexadecimal text", "a C array", "decimals of tcpdump -ddd",
+                                           "scf's assembler text")
+# What isn't a filter: how it begins, what it is, and what to do.
+OF_PROFILE = ": a profile stands behind the filters, and `compile` makes its filter"
+OTHERS = (
+    (rb"\x7fELF", "an ELF file (a program, library or object)", ""),
+    (rb"\x1f\x8b", "compressed by gzip", ": unpack it first"),
+    (rb"(?:filter|profile|table) [0-9]{1,8}\n", "a bundle", ": scf itself reads it, on standard input"),
+    (rb"\s*(?:\{\s*[\"}]|\[\s*[\[{\"\]])", "JSON", OF_PROFILE),
+    (rb"\s*line\s+CODE\s+JT\s+JF\s+K\b", "a disassembly of seccomp-tools",
+     ": `seccomp-tools dump -f raw` writes the filter itself"),
+    (rb"#\s*\n# pseudo filter code start", "libseccomp's pseudo code",
+     ": seccomp_export_bpf writes the filter itself"),
+    (rb"[> ] ?\s*0  (?:ld|ldx|ret|raw|jeq|ja) |\s*0  (?:ld|ldx|ret|raw|ja)\b", "a listing of tools/list",
+     ": `scf dis` prints one that is taken"),
+    (rb"\s*(?:---\s*\n)?(?:apiVersion|kind):", "YAML", OF_PROFILE),
+)
+
+
+@dataclass(frozen=True)
+class Form:
+    """A filter in a form: what it is called, and the bytes of its instructions."""
+
+    name: str
+    data: bytes
+
+    @property
+    def count(self) -> int:
+        """The number of its instructions."""
+        return len(self.data) // SIZE
+
+
+def _packed(rows: Iterable[Sequence[int]]) -> bytes:
+    """The bytes of instructions, each a code, jt, jf and k (struct sock_filter in linux/filter.h)."""
+    return b"".join(code.to_bytes(2, "little") + bytes((jt, jf)) + k.to_bytes(4, "little") for code, jt, jf, k in rows)
+
+
+def _of_dump(text: str) -> bytes | None:
+    """The bytes of what `xxd` and `hexdump -C` print, if no line lacks, and the letters beside them are theirs."""
+    data = b""
+    lines = text.rstrip().split("\n")
+    for at, line in enumerate(lines):
+        found = re.fullmatch(DUMP, line)
+        if found is None:
+            # the last line of hexdump is the length
+            is_end = at + 1 == len(lines) and re.fullmatch("[0-9a-f]{8}", line)
+            return data if is_end and int(line, 16) == len(data) else None
+        piece = bytes.fromhex(found[2] or found[4])
+        letters = "".join(chr(it) if 32 <= it < 127 else "." for it in piece)
+        if int(found[1] or found[3], 16) != len(data) or not line.rstrip(" |").endswith(letters.rstrip(" |")):
+            return None
+        data += piece
+    return data
+
+
+def _of_hexadecimal(text: str) -> bytes | None:
+    stripped = text.strip()
+    if re.fullmatch(r'"?(?:\\x[0-9a-fA-F]{2})+"?', stripped):
+        data = bytes.fromhex(stripped.strip('"').replace("\\x", ""))
+    elif re.fullmatch(r"[0-9a-fA-F\s]+", text) and all(len(it) % 2 == 0 for it in text.split()):
+        data = bytes.fromhex(text)
+    else:
+        data = _of_dump(text) or b""
+    return data if data and len(data) % SIZE == 0 else None
+
+
+def _of_decimals(text: str) -> bytes | None:
+    """A count, and so many rows of four numbers; as of `bpf_asm`, commas may end the rows."""
+    rows = [it.split() for it in re.split("[\n,]", text.strip().rstrip(",")) if it.strip()]
+    if not re.fullmatch(r"[0-9\s,]+", text) or [len(it) for it in rows] != [1] + [4] * (len(rows) - 1):
+        return None
+    values = [[int(it) if len(it) < 11 else 1 << 32 for it in row] for row in rows[1:]]
+    fits = all(not (code >> 16 or jt >> 8 or jf >> 8 or k >> 32) for code, jt, jf, k in values)
+    if rows[0][0].lstrip("0") != str(len(values)) or not fits:
+        return None
+    return _packed(values) or None
+
+
+def _of_array(text: str) -> bytes | None:
+    if not c_arrays.looks_so(text):
+        return None
+    found = c_arrays.rows_in(text)
+    return found if isinstance(found, bytes) else _packed(found)
+
+
+def _of_assembler(text: str) -> bytes | None:
+    found = re.match(STATEMENT, text)
+    if found is None or found[1] not in MNEMONICS:
+        return None
+    done = client.run(["asm"], text.encode())
+    if done.status != program.SUCCESS:
+        raise c_arrays.Malformed(done.line)
+    return done.out
+
+
+FORMS = ((HEXADECIMAL, _of_hexadecimal), (DECIMALS, _of_decimals), (ARRAY, _of_array), (ASSEMBLER, _of_assembler))
+
+
+def _forms_of(text: str, told: str) -> Iterator[Form]:
+    for name, read in FORMS:
+        try:
+            data = read(text)
+        except c_arrays.Malformed as why:
+            raise program.ToolError(f"{told} begins as {name}, but isn't one: {why}") from why
+        if data is not None:
+            yield Form(name, data)
+
+
+def is_text(data: bytes) -> bool:
+    """Whether bytes are a text in ASCII, and not only blanks."""
+    return bool(data.strip()) and re.fullmatch(rb"[\t\n\r -~]*", data) is not None
+
+
+def form_of(data: bytes, told: str) -> Form | None:
+    """The form of a filter that isn't raw, or None if the bytes are to be judged as they are. `told` names the input.
+    Raises ToolError if they are known to be something else, or can be read in two ways."""
+    for begins, what, hint in OTHERS:
+        if re.match(begins, data):
+            raise program.ToolError(f"{told} is {what}, not a filter{hint}")
+    try:
+        text = data.decode("ascii")
+    except UnicodeDecodeError:
+        return None
+    if "\0" in text or not text.strip():
+        return None
+    found = list(_forms_of(text, told))
+    if len({it.data for it in found}) > 1:
+        names = " and as ".join(it.name for it in found)
+        raise program.ToolError(f"{told} can be read as {names}: give the raw filter")
+    return found[0] if found else None

@@ -1,0 +1,204 @@
+"""Which member of a profile scf's fault is about, and where it stands.
+
+scf says the kind of a fault and the entry. The tests here go through a profile in the order of scf's; what they find is
+only said if it is the fault that scf found.
+"""
+from __future__ import annotations
+
+import json
+from collections.abc import Iterator
+
+from . import json_places
+from .client import Fault
+from .json_places import Path
+from .profiles import ACTIONS, LONGEST_NUMBER, Made
+from .reasons import HOLDS
+
+TYPE_CHECKING = False
+if TYPE_CHECKING:
+    from typing import Any
+
+    # a kind of fault, the path of the value that is wrong or lacks a member, and what is to be said
+    Found = tuple[str, Path, str]
+
+X86_64, WITH_ERRNO = "SCMP_ARCH_X86_64", ("SCMP_ACT_ERRNO", "SCMP_ACT_TRACE")
+WORD, MOST_ERRNO = 1 << 64, 65535
+# The kinds of faults that are about one member, or two entries.
+KINDS = ("Missing", "Kind", "Action", "Operator", "EmptyNames", "Index", "RepeatedIndex", "Errno", "ErrnoRange", "NoX8664",
+         "EngineForm", "Conflict")
+# At most so many characters of a value are printed.
+LONGEST = 60
+
+
+def _shown(value: object) -> str:
+    if isinstance(value, (list, dict)):
+        return "an array" if isinstance(value, list) else "an object"
+    text = json.dumps(value)
+    return text if len(text) <= LONGEST else f"{text[:LONGEST]}.."
+
+
+def _is_whole(value: object, least: int = 0) -> bool:
+    return type(value) is int and least <= value < WORD
+
+
+def _kind(path: Path, value: object, what: str) -> Found:
+    return "Kind", path, f"is {_shown(value)}, not {what}"
+
+
+def _missing(path: Path, name: str) -> Found:
+    return "Missing", path, f"has no {name}"
+
+
+def _word(holder: dict[str, Any], path: Path, name: str, known: tuple[str, ...], kind: str) -> Iterator[Found]:
+    """An action or an operator."""
+    value = holder.get(name)
+    if value is None:
+        yield _missing(path, name)
+    elif not isinstance(value, str):
+        yield _kind([*path, name], value, "a string")
+    elif value not in known:
+        yield kind, [*path, name], f"is {_shown(value)}, which is none"
+
+
+def _errno(holder: dict[str, Any], path: Path, name: str, action: object) -> Iterator[Found]:
+    value = holder.get(name)
+    if value is None:
+        return
+    if not _is_whole(value, -(WORD >> 1)):
+        yield _kind([*path, name], value, "a whole number")
+    elif action not in WITH_ERRNO:
+        yield "Errno", [*path, name], f"is {_shown(value)}, and {action} takes none"
+    elif not 0 <= value <= MOST_ERRNO:
+        yield "ErrnoRange", [*path, name], f"is {_shown(value)}"
+
+
+def _engine_member(holder: dict[str, Any], path: Path, name: str) -> Iterator[Found]:
+    if holder.get(name) is not None and holder[name] not in ({}, []):
+        yield "EngineForm", [*path, name], f"is {_shown(holder[name])}"
+
+
+def _condition(one: Any, path: Path, seen: set[int]) -> Iterator[Found]:
+    if not isinstance(one, dict):
+        yield _kind(path, one, "an object")
+        return
+    index = one.get("index")
+    if index is None:
+        yield _missing(path, "index")
+    elif not _is_whole(index, -(WORD >> 1)):
+        yield _kind([*path, "index"], index, "a whole number")
+    elif not 0 <= index < 6:
+        yield "Index", [*path, "index"], f"is {_shown(index)}"
+    yield from _word(one, path, "op", tuple(HOLDS), "Operator")
+    for name in ("value", "valueTwo"):
+        if one.get(name) is None and name == "value":
+            yield _missing(path, name)
+        elif one.get(name) is not None and not _is_whole(one[name]):
+            yield _kind([*path, name], one[name], "a whole number from 0 to 2^64-1")
+    if index in seen:
+        yield "RepeatedIndex", [*path, "index"], f"is {_shown(index)}, as in an earlier condition of this entry"
+    seen.add(index)
+
+
+def _entry(entry: Any, path: Path) -> Iterator[Found]:
+    if not isinstance(entry, dict):
+        yield _kind(path, entry, "an object")
+        return
+    for name in ("includes", "excludes"):
+        yield from _engine_member(entry, path, name)
+    names = entry.get("names")
+    if names is None:
+        yield _missing(path, "names")
+    elif not isinstance(names, list):
+        yield _kind([*path, "names"], names, "an array")
+    elif not names:
+        yield "EmptyNames", [*path, "names"], "is empty"
+    for at, one in enumerate(names if isinstance(names, list) else ()):
+        if not isinstance(one, str):
+            yield _kind([*path, "names", at], one, "a string")
+    yield from _word(entry, path, "action", ACTIONS, "Action")
+    yield from _errno(entry, path, "errnoRet", entry.get("action"))
+    args = entry.get("args")
+    if args is not None and not isinstance(args, list):
+        yield _kind([*path, "args"], args, "an array")
+    seen: set[int] = set()
+    for at, one in enumerate(args if isinstance(args, list) else ()):
+        yield from _condition(one, [*path, "args", at], seen)
+
+
+def _profile(top: Any, path: Path) -> Iterator[Found]:
+    """The faults of a seccomp object, in the order in which scf tests it; the first is scf's."""
+    if not isinstance(top, dict):
+        yield _kind(path, top, "an object")
+        return
+    yield from _word(top, path, "defaultAction", ACTIONS, "Action")
+    yield from _errno(top, path, "defaultErrnoRet", top.get("defaultAction"))
+    architectures = top.get("architectures")
+    if architectures is not None and not isinstance(architectures, list):
+        yield _kind([*path, "architectures"], architectures, "an array")
+    elif architectures:
+        for at, one in enumerate(architectures):
+            if not isinstance(one, str):
+                yield _kind([*path, "architectures", at], one, "a string")
+        if X86_64 not in architectures:
+            yield "NoX8664", [*path, "architectures"], f"lacks {X86_64}"
+    yield from _engine_member(top, path, "archMap")
+    entries = top.get("syscalls")
+    if entries is not None and not isinstance(entries, list):
+        yield _kind([*path, "syscalls"], entries, "an array")
+    for at, entry in enumerate(entries if isinstance(entries, list) else ()):
+        yield from _entry(entry, [*path, "syscalls", at])
+
+
+def _root(value: Any) -> tuple[Any, list[str], Found | None]:
+    """The seccomp object of a profile or a whole config.json, its path, or a fault on the way to it."""
+    if not isinstance(value, dict):
+        return value, [], _kind([], value, "an object")
+    if value.get("defaultAction") is not None or value.get("linux") is None:
+        return value, [], None
+    if not isinstance(value["linux"], dict):
+        return value, [], _kind(["linux"], value["linux"], "an object")
+    if value["linux"].get("seccomp") is None:
+        return value, [], _missing(["linux"], "seccomp: the container isn't confined")
+    return value["linux"]["seccomp"], ["linux", "seccomp"], None
+
+
+def _read(data: bytes) -> tuple[str, Any] | None:
+    """A profile's text, and its value; a number that scf doesn't take stays a text."""
+    try:
+        text = data.decode("utf-8")
+        return text, json.loads(text, parse_int=lambda it: int(it) if len(it) <= LONGEST_NUMBER else float("nan"))
+    except (ValueError, RecursionError):
+        return None
+
+
+def _line(data: bytes, text: str, path: Path, what: str) -> str:
+    within = getattr(data, "within", None)
+    told = json_places.path_told([within, *path] if within else path) or "the profile"
+    where = None if isinstance(data, Made) else json_places.place_of(text, path)
+    return f"{told} {what}" + (f", at {where}" if where is not None else "")
+
+
+def _of_conflict(data: bytes, text: str, value: Any, fault: Fault) -> Iterator[str]:
+    _, path, _ = _root(value)
+    places = [json_places.place_of(text, [*path, "syscalls", fault.numbers[name]]) for name in ("first", "second")]
+    if not isinstance(data, Made) and None not in places:
+        yield f"the entries begin at {places[0]} and at {places[1]}"
+
+
+def told(fault: Fault, data: bytes) -> Iterator[str]:
+    """The member that a fault of a profile is about, and where it stands, if that is known."""
+    is_resolved = isinstance(data, Made) and data.within is None
+    is_told = fault.source == "profile" and fault.kind in KINDS and not is_resolved
+    found = _read(data) if is_told else None
+    if found is None:
+        return
+    text, value = found
+    if fault.kind == "Conflict":
+        yield from _of_conflict(data, text, value, fault)
+        return
+    top, path, wrong = _root(value)
+    first = wrong or next(_profile(top, path), None)
+    entry = next((step for step in (first[1] if first else ()) if isinstance(step, int)), None)
+    in_entry = first is not None and len(first[1]) > len(path) and first[1][len(path)] == "syscalls"
+    if first is not None and first[0] == fault.kind and fault.numbers.get("entry") == (entry if in_entry else None):
+        yield _line(data, text, first[1], first[2])

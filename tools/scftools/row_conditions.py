@@ -1,0 +1,167 @@
+"""Conditions of a surface's rows: which arguments of a syscall get which answer, where scf proves it."""
+from __future__ import annotations
+
+import functools
+import json
+import os
+from collections.abc import Iterator, Sequence
+
+from . import bundles, client, constants, program, verdicts
+from .answer_sets import Answers
+from .answers import ERRNOS, Answer
+from .argument_sets import NONE
+from .compare import CALLS, RELATIONS, SCOPES
+from .covers import ALL_LISTED, Alternative
+from .entries import Condition
+from .filters import Filter
+from .profile_of import FilterAnswers, Request, entry_of, members_of
+from .questions import EVERYTHING, NOTHING, checked
+from .surfaces import Row, disposition_of, word_of
+from .tables import Table
+from .values import dataclass
+from .verdicts import NO_LESS, NO_MORE, SAME
+
+NAMES = os.path.join(program.TOP, "tables", "argument.names")
+SIGNS = {"SCMP_CMP_EQ": "==", "SCMP_CMP_NE": "!=", "SCMP_CMP_LE": "<=", "SCMP_CMP_GE": ">="}
+HALF = (1 << 32) - 1
+# For each disposition the answer that stands for all of it.
+ANSWERS = EVERYTHING, Answer("TRACE", 0), NOTHING
+
+
+@functools.lru_cache(None)
+def argument_names() -> dict[str, list[str]]:
+    """The names of tables/argument.names by their syscall; `-` for an argument without a name."""
+    with open(NAMES, encoding="ascii") as file:
+        lines = [line.split() for line in file if line.strip() and not line.startswith("#")]
+    return {name: names for name, *names in lines}
+
+
+def _name_of(syscall: str, index: int) -> str:
+    names = argument_names().get(syscall, [])
+    return names[index] if index < len(names) and names[index] != "-" else f"a{index}"
+
+
+def _number(value: int) -> str:
+    return str(value) if value < 10 else hex(value)
+
+
+def _together(text: str) -> str:
+    return f"({text})" if "|" in text else text
+
+
+def _told_condition(one: Condition, syscall: str, others: Alternative) -> str:
+    """A condition as people write it, among those that hold together."""
+    first = next((it.value for it in others if it.index == 0 and it.op == "SCMP_CMP_EQ"), None)
+    family, name = constants.family_of(syscall, one.index, first), _name_of(syscall, one.index)
+    is_whole = one.op != "SCMP_CMP_MASKED_EQ" or one.value == HALF
+    value = one.value if one.op != "SCMP_CMP_MASKED_EQ" else one.two
+    told = None
+    if family is not None and value <= HALF and (value or is_whole) and one.op not in ("SCMP_CMP_LE", "SCMP_CMP_GE"):
+        told = family.told(value) if is_whole else family.bits_told(value)
+    # a value of which only some bits have names is a number
+    shown = _together(_number(value) if told is None or "|0x" in told else told)
+    if one.op != "SCMP_CMP_MASKED_EQ":
+        return f"{name} {SIGNS[one.op]} {shown}"
+    bits = family.bits_told(one.value) if family is not None and not is_whole and one.value <= HALF else None
+    return f"{name} & {_together(bits or _number(one.value))} == {shown}"
+
+
+def told_answer(answer: Answer) -> str:
+    """A disposition, with what else is to be known of an answer."""
+    word = word_of(disposition_of(answer))
+    if answer.action == "ERRNO":
+        return f"{word} ({ERRNOS.get(answer.data, f'ERRNO {answer.data}')})"
+    return word if answer.action == "ALLOW" else f"{word} ({answer})"
+
+
+@dataclass(frozen=True)
+class Conditions:
+    """The answers to all calls of a syscall: one for each of some alternatives, and one for all other arguments.
+
+    If they aren't whole, each stands for all answers of its disposition: no profile gives the filters' own.
+    """
+
+    names: Sequence[str]
+    parts: Sequence[tuple[Answer, Sequence[Alternative]]]
+    otherwise: Answer
+    is_whole: bool
+
+    def _told(self, answer: Answer) -> str:
+        return told_answer(answer) if self.is_whole else word_of(disposition_of(answer))
+
+    def told(self) -> str:
+        def told(alternative: Alternative) -> str:
+            return " and ".join(_told_condition(it, self.names[0], alternative) for it in alternative)
+
+        parts = [f"{self._told(answer)} where {' or '.join(map(told, those))}" for answer, those in self.parts]
+        return f"{'; '.join(parts)}, else {self._told(self.otherwise)}"
+
+    def _json_of(self, answer: Answer) -> dict[str, object]:
+        whole = {"answer": answer.as_json()} if self.is_whole else {}
+        return {"disposition": disposition_of(answer), **whole}
+
+    def as_json(self) -> dict[str, object]:
+        return {"where": [{**self._json_of(answer), "any_of": [entry_of((), answer, it)["args"] for it in those]}
+                          for answer, those in self.parts], "else": self._json_of(self.otherwise)}
+
+    def entries(self) -> Iterator[dict[str, object]]:
+        """The entries of a profile whose default is the answer to all other arguments."""
+        yield from (entry_of(self.names[:1], answer, it) for answer, those in self.parts for it in those)
+
+
+def _fewest(answers: FilterAnswers, parts: dict[Answer, int]) -> tuple[Answer, dict[Answer, Sequence[Alternative]]]:
+    """The answer to all other arguments, such that the others take few alternatives, and these; none if too many."""
+    best: tuple[Answer, dict[Answer, Sequence[Alternative]]] = NOTHING, {}
+    for otherwise in sorted(parts, key=lambda it: -answers.sets.weight(parts[it])):
+        covers = {answer: answers.covers.of_set(those) for answer, those in parts.items() if answer != otherwise}
+        found = {answer: those for answer, those in covers.items() if those is not None}
+        count, least = (sum(map(len, it.values())) for it in (found, best[1]))
+        if len(found) == len(covers) and (not best[1] or count < least):
+            best = otherwise, found
+        if best[1] and count <= ALL_LISTED:
+            break
+    return best
+
+
+def _of_number(answers: FilterAnswers, names: Sequence[str], found: Answers) -> Conditions | None:
+    """The conditions of a number that has several answers, or dispositions, or None if a profile can't say them."""
+    if answers.untested(found) is not None:
+        return None
+    parts, is_whole = answers.parts(found, True), answers.unsaid(found) is None
+    if not is_whole:
+        dispositions: dict[Answer, int] = {}
+        for answer, those in parts.items():
+            one = next(it for it in ANSWERS if it.disposition == answer.disposition)
+            dispositions[one] = answers.sets.either(dispositions.get(one, NONE), those)
+        parts = dispositions
+    otherwise, others = _fewest(answers, parts)
+    return Conditions(names, list(others.items()), otherwise, is_whole) if others else None
+
+
+def _failed(filters: Sequence[bytes], limit: str | None, those: Sequence[tuple[Row, Conditions]]) -> set[int]:
+    """The numbers for which scf doesn't prove these conditions, which have one answer otherwise."""
+    numbers = {row.number for row, _ in those}
+    table = "".join(f"{it.names[0]} {row.number}\n" for row, it in those).encode()
+    profile = {**members_of(those[0][1].otherwise, "defaultAction", "defaultErrnoRet"),
+               "syscalls": [entry for _, it in those for entry in it.entries()]}
+    given, found = bundles.of_comparison(filters, json.dumps(profile).encode(), table), set()
+    for relation in (SAME,) if those[0][1].is_whole else (NO_MORE, NO_LESS):
+        done = client.compare([*SCOPES[CALLS], *RELATIONS[relation]], given, limit)
+        report = verdicts.report(done.text)
+        found |= numbers if report.fault else {it.number for it in checked(done.status, report, CALLS).calls}
+    return found
+
+
+def add(filters: Sequence[bytes], table: Table, limit: str | None, rows: Sequence[Row]) -> None:
+    """Adds the conditions to the rows that have several answers, where scf proves them."""
+    answers = Request([Filter("", data) for data in filters], table, limit).answers()
+    of_number = {number: found for number, _, found in answers.named()}
+    groups: dict[tuple[Answer, bool], list[tuple[Row, Conditions]]] = {}
+    for row in rows:
+        found = _of_number(answers, row.names, of_number[row.number])
+        if found is not None:
+            groups.setdefault((found.otherwise, found.is_whole), []).append((row, found))
+    for those in groups.values():
+        failed = _failed(filters, limit, those)
+        for row, found in those:
+            row.conditions = None if row.number in failed else found

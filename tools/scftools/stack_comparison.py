@@ -1,0 +1,184 @@
+"""Comparisons of filters with other filters: scf's verdict, and the lines that explain it."""
+from __future__ import annotations
+
+from collections.abc import Iterator, Sequence
+
+from . import bundles, client, compare, explanation, output, paths, refusals, verdicts
+from .compare import ALL, CALLS, NATIVE
+from .filters import Filter, looks_at_pointer
+from .tables import Table
+from .values import dataclass
+from .verdicts import DIFFERS, NO_LESS, NO_MORE, SAME, Report, Verdict
+
+
+@dataclass(frozen=True)
+class StackComparison:
+    """Two stacks of filters, each oldest first, and a table; the step limit as a text, or None for scf's; a relation of
+    the left side's answers to the right side's."""
+
+    left: Sequence[Filter]
+    right: Sequence[Filter]
+    table: Table
+    limit: str | None = None
+    relation: str = SAME
+
+    def run(self, scope: str = ALL, relation: str | None = None,
+            numbers: tuple[int, int] | None = None) -> tuple[int, Report]:
+        """scf's exit status and report, for this relation or the comparison's own, on request only over x86-64 syscalls
+        with numbers from one to another; `Verdict.profile` is the answer of the right side."""
+        left, right = ([one.data for one in side] for side in (self.left, self.right))
+        given = bundles.of_stacks(left, right, self.table.data if scope == CALLS else None)
+        words = ["--beside", *compare.SCOPES[scope], *compare.RELATIONS[relation or self.relation]]
+        words += [] if numbers is None else [f"--nr-from={numbers[0]}", f"--nr-to={numbers[1]}"]
+        done = client.compare(words, given, self.limit)
+        pointer = None if scope == CALLS and any(map(looks_at_pointer, left + right)) else 0
+        return done.status, verdicts.report(done.text, pointer=pointer)
+
+    def of_numbers(self, first: int, last: int) -> Verdict | None:
+        """The verdict on the x86-64 syscalls with numbers from `first` to `last`, both included."""
+        return self.run(ALL, numbers=(first, last))[1].verdict
+
+
+def _dispositions(comparison: StackComparison, scope: str) -> tuple[Verdict | None, Verdict | None]:
+    """The verdicts on whether the left side is nowhere more permissive, and nowhere stricter."""
+    no_more, no_less = (comparison.run(scope, relation)[1].verdict for relation in (NO_MORE, NO_LESS))
+    return no_more, no_less
+
+
+def _of_dispositions(comparison: StackComparison, scope: str) -> Iterator[str]:
+    """A line on which side of two that differ is the more permissive one, if it is so of every syscall."""
+    no_more, no_less = (verdict is not None and verdict.holds for verdict in _dispositions(comparison, scope))
+    they, are = ("they", "are") if len(comparison.left) > 1 else ("it", "is")
+    if no_more and no_less:
+        yield f"{they} {are} neither more permissive nor stricter than the other side: only the answers differ"
+    elif no_more:
+        yield f"{they} {are} stricter, and never more permissive than the other side"
+    elif no_less:
+        yield f"{they} {are} more permissive, and never stricter than the other side"
+
+
+def _answers(side: Sequence[Filter]) -> str:
+    return "filters answer" if len(side) > 1 else "filter answers"
+
+
+def _of_path(filters: Sequence[Filter], words: Sequence[str], verdict: Verdict, table: Table,
+             is_right: bool) -> Iterator[str]:
+    """The last tests on a side's path to its answer."""
+    answer = verdict.profile if is_right else verdict.filters
+    giver = None if answer is None else paths.shown(paths.givers(filters, words, answer))
+    if giver is not None and verdict.call is not None:
+        before, lines = paths.last_tests(giver.filter.data, giver.path, verdict.call, table)
+        yield f"the last tests on the path in {giver.filter.name}" + (f", after {before} others:" if before else ":")
+        yield from lines
+
+
+def _of_difference(comparison: StackComparison, verdict: Verdict) -> Iterator[str]:
+    """The syscall that differs, both answers, and which tests of which filter lead to each."""
+    if verdict.call is None or verdict.filters is None or verdict.profile is None:
+        return
+    words, table = verdict.call.words(), comparison.table
+    yield from explanation.of_call(verdict.call, table)
+    yield f"the {_answers(comparison.left)} {verdict.filters.told()}"
+    yield f"the other {_answers(comparison.right)} {verdict.profile.told()}"
+    yield from _of_path(comparison.left, words, verdict, table, False)
+    yield from _of_path(comparison.right, words, verdict, table, True)
+
+
+def _of_calls(comparison: StackComparison) -> Iterator[str]:
+    """The x86-64 syscalls in the table that differ."""
+    by_name = comparison.run(CALLS)[1]
+    if by_name.verdict is None:
+        return
+    if by_name.verdict.holds:
+        yield "each x86-64 syscall in the table gets the same answer from both sides" if comparison.relation == SAME \
+            else "no x86-64 syscall in the table is among those"
+    else:
+        yield from compare.counted(by_name.calls, "the other side")
+
+
+def faulty(comparison: StackComparison, report: Report) -> list[str]:
+    """The files of the filters that cause a fault."""
+    if report.fault is None:
+        return []
+    if report.fault.source != bundles.BESIDE:
+        return refusals.faulty_filters(comparison.left, report.fault)
+    # what scf says of one of the first stack
+    source = "stack" if report.fault.kind == "TooMany" else "filter"
+    alone = client.Fault.read(report.fault.line.replace(bundles.BESIDE, source, 1))
+    return refusals.faulty_filters(comparison.right, alone) if alone is not None else []
+
+
+def added(comparison: StackComparison, report: Report, scope: str) -> Iterator[str]:
+    """The lines after scf's."""
+    if report.fault is not None:
+        yield from explanation.of_fault(report.fault, comparison.table)
+        yield from (f"the filter is {name}" for name in faulty(comparison, report))
+    if report.verdict is None:
+        return
+    if report.verdict.word == DIFFERS and comparison.relation == SAME:
+        yield from _of_dispositions(comparison, scope)
+    if report.verdict.fails and report.verdict.call is not None:
+        yield from _of_difference(comparison, report.verdict)
+    elif not report.verdict.fails:
+        yield from explanation.of_verdict(report, comparison.table, scope == NATIVE, len(comparison.left))
+    if report.verdict.fails and scope != CALLS:
+        yield from _of_calls(comparison)
+
+
+def _path_json(filters: Sequence[Filter], verdict: Verdict, is_right: bool) -> dict[str, object] | None:
+    answer = verdict.profile if is_right else verdict.filters
+    if verdict.call is None or answer is None:
+        return None
+    giver = paths.shown(paths.givers(filters, verdict.call.words(), answer))
+    return None if giver is None else giver.as_json()
+
+
+def _verdict_json(verdict: Verdict, table: Table) -> dict[str, object]:
+    """A verdict with its example, as members of an object."""
+    found: dict[str, object] = {"verdict": verdict.word}
+    if verdict.call is not None:
+        found["call"] = verdict.call.as_json(table)
+    for side, answer in (("filter", verdict.filters), (bundles.BESIDE, verdict.profile)):
+        if answer is not None:
+            found[side] = answer.as_json()
+    if verdict.at is not None:
+        found["at"] = verdict.at
+    return found
+
+
+def as_json(comparison: StackComparison, report: Report, scope: str, status: int) -> dict[str, object]:
+    """The same as `added`, as one object without scf's lines."""
+    verdict, table = report.verdict, comparison.table
+    found: dict[str, object] = {"status": status, "scope": scope, "relation": comparison.relation, "verdict": None}
+    if report.fault is not None:
+        sentences = list(explanation.of_fault(report.fault, table))
+        found["fault"] = {**report.fault.as_json(), "sentences": sentences, "files": faulty(comparison, report)}
+    if verdict is None:
+        return found
+    found.update(_verdict_json(verdict, table))
+    if verdict.fails and verdict.call is not None:
+        found["path"] = _path_json(comparison.left, verdict, False)
+        found["path_beside"] = _path_json(comparison.right, verdict, True)
+    if verdict.word == DIFFERS and comparison.relation == SAME:
+        of_dispositions = zip(("no_more", "no_less"), _dispositions(comparison, scope))
+        found.update((member, one.word if one is not None else None) for member, one in of_dispositions)
+    if scope == CALLS or verdict.fails:
+        calls = report.calls if scope == CALLS else comparison.run(CALLS)[1].calls
+        found["calls"] = [{"number": one.number, "names": list(one.names), **_verdict_json(one.verdict, table)}
+                          for one in calls]
+    return found
+
+
+def tell(comparison: StackComparison, scope: str, is_json: bool) -> int:
+    """Prints the comparison, as lines or as JSON, and returns its exit status."""
+    status, report = comparison.run(scope)
+    if is_json:
+        output.put_json(as_json(comparison, report, scope, status))
+        return status
+    for line in report.printed:
+        output.put_line(line)
+    # the verdict doesn't wait for what explains it
+    output.flush()
+    for line in added(comparison, report, scope):
+        output.put_line(f"# {line}")
+    return status

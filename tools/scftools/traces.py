@@ -1,0 +1,207 @@
+"""Logs of syscalls by any program that writes them line by line, and profiles that another tool made of such a log.
+
+Beside strace's lines these are read: audit records of seccomp and of syscalls; what `perf trace` prints of each syscall
+and, with -s, their counts; raw_syscalls:sys_enter as `perf script` and the kernel's trace_pipe print it; a map of
+bpftrace by the syscall's number or the probe's name; and sysdig's. An argument is known only where it is printed by its
+register: by strace, in audit records of syscalls and in sys_enter.
+"""
+from __future__ import annotations
+
+import itertools
+import json
+import re
+from collections.abc import Callable, Iterator, Sequence
+
+from . import audit_records, output, program, strace
+from .answers import X86_64
+from .calls import SKIPPED, X32
+from .strace import KEPT, LEFT
+from .tables import Table
+
+NAME, HEXADECIMAL = "[a-z_][a-z0-9_]{0,63}", re.compile("0x[0-9a-f]{1,16}")
+# perf trace: `0.017 ( 0.002 ms): ls/1234 brk() = 0x1`; one that was interrupted ends with `...`, and goes on behind
+# `... [continued]: `.
+PERF = re.compile(rf" *(?:[0-9]+\.[0-9]+|\?) \( *(?:[0-9.]+ ms)? *\): (?:(?:.{{0,64}}?/)?([0-9]{{1,10}}) +)?"
+                  rf"(?:\.\.\. \[continued\]: ({NAME})\(|({NAME})\()")
+COUNTED = re.compile(rf" +({NAME}) +([0-9]{{1,12}}) +[0-9]{{1,12}}(?: +[0-9]+\.[0-9]+){{4}} +[0-9.]+%")
+SYS_ENTER = re.compile(r"\bsys_enter: NR (-?[0-9]{1,10}) \(((?:[0-9a-f]{1,16}, ){5}[0-9a-f]{1,16})\)$")
+MAP = re.compile(r"@[A-Za-z0-9_]{0,64}\[([^\],]{1,128})\]: ([0-9]{1,18})$")
+PROBE = re.compile(rf"(?:tracepoint:syscalls:)?sys_enter_({NAME})")
+# `7 05:35:00.123456789 0 ls (1234) > openat dirfd=..`, and `<` where it returns.
+SYSDIG = re.compile(rf"[0-9]{{1,18}} [0-9:.]{{8,24}} [0-9]{{1,5}} .{{1,256}}? \(-?[0-9]{{1,10}}(?:\.[0-9]{{1,10}})?\) "
+                    rf"([<>]) ({NAME})(?: |$)")
+# The actions of a profile that let a syscall be made.
+ALLOWING = ("SCMP_ACT_ALLOW", "SCMP_ACT_LOG")
+# The name of a syscall that sysdig has no event for.
+GENERIC = re.compile(rf"\bID=[0-9]{{1,6}}\(({NAME})\)")
+# Events of sysdig that are no syscalls (driver/event_table.c), and those of two syscalls or more.
+NO_SYSCALLS = frozenset("switch procexit procinfo signaldeliver page_fault drop container cpu_hotplug k8s mesos tracer "
+                        "notification infra scapevent pluginevent group_deleted group_added user_deleted user_added "
+                        "asyncevent sysdigevent".split())
+SEVERAL = {"accept": "accept4", "dup": "dup2 or dup3", "epoll_create": "epoll_create1", "epoll_wait": "epoll_pwait",
+           "eventfd": "eventfd2", "inotify_init": "inotify_init1", "pipe": "pipe2", "signalfd": "signalfd4"}
+# Names of sysdig's own for one syscall.
+OWN = {"pread": "pread64", "prlimit": "prlimit64", "pwrite": "pwrite64", "umount": "umount2"}
+# What the programs print beside syscalls.
+HEADINGS = re.compile(r"#| Summary of events:$| +syscall +calls +errors| +\(msec\)|[ -]*$|"
+                      r" .{1,64} \([0-9]{1,10}\), [0-9]+ events|Attach(?:ing|ed) [0-9]+ probes?")
+# Syscalls that the kernel's log and perf trace say they lost.
+LOST = re.compile(audit_records.SUPPRESSED.pattern + r"|\ALOST ([0-9]{1,18}) events!")
+
+
+class Trace(strace.Log):
+    """What stands in logs: syscalls by their names and the values of those arguments that are asked for."""
+
+    def __init__(self, looked_at: Callable[[str], tuple[int, ...]], number_of: Callable[[str], int | None],
+                 table: Table):
+        super().__init__(looked_at, number_of)
+        self.table = table
+        # syscalls that a log says it lost
+        self.lost = strace.Seen(0)
+        # what is the matter with the first record that can't be read
+        self.fault = ""
+        # the syscalls of perf trace that were interrupted, by thread and name
+        self._interrupted: dict[tuple[str, str], None] = {}
+
+    def add(self, number: int, line: str) -> None:
+        """Takes a line of a log."""
+        if strace.is_own(line) or not self._is_other(number, line.rstrip("\r")):
+            super().add(number, line)
+
+    def _is_other(self, number: int, line: str) -> bool:
+        """Takes a line that isn't strace's; whether it did."""
+        lost = LOST.search(line)
+        if lost:
+            self._count(self.lost, number, int(lost[1] or lost[2]))
+            return True
+        return (self._is_record(number, line) or "): " in line and self._is_perfs(number, line)
+                or line.startswith("@") and self._is_map(number, line)
+                or "sys_enter: NR " in line and self._is_sys_enter(number, line)
+                or ") " in line and self._is_sysdigs(number, line)
+                or self._is_counted(number, line) or HEADINGS.match(line) is not None)
+
+    def keep(self, number: int, name: str, arguments: dict[int, tuple[int, ...] | None], count: int = 1) -> None:
+        """Counts a syscall by its name, with what is asked for of its arguments."""
+        self._count(self._kept(name, tuple(arguments.get(at) for at in self.looked_at(name))), number, count)
+
+    def _by_number(self, number: int, nr: int, architecture: int, arguments: dict[int, tuple[int, ...] | None],
+                   count: int = 1) -> None:
+        """Counts a syscall by its number."""
+        names = self.table.names_of(nr)
+        if nr == SKIPPED:
+            self._count(self.unread, number, count)
+        elif architecture != X86_64 or nr >= X32:
+            self._count(self.foreign, number, count)
+        else:
+            self.keep(number, names[0] if names else f"syscall_{nr:#x}", arguments, count)
+
+    def _is_record(self, number: int, line: str) -> bool:
+        """An audit record, of whatever type."""
+        kind = audit_records.kind_of(line)
+        if kind is None:
+            return audit_records.OTHER.search(line) is not None
+        try:
+            if kind[0] in audit_records.SYSCALL:
+                found = audit_records.syscall_in(line, kind[1], self.table)
+                values = {at: (int(it, 16),) for at, it in enumerate(found.arguments) if HEXADECIMAL.fullmatch(it)}
+                self._by_number(number, found.number, found.architecture, values)
+            else:
+                record = audit_records.record_in(line, kind[1], self.table)
+                self._by_number(number, record.number, record.architecture, {})
+        except audit_records.Malformed as why:
+            self.fault = self.fault or f"line {number} can't be read: {why}"
+            self._count(self.unread, number)
+        return True
+
+    def _is_perfs(self, number: int, line: str) -> bool:
+        found = PERF.match(line)
+        if not found:
+            return False
+        thread, continued, begun = found.groups()
+        if continued:
+            if (thread, continued) in self._interrupted:
+                del self._interrupted[thread, continued]
+                return True
+        elif line.endswith("..."):
+            self._interrupted[thread, begun] = None
+            if len(self._interrupted) > strace.PENDING:
+                del self._interrupted[next(iter(self._interrupted))]
+        self.keep(number, continued or begun, {})
+        return True
+
+    def _is_counted(self, number: int, line: str) -> bool:
+        found = COUNTED.match(line)
+        if found:
+            self.keep(number, found[1], {}, int(found[2]))
+        return found is not None
+
+    def _is_map(self, number: int, line: str) -> bool:
+        found = MAP.match(line)
+        key = found[1].strip() if found else ""
+        probe = PROBE.fullmatch(key)
+        if found and probe:
+            self.keep(number, probe[1], {}, int(found[2]))
+        elif found and re.fullmatch("[0-9]{1,10}", key) and int(key) <= SKIPPED:
+            self._by_number(number, int(key), X86_64, {}, int(found[2]))
+        else:
+            return False
+        return True
+
+    def _is_sys_enter(self, number: int, line: str) -> bool:
+        found = SYS_ENTER.search(line)
+        if found:
+            values = [int(it, 16) for it in found[2].split(", ")]
+            self._by_number(number, int(found[1]) % (1 << 32), X86_64, {at: (it,) for at, it in enumerate(values)})
+        return found is not None
+
+    def _is_sysdigs(self, number: int, line: str) -> bool:
+        found = SYSDIG.match(line)
+        if not found:
+            return False
+        name, generic = found[2], GENERIC.search(line, found.end())
+        if found[1] == "<" or name in NO_SYSCALLS:
+            return True
+        if name == "syscall" and generic is None:
+            self._count(self.unread, number)
+        elif name == "syscall":
+            self.keep(number, generic[1], {})
+        else:
+            self.keep(number, f"{name} or {SEVERAL[name]}" if name in SEVERAL else OWN.get(name, name), {})
+        return True
+
+    def add_profile(self, text: str) -> None:
+        """Takes a profile that was made of a log: each syscall that it allows, with arguments that aren't known."""
+        try:
+            entries = json.loads(text)["syscalls"]
+            names = [name for entry in entries if entry["action"] in ALLOWING for name in entry["names"]]
+        except (ValueError, LookupError, TypeError, RecursionError) as error:
+            raise program.ToolError(f"the log '{output.escaped(self._name)}' is a profile that can't be read",
+                                    program.IO_ERROR) from error
+        for name in names:
+            if isinstance(name, str):
+                self.keep(1, name, {})
+
+
+def _read(name: str, lines: Iterator[str], found: Trace) -> None:
+    """Takes the lines of a log, or the text of a profile, which is an object."""
+    found.begin(name)
+    numbered = enumerate(lines, 1)
+    first = next(((number, line) for number, line in numbered if line.strip()), (1, ""))
+    if first[1].lstrip()[:1] == "{":
+        found.add_profile("\n".join([first[1], *(line for _, line in numbered)]))
+        return
+    for number, line in itertools.chain([first], numbered):
+        found.add(number, line)
+        if found.left.count > LEFT:
+            raise program.ToolError(f"the log has more than {KEPT + LEFT} syscalls with other names or arguments: log "
+                                    "fewer syscalls by strace -e trace=..")
+    found.end()
+
+
+def read(names: Sequence[str], looked_at: Callable[[str], tuple[int, ...]], number_of: Callable[[str], int | None],
+         table: Table) -> Trace:
+    """The contents of some logs (`-` is standard input), with the requested arguments of each syscall."""
+    found = Trace(looked_at, number_of, table)
+    for name in names:
+        _read(name, strace.lines(name), found)
+    return found

@@ -1,0 +1,67 @@
+"""Value classes: `dataclass`, `field` and `replace` of Python's own module, as far as the tools need them.
+
+Python's module imports `inspect` and compiles methods for each class, which takes a tool longer at its start than all
+else; here the methods of all classes are the same few functions.
+"""
+from __future__ import annotations
+
+TYPE_CHECKING = False
+if TYPE_CHECKING:
+    from collections.abc import Callable
+    from dataclasses import dataclass, field, replace
+    from typing import Any
+
+
+class Default:
+    """What makes a member's value if none is given."""
+
+    def __init__(self, make: Callable[[], Any]):
+        self.make = make
+
+
+def _init(self: Any, *given: object, **named: object) -> None:
+    names, defaults = self.__match_args__, self.__defaults__
+    members = {**dict(zip(names, given)), **named}
+    for name in names:
+        if name not in members and name in defaults:
+            default = defaults[name]
+            members[name] = default.make() if isinstance(default, Default) else default
+    if len(given) > len(names) or len(members) != len(names) or any(name not in members for name in names) or \
+            any(name in named for name in names[:len(given)]):
+        raise TypeError(f"{type(self).__name__} takes {', '.join(names)}")
+    self.__dict__.update(members)
+
+
+def _members(self: Any) -> tuple[object, ...]:
+    return tuple(self.__dict__[name] for name in self.__match_args__)
+
+
+def _eq(self: Any, other: object) -> bool:
+    return _members(self) == _members(other) if type(other) is type(self) else NotImplemented
+
+
+def _repr(self: Any) -> str:
+    return f"{type(self).__name__}({', '.join(f'{name}={self.__dict__[name]!r}' for name in self.__match_args__)})"
+
+
+def _set(self: Any, name: str, value: object) -> None:
+    raise AttributeError(f"{type(self).__name__} is frozen: {name}")
+
+
+if not TYPE_CHECKING:
+    def field(default_factory):
+        return Default(default_factory)
+
+    def dataclass(cls=None, frozen=False):
+        if cls is None:
+            return lambda it: dataclass(it, frozen)
+        cls.__match_args__ = tuple(cls.__annotations__)
+        cls.__defaults__ = {name: cls.__dict__[name] for name in cls.__annotations__ if name in cls.__dict__}
+        cls.__init__, cls.__eq__, cls.__repr__ = _init, _eq, _repr
+        cls.__hash__ = (lambda self: hash(_members(self))) if frozen else None
+        if frozen:
+            cls.__setattr__ = _set
+        return cls
+
+    def replace(value, **changed):
+        return type(value)(**{**dict(zip(value.__match_args__, _members(value))), **changed})

@@ -1,0 +1,271 @@
+"""The command scf: which words the program answers and which a tool, the list of commands, help, examples, and the
+completion of shells."""
+import errno
+import json
+import os
+import pty
+import re
+import shutil
+import subprocess
+import sys
+
+from common import ALLOW, SCF, TABLE, TOP, Case, filter_of, for_developers, jeq, part, profile_of, ret
+from confined import OLDEST, Confined, here
+
+sys.path.append(os.path.join(TOP, "tools"))
+
+from scftools import output  # noqa: E402
+
+PROGRAM = os.path.join(TOP, "crates", "scf", "out", "scf")
+# Commands that no tool has, and a tool under its former name, which is no command.
+OF_PROGRAM, FORMER = {"asm", "dis"}, {"plain-profile"}
+TOOLS = {name for name in os.listdir(os.path.join(TOP, "tools"))
+         if os.path.isfile(os.path.join(TOP, "tools", name))} - FORMER
+GROUPS = ["Look at a filter", "Look at a profile", "Look at a process", "Compare", "Make"]
+
+
+def text_of(*path):
+    with open(os.path.join(TOP, *path), encoding="utf-8") as file:
+        return file.read()
+
+
+LIST = text_of("tables", "commands")
+COMMANDS = re.findall(r"(?m)^  ([a-z-]+) +(\S.*)$", LIST)
+
+
+def examples_of(name):
+    """The examples in a tool's docstring."""
+    return re.findall(r"(?m)^    (scf .*)$", text_of("tools", name).partition("\nExamples:\n")[2].partition('"""')[0])
+
+
+class Dispatch(Case):
+    def setUp(self):
+        super().setUp()
+        self.filter, self.profile = self.file("f.bpf", filter_of([0])), self.file("p.json", profile_of("read"))
+        with open(TABLE, "rb") as file:
+            self.bundle = part("filter", filter_of([0])) + part("profile", profile_of("read")) + part("table", file.read())
+
+    def scf(self, *words, given=b"", **settings):
+        return self.run_words([SCF, *words], given, **settings)
+
+    def test_options_alone_are_the_program_s(self):
+        """It prints what the program does, and needs nothing of the path."""
+        for words, given in ((["check"], filter_of([0])), (["run", "--nr", "1"], filter_of([0])), (["compare"], self.bundle),
+                             (["compare", "--native", "--limit", "9"], self.bundle), (["run", "--nr", "read"], b""),
+                             (["compare", "--help"], b""), (["run", "--no-such", "1"], b""),
+                             (["dis"], filter_of([0])), (["asm"], b"ret a\n"), (["--version"], b""), (["--no-such"], b""),
+                             (["decide", "--nr=1", "--a0", "0x5"], part("filter", filter_of([0]))), (["check", "-h"], b"")):
+            done = [subprocess.run([name, *words], input=given, stdout=subprocess.PIPE, stderr=subprocess.PIPE,
+                                   env={"PATH": "/nowhere"}, cwd=self.folder, check=False) for name in (PROGRAM, SCF)]
+            self.assertEqual(*((it.returncode, it.stdout, it.stderr) for it in done), words)
+
+    def test_files_are_for_a_tool(self):
+        for words in (["check", self.filter], ["compare", self.filter, self.profile], ["run", "--nr", "read", "f.bpf"],
+                      ["decide", "--nr=read", "f.bpf"], ["compare", "--no-more", "f.bpf", "p.json"],
+                      ["compare", "--json", "f.bpf", "p.json"], ["ask", "--table", TABLE, "--nr", "read", "p.json"],
+                      ["check", "no-such-file"], ["compare", "--", "f.bpf", "p.json"], ["lint", "p.json"],
+                      ["list", "f.bpf"], ["compare", "--limit", "100", "f.bpf", "p.json"]):
+            status, out, err = self.run_words([os.path.join(TOP, "tools", words[0]), *words[1:]])
+            self.assertEqual(self.scf(*words), (status, out, err.replace(f"{words[0]}: ", f"scf {words[0]}: ")), words)
+        self.assertEqual(self.scf("check", "-", given=filter_of([0])), (0, "accepted 9\n", ""))
+
+    def test_a_word_behind_an_unknown_option_is_a_file_if_there_is_one(self):
+        self.assertIn("unexpected argument '--no-such'", self.scf("compare", "--no-such", "none")[1])
+        self.assertIn("unrecognized arguments: --no-such", self.scf("compare", "--no-such", "f.bpf", "p.json")[2])
+        self.file("1", b"")
+        self.assertEqual(self.scf("run", "--nr", "1", given=filter_of([0]))[1], "ERRNO 1 steps 6\n")
+
+    def test_a_listing_of_a_file(self):
+        self.assertEqual(self.scf("dis", "f.bpf"), self.scf("dis", given=filter_of([0])))
+        status, out, err = self.scf("dis", "none")
+        self.assertEqual((status, out, err), (2, "", "scf dis: there is no file of that name that can be read\n"))
+
+    def test_at_a_terminal_there_is_no_bundle(self):
+        ours, theirs = pty.openpty()
+        try:
+            status, out, err = self.scf("compare", given=theirs)
+            self.assertEqual((status, out), (2, ""))
+            self.assertIn("scf compare: the following arguments are required: FILTER, PROFILE\n", err)
+            self.assertIn("usage: scf compare ", self.scf("compare", "--help", given=theirs)[1])
+        finally:
+            os.close(ours)
+            os.close(theirs)
+
+    def test_without_python(self):
+        """The program's words need none, and a tool says what it lacks."""
+        tools = os.path.join(self.folder, "bin")
+        os.makedirs(tools)
+        for name in ("cat", "sed", "readlink"):
+            os.symlink(shutil.which(name), os.path.join(tools, name))
+        env = {"PATH": tools}
+        self.assertEqual(self.scf("check", given=ret(0), env=env), (0, "accepted 1\n", ""))
+        self.assertEqual(self.scf("lint", "p.json", env=env), (125, "", "scf: lint needs python3\n"))
+        self.assertEqual(self.scf("help", env=env), (0, LIST, ""))
+        self.assertEqual(self.scf("lnt", env=env), (2, "", "scf: 'lnt' isn't a command: see scf help\n"))
+
+    def test_through_links_and_from_any_folder(self):
+        os.symlink(SCF, os.path.join(self.folder, "link"))
+        os.symlink("link", os.path.join(self.folder, "other"))
+        env = {**os.environ, "PATH": f"{self.folder}:{os.environ['PATH']}"}
+        for word in ("./other", "link", "other"):
+            self.assertEqual(self.run_words([word, "check", "f.bpf"], env=env), (0, "accepted 9\n", ""))
+        self.assertEqual(self.run_words(["sh", "scf", "check", self.filter], cwd=TOP), (0, "accepted 9\n", ""))
+
+
+class Help(Case):
+    def scf(self, *words):
+        return self.run_words([SCF, *words])
+
+    def test_the_list(self):
+        self.assertEqual(self.scf(), (2, LIST, ""))
+        self.assertEqual(self.scf("version"), self.scf("--version"))
+        for words in (["help"], ["--help"], ["-h"], ["help", "help"]):
+            self.assertEqual(self.scf(*words), (0, LIST, ""))
+        with open("/dev/full", "wb") as full:
+            self.assertEqual(self.run_words([SCF, "help"], stdout=full)[0], 3)
+
+    def test_each_tool_stands_in_the_list_once_in_its_group(self):
+        names = [name for name, _ in COMMANDS]
+        self.assertEqual(sorted(names), sorted(TOOLS | OF_PROGRAM))
+        self.assertEqual(re.findall(r"(?m)^([A-Z][a-z ]+)$", LIST), GROUPS)
+        self.assertLessEqual(max(map(len, LIST.split("\n"))), 100)
+
+    def test_each_command_has_help_that_names_it(self):
+        for name, _ in COMMANDS:
+            with self.subTest(name):
+                status, out, err = self.scf("help", name)
+                self.assertEqual((status, err), (0, ""))
+                self.assertRegex(out, rf"(?m)^[uU]sage: scf {name}\b")
+                if name in TOOLS and name not in ("check", "run", "decide", "compare", "compile", "ask"):
+                    self.assertEqual(self.scf(name, "--help")[1], out)
+
+    def test_a_wrong_word_names_the_nearest(self):
+        for word, near in (("comapre", "compare"), ("compare-profile", "compare-profiles"), ("verify", "verify-process"),
+                           ("List", "list"), ("filters_of", "filters-of"), ("surfaces", "surface")):
+            for words in ([word], ["help", word], [word, "x"]):
+                self.assertEqual(self.scf(*words),
+                                 (2, "", f"scf: '{word}' isn't a command; the nearest is '{near}': see scf help\n"))
+        self.assertEqual(self.scf("\x1b[2J"), (2, "", "scf: that word isn't a command: see scf help\n"))
+        for word in ("qqq", "scftools", "tests", "../scf", "plain_profile"):
+            self.assertEqual(self.scf(word)[:2], (2, ""))
+
+
+class Examples(Confined):
+    """Each tool's examples, in a folder that has what they name."""
+
+    def setUp(self):
+        super().setUp()
+        for name, names in (("profile", ["read", "openat"]), ("old", ["read", "openat"]), ("new", ["read"]),
+                            ("engine", ["read"])):
+            self.file(f"{name}.json", profile_of(*names))
+        for name, allowed in (("filter", [0, 257]), ("old", [0, 257]), ("new", [0])):
+            self.file(f"{name}.bpf", filter_of(allowed))
+        self.file("log", "read(0, \"\", 9) = 0\n")
+        self.file("unistd_64.h", "#define __NR_read 0\n")
+        shutil.copy2(TABLE, self.folder)
+        os.symlink(SCF, os.path.join(self.folder, "scf"))
+
+    def run_examples(self, name, **more):
+        found = examples_of(name)
+        self.assertEqual(len(found), 2, name)
+        for line in found:
+            with self.subTest(line):
+                env = {**os.environ, "PATH": f"{self.folder}:{os.environ['PATH']}", **more}
+                status, out, err = self.run_words(["sh", "-c", line], env=env)
+                self.assertIn(status, (0, 1, 4), out + err)
+                self.assertNotRegex(out, r"(?m)^fault ")
+
+    def test_those_of_files(self):
+        for name in sorted(TOOLS - {"audit", "filters-of", "verify-process", "unit-profile"}):
+            self.run_examples(name)
+
+    @here
+    def test_those_of_a_process(self):
+        for name in ("audit", "filters-of", "verify-process"):
+            self.run_examples(name, PID=str(self.child([OLDEST]).pid))
+
+    def test_those_of_systemd(self):
+        if not shutil.which("systemd-analyze"):
+            self.skipTest("there is no systemd-analyze here")
+        self.run_examples("unit-profile")
+
+
+class Completion(Case):
+    def setUp(self):
+        super().setUp()
+        self.paths = [os.path.join(self.folder, f"scf.{it}") for it in ("bash", "zsh", "fish")]
+        self.assertEqual(self.run_words([for_developers("completion"), *self.paths]), (0, "", ""))
+
+    def completed(self, *words):
+        """What bash proposes for the last of some words."""
+        script = 'source "$1"; shift; COMP_WORDS=("$@"); COMP_CWORD=$(($# - 1)); _scf; printf "%s\\n" "${COMPREPLY[@]}"'
+        return set(self.run_words(["bash", "-c", script, "bash", self.paths[0], *words])[1].split())
+
+    def test_bash(self):
+        self.assertEqual(self.completed("scf", ""), {name for name, _ in COMMANDS} | {"help"})
+        self.assertEqual(self.completed("scf", "help", "compa"), {"compare", "compare-profiles"})
+        self.assertEqual(self.completed("scf", "compare", "--no"), {"--no-more", "--no-less"})
+        for words in (["--nr", "renameat"], ["--nr", "=", "renameat"]):
+            self.assertEqual(self.completed("scf", "decide", *words), {"renameat", "renameat2"})
+        self.assertEqual(self.completed("scf", "ask", "--arch", "i38"), {"i386"})
+        self.assertEqual(self.completed("scf", "lint", "--except", "x3"), {"x32"})
+        self.assertIn(str(os.getpid()), self.completed("scf", "filters-of", "--thread", str(os.getpid())))
+        errnos = {it for it in errno.errorcode.values() if it.startswith("EP")}
+        self.assertEqual(self.completed("scf", "unit-profile", "--errno", "EP"), errnos)
+        self.file("a file.bpf", b"")
+        self.assertEqual(self.completed("scf", "compare", "--table", "a"), {"a", "file.bpf"})
+
+    def test_every_option_of_a_tool(self):
+        for name in sorted(TOOLS - {"bundle"}):
+            out = self.run_words([SCF, "help", name])[1]
+            options = set(re.findall(r"(?m)^  (?:-h, )?(--[a-z0-9-]+)", out))
+            self.assertEqual(self.completed("scf", name, "--"), options, name)
+
+    def test_other_shells_read_theirs(self):
+        for shell, path in zip(("bash", "zsh", "fish"), self.paths):
+            if shutil.which(shell):
+                self.assertEqual(self.run_words([shell, "-n", path]), (0, "", ""))
+        if shutil.which("fish"):
+            out = self.run_words(["fish", "-c", f"source {self.paths[2]}; complete -C 'scf compare --no-'"])[1]
+            self.assertEqual(re.findall(r"(?m)^--no-\w+", out), ["--no-less", "--no-more"])
+
+
+class Json(Case):
+    """docs/JSON.md."""
+
+    def test_every_object_has_its_version_and_status(self):
+        self.file("p.json", profile_of("read", "raed", "waitpid"))
+        self.file("f.bpf", filter_of([0, 257]))
+        self.file("bad.bpf", jeq(0, 0, 9) + ret(ALLOW))
+        self.file("log", "read(0, \"\", 9) = 0\nopenat(AT_FDCWD, \"x\", 0) = 3\n")
+        self.assertIn(f"`schema` is the version of this page, now {output.SCHEMA}:", text_of("docs", "JSON.md"))
+        for words in (["compare", "f.bpf", "p.json"], ["compare", "f.bpf", "log"], ["decide", "--nr", "openat", "f.bpf"],
+                      ["ask", "--nr", "read", "p.json"], ["surface", "bad.bpf"], ["lint", "p.json"], ["needs", "log", "p.json"],
+                      ["compare-profiles", "p.json", "p.json"], ["compare-profiles", "log", "p.json"]):
+            with self.subTest(words):
+                status, out, err = self.run_words([SCF, words[0], "--json", *words[1:]])
+                found = json.loads(out)
+                self.assertEqual((found["schema"], found["status"], err), (output.SCHEMA, status, ""))
+
+
+class Color(Case):
+    def test_where_it_is(self):
+        self.file("f.bpf", filter_of([0]))
+        self.file("p.json", profile_of("read"))
+        self.file("q.json", profile_of())
+        green = "\x1b[1;32msame\x1b[0m\n"
+        words = [SCF, "compare", "f.bpf", "p.json"]
+        self.assertEqual(self.run_words(words)[1], "same\n")
+        self.assertEqual(self.run_words([*words, "--color=always"])[1], green)
+        self.assertEqual(self.run_words([*words, "--color", "always"])[1], green)
+        self.assertEqual(self.run_words([*words, "--color=blue"])[0], 2)
+        out = self.run_words([SCF, "compare", "--color=always", "f.bpf", "q.json"])[1].split("\n")
+        self.assertEqual(out[0], "\x1b[1;31mdiffers\x1b[0m")
+        self.assertTrue(all(re.fullmatch(r"\x1b\[2m# .*\x1b\[0m", line) for line in out[4:-1]), out)
+        for more, is_green in (({}, True), ({"NO_COLOR": "1"}, False)):
+            ours, theirs = pty.openpty()
+            env = {name: it for name, it in os.environ.items() if name != "NO_COLOR"}
+            self.run_words(words, stdout=theirs, env={**env, **more})
+            os.close(theirs)
+            self.assertEqual(os.read(ours, 99).decode().replace("\r", ""), green if is_green else "same\n")
+            os.close(ours)

@@ -1,0 +1,244 @@
+"""Filters in other forms than their bytes, and files that are none: what each tool takes them for."""
+import os
+import shutil
+import struct
+import subprocess
+import sys
+import unittest
+
+from common import ALLOW, EPERM, SCF, TOP, Case, filter_of, insn, jeq, load, part, profile_of, ret
+
+sys.path.append(os.path.join(TOP, "tools"))
+
+from scftools import c_arrays, forms, program  # noqa: E402
+
+FILTER = filter_of([0, 1, 231])
+ROWS = list(struct.iter_unpack("<HBBI", FILTER))
+ARRAY = "".join(f"{{ {code:#x}, {jt}, {jf}, {k:#010x} }},\n" for code, jt, jf, k in ROWS)
+DECIMALS = f"{len(ROWS)}\n" + "".join(f"{code} {jt} {jf} {k}\n" for code, jt, jf, k in ROWS)
+# What C programs write: the header's macros and constants.
+MACROS = """
+    /* the architecture */
+    BPF_STMT(BPF_LD | BPF_W | BPF_ABS, offsetof(struct seccomp_data, arch)),
+    BPF_JUMP(BPF_JMP + BPF_JEQ + BPF_K, AUDIT_ARCH_X86_64, 1, 0), // x86-64
+    BPF_STMT(BPF_RET | BPF_K, SECCOMP_RET_KILL_PROCESS),
+    BPF_STMT(BPF_LD+BPF_W+BPF_ABS, (offsetof(struct seccomp_data, nr))),
+    BPF_JUMP(BPF_JMP | BPF_JGE | BPF_K, __X32_SYSCALL_BIT, 0, 1),
+    { BPF_RET | BPF_K, 0, 0, (SECCOMP_RET_ERRNO | (ENOSYS & SECCOMP_RET_DATA)) },
+    BPF_JUMP(BPF_JMP | BPF_JEQ | BPF_K, __NR_personality, 0, 3),
+    BPF_STMT(BPF_LD | BPF_W | BPF_ABS, offsetof(struct seccomp_data, args[0]) + 4),
+    BPF_JUMP(BPF_JMP | BPF_JSET | BPF_K, ~(1u << 31), 0, 1),
+    BPF_STMT(BPF_RET | BPF_K, SECCOMP_RET_ERRNO | EPERM),
+    BPF_STMT(BPF_ALU | BPF_AND | BPF_K, -1),
+    BPF_STMT(BPF_MISC | BPF_TAX, 0),
+    { 6, 00, 0x0, 0x7fff0000UL },
+"""
+DECLARED = "static const struct sock_filter filter[] = {%s};\n" % MACROS
+INCLUDES = """#include <errno.h>
+#include <stddef.h>
+#include <linux/audit.h>
+#include <linux/filter.h>
+#include <linux/seccomp.h>
+#include <sys/syscall.h>
+#ifndef __X32_SYSCALL_BIT
+#define __X32_SYSCALL_BIT 0x40000000
+#endif
+#include <unistd.h>
+"""
+
+
+def dumped(*words):
+    return subprocess.run(words, input=FILTER, stdout=subprocess.PIPE, check=True).stdout.decode()
+
+
+class Texts(Case):
+    """Each form gives the bytes that it was made of."""
+
+    def is_read(self, text, name, data=FILTER):
+        form = forms.form_of(text.encode(), "it")
+        self.assertIsNotNone(form, text[:60])
+        self.assertEqual((form.name, form.data), (name, data), text[:60])
+
+    def test_hexadecimal(self):
+        for text in (FILTER.hex(), FILTER.hex(" ").upper() + "\n", FILTER.hex("\n", 8),
+                     '"' + "".join(f"\\x{it:02X}" for it in FILTER) + '"\n'):
+            self.is_read(text, forms.HEXADECIMAL)
+        for words in (("xxd", "-p"), ("xxd",), ("hexdump", "-vC"), ("od", "-An", "-v", "-tx1")):
+            if shutil.which(words[0]):
+                self.is_read(dumped(*words), forms.HEXADECIMAL)
+
+    def test_lines_that_a_dump_leaves_out(self):
+        """hexdump prints `*` for lines that are repeated: that isn't the whole filter."""
+        lines = [f"{at:08x}  {bytes(16).hex(' ')}  |................|" for at in (0, 16, 48)]
+        self.assertIsNotNone(forms.form_of("\n".join(lines[:2]).encode(), "it"))
+        for text in (lines[:1] + ["*"] + lines[2:], lines, lines[1:2], lines[:2] + ["00000030"]):
+            self.assertIsNone(forms.form_of("\n".join(text).encode(), "it"))
+        self.assertIsNotNone(forms.form_of("\n".join(lines[:2] + ["00000020"]).encode(), "it"))
+
+    @unittest.skipUnless(shutil.which("xxd"), "there is no xxd here")
+    def test_words_of_the_other_order(self):
+        """`xxd -e` prints words of 32 bits, which aren't the bytes in their order, though they look like them."""
+        self.is_read(dumped("xxd", "-g", "4"), forms.HEXADECIMAL)
+        self.assertIsNone(forms.form_of(dumped("xxd", "-e").encode(), "it"))
+
+    def test_decimals(self):
+        self.is_read(DECIMALS, forms.DECIMALS)
+        self.is_read(DECIMALS.replace("\n", ",") + "\n", forms.DECIMALS)
+        for text in (DECIMALS.replace("\n", "\n1 ", 1), "2\n6 0 0 1\n", "1\n6 0 256 0\n", "1\n6 0 0 4294967296\n",
+                     "1\n6 0 0 " + "9" * 5000, "0\n"):
+            self.assertIsNone(forms.form_of(text.encode(), "it"), text[:30])
+
+    def test_arrays(self):
+        self.is_read(ARRAY, forms.ARRAY)
+        self.is_read("{" + ARRAY + "}", forms.ARRAY)
+        self.is_read(f"struct sock_filter x[{len(ROWS)}] = {{\n{ARRAY}}};\n", forms.ARRAY)
+        self.is_read("#include <linux/filter.h>\nstatic struct sock_filter f[] = {" + ARRAY + "};", forms.ARRAY)
+        self.is_read("{ 0x06, 0, 0, 0x7fff0000 }", forms.ARRAY, ret(ALLOW))
+        self.is_read(", ".join(f"0x{it:02x}" for it in FILTER), forms.ARRAY)
+        self.is_read("unsigned char f_bpf[] = {\n" + ",".join(f"0x{it:02x}" for it in FILTER)
+                     + "\n};\nunsigned int f_bpf_len = 96;\n", forms.ARRAY)
+        if shutil.which("xxd"):
+            self.is_read(dumped("xxd", "-i"), forms.ARRAY)
+
+    @unittest.skipUnless(shutil.which("cc"), "there is no C compiler here")
+    def test_arrays_are_what_a_compiler_makes_of_them(self):
+        source = self.file("f.c", INCLUDES + DECLARED
+                           + "int main(void) { return write(1, filter, sizeof filter) < 0; }\n")
+        program_of_it = os.path.join(self.folder, "f")
+        status, _, err = self.run_words(["cc", "-w", "-o", program_of_it, source])
+        self.assertEqual(status, 0, err)
+        made = subprocess.run([program_of_it], stdout=subprocess.PIPE, check=True).stdout
+        self.assertEqual(len(made), 13 * 8)
+        for text in (DECLARED, MACROS, "{" + MACROS + "}"):
+            self.is_read(text, forms.ARRAY, made)
+        expanded = subprocess.run(["cc", "-E", "-P", source], stdout=subprocess.PIPE, check=True).stdout.decode()
+        rest = expanded.split("sock_filter filter")[-1].split("int main")[0]
+        self.is_read(f"static const struct sock_filter filter{rest}", forms.ARRAY, made)
+
+    def test_arrays_that_only_a_compiler_reads(self):
+        for text, says in (("BPF_STMT(BPF_RET, MY_ANSWER)", "'MY_ANSWER' is no constant"),
+                           ("struct sock_filter f[] = { ALLOW(read), };", "'ALLOW(read)' isn't an instruction"),
+                           ("{ 6, 0, 0 }, { 6, 0, 0, 0 }", "isn't an instruction"), ("{ 6, 0, 300, 0 },", "jf 0x12c"),
+                           ("{ 6, 0, 0, 1 << 99 },", "a shift of 1 by 99"),
+                           ("{ 6, 0, 0, (1 },", "isn't an instruction"),
+                           ("{ 6, 0, 0, ~0u >> 4 },", "a shift of -1 by 4"),
+                           ("{ 6, 0, 0, 1 } x", "isn't an instruction"), ("{ 6, 0, 0, 0x1ffffffff },", "too large"),
+                           ("struct sock_filter f[] = { { 6, 0, 0, 0 } }; int x;", "behind the array stands"),
+                           ("{ 6, 0, 0, __NR_raed },", "'__NR_raed' is no constant"), ("0x06, 0x00,", "multiple of 8"),
+                           ("{ " + "(" * 999 + "6" + ")" * 999 + ", 0, 0, 0 },", "nested too deep")):
+            with self.assertRaises(program.ToolError, msg=text[:40]) as caught:
+                forms.form_of(text.encode(), "it")
+            self.assertIn(says, str(caught.exception))
+
+    def test_assembler(self):
+        listing = subprocess.run([SCF, "dis"], input=FILTER, stdout=subprocess.PIPE, check=True).stdout.decode()
+        self.is_read(listing, forms.ASSEMBLER)
+        self.is_read("// a comment\n start: ret #0x7fff0000", forms.ASSEMBLER, ret(ALLOW))
+        with self.assertRaises(program.ToolError) as caught:
+            forms.form_of(b"ld [4]\nret #x\n", "it")
+        self.assertIn("it begins as scf's assembler text, but isn't one: fault text Operand line 2",
+                      str(caught.exception))
+
+    def test_two_readings_are_refused(self):
+        """This is hexadecimal digits in pairs, and a count with rows of decimals."""
+        both = b"0000000000000004\n" + b"20 10 10 10\n" * 4
+        self.assertEqual(len(bytes.fromhex(both.decode())), 24)
+        with self.assertRaises(program.ToolError) as caught:
+            forms.form_of(both, "it")
+        self.assertIn("can be read as hexadecimal text and as decimals of tcpdump -ddd", str(caught.exception))
+
+
+class Raw(Case):
+    """A raw filter stays one, whatever its bytes."""
+
+    def test_text_in_constants(self):
+        """Filters whose constants and jumps are letters, and which have no other letters than texts may have."""
+        for data in (load(0x20202020), insn(0x20, 0x7D7B2220, 0x22, 0x7B), insn(0x06, 0x464C457F), ret(0x30303030) * 9,
+                     insn(0x00, 0x0A0A3130, 0x31, 0x30), insn(0x20, 0x0A0A0A0A, 0x0A, 0x0A)):
+            self.assertIsNone(forms.form_of(data, "it"))
+            path = self.file("f.bpf", data)
+            expected = subprocess.run([SCF, "dis"], input=data, stdout=subprocess.PIPE, check=True).stdout.decode()
+            status, out, err = self.run_tool("list", path)
+            self.assertEqual((status, err), (0, ""))
+            self.assertIn(expected.split("\n")[0], out)
+
+    def test_every_code_that_the_kernel_takes_is_below_256(self):
+        """What the rule stands on: seccomp_check_filter of kernel/seccomp.c, by scf."""
+        for code in (0x100, 0x106, 0x120, 0x2020, 0x457F, 0x7B20, 0x8006, 0xFF20):
+            out = self.run_words([SCF, "check"], insn(code, 0) + ret(0))[1]
+            self.assertEqual(out, "fault filter Code at 0\n")
+
+    def test_other_bytes_go_to_scf(self):
+        for data, line in ((b"", "fault filter Empty"), (b"AAAAAAAA", "fault filter Code at 0"),
+                           (b"A" * 32769, "fault filter TooLong"), (b"hello\n", "fault filter Truncated offset 0"),
+                           (bytes(32769), "fault filter TooLong"), (b"\n" * 8, "fault filter Code at 0"),
+                           (b"\xff\xfe" * 8, "fault filter Code at 0"), (b"6\0", "fault filter Truncated offset 0")):
+            _, out, err = self.run_tool("check", self.file("f.bpf", data))
+            self.assertEqual(out.split("\n")[0], line, data[:9])
+            self.assertEqual("is text, in none of the forms" in err, data[:1] in (b"A", b"h"), data[:9])
+
+
+class Tools(Case):
+    """Each tool that takes filters takes the forms, and names what is none."""
+
+    def setUp(self):
+        super().setUp()
+        self.raw = self.file("f.bpf", FILTER)
+        self.profile = self.file("p.json", profile_of("read", "write", "exit_group"))
+
+    def test_each_tool(self):
+        texts = {"hex": FILTER.hex("\n", 8), "array": ARRAY, "decimals": DECIMALS}
+        for words in (("check",), ("decide", "--nr=read"), ("run", "--nr=read"), ("list",), ("surface", "--limit=9")):
+            expected = self.run_tool(*words, self.raw)
+            for name, text in texts.items():
+                path = self.file(name, text)
+                status, out, err = self.run_tool(*words, path)
+                self.assertEqual((status, out), expected[:2], (words, name))
+                self.assertRegex(err, rf"^{words[0]}: '{path}' is read as [\w' -]+, instructions: 11\n$")
+        status, out, err = self.run_tool("compare", "-", self.profile, given=ARRAY.encode())
+        self.assertEqual((status, out), (0, "same\n"))
+        self.assertEqual(err, "compare: standard input is read as a C array, instructions: 11\n")
+
+    def test_what_is_no_filter(self):
+        bundle = part("filter", FILTER)
+        elf = b"\x7fELF\2\1\1\0" + bytes(56)
+        for data, says in ((elf, "is an ELF file (a program, library or object), not a filter"),
+                           (profile_of("read"), "is JSON, not a filter: a profile stands behind the filters, and "
+                                                "`compile` makes its filter"),
+                           (b"[]", "is JSON"), (b"[{\"Id\": 1}]", "is JSON"),
+                           (b"\x1f\x8b\x08\0\0\0\0\0", "compressed by gzip"),
+                           (bundle, "is a bundle"), (b"apiVersion: v1\nkind: Pod\n", "is YAML"),
+                           (b" line  CODE  JT   JF      K\n=====\n 0000: 0x20 0x00 0x00 0x00000004  A = arch\n",
+                            "is a disassembly of seccomp-tools, not a filter: `seccomp-tools dump -f raw` writes"),
+                           (b"#\n# pseudo filter code start\n#\n", "libseccomp's pseudo code"),
+                           (b"0  ld [4]  // the architecture\n", "is a listing of tools/list"),
+                           (b">  0  ld [4]  // the architecture\n", "is a listing of tools/list")):
+            path = self.file("x", data)
+            for words in (("check", path), ("compare", path, self.profile), ("decide", path), ("list", path)):
+                status, out, err = self.run_tool(*words)
+                self.assertEqual((status, out, err.count("\n")), (2, "", 1), words)
+                self.assertIn(f"{words[0]}: '{path}' ", err)
+                self.assertIn(says, err)
+
+    def test_hostile_texts_end(self):
+        for data in (b"{" * 1048576, b"(" * 1048576, b"{ 0," * 262144, b"0x00," * 209715, b"a:" * 524288,
+                     b";" * 1048577, b"BPF_STMT(" * 100000, b"00000000: 00 00\n" * 65536, b"0 0 0 0\n" * 131072,
+                     b"/*" * 500000,
+                     b"{ 0, 0, 0, " + b"1+" * 400000 + b"1 },", b"\\x00" * 262144, b"ld [0]\n" * 140000):
+            path = self.file("x", data)
+            status, _, err = self.run_tool("check", path, seconds=30)
+            self.assertIn(status, (1, 2, 3), data[:20])
+            self.assertNotIn("Traceback", err)
+
+
+class Expressions(unittest.TestCase):
+    def test_values(self):
+        for text, value in (("1 | 2 & 3", 3), ("1 + 2 << 3", 24), ("~0 & 0xff", 255), ("010", 8), ("-1", (1 << 64) - 1),
+                            ("(1 | 2) + 4", 7), ("0x10U - 6", 10), ("7 - 2 - 1", 4), ("EPERM", 1), ("1 << 2 | 1", 5)):
+            self.assertEqual(c_arrays.Expression(text).value(), value, text)
+        self.assertEqual(EPERM, c_arrays.Expression("SECCOMP_RET_ERRNO | EPERM").value())
+        self.assertEqual(jeq(1, 0, 0), insn(c_arrays.Expression("BPF_JMP | BPF_JEQ").value(), 1))
+
+
+if __name__ == "__main__":
+    unittest.main()

@@ -1,0 +1,122 @@
+"""How the modules of scftools import each other: without a cycle, and all of them at the top of a module."""
+import ast
+import dataclasses
+import os
+import pickle
+import sys
+import unittest
+
+from common import TOP
+
+sys.path.append(os.path.join(TOP, "tools"))
+
+from scftools import client, values  # noqa: E402
+
+FOLDER = os.path.join(TOP, "tools", "scftools")
+# What is dear to import and rarely needed: each is imported where it is.
+# (what takes long is never imported at the start of a tool: Python's dataclasses import inspect)
+DEAR = {"dataclasses", "inspect", "typing"}
+LATE = {"ctypes", "difflib", "importlib", "json", "resource", "shlex", "signal", "subprocess", "syslog", "tempfile"}
+
+
+def modules():
+    return sorted(name[:-len(".py")] for name in os.listdir(FOLDER) if name.endswith(".py"))
+
+
+def is_for_types(node):
+    return isinstance(node, ast.If) and isinstance(node.test, ast.Name) and node.test.id == "TYPE_CHECKING"
+
+
+def imports_of(node, is_late=False):
+    """The modules that are imported at or below a node, and for each whether a function does it."""
+    for child in ast.iter_child_nodes(node):
+        if isinstance(child, ast.ImportFrom) and child.level:
+            yield from (((child.module or name.name), is_late) for name in child.names)
+        elif isinstance(child, ast.ImportFrom):
+            yield child.module, is_late
+        elif isinstance(child, ast.Import):
+            yield from ((name.name, is_late) for name in child.names)
+        elif not is_for_types(child):
+            yield from imports_of(child, is_late or isinstance(child, ast.FunctionDef))
+
+
+def imports(name):
+    with open(os.path.join(FOLDER, f"{name}.py"), encoding="utf-8") as file:
+        return set(imports_of(ast.parse(file.read())))
+
+
+def cycle_in(graph):
+    """The first cycle of a graph, or nothing."""
+    done = set()
+
+    def search(node, path):
+        if node in path:
+            return [*path[path.index(node):], node]
+        if node in done:
+            return []
+        found = next(filter(None, (search(it, [*path, node]) for it in sorted(graph[node]))), [])
+        done.add(node)
+        return found
+
+    return next(filter(None, (search(node, []) for node in sorted(graph))), [])
+
+
+class Modules(unittest.TestCase):
+    def test_there_is_no_cycle(self):
+        names = set(modules())
+        graph = {name: {it for it, _ in imports(name) if it in names} for name in names}
+        self.assertGreater(sum(map(len, graph.values())), 100)
+        self.assertEqual(cycle_in(graph), [])
+
+    def test_what_a_cycle_is(self):
+        self.assertEqual(cycle_in({"a": {"b"}, "b": {"c"}, "c": {"b"}}), ["b", "c", "b"])
+        self.assertEqual(cycle_in({"a": {"b", "c"}, "b": {"c"}, "c": set()}), [])
+
+    def test_only_what_is_dear_is_imported_late(self):
+        for name in modules():
+            self.assertLessEqual({it for it, is_late in imports(name) if is_late}, LATE, name)
+            self.assertFalse({it for it, is_late in imports(name) if not is_late} & DEAR, name)
+
+    def test_scf_is_run_in_one_module(self):
+        for name in set(modules()) - {"client"}:
+            with open(os.path.join(FOLDER, f"{name}.py"), encoding="utf-8") as file:
+                self.assertNotIn("posix_spawn", file.read(), name)
+
+
+class Values(unittest.TestCase):
+    """Value classes are like those of Python's dataclasses."""
+
+    def test_they_behave_as_python_s(self):
+        for make in (dataclasses, values):
+            with self.subTest(make.__name__):
+                @make.dataclass(frozen=True)
+                class Point:
+                    x: int
+                    y: int = 2
+
+                @make.dataclass
+                class Bag:
+                    items: list = make.field(default_factory=list)
+
+                one = Point(1)
+                self.assertEqual((one, one.y, hash(one)), (Point(x=1, y=2), 2, hash(Point(1, 2))))
+                self.assertNotEqual(one, Point(1, 3))
+                self.assertNotEqual(one, (1, 2))
+                self.assertEqual(make.replace(one, y=7), Point(1, 7))
+                self.assertRegex(repr(one), r"Point\(x=1, y=2\)$")
+                with self.assertRaises(AttributeError):
+                    one.x = 3
+                for given, named in (((), {}), ((1, 2, 3), {}), ((1,), {"x": 1}), ((1,), {"z": 1})):
+                    with self.assertRaises(TypeError):
+                        Point(*given, **named)
+                bag = Bag()
+                bag.items.append(1)
+                self.assertEqual(Bag(), Bag([]))
+                bag.items = [2]
+                self.assertEqual(bag, Bag([2]))
+                with self.assertRaises(TypeError):
+                    hash(bag)
+
+    def test_they_are_pickled(self):
+        found = client.Fault.read("fault profile Conflict number 41 first 0 second 1")
+        self.assertEqual(pickle.loads(pickle.dumps(found)), found)

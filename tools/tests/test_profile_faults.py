@@ -1,0 +1,95 @@
+"""Faults of profiles: which member each is about, and the line and column at which it stands."""
+import os
+import sys
+import unittest
+
+from common import TOP, Case, filter_of, profile_of
+
+sys.path.append(os.path.join(TOP, "tools"))
+
+from scftools import json_places  # noqa: E402
+
+
+class Places(Case):
+    """A fault of a profile: which member, at which line and column."""
+
+    def said(self, text):
+        status, out, _ = self.run_tool("compare", self.file("f.bpf", filter_of([0])), self.file("p.json", text))
+        self.assertEqual(status, 1)
+        return out
+
+    def test_each_kind(self):
+        entry = '{"names": ["read"], "action": "SCMP_ACT_ALLOW",\n %s}'
+        arg = '"args": [{"index": 0, "op": "SCMP_CMP_EQ", "value": 1},\n  %s]'
+        ok = entry % '"comment": "x"'
+        # texts of the second entry, what is said, and the line and column at which it begins
+        for text, says in (
+                ('{"action": "SCMP_ACT_ALLOW"}', "syscalls[1] has no names, at line 5, column 2"),
+                ('{"names": ["read"]}', "syscalls[1] has no action, at line 5, column 2"),
+                ("3", "syscalls[1] is 3, not an object, at line 5, column 2"),
+                ('{"names": [], "action": 1}', "syscalls[1].names is empty, at line 5, column 12"),
+                ('{"names": ["a", 1], "action": 1}', "syscalls[1].names[1] is 1, not a string, at line 5, column 18"),
+                (entry.replace("ALLOW", "ALOW") % '"x": 1',
+                 'syscalls[1].action is "SCMP_ACT_ALOW", which is none, at line 5, column 32'),
+                (entry % '"errnoRet": 1',
+                 "syscalls[1].errnoRet is 1, and SCMP_ACT_ALLOW takes none, at line 6, column 14"),
+                (entry.replace("ALLOW", "ERRNO") % '"errnoRet": 65536', "syscalls[1].errnoRet is 65536, at line 6"),
+                (entry % '"args": 1', "syscalls[1].args is 1, not an array, at line 6, column 10"),
+                (entry % (arg % '{"index": 1, "op": "EQ", "value": 1}'),
+                 'syscalls[1].args[1].op is "EQ", which is none, at line 7, column 22'),
+                (entry % (arg % '{"index": 6, "op": "EQ"}'), "syscalls[1].args[1].index is 6, at line 7, column 13"),
+                (entry % (arg % '{"index": 1, "op": "SCMP_CMP_EQ"}'),
+                 "syscalls[1].args[1] has no value, at line 7, column 3"),
+                (entry % (arg % '{"index": 1, "op": "SCMP_CMP_EQ", "value": -1}'),
+                 "syscalls[1].args[1].value is -1, not a whole number from 0 to 2^64-1, at line 7"),
+                (entry % (arg % '{"index": 0, "op": "SCMP_CMP_EQ", "value": 1}'),
+                 "syscalls[1].args[1].index is 0, as in an earlier condition of this entry, at line 7, column 13"),
+                (entry % '"includes": {"caps": ["A"]}', "syscalls[1].includes is an object, at line 6, column 14"),
+                ('{"names": ["read"], "action": "SCMP_ACT_LOG"}',
+                 "the entries begin at line 3, column 2 and at line 5, column 2")):
+            out = self.said('{"defaultAction": "SCMP_ACT_ERRNO",\n "syscalls": [\n %s,\n %s\n]}' % (ok, text))
+            self.assertIn(f"\n# {says}", out, text)
+
+    def test_outside_of_entries(self):
+        for text, says in (("{}", "the profile has no defaultAction, at line 1, column 1"),
+                           ('\n {"linux": {\n}}',
+                            "linux has no seccomp: the container isn't confined, at line 2, column 12"),
+                           ('{"linux": {"seccomp": {"defaultAction": "ALLOW"}}}',
+                            'linux.seccomp.defaultAction is "ALLOW", which is none, at line 1, column 41'),
+                           ('{"defaultAction": "SCMP_ACT_LOG",\n"architectures": ["SCMP_ARCH_ARM"]}',
+                            "architectures lacks SCMP_ARCH_X86_64, at line 2, column 18"),
+                           ('{"defaultAction": "SCMP_ACT_LOG", "syscalls": {}}', "syscalls is an object, not an array"),
+                           ('{"defaultAction": "SCMP_ACT_LOG", "archMap": [{}]}', "archMap is an array, at line 1"),
+                           ('{"defaultAction": "\\u001b[2J\\n"}', '"\\u001b[2J\\n", which is none')):
+            self.assertIn(says, self.said(text))
+
+    def test_json_that_is_malformed(self):
+        for text, says in (('{"a": {"b c": [1, 2,\n x]}}', "line 2, column 2: Expecting value (in a[\"b c\"][2])"),
+                           ('{"defaultAction": "A"\n "syscalls": []}', "Expecting ',' delimiter (after defaultAction)"),
+                           ('{"a": [NaN]}', "at line 1, column 8 a[0] is NaN, which isn't a JSON number"),
+                           ('{"a": [1, 1e999]}', "at line 1, column 11 a[1] is a number out of range"),
+                           ('{"a": "\\ud800"}', "at line 1, column 7 a has an unpaired surrogate")):
+            self.assertIn(says, self.said(text))
+
+    def test_large_profiles_take_seconds(self):
+        text = profile_of(*(f"a{at}" for at in range(200000)))
+        out = self.said(text.replace(b'"action": "SCMP_ACT_ALLOW"', b'"action": "X"'))
+        self.assertIn('syscalls[0].action is "X", which is none, at line 1', out)
+
+
+class Paths(unittest.TestCase):
+    def test_places(self):
+        text = '{"a": [1, {"b": "x]},", "c d": [[], {}]}],\n "a": [0, 2], "e": {"": null}}'
+        for path, place in ((["a", 1, "b"], "line 1, column 17"), (["a", 1, "c d", 1], "line 1, column 37"),
+                            (["a", 0], "line 2, column 8"), (["e", ""], "line 2, column 25"), ([], "line 1, column 1"),
+                            (["f"], None)):
+            self.assertEqual(json_places.place_of(text, path), place, path)
+
+    def test_how_they_are_told(self):
+        for path, told in ((["syscalls", 3, "args", 0, "op"], "syscalls[3].args[0].op"), ([], ""), (["a b"], '["a b"]'),
+                           (["a", "\x1b"], 'a["\\u001b"]'), (["x" * 99], f'["{"x" * 40}.."]'), ([0, 1], "[0][1]")):
+            self.assertEqual(json_places.path_told(path), told)
+
+
+if __name__ == "__main__":
+    unittest.main()

@@ -1,0 +1,197 @@
+"""Profiles as commands take them: Kubernetes' objects, engines' own with --caps; and what is named and refused."""
+import json
+import os
+import subprocess
+import sys
+import unittest
+
+from common import TOP, Case, filter_of, profile_of, tool
+
+sys.path.append(os.path.join(TOP, "tools"))
+
+from scftools import engines, kubernetes  # noqa: E402
+
+ALLOW, ERRNO = "SCMP_ACT_ALLOW", "SCMP_ACT_ERRNO"
+# As the documentation of the Security Profiles Operator has them.
+YAML = """---
+apiVersion: security-profiles-operator.x-k8s.io/v1beta1
+kind: SeccompProfile
+metadata:
+  namespace: my-namespace
+  name: profile1
+spec:
+  defaultAction: SCMP_ACT_ERRNO
+  architectures:
+  - SCMP_ARCH_X86_64
+  syscalls:
+  - action: SCMP_ACT_ALLOW
+    names:
+    - read
+    - "write"  # quoted
+    - 'exit_group'
+  - action: SCMP_ACT_ALLOW
+    names: [socket]
+    args:
+    - {index: 0, value: 0x28, op: SCMP_CMP_NE}
+"""
+SPEC = {"defaultAction": ERRNO, "architectures": ["SCMP_ARCH_X86_64"], "syscalls": [
+    {"action": ALLOW, "names": ["read", "write", "exit_group"]},
+    {"action": ALLOW, "names": ["socket"], "args": [{"index": 0, "value": 40, "op": "SCMP_CMP_NE"}]}]}
+OBJECT = {"apiVersion": "security-profiles-operator.x-k8s.io/v1beta1", "kind": "SeccompProfile", "spec": SPEC}
+HAS_YAML = any(os.path.exists(os.path.join(it, "yaml")) for it in kubernetes.FOLDERS)
+
+
+class Others(Case):
+    """What is known to be no profile is named, by each tool."""
+
+    def test_what_is_no_profile(self):
+        raw, profile = self.file("f.bpf", filter_of([0])), self.file("p.json", profile_of("read"))
+        elf = self.file("elf", b"\x7fELF\2\1\1\0" + bytes(56))
+        docker = self.file("docker.json", b'[{"Id": "%s", "HostConfig": {}}]' % (b"0a" * 32))
+        podman = self.file("podman.json", b'[{"Id": "%s", "HostConfig": {}, "OCIConfigPath": "/x"}]' % (b"0a" * 32))
+        cri = self.file("cri.json", b'{"info": {"runtimeSpec": {"linux": {"seccomp": {"defaultAction": "X"}}}}}')
+        task = "/run/containerd/io.containerd.runtime.v2.task/moby"
+        for path, says in ((raw, "is a raw filter, not a profile; `surface A --beside B` compares"),
+                           (elf, "ELF file"),
+                           (docker, f"is what `docker inspect` prints: take {task}/{'0a' * 32}/config.json"),
+                           (podman, "is what `podman inspect` prints: take the file that `podman inspect -f "
+                                    "'{{.OCIConfigPath}}' NAME` names"), (cri, "take its .info.runtimeSpec")):
+            for words in (("compare", raw, path), ("ask", path), ("compile", path), ("lint", path),
+                          ("resolve-profile", path), ("compare-profiles", profile, path)):
+                status, out, err = self.run_tool(*words, stdout=subprocess.PIPE)
+                self.assertEqual((status, out, err.count("\n")), (2, "", 1), (words, out, err))
+                self.assertIn(says, err)
+
+
+class Kubernetes(Case):
+    def setUp(self):
+        super().setUp()
+        self.plain = self.file("plain.json", json.dumps(SPEC))
+
+    def is_plain(self, path):
+        """Each tool takes an object as it takes its spec."""
+        for words in (("ask", "--nr=socket", "--a0=AF_VSOCK"), ("compile",), ("lint",), ("resolve-profile",)):
+            done = [subprocess.run([tool(words[0]), *words[1:], one], stdout=subprocess.PIPE, stderr=subprocess.PIPE,
+                                   check=False) for one in (self.plain, path)]
+            self.assertEqual([it.returncode for it in done], [0, 0], words)
+            self.assertEqual(done[0].stdout, done[1].stdout, words)
+            self.assertIn(f"{words[0]}: '{path}' is a SeccompProfile of Kubernetes: its spec is the profile\n",
+                          done[1].stderr.decode())
+
+    def test_json(self):
+        self.is_plain(self.file("object.json", json.dumps(OBJECT)))
+
+    @unittest.skipUnless(HAS_YAML, "there is no PyYAML here")
+    def test_yaml(self):
+        self.is_plain(self.file("object.yaml", YAML))
+        self.assertEqual(json.loads(kubernetes.spec_of(YAML.encode())), SPEC)
+
+    def test_without_pyyaml(self):
+        os.chmod(self.folder, 0o777)
+        self.file("yaml.py", "")
+        kept, kubernetes.FOLDERS = kubernetes.FOLDERS, ("/nonexistent", self.folder)
+        self.addCleanup(setattr, kubernetes, "FOLDERS", kept)
+        with self.assertRaises(engines.Refused) as caught:
+            kubernetes.spec_of(YAML.encode())
+        self.assertIn("PyYAML isn't installed (Debian's python3-yaml)", str(caught.exception))
+
+    @unittest.skipUnless(HAS_YAML, "there is no PyYAML here")
+    def test_yaml_that_is_refused(self):
+        for old, new, says in (("index: 0", "index: 1.5", "line 20 of the YAML has a value that JSON doesn't have"),
+                               ("names: [socket]", "names: &it [socket]\n    comment: *it", "has aliases"),
+                               ("0x28", "010", "a value that JSON doesn't have: '010'"),
+                               ("0x28", "1:30", "a value that JSON doesn't have: '1:30'"),
+                               ("spec:", "spec:\n  syscalls: []", "the member 'syscalls' is repeated"),
+                               ("kind: SeccompProfile", "kind: Pod", "it is a Kubernetes object of the kind Pod, not"),
+                               ("names: [socket]", "names: [socket", "the YAML is malformed at line 1"),
+                               ("  name: profile1", "  ? [a]\n  : 1", "a member whose name isn't a string"),
+                               ("spec:", "spec:\n  baseProfileName: runc", "adds the syscalls of the profile runc"),
+                               ("spec:", "spec:\n  disabled: true", "the profile is disabled"),
+                               ("profile1", "!!python/object:os.system x", "a value that JSON doesn't have"),
+                               ("profile1", "[" * 3000, "nested too deep")):
+            self.assertIn(old, YAML)
+            status, out, err = self.run_tool("ask", self.file("object.yaml", YAML.replace(old, new, 1)))
+            self.assertEqual((status, out, err.count("\n")), (1, "", 1), new[:30])
+            self.assertIn(says, err)
+        many = YAML + "".join(f"  - {{action: SCMP_ACT_ALLOW, names: [a{at}]}}\n" for at in range(30000))
+        self.assertIn("the YAML has more than 1048576 bytes", self.run_tool("ask", self.file("many.yaml", many))[2])
+        self.assertIn("found another document", self.run_tool("ask", self.file("two.yaml", YAML * 2))[2])
+
+    def test_other_json_is_left_alone(self):
+        """A comment of a profile may be anything."""
+        for comment in ("SeccompProfile", '"apiVersion" "kind"'):
+            text = json.dumps({"defaultAction": ERRNO, "comment": comment, "syscalls": []})
+            self.assertIsNone(kubernetes.spec_of(text.encode()))
+        for kind, says in (("Pod", "of the kind Pod, not SeccompProfile"), ("List", "of the kind List")):
+            path = self.file("o.json", json.dumps({**OBJECT, "kind": kind}))
+            self.assertIn(says, self.run_tool("ask", path)[2])
+
+
+class Caps(Case):
+    """--caps: what resolve-profile makes of an engine's profile, in each command."""
+
+    ENGINE = {"defaultAction": ERRNO, "archMap": [{"architecture": "SCMP_ARCH_X86_64", "subArchitectures": []}],
+              "syscalls": [{"names": ["read", "exit_group"], "action": ALLOW},
+                           {"names": ["bpf"], "action": ALLOW, "includes": {"caps": ["CAP_BPF"]}},
+                           {"names": ["read"], "action": "SCMP_ACT_LOG"},
+                           {"names": ["mount"], "action": ALLOW, "includes": {"caps": ["CAP_SYS_ADMIN"]}}]}
+
+    def setUp(self):
+        super().setUp()
+        self.engine = self.file("engine.json", json.dumps(self.ENGINE))
+
+    def test_each_command(self):
+        log = self.file("log", "1 mount(1) = 0\n")
+        compiled = {}
+        for caps in ("none", "SYS_ADMIN"):
+            done = self.run_tool("resolve-profile", "--keep-first", "--caps", caps, self.engine)
+            resolved = self.file(f"{caps}.json", done[1])
+            for words in (("ask", "--nr=mount"), ("compile",), ("needs", log), ("lint",)):
+                by_caps, plain = (subprocess.run([tool(words[0]), *more, *words[1:], path], stdout=subprocess.PIPE,
+                                                 stderr=subprocess.PIPE, check=False)
+                                  for more, path in ((("--caps", caps), self.engine), ((), resolved)))
+                self.assertEqual(by_caps.returncode, plain.returncode, words)
+                if words[0] != "ask":
+                    self.assertEqual(by_caps.stdout, plain.stdout, words)
+                self.assertEqual(by_caps.stderr.decode().split("\n")[0],
+                                 f"{words[0]}: '{self.engine}' is resolved as by resolve-profile --keep-first --caps "
+                                 f"{caps}, which says what is left out; entries that are left: "
+                                 f"{2 if caps == 'SYS_ADMIN' else 1}")
+                compiled[caps] = by_caps.stdout if words[0] == "compile" else compiled.get(caps)
+        path = self.file("f.bpf", compiled["SYS_ADMIN"])
+        self.assertEqual(self.run_tool("compare", "--caps=SYS_ADMIN", path, self.engine)[:2], (0, "same\n"))
+        status, out, _ = self.run_tool("compare", "--caps=none", path, self.engine)
+        self.assertEqual((status, out.split("\n")[0]), (1, "differs"))
+
+    def test_entries_have_their_places_in_the_file(self):
+        out = self.run_tool("ask", "--caps=SYS_ADMIN", "--nr=mount", self.engine)[1]
+        self.assertIn("# by entry 3 of syscalls: ", out)
+        found = json.loads(self.run_tool("ask", "--caps=SYS_ADMIN", "--nr=mount", "--json", self.engine)[1])
+        self.assertEqual(found["calls"][0]["place"], 3)
+
+    def test_what_is_refused(self):
+        for words, status, says in ((("--caps=SYS_ADMINN",), 2, "'SYS_ADMINN' isn't a capability"),
+                                    (("--caps=",), 0, ""), ((), 1, "fault profile EngineForm\n")):
+            done = self.run_tool("ask", *words, self.engine)
+            self.assertEqual(done[0], status)
+            self.assertIn(says, done[1] + done[2])
+        self.assertIn("isn't JSON", self.run_tool("ask", "--caps=none", self.file("x", "{"))[2])
+
+
+class Made(Case):
+    """Faults of what a tool made of a file."""
+
+    def test_made_profiles_have_no_lines(self):
+        """A line of what a tool made of a file would be none of that file."""
+        wrong = {**OBJECT, "spec": {**SPEC, "defaultAction": "ALLOW"}}
+        self.assertIn('# spec.defaultAction is "ALLOW", which is none\n',
+                      self.run_tool("ask", self.file("o.json", json.dumps(wrong)))[1])
+        first = {"names": ["bpf"], "action": ALLOW, "includes": {"caps": ["CAP_BPF"]}}
+        engine = json.dumps({"defaultAction": ERRNO, "syscalls": [first, {"names": ["read"], "action": "X"}]})
+        out = self.run_tool("ask", "--caps=none", self.file("e.json", engine))[1]
+        self.assertNotIn("line 1", out)
+        self.assertIn("in the original file that is entry 1 (read)", out)
+
+
+if __name__ == "__main__":
+    unittest.main()

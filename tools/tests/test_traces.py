@@ -1,0 +1,311 @@
+"""tools/needs: logs of other programs than strace, each as the program writes it here, beside strace's of the same run;
+and what container runtimes call themselves."""
+import contextlib
+import json
+import os
+import shutil
+import socket
+import struct
+import subprocess
+import sys
+import tempfile
+import unittest
+
+from common import TOP, Case, profile_of
+from test_runtimes import ALONE, BUSYBOX, config
+
+sys.path.append(os.path.join(TOP, "tools"))
+
+# pylint: disable=wrong-import-position
+from scftools import requirements, tables, traces  # noqa: E402
+
+ALLOW, ERRNO = "SCMP_ACT_ALLOW", "SCMP_ACT_ERRNO"
+NETLINK_AUDIT, SO_RCVBUFFORCE = 9, 33
+SECCOMP_RECORD = 1326
+TIMES = "11/27/26 05:35:00.752"
+RECORD = ('pid=7 comm="x" exe="/x" sig=0 arch=c000003e syscall={} compat=0 ip=0x7f code=0x7ffc0000')
+
+
+def calls_of(text, looked_at=()):
+    """How often each syscall stands in a log, by its name; and the whole log."""
+    table = tables.read(None)
+    found = traces.Trace(lambda name: tuple(looked_at), table.number_of, table)
+    for number, line in enumerate(text.split("\n"), 1):
+        found.add(number, line)
+    found.end()
+    return {(name, *values) if looked_at else name: seen.count for (name, values), seen in found.calls.items()}, found
+
+
+class Written(Case):
+    """What a program does, by strace and by others. Each other log has the same syscalls, as often."""
+
+    PROGRAM = ("ls", "/")
+
+    def written(self, *words, without=(), is_counted=True):
+        """The syscalls in a log that a program writes to the file `log`, and of strace's those beside `without`."""
+        if not shutil.which(words[0]):
+            self.skipTest(f"there is no {words[0]} here")
+        log, traced = (os.path.join(self.folder, it) for it in ("log", "strace"))
+        # ls asks what its output is
+        subprocess.run(["strace", "-f", "-o", traced, *self.PROGRAM], stdout=subprocess.PIPE, check=False)
+        done = subprocess.run(words, stdout=subprocess.PIPE, stderr=subprocess.PIPE, cwd=self.folder, check=False)
+        text = done.stdout.decode("latin-1")
+        if os.path.exists(log):
+            with open(log, encoding="latin-1") as file:
+                text = file.read()
+        if not os.path.exists(traced) or not text:
+            self.skipTest(f"strace or {words[0]} may not trace here: {done.stderr[-200:]}")
+        with open(traced, encoding="latin-1") as file:
+            expected = calls_of(file.read())[0]
+        found, log = calls_of(text)
+        expected = {name: count for name, count in expected.items() if name not in without}
+        self.assertEqual(found if is_counted else set(found), expected if is_counted else set(expected))
+        return text, log
+
+    def test_perf_trace(self):
+        _, log = self.written("perf", "trace", "-o", "log", *self.PROGRAM)
+        self.assertEqual((log.unread.count, log.lost.count), (0, 0))
+
+    def test_perf_trace_counts(self):
+        # exit_group doesn't return, and isn't counted
+        _, log = self.written("perf", "trace", "-s", "-o", "log", *self.PROGRAM, without=("exit_group",))
+        self.assertEqual((log.unread.count, log.lost.count), (0, 0))
+
+    def test_perf_script(self):
+        """With all arguments; recording begins with the program's execve, which isn't in it."""
+        words = ("sh", "-c", 'perf record -q -o data -e raw_syscalls:sys_enter "$@" >&2; perf script -i data >log',
+                 "sh")
+        if not shutil.which("perf"):
+            self.skipTest("there is no perf here")
+        text, log = self.written(*words, *self.PROGRAM, without=("execve",))
+        self.assertEqual(log.unread.count, 0)
+        known = calls_of(text, range(6))[0]
+        # openat with AT_FDCWD (linux/fcntl.h) and O_RDONLY|O_CLOEXEC
+        self.assertTrue(any(name == "openat" and values[0] == (0xFFFFFF9C,) and values[2] == (0o2000000,)
+                            for name, *values in known), known)
+
+    def test_bpftrace(self):
+        program = "tracepoint:raw_syscalls:sys_enter /pid == cpid/ { @[args->id] = count(); }"
+        if os.geteuid():
+            self.skipTest("bpftrace needs root")
+        # (it begins the program with a file of its own open)
+        words = ("-o", "log", "-e", program, "-c", f"{shutil.which(self.PROGRAM[0])} /")
+        self.written("bpftrace", *words, is_counted=False)
+
+
+class Records(Case):
+    """Records of the kernel: a program under a profile that logs each syscall."""
+
+    def test_records_of_seccomp(self):
+        try:
+            listener = socket.socket(socket.AF_NETLINK, socket.SOCK_RAW, NETLINK_AUDIT)
+            listener.setsockopt(socket.SOL_SOCKET, SO_RCVBUFFORCE, 1 << 24)
+            listener.bind((0, 1))
+        except OSError as error:
+            self.skipTest(f"the kernel's audit records can't be heard here: {error.strerror}")
+        self.addCleanup(listener.close)
+        profile = self.file("p.json", profile_of(default="SCMP_ACT_LOG"))
+        filters = self.file("f.bpf", b"")
+        with open(filters, "wb") as out:
+            subprocess.run([os.path.join(TOP, "tools", "compile"), profile], stdout=out, check=True)
+        child = subprocess.Popen([sys.executable, "-ISc", CONFINED, filters, shutil.which("true")])
+        child.wait()
+        listener.setblocking(False)
+        records = []
+        with contextlib.suppress(BlockingIOError):
+            while True:
+                message = listener.recv(1 << 16)
+                if struct.unpack_from("<IH", message)[1] == SECCOMP_RECORD and b" pid=%d " % child.pid in message:
+                    records.append("audit: type=1326 " + message[16:].decode("latin-1").rstrip("\0\n"))
+        log = self.file("log", "\n".join(records))
+        status, out, err = self.run_tool("needs", "--json", log, self.file("q.json", profile_of()))
+        self.assertEqual((status, err), (1, ""))
+        found = json.loads(out)
+        traced = os.path.join(self.folder, "strace")
+        subprocess.run(["strace", "-o", traced, shutil.which("true")], check=False)
+        with open(traced, encoding="latin-1") as file:
+            expected = calls_of(file.read())[0]
+        self.assertEqual({it["name"]: it["count"] for it in found["calls"]}, expected)
+        self.assertEqual(found["not_judged"], {"names": {}, "foreign": 0, "cut": 0, "more": 0, "lines": 0, "lost": 0})
+
+
+# Puts itself under a filter and becomes another program.
+CONFINED = """
+import ctypes, os, sys
+class Program(ctypes.Structure):
+    _fields_ = [("len", ctypes.c_ushort), ("filter", ctypes.c_char_p)]
+data, library = open(sys.argv[1], "rb").read(), ctypes.CDLL(None)
+words, environment, path = [sys.argv[2]], dict(os.environ), sys.argv[2]
+library.prctl(38, 1, 0, 0, 0)
+program = Program(len(data) // 8, data)
+library.prctl(22, 2, ctypes.byref(program), 0, 0)
+os.execve(path, words, environment)
+"""
+
+
+class Lines(unittest.TestCase):
+    """Lines in the forms of the programs' sources, and lines that are none."""
+
+    def test_records_of_syscalls(self):
+        """audit_log_exit in kernel/auditsc.c of Linux, and what ausearch -i of audit 3.0.9 prints of it."""
+        raw = ('type=SYSCALL msg=audit(1795757700.752:4): arch=c000003e syscall=257 success=yes exit=3 a0=ffffff9c '
+               'a1=7f3 a2=80000 a3=0 items=1 ppid=1 pid=2 auid=0 comm="ls" exe="/bin/ls" key=(null)')
+        shown = (f'type=SYSCALL msg=audit({TIMES}:4) : arch=x86_64 syscall=openat success=yes exit=3 a0=AT_FDCWD '
+                 'a1=0x7f3 a2=O_RDONLY|O_CLOEXEC a3=0x0 items=1 ppid=1 pid=2 auid=root comm=ls exe=/bin/ls key=(null)')
+        others = f"type=PATH msg=audit({TIMES}:4) : item=0\ntype=EOE msg=audit(1.0:4): \n----\ntime->Fri Nov 27\n"
+        self.assertEqual(calls_of(raw, range(5))[0], {("openat", (0xFFFFFF9C,), (0x7F3,), (0x80000,), (0,), None): 1})
+        self.assertEqual(calls_of(shown, range(5))[0], {("openat", None, (0x7F3,), None, (0,), None): 1})
+        self.assertEqual((calls_of(others)[0], calls_of(others)[1].unread.count), ({}, 0))
+        found, log = calls_of(raw.replace("arch=c000003e", "arch=40000003"))
+        self.assertEqual((found, log.foreign.count), ({}, 1))
+        found, log = calls_of(raw.replace("syscall=257", "syscall=x"))
+        self.assertEqual((found, log.unread.count), ({}, 1))
+        self.assertEqual(log.fault, "line 1 can't be read: syscall=x: the table has no such name: print the record "
+                                    "without -i")
+
+    def test_records_of_seccomp(self):
+        for leader in ("audit: type=1326 audit(1.0:2): ", "[  6.5] audit: type=1326 audit(1.0:2): ",
+                       "Nov 27 05:35:00 vm audit[7]: SECCOMP auid=0 ", "type=SECCOMP msg=audit(1.0:2): "):
+            self.assertEqual(calls_of(leader + RECORD.format(257))[0], {"openat": 1})
+        found, log = calls_of("\n".join(["audit: type=1326 audit(1.0:2): " + RECORD.format(it) for it in (
+            0, 0, 999, -1, 0x40000000)] + ["audit: kauditd_printk_skb: 12 callbacks suppressed"]))
+        self.assertEqual((found, log.unread.count, log.foreign.count, log.lost.count),
+                         ({"read": 2, "syscall_0x3e7": 1}, 1, 1, 12))
+
+    def test_perf_trace(self):
+        """Of a thread whose syscall was interrupted, two lines are one syscall."""
+        found, log = calls_of("     0.1 (         ): sleep/7 nanosleep(rqtp: 0x7ff) ...\n"
+                              "     0.2 ( 0.1 ms): ls/8 brk() = 0\n"
+                              "     9.1 ( 9.0 ms): sleep/7  ... [continued]: nanosleep()) = 0\nLOST 3 events!\n")
+        self.assertEqual((found, log.unread.count, log.lost.count), ({"nanosleep": 1, "brk": 1}, 0, 3))
+        self.assertEqual(calls_of("     0.1 ( 0.1 ms): brk() = 0")[0], {"brk": 1})
+        # a text in an argument is no syscall
+        self.assertEqual(calls_of('     0.1 ( 0.1 ms): ls/8 openat(filename: "/7 mount(") = 3')[0], {"openat": 1})
+
+    def test_trace_pipe(self):
+        """trace_raw_output_sys_enter of the kernel, as its trace and trace_pipe print it."""
+        text = "# tracer: nop\n#\n           <...>-7       [001] .....  5.1: sys_enter: NR 41 (10, 3, 9, 0, 0, 0)\n"
+        found, log = calls_of(text, (0, 2))
+        self.assertEqual((found, log.unread.count), ({("socket", (16,), (9,)): 1}, 0))
+
+    def test_maps_of_bpftrace(self):
+        found, log = calls_of("Attaching 2 probes...\n\n@[41]: 3\n@calls[tracepoint:syscalls:sys_enter_openat]: 2\n"
+                              "@[999]: 1\n@[sys_enter_read]: 1\n@[ls, 41]: 9\n@[x]: 1\n@: 7\n@[1073741824]: 1\n")
+        self.assertEqual((found, log.unread.count, log.foreign.count),
+                         ({"socket": 3, "openat": 2, "syscall_0x3e7": 1, "read": 1}, 3, 1))
+
+    def test_sysdig(self):
+        """By *%evt.num %evt.outputtime %evt.cpu %proc.name (%thread.tid) %evt.dir %evt.type %evt.info (sysdig(8))."""
+        lines = ("1 05:35:00.123456789 0 ls (7) > openat dirfd=-100(AT_FDCWD) name=/etc flags=1(O_RDONLY) mode=0 \n"
+                 "2 05:35:00.123456789 0 ls (7) < openat fd=3(<d>/etc) dirfd=-100(AT_FDCWD) name=/etc \n"
+                 "3 05:35:00.123456799 1 a b (8.9) > pread fd=3 \n4 05:35:00.2 1 ls (7) > switch next=0 \n"
+                 "5 05:35:00.2 1 ls (7) > syscall ID=212(set_robust_list) nativeID=273 \n"
+                 "6 05:35:00.3 0 ls (7) > pipe \n")
+        found, log = calls_of(lines)
+        self.assertEqual((found, log.unread.count),
+                         ({"openat": 1, "pread64": 1, "set_robust_list": 1, "pipe or pipe2": 1}, 0))
+
+    def test_what_strace_prints_is_no_other_log(self):
+        """A text that a program writes may look like any of them."""
+        for text in ("audit: type=1326 audit(1.0:2): " + RECORD.format(257), "     0.1 ( 0.1 ms): ls/8 brk() = 0",
+                     "1 05:35:00.1 0 ls (7) > mount ", "sys_enter: NR 41 (10, 3, 9, 0, 0, 0)", "@[41]: 3"):
+            for leader in ("", "7  ", "[pid 7] ", "05:35:00 "):
+                self.assertEqual(calls_of(f'{leader}write(1, "{text}", 300) = 300')[0], {"write": 1})
+
+
+class Words(Case):
+    HOOKS = {"defaultAction": ERRNO, "architectures": ["SCMP_ARCH_X86_64"], "syscalls": [
+        {"names": ["read", "openat"], "action": ALLOW, "args": [], "comment": "", "includes": {}, "excludes": {}},
+        {"names": ["mount"], "action": ERRNO, "args": []}]}
+
+    def test_a_profile_that_was_made_of_a_log(self):
+        """As oci-seccomp-bpf-hook 1.2 writes it (the types of containers-common)."""
+        for text in (json.dumps(self.HOOKS), "\n\n" + json.dumps(self.HOOKS, indent=2)):
+            log, profile = self.file("hook.json", text), self.file("p.json", profile_of("read"))
+            status, out, err = self.run_tool("needs", log, profile)
+            self.assertEqual((status, err), (1, ""))
+            self.assertEqual(out.split("\n")[0], "257 openat ERRNO 1 default")
+            self.assertIn("allowed 1, not allowed 1, depends 0\n", out)
+        status, out, err = self.run_tool("needs", self.file("x.json", '{"a\x1b": '), self.file("p.json", profile_of()))
+        self.assertEqual((status, out), (3, ""))
+        self.assertTrue(err.endswith("x.json' is a profile that can't be read\n"), err)
+
+    def test_several_logs(self):
+        one = self.file("one", "7  openat(3) = 3\n7  [ Process PID=7 runs in 32 bit mode. ]\n7  brk(0) = 0\n")
+        two = self.file("two\x1b", "@[257]: 2\n@[9]: 1\n")
+        three = self.file("three", "7  mmap(1) = 0\n")
+        status, out, err = self.run_tool("needs", one, two, three, self.file("p.json", profile_of("read")))
+        self.assertEqual((status, err), (1, ""))
+        shown = two.replace("\x1b", "\\x1b")
+        self.assertEqual(out, f"9 mmap ERRNO 1 default\n# 2 times, first in line 2 of '{shown}'\n"
+                              f"257 openat ERRNO 1 default\n# 3 times, first in line 1 of '{one}'\n"
+                              "# syscalls not judged, since their processes don't run in 64-bit mode: 1\n"
+                              "# syscalls, each with the arguments that conditions test: allowed 0, not allowed 2, "
+                              "depends 0\n")
+        status, out, _ = self.run_tool("needs", "--profile", one, two, three, self.file("p.json", profile_of("read")))
+        self.assertEqual((status, json.loads(out)["syscalls"][0]["names"][:2]), (4, ["mmap", "openat"]))
+        self.assertEqual(self.run_tool("needs", "-", "-", one)[:2], (2, ""))
+
+    def test_what_runtimes_call(self):
+        log, profile = self.file("log", "read(1) = 1\n"), self.file("p.json", profile_of("read", "execve", "write"))
+        status, out, _ = self.run_tool("needs", "--runtime", "crun", log, profile)
+        self.assertEqual(status, 1)
+        self.assertIn("126 capset ERRNO 1 default\n# made by crun itself, before it executes the program\n", out)
+        for runtime, calls in requirements.OF_RUNTIMES.items():
+            status, out, err = self.run_tool("needs", "--profile", "--runtime", runtime, log, profile)
+            self.assertEqual((status, err), (0, ""))
+            self.assertEqual(set(json.loads(out)["syscalls"][0]["names"]),
+                             {"read", *calls.split(), *requirements.ALWAYS})
+        self.assertEqual(self.run_tool("needs", "--runtime", "x", log, profile)[:2], (2, ""))
+
+
+@unittest.skipUnless(os.geteuid() == 0 and BUSYBOX and shutil.which("strace"), "needs root, busybox and strace")
+class Containers(Case):
+    """A container starts under the least profile with what its runtime calls, and not without."""
+
+    def least(self, *words):
+        log = os.path.join(self.folder, "log")
+        if not os.path.exists(log):
+            subprocess.run(["strace", "-f", "-o", log, BUSYBOX, "echo", "begun"], stdout=subprocess.DEVNULL, check=True)
+        status, out, err = self.run_tool("needs", "--profile", *words, log, self.file("p.json", profile_of()))
+        self.assertEqual((status, err), (0, ""))
+        return {**json.loads(out), "architectures": ["SCMP_ARCH_X86_64"]}
+
+    def run_container(self, runtime, seccomp, **process):
+        """What a container prints."""
+        folder = tempfile.mkdtemp(dir=self.folder)
+        name = f"scf-traces-{os.path.basename(folder)}"
+        words = [*ALONE, "crun", "--cgroup-manager", "disabled"] if runtime == "crun" else [runtime]
+        words += ["--root", os.path.join(folder, "root")]
+        for inner in ("proc", "dev"):
+            os.makedirs(os.path.join(folder, "rootfs", inner))
+        shutil.copy(BUSYBOX, os.path.join(folder, "rootfs", "busybox"))
+        whole = config(seccomp)
+        whole["process"].update(args=["/busybox", "echo", "begun"], **process)
+        with open(os.path.join(folder, "config.json"), "w", encoding="utf-8") as file:
+            json.dump(whole, file)
+        try:
+            done = subprocess.run([*words, "run", "--bundle", folder, name], stdin=subprocess.DEVNULL,
+                                  stdout=subprocess.PIPE, stderr=subprocess.PIPE, check=False)
+            return done.stdout.decode()
+        finally:
+            subprocess.run([*words, "delete", "--force", name], stdin=subprocess.DEVNULL, stdout=subprocess.DEVNULL,
+                           stderr=subprocess.DEVNULL, check=False)
+
+    def tried(self, runtime):
+        if not shutil.which(runtime):
+            self.skipTest(f"there is no {runtime} here")
+        least = self.least("--runtime", runtime)
+        for process in ({}, {"noNewPrivileges": True}, {"user": {"uid": 1000, "gid": 1000, "additionalGids": [5]}}):
+            self.assertEqual(self.run_container(runtime, least, **process), "begun\n", process)
+        self.assertEqual(self.run_container(runtime, self.least()), "")
+
+    def test_runc(self):
+        self.tried("runc")
+
+    def test_crun(self):
+        self.tried("crun")
+
+
+if __name__ == "__main__":
+    sys.exit(unittest.main())
