@@ -1,0 +1,226 @@
+"""Two stacks of filters beside each other, by scf and by its tools: verdicts on drawn stacks held against another
+machine's answers, the lines that explain a difference, and a process beside filters that were saved."""
+import itertools
+import json
+import os
+import random
+import sys
+
+from common import ALLOW, EPERM, KILL_PROCESS, SCF, TOP, X86_64, Case, filter_of, insn, jeq, jge, load, part, ret
+from confined import NEWEST, OLDEST, Confined, here
+from stand_in import StandIn
+
+sys.path.append(os.path.join(TOP, "tools"))
+
+from scftools import answers, calls  # noqa: E402
+
+READ, WRITE, SOCKET, CLONE = 0, 1, 41, 56
+ENOSYS, TRACE, LOG = 0x00050026, 0x7FF00000, 0x7FFC0000
+X32 = 0x40000000
+NUMBERS, ARCHITECTURES = (0, 1, 2, 41, 42, 43, X32 - 1, X32, 0xFFFFFFFF), (X86_64, 0x40000003, 0)
+ARGUMENTS = (0, 1, 2, 3, 6, 40, 41, 42, 1 << 32, (1 << 32) + 41, (1 << 64) - 1)
+CORNERS = [calls.Call(number, architecture, 0, (one, other, 0, 0, 0, 0)) for architecture, number, one, other
+           in itertools.product(ARCHITECTURES, NUMBERS, ARGUMENTS, (0, 41))]
+# The options of each relation, what is printed if it holds and if not, and whether it does of two answers.
+RELATIONS = {
+    "": ("same", "differs", lambda one, other: one == other),
+    "--no-more": ("no more", "more", lambda one, other: degree(one) <= degree(other)),
+    "--no-less": ("no less", "less", lambda one, other: degree(one) >= degree(other)),
+    "--disposition": ("same disposition", "differs", lambda one, other: degree(one) == degree(other)),
+}
+# Sets of syscalls, by options.
+SCOPES = {
+    "": lambda call: True, "--native": lambda call: call.is_native,
+    "--nr-from=2": lambda call: call.is_native and call.number >= 2,
+    "--nr-to=41": lambda call: call.is_native and call.number <= 41,
+    "--nr-from=42 --nr-to=41": lambda call: False,
+}
+
+
+def degree(answer):
+    """How permissive an answer is, by __seccomp_filter of kernel/seccomp.c: 0 denied, 1 delegated, 2 allowed."""
+    return {0x7FC00000: 1, TRACE: 1, LOG: 2, ALLOW: 2}.get(answer & 0xFFFF0000, 0)
+
+
+def decided(filters, call):
+    """The answer of a stack; of an empty one ALLOW, as in the kernel."""
+    return answers.Answer.read(StandIn().decide(filters, call)).word if filters else ALLOW
+
+
+def drawn(dice):
+    """A filter of loads, tests and computations, which ends in returns."""
+    made, count = [], dice.randrange(1, 9)
+    while len(made) < count:
+        near = [dice.randrange(3), dice.randrange(3)]
+        value = dice.choice((0, 1, 2, 41, 42, X86_64, X32))
+        made.append(dice.choice((
+            load(dice.choice((0, 0, 4, 16, 20, 24))), jeq(value, *near), jge(value, *near), insn(0x25, value, *near),
+            insn(0x45, dice.choice((1, 2, 6)), *near), insn(0x54, dice.choice((2, 6, 0xFF))),
+            # what no comparison follows: products of the accumulator with itself
+            dice.choice((insn(0x54, 0xFF), insn(0x07, 0) + insn(0x2C, 0))))))
+    ends = [dice.choice((ALLOW, ALLOW, EPERM, EPERM, ENOSYS, LOG, TRACE, KILL_PROCESS)) for _ in range(4)]
+    return b"".join(made) + b"".join(map(ret, ends))
+
+
+def mutated(dice, data):
+    """A filter with one instruction's operand or branches changed, if that is accepted."""
+    at = dice.randrange(len(data) // 8) * 8
+    code, k = int.from_bytes(data[at:at + 2], "little"), int.from_bytes(data[at + 4:at + 8], "little")
+    new = {6: dice.choice((ALLOW, EPERM, ENOSYS, LOG)), 0x20: k}.get(code, dice.choice((k, k ^ 1, 41, 42)))
+    one, other = data[at + 2], data[at + 3]
+    return data[:at] + insn(code, new, *dice.choice(((one, other), (other, one)))) + data[at + 8:]
+
+
+class Drawn(Case):
+    """A thousand pairs of stacks, each over a set of syscalls and by a relation."""
+
+    COUNT = 1000
+
+    def judge(self, left, right, scope, relation):
+        """scf's verdict, once the other machine agrees with it."""
+        holds, fails, related = RELATIONS[relation]
+        data = b"".join([*(part("filter", it) for it in left), *(part("beside", it) for it in right)])
+        status, out, err = self.run_words([SCF, "compare", "--beside", *f"{scope} {relation}".split()], data)
+        lines, both = out.split("\n"), [left, right]
+        self.assertEqual(err, "")
+        at_corners = [all(related(*(decided(side, call) for side in both)) for call in CORNERS if SCOPES[scope](call))]
+        if status == 0:
+            self.assertEqual((lines, at_corners), ([holds, ""], [True]))
+        elif status == 1:
+            call = calls.Call.read(lines[1])
+            self.assertTrue(SCOPES[scope](call), lines)
+            shown = [decided(side, call) for side in both]
+            printed = [StandIn().printed(word) for word in shown]
+            self.assertEqual(lines[2:4], [f"filter {printed[0]}", f"beside {printed[1]}"])
+            self.assertEqual((lines[0], related(*shown)), (fails, False))
+        else:
+            self.assertEqual(status, 4)
+            self.assertRegex(lines[0], r"\Aundecided at [0-9]+\Z")
+        return lines[0].split(" at ")[0]
+
+    def test_each(self):
+        dice, found = random.Random(54), []
+        while len(found) < self.COUNT:
+            left = [drawn(dice) for _ in range(dice.choice((0, 1, 1, 2)))]
+            right = [mutated(dice, it) for it in left] if dice.randrange(2) else [drawn(dice)]
+            if any(StandIn().fault(unpacked(it)) for it in left + right):
+                continue
+            found.append(self.judge(left, right, dice.choice(list(SCOPES)), dice.choice(list(RELATIONS))))
+        for word in ("same", "differs", "no more", "more", "no less", "less", "same disposition", "undecided"):
+            self.assertGreater(found.count(word), 5, word)
+
+
+def unpacked(data):
+    return [(int.from_bytes(data[at:at + 2], "little"), data[at + 2], data[at + 3],
+             int.from_bytes(data[at + 4:at + 8], "little")) for at in range(0, len(data), 8)]
+
+
+def clone_of(flags, answer=EPERM, otherwise=ALLOW):
+    """Denies clone with any of some flags."""
+    return load(4) + jeq(X86_64, 1, 0) + ret(KILL_PROCESS) + load(0) + jeq(CLONE, 0, 3) + load(16) \
+        + insn(0x45, flags, 0, 1) + ret(answer) + ret(otherwise)
+
+
+class Tools(Case):
+    """compare --beside and diff."""
+
+    def test_a_difference_of_each_kind(self):
+        """A condition of clone, ENOSYS for EPERM, LOG for ALLOW."""
+        one = self.file("1.bpf", clone_of(0x10000000))
+        for name, other, both in (("condition", clone_of(0x30000000), {"ERRNO 1", "ALLOW 0"}),
+                                  ("errno", clone_of(0x10000000, ENOSYS), {"ERRNO 1", "ERRNO 38"}),
+                                  ("log", clone_of(0x10000000, EPERM, LOG), {"ALLOW 0", "LOG 0"})):
+            path = self.file(f"{name}.bpf", other)
+            for words in (("compare", one, "--beside", path), ("diff", one, path)):
+                status, out, err = self.run_tool(*words)
+                lines = out.split("\n")
+                self.assertEqual((status, err, lines[0]), (1, "", "differs"), words)
+                self.assertEqual({line.partition(" ")[2] for line in lines[2:4]}, both)
+                self.assertIn(f"# the last tests on the path in {one}:", out)
+                self.assertIn(f"# the last tests on the path in {path}:", out)
+            status, lines = self.said("surface", one, "--beside", path)
+            self.assertEqual((status, lines.count("syscalls that differ: 0")), (1, 0), name)
+
+    def said(self, *words):
+        status, out, err = self.run_tool(*words)
+        self.assertEqual(err, "")
+        return status, out.split("\n")[:-1]
+
+    def test_which_is_more_permissive(self):
+        less, more = self.file("1.bpf", filter_of([READ])), self.file("2.bpf", filter_of([READ, WRITE]))
+        status, lines = self.said("compare", less, "--beside", more)
+        self.assertEqual((status, lines[4]), (1, "# it is stricter, and never more permissive than the other side"))
+        self.assertEqual(lines[-2:], ["# syscalls in the table that differ: 1",
+                                      "# 1 write differs args 0x0 0x0 0x0 0x0 0x0 0x0 filter ERRNO 1 beside ALLOW 0"])
+        status, lines = self.said("diff", more, less)
+        self.assertEqual((status, lines[4]), (1, "# it is more permissive, and never stricter than the other side"))
+        self.assertEqual(self.said("diff", "--no-more", less, more), (0, ["no more"]))
+        self.assertEqual(self.said("diff", "--no-less", less, more)[0], 1)
+        errno = self.file("3.bpf", filter_of([READ]).replace(ret(EPERM), ret(ENOSYS)))
+        self.assertEqual(self.said("diff", "--disposition", less, errno), (0, ["same disposition"]))
+        self.assertEqual(self.said("diff", less, errno)[1][4],
+                         "# it is neither more permissive nor stricter than the other side: only the answers differ")
+
+    def test_stacks(self):
+        one, other, both = (self.file(f"{at}.bpf", filter_of(it)) for at, it in
+                            enumerate(([READ, WRITE], [READ, SOCKET], [READ])))
+        self.assertEqual(self.said("compare", one, other, "--beside", both), (0, ["same"]))
+        self.assertEqual(self.said("compare", both, "--beside", other, one), (0, ["same"]))
+
+    def test_json(self):
+        one, other = self.file("1.bpf", filter_of([READ])), self.file("2.bpf", filter_of([WRITE]))
+        found = json.loads(self.run_tool("diff", "--json", one, other)[1])
+        self.assertEqual((found["status"], found["scope"], found["relation"], found["verdict"]),
+                         (1, "all", "same", "differs"))
+        self.assertEqual({found["filter"]["action"], found["beside"]["action"]}, {"ALLOW", "ERRNO"})
+        self.assertEqual((found["path"]["filter"], found["path_beside"]["filter"]), (one, other))
+        self.assertEqual((found["no_more"], found["no_less"]), ("more", "less"))
+        self.assertEqual([(it["number"], it["names"], it["filter"]["action"], it["beside"]["action"])
+                          for it in found["calls"]],
+                         [(READ, ["read"], "ALLOW", "ERRNO"), (WRITE, ["write"], "ERRNO", "ALLOW")])
+        self.assertEqual(json.loads(self.run_tool("diff", "--json", one, one)[1])["verdict"], "same")
+
+    def test_faults(self):
+        good, bad = self.file("1.bpf", filter_of([READ])), self.file("2.bpf", jeq(0, 0, 9) + ret(ALLOW))
+        for words, source in (((good, bad), "beside"), ((bad, good), "filter")):
+            status, lines = self.said("diff", *words)
+            self.assertEqual((status, lines[0].split()[:2]), (1, ["fault", source]))
+            self.assertEqual(lines[-1], f"# the filter is {bad}")
+        profile = self.file("p.json", b'{"defaultAction": "SCMP_ACT_ALLOW"}')
+        for words in ((good, "--beside", good, "--caps", "none"), (good, "--beside"), ("--beside", good),
+                      ("-", "--beside", "-")):
+            self.assertEqual(self.run_tool("compare", *words)[0], 2, words)
+        self.assertEqual(self.run_tool("diff", good)[0], 2)
+        self.assertEqual(self.run_tool("diff", good, profile)[:2], (2, ""))
+
+    def test_disposition_of_a_profile(self):
+        profile = self.file("p.json", json.dumps({"defaultAction": "SCMP_ACT_ERRNO", "syscalls": [
+            {"names": ["read"], "action": "SCMP_ACT_LOG"}]}).encode())
+        one = self.file("1.bpf", filter_of([READ]))
+        self.assertEqual(self.said("compare", "--disposition", one, profile), (0, ["same disposition"]))
+        self.assertEqual(self.said("compare", one, profile)[1][0], "differs")
+
+
+class Saved(Confined):
+    """A process beside filters that were saved."""
+
+    @here
+    def test_process(self):
+        child = self.child([OLDEST, NEWEST])
+        folder = os.path.join(self.folder, "saved")
+        self.assertEqual(self.run_tool("filters-of", str(child.pid), folder)[0], 0)
+        status, out, err = self.run_tool("verify-process", str(child.pid), "--beside", folder)
+        self.assertEqual((status, err, out.split("\n")[0]), (0, "", "same"))
+        self.assertRegex(out.split("\n")[1], rf"\A# process {child.pid} \(.*\) has ")
+        os.remove(os.path.join(folder, "1.bpf"))
+        status, out, err = self.run_tool("verify-process", "--json", str(child.pid), "--beside", folder)
+        found = json.loads(out)
+        self.assertEqual((status, err, found["verdict"], found["stacks"][0]["no_more"]), (1, "", "differs", "no more"))
+        self.assertEqual(found["stacks"][0]["processes"][0]["process"], child.pid)
+
+    @here
+    def test_usage(self):
+        child = self.child([OLDEST])
+        status, _, err = self.run_tool("verify-process", str(child.pid), "--beside", self.folder)
+        self.assertEqual((status, "has no *.bpf" in err), (2, True))
+        self.assertEqual(self.run_tool("verify-process", "--runtime", "runc", str(child.pid), "--beside", "x")[0], 2)
