@@ -1,0 +1,372 @@
+"""tools/profile-of: profiles of filters, each beside another machine of filters and another reader of profiles."""
+import json
+import os
+import random
+import sys
+
+from common import ALLOW, EPERM, KILL_PROCESS, KILL_THREAD, TOP, X86_64, Case, insn, jeq, jge, load, ret
+from stand_in import StandIn, unpacked
+
+sys.path.append(os.path.join(TOP, "tools"))
+
+from scftools import answers  # noqa: E402
+from scftools.calls import Call  # noqa: E402
+
+MOST, X32 = (1 << 64) - 1, 0x40000000
+TRAP, USER_NOTIF, TRACE, LOG = 0x00030000, 0x7FC00000, 0x7FF00000, 0x7FFC0000
+NAMES = {"read": 0, "write": 1, "ioctl": 16, "socket": 41, "personality": 135}
+OWN = "".join(f"{name} {number}\n" for name, number in NAMES.items())
+# What a profile says of a number, by the OCI runtime specification (config-linux.md: Seccomp).
+HOLDS = {
+    "SCMP_CMP_NE": lambda it, value, _: it != value, "SCMP_CMP_LT": lambda it, value, _: it < value,
+    "SCMP_CMP_LE": lambda it, value, _: it <= value, "SCMP_CMP_EQ": lambda it, value, _: it == value,
+    "SCMP_CMP_GE": lambda it, value, _: it >= value, "SCMP_CMP_GT": lambda it, value, _: it > value,
+    "SCMP_CMP_MASKED_EQ": lambda it, value, two: it & value == two & value,
+}
+WORDS = {"KILL_PROCESS": KILL_PROCESS, "KILL_THREAD": KILL_THREAD, "TRAP": TRAP, "ERRNO": 0x00050000,
+         "NOTIFY": USER_NOTIF, "TRACE": TRACE, "LOG": LOG, "ALLOW": ALLOW}
+
+
+def jgt(k, jt, jf):
+    return insn(0x25, k, jt, jf)
+
+
+def jset(k, jt, jf):
+    return insn(0x45, k, jt, jf)
+
+
+def gate(native):
+    return load(4) + jeq(X86_64, 1, 0) + ret(KILL_PROCESS) + load(0) + jge(X32, 0, 1) + ret(KILL_PROCESS) + native
+
+
+def of_numbers(codes, other):
+    """Answers each of these numbers by a piece of code, and all others so."""
+    return gate(b"".join(jeq(number, 0, len(code) // 8) + code for number, code in codes.items()) + ret(other))
+
+
+def answer_of_profile(profile, name, arguments):
+    """The word that a profile answers to a syscall; an answer of two entries is one, since they don't conflict."""
+    def word(action, errno):
+        action = action.removeprefix("SCMP_ACT_")
+        return WORDS[action] | (0 if action not in ("ERRNO", "TRACE") else 1 if errno is None else errno)
+
+    found = {word(entry["action"], entry.get("errnoRet")) for entry in profile["syscalls"] if name in entry["names"]
+             and all(HOLDS[it["op"]](arguments[it["index"]], it["value"], it.get("valueTwo", 0))
+                     for it in entry.get("args", ()))}
+    assert len(found) < 2, found
+    return found.pop() if found else word(profile["defaultAction"], profile.get("defaultErrnoRet"))
+
+
+def rank_of(word):
+    """Denied, delegated or allowed, by what the kernel does with an action (`__seccomp_filter` of kernel/seccomp.c)."""
+    action = word & 0xFFFF0000
+    return 2 if action in (LOG, ALLOW) else 1 if action in (USER_NOTIF, TRACE) else 0
+
+
+def corners(filters):
+    """Words at which a test of the filters may change."""
+    found = {0, 1, 0xFFFFFFFF}
+    for data in filters:
+        for code, _, _, k in unpacked(data):
+            if code & 7 in (4, 5) and code != 5 and k not in (X86_64, X32):
+                found.update(it & 0xFFFFFFFF for it in (k - 1, k, k + 1, ~k))
+    return sorted(found)
+
+
+def profiles_in(text):
+    """The profiles in a tool's output, among lines that it adds."""
+    lines = [line for line in text.splitlines(keepends=True) if not line.startswith("#")]
+    found, rest = [], "".join(lines)
+    while rest.strip():
+        value, end = json.JSONDecoder().raw_decode(rest.lstrip())
+        found.append(value)
+        rest = rest.lstrip()[end:]
+    return found
+
+
+def where(index, op, value, two, left, right):
+    """Goes left where a condition on an argument holds, else right, as libseccomp tests both halves."""
+    low, size = 16 + 8 * index, len(left) // 8
+    masks = (b"", b"")
+    if op == "SCMP_CMP_MASKED_EQ":
+        masks, value = (insn(0x54, value >> 32), insn(0x54, value & 0xFFFFFFFF)), two & value
+    elif op in ("SCMP_CMP_NE", "SCMP_CMP_LT", "SCMP_CMP_LE"):
+        opposite = {"SCMP_CMP_NE": "SCMP_CMP_EQ", "SCMP_CMP_LT": "SCMP_CMP_GE", "SCMP_CMP_LE": "SCMP_CMP_GT"}[op]
+        return where(index, opposite, value, 0, right, left)
+    high, value = value >> 32, value & 0xFFFFFFFF
+    if op in ("SCMP_CMP_EQ", "SCMP_CMP_MASKED_EQ"):
+        behind = load(low) + masks[1] + jeq(value, 0, size)
+        return load(low + 4) + masks[0] + jeq(high, 0, len(behind) // 8 + size) + behind + left + right
+    behind = load(low) + {"SCMP_CMP_GT": jgt, "SCMP_CMP_GE": jge}[op](value, 0, size)
+    return load(low + 4) + jgt(high, 3, 0) + jeq(high, 0, 2 + size) + behind + left + right
+
+
+class Drawn:
+    """Filters that are drawn: trees of tests of arguments, below tests of the number."""
+
+    def __init__(self, seed):
+        self.random = random.Random(seed)
+
+    def answer(self):
+        said = (ALLOW, EPERM, 0x00050000 | 38, KILL_PROCESS, LOG, TRACE | 7)
+        return ret(self.random.choice((TRAP | 9, 0x12340000, ALLOW | 1) if self.random.random() < 0.03 else said))
+
+    def value(self):
+        return self.random.choice((0, 1, 2, 3, 9, 16, 0x20000, 0xFFFFFFFF, self.random.getrandbits(32)))
+
+    def of_words(self, left, right):
+        """A test of a half of an argument, perhaps masked; or one that no profile makes."""
+        if self.random.random() < 0.1:
+            code = self.random.choice((load(8), load(24) + insn(0x07, 0) + load(16)))
+            return code + insn(self.random.choice((0x1D, 0x2D)), 0, 0, len(left) // 8) + left + right
+        code = load(self.random.choice((16, 16, 24)) + self.random.choice((0, 0, 4)))
+        if self.random.random() < 0.4:
+            code += insn(self.random.choice((0x54, 0x44, 0xA4, 0x04)), self.random.choice((3, 0xFF, 0x7E020000)))
+        made = self.random.choice((jeq, jeq, jgt, jge, jset))
+        return code + made(self.value(), 0, len(left) // 8) + left + right
+
+    def tree(self, depth):
+        if depth == 0 or self.random.random() < 0.15:
+            return self.answer()
+        left, right = self.tree(depth - 1), self.tree(depth - 1)
+        if self.random.random() < 0.3:
+            return self.of_words(left, right)
+        value = self.random.choice((0, 0, 0, 0xFFFFFFFF)) << 32 | self.value()
+        return where(self.random.choice((0, 0, 1, 2)), self.random.choice(sorted(HOLDS)), value, self.value(), left,
+                     right)
+
+    def filter(self):
+        chosen = self.random.sample(sorted(NAMES.values()), 3)
+        return of_numbers({number: self.tree(self.random.choice((1, 2, 3))) for number in chosen},
+                          self.random.choice((EPERM, KILL_PROCESS, ALLOW)))
+
+    def filters(self):
+        return [self.filter() for _ in range(self.random.choice((1, 1, 1, 2)))]
+
+    def records(self, filters):
+        """Calls of the named numbers, at corners of the tests and elsewhere."""
+        words = corners(filters)
+
+        def argument():
+            high = self.random.choice((0, 0, 0, 0xFFFFFFFF, *words[:4], self.random.choice(words)))
+            return high << 32 | self.random.choice((self.random.choice(words), self.random.getrandbits(32)))
+
+        for name, number in NAMES.items():
+            for _ in range(100):
+                arguments = tuple(argument() for _ in range(3)) + (0, 0, 0)
+                yield name, Call(number, X86_64, self.random.choice((0, self.random.getrandbits(64))), arguments)
+
+
+def entry(answer, *names, **condition):
+    """An entry of a profile as the tool prints it."""
+    action, _, errno = answer.partition(" ")
+    found = {"names": list(names), "action": f"SCMP_ACT_{action}", **({"errnoRet": int(errno)} if errno else {})}
+    return {**found, "args": [condition]} if condition else found
+
+
+class Profiles(Case):
+    """What the tool prints for made and drawn filters."""
+
+    def setUp(self):
+        super().setUp()
+        self.table = self.file("own.table", OWN)
+
+    def run_on(self, filters, *words, **settings):
+        names = [self.file(f"{at}.bpf", data) for at, data in enumerate(filters)]
+        return self.run_tool("profile-of", "--table", self.table, *words, *names, **settings)
+
+    def is_read(self, filters, default, *entries, words=()):
+        """The whole profile of filters, which are answered by it."""
+        status, out, err = self.run_on(filters, *words)
+        self.assertEqual((status, err), (0, ""))
+        action, _, errno = default.partition(" ")
+        self.assertEqual(json.loads(out), {
+            "defaultAction": f"SCMP_ACT_{action}", **({"defaultErrnoRet": int(errno)} if errno else {}),
+            "architectures": ["SCMP_ARCH_X86_64"], "syscalls": list(entries)})
+        profile = self.file("printed.json", out)
+        names = [self.file(f"{at}.bpf", data) for at, data in enumerate(filters)]
+        self.assertEqual(self.run_tool("compare", "--table", self.table, *names, profile)[:2], (0, "same\n"))
+
+    def is_judged(self, filters, profile, holds, records):
+        """The relation between the words of the filters and of the profile, at each record."""
+        for name, call in records:
+            ours = answers.Answer.read(StandIn().decide(filters, call)).word
+            theirs = answer_of_profile(profile, name, call.arguments)
+            self.assertTrue(holds(ours, theirs), (name, call, hex(ours), hex(theirs), profile))
+
+    def test_drawn(self):
+        """The profile answers as the filters, or one is nowhere stricter and the other nowhere more permissive."""
+        counts = {0: 0, 4: 0}
+        for seed in range(16):
+            drawn = Drawn(seed)
+            filters = drawn.filters()
+            status, out, err = self.run_on(filters, "--limit", "1000000")
+            counts[status] += 1
+            found, records = profiles_in(out), list(drawn.records(filters))
+            self.assertEqual(err, "")
+            if status == 0:
+                self.is_judged(filters, found[0], lambda ours, theirs: ours == theirs, records)
+            else:
+                self.assertIn(len(found), (1, 2))
+                self.is_judged(filters, found[0], lambda ours, theirs: rank_of(ours) <= rank_of(theirs), records)
+                self.is_judged(filters, found[-1], lambda ours, theirs: rank_of(ours) >= rank_of(theirs), records)
+        self.assertGreater(counts[0], 5)
+        self.assertGreater(counts[4], 2)
+
+    def test_names_and_answers(self):
+        """An entry for each answer but the default's, which is that of numbers without a name."""
+        self.is_read([of_numbers({0: ret(ALLOW), 1: ret(ALLOW), 41: ret(0x00050000 | 22), 135: ret(TRACE | 7),
+                                  16: ret(USER_NOTIF)}, KILL_PROCESS)], "KILL_PROCESS",
+                     entry("ALLOW", "read", "write"), entry("NOTIFY", "ioctl"), entry("TRACE 7", "personality"),
+                     entry("ERRNO 22", "socket"))
+        self.is_read([ret(TRAP)], "TRAP")
+        self.is_read([gate(ret(LOG))], "LOG")
+        self.is_read([of_numbers({0: ret(KILL_THREAD)}, TRACE | 65535)], "TRACE 65535", entry("KILL_THREAD", "read"))
+
+    def test_each_operator(self):
+        """What libseccomp makes of a condition is read back as that condition."""
+        value = 0x1_0000_0010
+        for op in sorted(HOLDS):
+            more = {"valueTwo": 16} if op == "SCMP_CMP_MASKED_EQ" else {}
+            code = where(1, op, value, 16, ret(ALLOW), ret(EPERM))
+            shown = {"SCMP_CMP_LT": ("SCMP_CMP_LE", value - 1), "SCMP_CMP_GT": ("SCMP_CMP_GE", value + 1)}
+            shown_op, shown_value = shown.get(op, (op, value))
+            with self.subTest(op):
+                self.is_read([of_numbers({41: code}, EPERM)], "ERRNO 1",
+                             entry("ALLOW", "socket", index=1, value=shown_value, **more, op=shown_op))
+
+    def test_halves_and_bits(self):
+        """A test of a half, or of some bits, is a mask; any of some bits is an entry for each."""
+        masked = {"index": 0, "op": "SCMP_CMP_MASKED_EQ"}
+        self.is_read([of_numbers({41: load(16) + jeq(10, 0, 1) + ret(ALLOW) + ret(EPERM)}, EPERM)], "ERRNO 1",
+                     entry("ALLOW", "socket", value=0xFFFFFFFF, valueTwo=10, **masked))
+        self.is_read([of_numbers({41: load(16) + jset(6, 0, 1) + ret(ALLOW) + ret(EPERM)}, EPERM)], "ERRNO 1",
+                     *(entry("ALLOW", "socket", value=bit, valueTwo=bit, **masked) for bit in (2, 4)))
+        # from 6 to 15: 6 and 7, and 8 to 15
+        at_most = where(0, "SCMP_CMP_LE", 15, 0, ret(ALLOW), ret(EPERM))
+        self.is_read([of_numbers({41: where(0, "SCMP_CMP_GE", 6, 0, at_most, ret(EPERM))}, EPERM)], "ERRNO 1",
+                     entry("ALLOW", "socket", value=MOST - 1, valueTwo=6, **masked),
+                     entry("ALLOW", "socket", value=MOST - 7, valueTwo=8, **masked))
+
+    def test_values_or_masks(self):
+        """Some values are listed, though a mask would join them; many are joined."""
+        def any_of(values):
+            tests = b"".join(jeq(value, len(values) - at, 0) for at, value in enumerate(values))
+            return load(20) + jeq(0, 0, len(values) + 1) + load(16) + tests + ret(EPERM) + ret(ALLOW)
+
+        values = (0, 8, 0x20000, 0x20008, 0xFFFFFFFF)
+        self.is_read([of_numbers({135: any_of(values)}, EPERM)], "ERRNO 1",
+                     *(entry("ALLOW", "personality", index=0, value=it, op="SCMP_CMP_EQ") for it in values))
+        self.is_read([of_numbers({135: any_of(range(3, 67, 4))}, EPERM)], "ERRNO 1",
+                     entry("ALLOW", "personality", index=0, value=MOST - 60, valueTwo=3, op="SCMP_CMP_MASKED_EQ"))
+        # none of some bits, and not 0
+        code = where(0, "SCMP_CMP_EQ", 0, 0, ret(EPERM), load(16) + jset(0x7E020000, 0, 1) + ret(EPERM) + ret(ALLOW))
+        status, out, err = self.run_on([of_numbers({135: code}, ALLOW)])
+        self.assertEqual((status, err, len(json.loads(out)["syscalls"])), (0, "", 8))
+
+    def test_several_arguments(self):
+        """Conditions that hold together are one entry; so is one that several syscalls have."""
+        def denied_for(number):
+            return where(0, "SCMP_CMP_EQ", 16, 0, where(2, "SCMP_CMP_EQ", number, 0, ret(0x00050000 | 22), ret(ALLOW)),
+                         ret(ALLOW))
+
+        self.is_read([of_numbers({41: denied_for(9), 16: denied_for(9)}, ALLOW)], "ALLOW",
+                     {**entry("ERRNO 22", "ioctl", "socket"),
+                      "args": [{"index": 0, "value": 16, "op": "SCMP_CMP_EQ"},
+                               {"index": 2, "value": 9, "op": "SCMP_CMP_EQ"}]})
+
+    def test_a_stack(self):
+        """The strictest answer counts, and of equal actions the newest filter's."""
+        self.is_read([of_numbers({0: ret(EPERM), 41: ret(EPERM)}, ALLOW), of_numbers({0: ret(0x00050000 | 38)}, ALLOW),
+                      of_numbers({1: ret(LOG), 41: ret(KILL_THREAD)}, ALLOW)], "ALLOW",
+                     entry("LOG", "write"), entry("ERRNO 38", "read"), entry("KILL_THREAD", "socket"))
+
+    def is_bounded(self, filters, *says):
+        """Profiles on both sides; and what is said of them."""
+        status, out, err = self.run_on(filters)
+        self.assertEqual((status, err), (4, ""))
+        for text in ("# no profile was found that scf proves to answer as the filters do\n", *says):
+            self.assertIn(text, out)
+        found = profiles_in(out)
+        names = [self.file(f"{at}.bpf", data) for at, data in enumerate(filters)]
+        for relation, profile in (("--no-more", found[0]), ("--no-less", found[-1])):
+            path = self.file("bound.json", json.dumps(profile))
+            self.assertEqual(self.run_tool("compare", "--table", self.table, relation, *names, path)[0], 0)
+        return found
+
+    def test_data_that_no_profile_says(self):
+        """One profile is on both sides, since only the answer's data differs."""
+        found = self.is_bounded([of_numbers({41: ret(TRAP | 9)}, ALLOW)],
+                                "# proved: nowhere stricter and nowhere more permissive than the filters\n"
+                                "# only other answers, since no profile gives TRAP 9: socket\n")
+        self.assertEqual([it["syscalls"] for it in found], [[entry("TRAP", "socket")]])
+
+    def test_the_instruction_pointer_and_two_arguments(self):
+        """Between what a call always gets and what it may get."""
+        pointer = load(8) + jeq(7, 0, 1) + ret(ALLOW) + ret(EPERM)
+        found = self.is_bounded([of_numbers({41: pointer}, KILL_PROCESS)],
+                                "# socket: its answer depends on the instruction pointer\n")
+        self.assertEqual([it["syscalls"] for it in found], [[entry("ALLOW", "socket")], [entry("ERRNO 1", "socket")]])
+        pair = load(24) + insn(0x07, 0) + load(16) + insn(0x1D, 0, 0, 1) + ret(ALLOW) + ret(EPERM)
+        both = where(1, "SCMP_CMP_EQ", 3, 0, pair, ret(EPERM))
+        found = self.is_bounded([of_numbers({41: both}, EPERM)], "# socket: its answer depends on a comparison or "
+                                "computation that no operator makes\n")
+        self.assertEqual([it["syscalls"] for it in found],
+                         [[entry("ALLOW", "socket", index=1, value=3, op="SCMP_CMP_EQ")], []])
+
+    def test_one_side(self):
+        """With an option one profile is printed, as JSON, and what is said of it goes to standard error."""
+        pointer = of_numbers({41: load(8) + jeq(7, 0, 1) + ret(ALLOW) + ret(EPERM)}, KILL_PROCESS)
+        for word, answer in (("--no-less", "ALLOW"), ("--no-more", "ERRNO 1")):
+            status, out, err = self.run_on([pointer], word)
+            self.assertEqual((status, json.loads(out)["syscalls"]), (0, [entry(answer, "socket")]))
+            self.assertIn("socket: its answer depends on the instruction pointer\n", err)
+        self.is_read([of_numbers({0: ret(EPERM)}, ALLOW)], "ALLOW", entry("ERRNO 1", "read"), words=("--no-more",))
+
+    def test_numbers_without_a_name(self):
+        """A profile gives them its default; if they differ, that is said."""
+        other = of_numbers({7: ret(ALLOW), 0: ret(ALLOW)}, EPERM)
+        found = self.is_bounded([other], "# numbers that the table doesn't name differ, such as 2: filter ERRNO 1 "
+                                "profile ALLOW\n")
+        self.assertEqual([it["defaultAction"] for it in found], ["SCMP_ACT_ALLOW", "SCMP_ACT_ERRNO"])
+
+    def test_the_stub_of_runc(self):
+        """Numbers above all that the profile names get ENOSYS from runc, whatever the profile says."""
+        stubbed = gate(jge(136, 0, 1) + ret(0x00050000 | 38) + jeq(0, 0, 1) + ret(ALLOW) + ret(EPERM))
+        status, out, err = self.run_on([stubbed], "--runtime", "runc")
+        self.assertEqual((status, err), (0, "profile-of: runc answers the numbers from 136 on, above all that the "
+                                            "profile names, with ENOSYS\n"))
+        # the greatest number below is named, so that the stub begins there
+        self.assertEqual(json.loads(out)["syscalls"], [entry("ALLOW", "read"), entry("ERRNO 1", "personality")])
+        self.assertEqual(self.run_on([stubbed])[0], 4)
+
+    def test_other_abis_are_told(self):
+        status, _, err = self.run_on([ret(ALLOW)])
+        self.assertEqual(status, 0)
+        self.assertIn("profile-of: i386: ", err)
+
+    def test_refusals(self):
+        for filters, table, status, says in (
+                ([jeq(0, 9, 0) + ret(ALLOW)], OWN, 1, "profile-of: fault filter Jump at 0\nprofile-of: This jump"),
+                ([b"\6\0"], OWN, 3, "profile-of: fault filter Truncated"),
+                ([ret(ALLOW)], "read\n", 1, "profile-of: fault table Form line 1\n")):
+            self.table = self.file("own.table", table)
+            found, out, err = self.run_on(filters)
+            self.assertEqual((found, out), (status, ""))
+            self.assertTrue(err.startswith(says), err)
+        self.table = self.file("own.table", OWN)
+        self.assertEqual(self.run_on([ret(ALLOW)], "--limit", "x")[0], 2)
+
+    def test_usage(self):
+        self.says_usage("profile-of")
+        self.assertEqual(self.run_tool("profile-of", "--no-more", "--no-less", "x")[0], 2)
+        self.assertEqual(self.run_tool("profile-of", "-", "-")[0], 2)
+        self.assertEqual(self.closed_output("profile-of", self.file("f.bpf", ret(ALLOW)))[0], 3)
+
+    def test_what_computes_too_much(self):
+        """It ends soon, and says what is proved."""
+        many = b"".join(load(16 + 8 * (at % 6)) + insn(0x0C, 0) + insn(0x07, 0) + jset(1 << at % 32, 0, 1)
+                        + insn(0x87, 0) for at in range(600))
+        status, out, _ = self.run_on([gate(many + jset(1, 0, 1) + ret(ALLOW) + ret(EPERM))], seconds=20)
+        self.assertEqual(status, 4)
+        self.assertIn("# no profile was found", out)
