@@ -127,7 +127,7 @@ class List(Case):
             "> 4  jge #0x40000000, 0, 1  // x32: to 5, else 6",
             "  5  ret #0x80000000        // KILL_PROCESS",
             "> 6  jeq #0x0, 1, 0         // read: to 8, else 7",
-            "> 7  ret #0x50001           // ERRNO 1",
+            "> 7  ret #0x50001           // ERRNO 1 (EPERM)",
             "  8  ret #0x7fff0000        // ALLOW",
             "# the syscall is write (1)",
             "# ERRNO 1: the syscall fails with EPERM", ""])
@@ -195,7 +195,8 @@ class Ask(Case):
 
     def test_an_entry_and_its_conditions(self):
         self.assertEqual(self.asked("--nr", "socket", "--a0", "16", "--a1", "0xf01"), (0, [
-            "ALLOW 0 entry 2", "# the syscall is socket (41)", "# ALLOW: the syscall is executed",
+            "ALLOW 0 entry 2", "# the syscall is socket (41): socket(AF_NETLINK, SOCK_STREAM|SOCK_NONBLOCK|0x700, "
+            "NETLINK_ROUTE)", "# ALLOW: the syscall is executed",
             f"# by entry 2 of syscalls: {json.dumps(self.ENTRIES[2])}",
             "# argument 0 is 16 (0x10): SCMP_CMP_NE 40 (0x28) holds",
             "# argument 1 is 3841 (0xf01): SCMP_CMP_MASKED_EQ 255 (0xff) of 513 (0x201) holds"]))
@@ -377,7 +378,7 @@ class Behind(Case):
         for filters in ([allow, other, allow], [other, allow], [other, other]):
             header, tests = self.way(self.added("--native", *filters, profile))
             self.assertTrue(header.endswith("/b\\x1b.bpf:"), header)
-            self.assertTrue(tests[-1].endswith("// ERRNO 1"), tests)
+            self.assertTrue(tests[-1].endswith("// ERRNO 1 (EPERM)"), tests)
             out = self.run_tool("decide", "--nr=write", *filters)[1]
             self.assertIn("/b\\x1b.bpf: 0 1 3 4 6 7\n", out)
 

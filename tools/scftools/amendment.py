@@ -1,0 +1,176 @@
+"""Amendments: the least change of a profile by which it allows a syscall that it denies, and changes no other answer.
+
+A change is offered only if scf proved it: the changed profile is the `same` as the profile's own filter with the
+exception before it.
+"""
+from __future__ import annotations
+
+import json
+from collections.abc import Iterator
+
+from . import arguments, entries, filters
+from .answers import Answer
+from .client import Refusal
+from .entries import Object
+from .events import Event
+from .filters import LONGEST
+from .reasons import Reason
+from .trials import Trial
+from .values import dataclass
+from .verdicts import SAME
+
+ALLOW = "SCMP_ACT_ALLOW"
+EQUAL, MASKED, UNEQUAL = "SCMP_CMP_EQ", "SCMP_CMP_MASKED_EQ", "SCMP_CMP_NE"
+HALF, WORD = (1 << 32) - 1, (1 << 64) - 1
+
+
+@dataclass(frozen=True)
+class Amendment:
+    """A change: what is taken out of which entries, what is added, and on which arguments; the changed profile."""
+
+    name: str
+    # the indexes of entries, and whether they have no other name
+    taken_out: tuple[tuple[int, bool], ...]
+    added: tuple[dict[str, object], ...]
+    conditions: tuple[tuple[int, int, int], ...]
+    profile: bytes
+
+    def steps(self) -> Iterator[str]:
+        """What to do to the profile, in order."""
+        for index, is_alone in self.taken_out:
+            yield f"remove entry {index}" if is_alone else f"take {self.name} out of the names of entry {index}"
+        for entry in self.added:
+            yield f"add to syscalls: {json.dumps(entry)}"
+
+    def told(self) -> str:
+        """The calls that it allows."""
+        where = " and ".join(f"argument {index} " + (f"& {mask:#x} " if mask != WORD else "") + f"is {value & mask:#x}"
+                             for index, mask, value in self.conditions)
+        return f"{self.name} where {where}" if where else f"every {self.name}"
+
+    def as_json(self) -> dict[str, object]:
+        return {"taken_out": [index for index, _ in self.taken_out], "added": list(self.added)}
+
+
+def conditions_of(event: Event, name: str) -> list[dict[str, object]]:
+    """Conditions that hold of the known arguments that the syscall has and that are no addresses."""
+    kinds, found = arguments.read().get(name, ""), []
+    for index, values in enumerate(event.arguments[:len(kinds)]):
+        if values is None or kinds[index] == arguments.ADDRESS:
+            continue
+        if len(values) == 1:
+            found.append({"index": index, "value": values[0], "op": EQUAL})
+        elif kinds[index] == arguments.HALF and len({value & HALF for value in values}) == 1:
+            found.append({"index": index, "value": HALF, "valueTwo": values[0] & HALF, "op": MASKED})
+    return found
+
+
+def _tests_of(conditions: list[dict[str, object]]) -> tuple[tuple[int, int, int], ...]:
+    """The same for a filter: indexes, masks and values."""
+    return tuple((it["index"], it["value"], it["valueTwo"]) if it["op"] == MASKED else (it["index"], WORD, it["value"])
+                 for it in conditions)
+
+
+class Search:
+    """Tries changes of a profile that allow a syscall of one name."""
+
+    def __init__(self, profile: bytes, trial: Trial, name: str, number: int):
+        self.trial, self.name, self.number = trial, name, number
+        self.filter = trial.filter_of(profile)
+        self.top = entries.read(profile)
+
+    def _changed(self, taken_out: list[int], added: list[dict[str, object]],
+                 conditions: list[dict[str, object]]) -> Amendment:
+        """A change, which isn't proved yet."""
+        assert self.top is not None
+        known = self.trial.table.names_of(self.number)
+        found, gone = [], []
+        for index, entry in enumerate(self.top.get("syscalls", [])):
+            if index not in taken_out:
+                found.append(entry)
+                continue
+            names = [it for it in entry["names"] if it not in known]
+            gone.append((index, not names))
+            found += [Object({**entry, "names": names})] if names else []
+        changed = {**self.top, "syscalls": [*found, *added]}
+        return Amendment(self.name, tuple(gone), tuple(added), _tests_of(conditions), json.dumps(changed).encode())
+
+    def _is_proved(self, change: Amendment) -> bool:
+        """Whether scf proves that the changed profile allows these calls, and answers all others as before."""
+        excepted = filters.with_exception(self.filter, self.number, change.conditions, Answer("ALLOW", 0).word)
+        if len(excepted) > LONGEST * filters.INSTRUCTION.size:
+            return False
+        try:
+            verdict = self.trial.verdict([excepted], change.profile, "--native")
+        except Refusal:
+            return False
+        return verdict.word == SAME
+
+    def _with(self, taken_out: list[int], conditions: list[dict[str, object]]) -> Iterator[Amendment]:
+        assert self.top is not None
+        allowed: dict[str, object] = {"names": [self.name], "action": ALLOW}
+        if conditions:
+            allowed["args"] = conditions
+        yield self._changed(taken_out, [allowed], conditions)
+
+    def _by_entry(self, place: int, conditions: list[dict[str, object]]) -> Iterator[Amendment]:
+        """Changes of an entry that denies, to one that doesn't deny the calls with all of these arguments. Each of its
+        own conditions must be on one of them, and for one value."""
+        assert self.top is not None
+        entry = self.top["syscalls"][place]
+        own = {it["index"]: it for it in entry.get("args") or []}
+        known = {it["index"] for it in conditions}
+        if any(it["op"] != EQUAL for it in (*conditions, *own.values())) or own.keys() - known:
+            return
+        denial = {key: entry[key] for key in ("action", "errnoRet") if key in entry}
+        others = [{"names": [self.name], **denial, "args": [*own.values(), {**it, "op": UNEQUAL}]}
+                  for it in conditions if it["index"] not in own]
+        allowed: dict[str, object] = {"names": [self.name], "action": ALLOW, "args": conditions}
+        if self.top["defaultAction"] == ALLOW:
+            yield self._changed([place], others, conditions)
+        yield self._changed([place], [allowed, *others], conditions)
+
+    def _of_entry(self, place: int) -> Iterator[Amendment]:
+        """The change of an entry with conditions to one that allows."""
+        assert self.top is not None
+        own = [dict(it) for it in self.top["syscalls"][place].get("args") or []]
+        if own and all(it["op"] in (EQUAL, MASKED) for it in own):
+            conditions = [{**it, "valueTwo": it.get("valueTwo", 0)} for it in own]
+            yield self._changed([place], [{"names": [self.name], "action": ALLOW, "args": own}], conditions)
+
+    def candidates(self, reason: Reason, conditions: list[dict[str, object]]) -> Iterator[Amendment]:
+        """Changes that allow the calls with these arguments, the smallest first."""
+        assert self.top is not None
+        if reason.entry is not None and conditions:
+            yield from self._by_entry(reason.entry, conditions)
+            return
+        if reason.entry is None:
+            yield from self._with([], conditions)
+        elif not conditions:
+            yield from self._of_entry(reason.entry)
+        if not conditions:
+            naming = [index for index, entry in enumerate(self.top.get("syscalls", []))
+                      if any(self.trial.table.number_of(it) == self.number for it in entry["names"])]
+            if self.top["defaultAction"] == ALLOW:
+                yield self._changed(naming, [], conditions)
+            yield from self._with(naming, conditions)
+
+    def run(self, reason: Reason, conditions: list[dict[str, object]]) -> Amendment | None:
+        """The first change that scf proves, None if it proves none."""
+        return next((it for it in self.candidates(reason, conditions) if self._is_proved(it)), None)
+
+
+def amendments(profile: bytes, event: Event, reason: Reason, trial: Trial) -> Iterator[Amendment]:
+    """The changes that allow the calls with the known arguments of an event, and then all that the entry denies. There
+    are none if the syscall is of another ABI, or has no name in the table."""
+    names = trial.table.names_of(event.call.number) if event.call.is_native else []
+    if not names or reason.is_foreign or reason.answer is None or reason.answer.allows:
+        return
+    search = Search(profile, trial, names[0], event.call.number)
+    if search.top is None:
+        return
+    conditions = conditions_of(event, names[0])
+    for some in ([conditions] if conditions else []) + [[]]:
+        found = search.run(reason, some)
+        if found is not None:
+            yield found

@@ -1,0 +1,315 @@
+"""Causes: why a syscall was denied, delegated or logged, by a profile and by filters, in lines and as JSON."""
+from __future__ import annotations
+
+from collections.abc import Iterator, Sequence
+
+from . import amendment, ask, client, decisions, explanation, paths, program, reasons, refusals
+from .amendment import Amendment
+from .answers import ERRNOS, Answer
+from .calls import Call
+from .client import Refusal
+from .diagnosis import CONTRADICTS, FITS, UNKNOWN, Case, Stack, cases, rank, verdict_of
+from .events import CORE, EVENTS, RECORD, STRACE, Event, Found
+from .filters import Filter
+from .tables import Table
+from .trials import Trial
+from .values import dataclass, field
+from .verdicts import FOR_OTHER_ABI
+
+# What a source doesn't have.
+LACKS = {
+    RECORD: "the record has neither the arguments nor the data of the action, nor which filter gave it",
+    CORE: "the core doesn't have the action, nor which filter gave it",
+    STRACE: "strace doesn't show which filter gave the answer",
+}
+WANTED = ("no syscall that a filter may have answered is in it: an audit record has type=1326 or type=SECCOMP, and of "
+          "strace the line is wanted of a syscall that failed, or the one before SIGSYS")
+
+
+@dataclass(frozen=True)
+class Party:
+    """What a profile, or a stack of filters, answers to an event; or why scf refuses it."""
+
+    # "the profile", "the filter" or "the filters"
+    name: str
+    found: tuple[Case, ...] = ()
+    verdict: str = UNKNOWN
+    refusal: Refusal | None = None
+    # whether the syscall is of an architecture that the profile also names
+    is_undetermined: bool = False
+
+    @property
+    def are(self) -> bool:
+        """Whether it is several."""
+        return self.name.endswith("s")
+
+
+@dataclass(frozen=True)
+class Given:
+    """What is given beside events: a profile, filters oldest first, and how scf is asked."""
+
+    trial: Trial
+    profile: bytes | None = None
+    filters: Sequence[Filter] = ()
+
+    @property
+    def table(self) -> Table:
+        return self.trial.table
+
+
+@dataclass
+class Cause:
+    """An event, how often it was found, what is given beside it, and what changes of the profile allow it."""
+
+    event: Event
+    count: int
+    given: Given
+    profile: Party | None = None
+    filters: Party | None = None
+    changes: list[Amendment] = field(default_factory=list)
+
+    @property
+    def parties(self) -> list[Party]:
+        return [it for it in (self.profile, self.filters) if it is not None]
+
+    @property
+    def status(self) -> int:
+        verdicts = {CONTRADICTS: program.NEGATIVE, UNKNOWN: program.UNKNOWN, FITS: program.SUCCESS}
+        return client.worst(verdicts[it.verdict] if it.refusal is None else it.refusal.status for it in self.parties)
+
+
+def _party(name: str, stack: Stack, event: Event) -> Party:
+    try:
+        found = tuple(cases(stack, event))
+    except Refusal as why:
+        return Party(name, refusal=why)
+    return Party(name, found, verdict_of(found))
+
+
+def of(event: Event, count: int, given: Given) -> Cause:
+    """What a profile and filters say of an event."""
+    found = Cause(event, count, given)
+    if given.filters:
+        name = "the filter" if len(given.filters) == 1 else "the filters"
+        found.filters = _party(name, Stack([it.data for it in given.filters], given.trial), event)
+    if given.profile is None:
+        return found
+    try:
+        stack = Stack([given.trial.filter_of(given.profile)], given.trial)
+    except Refusal as why:
+        found.profile = Party("the profile", refusal=why)
+        return found
+    reason = reasons.of(given.profile, given.table, event.call.words())
+    if ask.is_undetermined(reason, event.call, given.profile, given.table):
+        found.profile = Party("the profile", is_undetermined=True)
+        return found
+    found.profile = _party("the profile", stack, event)
+    denied = next((it for it in found.profile.found if not it.answer.allows), None)
+    if denied is not None:
+        reason = reasons.of(given.profile, given.table, denied.call.words())
+        found.changes = list(amendment.amendments(given.profile, event, reason, given.trial))
+    return found
+
+
+def _arguments(call: Call, table: Table) -> str:
+    """The arguments of a call, and the call as C has it."""
+    shown = call.as_c(table)
+    return " ".join(map(hex, call.arguments)) + (f": {shown}" if shown else "")
+
+
+def _of_event(cause: Cause) -> Iterator[str]:
+    """What the source says, and what it doesn't."""
+    event = cause.event
+    more = f"; such records: {cause.count}" if cause.count > 1 else ""
+    yield f"{event.who()}: the syscall is {event.call.told(cause.given.table)}{more}"
+    if event.outcome.is_result:
+        code = event.outcome.data or 0
+        yield (f"it failed with {ERRNOS.get(code, f'errno {code}')}: by ERRNO {code}, by a tracer or a supervisor, or "
+               f"by the kernel itself, which strace doesn't show")
+    else:
+        data = "" if event.outcome.data is None or len(event.outcome.actions) == 1 else \
+            f", with {event.outcome.data} as data"
+        yield f"the action is {event.outcome.told()}{data}"
+    known = [(index, values[0]) for index, values in enumerate(event.arguments) if values and len(values) == 1]
+    if known and not event.unknown:
+        yield f"its arguments: {_arguments(event.with_values(dict(known)), cause.given.table)}"
+    elif known:
+        yield "its arguments, as far as they are shown: " + ", ".join(f"{at} is {value:#x}" for at, value in known)
+    yield LACKS[event.source]
+
+
+def _relation(party: Party, event: Event) -> str:
+    """How the answers of a party stand beside an event that they contradict."""
+    s, them = "" if party.are else "s", "them" if party.are else "it"
+    ranks, own = [rank(it.answer.word >> 16) for it in party.found], list(map(rank, event.outcome.halves))
+    others = f"another filter of the process answered so, or it isn't under {party.name}"
+    if min(ranks) > max(own):
+        itself = "the kernel itself, or " if event.outcome.is_result else ""
+        return f"{party.name} {'are' if party.are else 'is'} more permissive: {itself}{others}"
+    if max(ranks) < min(own):
+        return f"{party.name} would have answered more strictly: the process isn't under {them}"
+    return f"{party.name} answer{s} otherwise: {others}"
+
+
+def _of_verdict(party: Party, event: Event) -> Iterator[str]:
+    """Whether a party answers as the event was answered."""
+    s = "" if party.are else "s"
+    if party.verdict == CONTRADICTS:
+        yield _relation(party, event)
+    elif party.verdict == UNKNOWN:
+        yield f"whether {party.name} answer{s} so with other arguments isn't known"
+    elif all(it.fits and it.is_for_all for it in party.found):
+        yield f"so {party.name} answer{s} it"
+    else:
+        yield f"so {party.name} answer{s} it with such arguments, and not with all"
+
+
+def _of_case(case: Case, event: Event, table: Table) -> Iterator[str]:
+    """For which arguments a case is."""
+    if not case.is_for_all:
+        yield f"for example with args {_arguments(case.call, table)}"
+    elif event.unknown:
+        yield "whatever the arguments are" if len(event.unknown) == 6 else "whatever the other arguments are"
+
+
+def _of_refusal(why: Refusal, given: Given) -> Iterator[str]:
+    yield why.line
+    if why.fault is not None:
+        yield from (f"# {line}" for line in refusals.sentences(why.fault, given.profile or b"", given.table))
+
+
+def _of_profile(cause: Cause) -> Iterator[str]:
+    """What the profile answers, and by which entry."""
+    party, given = cause.profile, cause.given
+    if party is None or given.profile is None:
+        return
+    if party.refusal is not None:
+        yield from _of_refusal(party.refusal, given)
+        return
+    if party.is_undetermined:
+        yield FOR_OTHER_ABI
+        return
+    for case in party.found:
+        reason = reasons.of(given.profile, given.table, case.call.words())
+        yield reason.line
+        yield f"# {explanation.of_answer(case.answer)}"
+        yield from (f"# {line}" for line in reasons.told(reason, given.profile, case.call if case.is_for_all
+                                                         and not cause.event.unknown or not case.is_for_all else None))
+        yield from (f"# {line}" for line in _of_case(case, cause.event, given.table))
+    yield from (f"# {line}" for line in _of_verdict(party, cause.event))
+
+
+def _of_path(case: Case, given: Given) -> Iterator[str]:
+    """Which of the filters gives the answer, and its last tests."""
+    givers = paths.givers(given.filters, case.call.words(), case.answer)
+    yield from decisions.of_givers(given.filters, givers)
+    giver = paths.shown(givers)
+    if giver is not None:
+        before, tests = paths.last_tests(giver.filter.data, giver.path, case.call, given.table)
+        yield f"the last tests on the path in {giver.told()}" + (f", after {before} others:" if before else ":")
+        yield from tests
+
+
+def _of_filters(cause: Cause) -> Iterator[str]:
+    """What the filters answer, and by which tests."""
+    party, given = cause.filters, cause.given
+    if party is None:
+        return
+    if party.refusal is not None:
+        yield from _of_refusal(party.refusal, Given(given.trial))
+        return
+    for case in party.found:
+        yield str(Answer(case.answer.action, case.answer.data)) if case.answer.action == "UNNAMED" else \
+            f"{case.answer.action} {case.answer.data}"
+        yield f"# {explanation.of_answer(case.answer)}"
+        yield from (f"# {line}" for line in _of_case(case, cause.event, given.table))
+        yield from (f"# {line}" for line in _of_path(case, given))
+    yield from (f"# {line}" for line in _of_verdict(party, cause.event))
+
+
+def _of_changes(cause: Cause) -> Iterator[str]:
+    """The changes of the profile that allow the syscall."""
+    for change in cause.changes:
+        yield f"this change of the profile allows {change.told()}, and no other answer changes:"
+        yield from (f"  {step}" for step in change.steps())
+
+
+def lines(cause: Cause) -> Iterator[str]:
+    """What is printed of an event: scf's lines, and those of the tool marked by `# `."""
+    yield from (f"# {line}" for line in _of_event(cause))
+    yield from _of_profile(cause)
+    yield from _of_filters(cause)
+    yield from (f"# {line}" for line in _of_changes(cause))
+
+
+def _party_as_json(party: Party, cause: Cause) -> dict[str, object]:
+    found: dict[str, object] = {"verdict": party.verdict, "cases": [
+        {"call": it.call.as_json(cause.given.table), "answer": it.answer.as_json(), "is_for_all": it.is_for_all,
+         "fits": it.fits} for it in party.found]}
+    if party.refusal is not None:
+        fault = party.refusal.fault
+        found["fault"] = fault.as_json() if fault else party.refusal.line
+    return found
+
+
+def as_json(cause: Cause) -> dict[str, object]:
+    event, given = cause.event, cause.given
+    found: dict[str, object] = {
+        "status": cause.status, "source": event.source, "process": event.process, "name": event.name,
+        "count": cause.count, "call": event.call.as_json(given.table), "actions": list(event.outcome.actions),
+        "data": event.outcome.data,
+        "arguments": [None if values is None else list(map(hex, values)) for values in event.arguments]}
+    if cause.profile is not None:
+        found["profile"] = _party_as_json(cause.profile, cause)
+        for case, shown in zip(cause.profile.found, found["profile"]["cases"]):
+            reason = reasons.of(given.profile or b"", given.table, case.call.words())
+            shown.update(reasons.as_json(reason, given.profile or b"", None))
+    if cause.filters is not None:
+        found["filters"] = _party_as_json(cause.filters, cause)
+        for case, shown in zip(cause.filters.found, found["filters"]["cases"]):
+            givers = paths.givers(given.filters, case.call.words(), case.answer)
+            shown["filters"] = [it.filter.name for it in givers]
+    found["changes"] = [it.as_json() for it in cause.changes]
+    return found
+
+
+@dataclass
+class Report:
+    """The causes of all events that were found, and what else was."""
+
+    found: Found
+    causes: list[Cause]
+    # what is printed where there is none
+    lacking: Sequence[str] = (WANTED,)
+
+    @property
+    def status(self) -> int:
+        """The worst of all."""
+        statuses = {it.status for it in self.causes}
+        if self.found.faults:
+            statuses.add(program.IO_ERROR)
+        if not self.causes or self.found.left or self.found.suppressed:
+            statuses.add(program.UNKNOWN)
+        return client.worst(statuses)
+
+
+def report_lines(report: Report) -> Iterator[str]:
+    """What is printed of all events, and of what else was found."""
+    found = report.found
+    for cause in report.causes:
+        yield from lines(cause)
+    for number, why in found.faults:
+        yield f"# line {number} isn't judged: {why}" if number else f"# a line isn't judged: {why}"
+    if found.suppressed:
+        yield f"# records that the kernel left out, since too many came at once: {found.suppressed}"
+    if found.left:
+        yield f"# records of more syscalls than {EVENTS} different ones, which aren't judged: {found.left}"
+    if not report.causes and not found.faults:
+        yield from (f"# {line}" for line in report.lacking)
+
+
+def report_as_json(report: Report) -> dict[str, object]:
+    found = report.found
+    return {"status": report.status, "events": [as_json(it) for it in report.causes],
+            "faults": [{"line": number, "why": why} for number, why in found.faults],
+            "suppressed": found.suppressed, "left": found.left}

@@ -1,0 +1,689 @@
+"""tools/why: what it says of processes that filters killed or refused, by the kernel's records, cores and strace."""
+import json
+import os
+import re
+import shutil
+import socket
+import struct
+import subprocess
+import sys
+import time
+import unittest
+
+from common import ALLOW, I386, KILL_PROCESS, PATIENCE, TOP, X86_64, Case, jeq, profile_of, ret
+
+sys.path.append(os.path.join(TOP, "tools"))
+
+# pylint: disable=wrong-import-position
+from scftools import audit_records, cores, events, filters, tables  # noqa: E402
+from scftools.diagnosis import Stack  # noqa: E402
+from scftools.trials import Trial  # noqa: E402
+
+TABLE = tables.read(None)
+SOCKET, AF_NETLINK, NETLINK_AUDIT = 41, 16, 9
+# linux/seccomp.h
+KILL_THREAD, TRAP, ERRNO, USER_NOTIF, TRACE, LOG = 0, 0x30000, 0x50000, 0x7FC00000, 0x7FF00000, 0x7FFC0000
+UNNAMED, WITH_LOG = 0x12340000, 2
+# A record of Linux 6.18.
+WRITTEN = ('audit: type=1326 audit(1795757700.752:2): auid=4294967295 uid=0 gid=0 ses=4294967295 pid=12551 '
+           'comm="python3" exe="/usr/bin/python3.11" sig=31 arch=c000003e syscall=41 compat=0 ip=0x7fc36f3ffdc7 '
+           'code=0x80000000')
+# Puts itself under filters, the oldest first, makes a call, and prints its result and errno. Its words: flags of
+# seccomp(2), the most bytes of a core, the call as numbers, and the filters' files.
+CONFINED = """
+import ctypes, os, resource, sys
+class Program(ctypes.Structure):
+    _fields_ = [("len", ctypes.c_ushort), ("filter", ctypes.c_char_p)]
+library = ctypes.CDLL(None, use_errno=True)
+library.syscall.restype = ctypes.c_long
+flags, core, call, *names = sys.argv[1:]
+resource.setrlimit(resource.RLIMIT_CORE, (int(core), int(core)))
+library.prctl(38, 1, 0, 0, 0)
+call = list(map(ctypes.c_long, eval(call)))
+for name in names:
+    data = open(name, "rb").read()
+    if library.syscall(317, 1, int(flags), ctypes.byref(Program(len(data) // 8, data))) < 0:
+        os._exit(99)
+result = library.syscall(*call)
+os.write(1, b"%d %d" % (result, ctypes.get_errno()))
+os._exit(0)
+"""
+# The same by int 0x80 of i386, for an answer to socket (359 in asm/unistd_32.h), where the process is one of i386.
+OF_I386 = r"""
+#include <linux/filter.h>
+#include <linux/seccomp.h>
+#include <stdlib.h>
+#include <sys/prctl.h>
+#include <sys/resource.h>
+#include <sys/syscall.h>
+#include <unistd.h>
+int main(int count, char **words)
+{
+    struct rlimit core = {1 << 28, 1 << 28};
+    struct sock_filter code[] = {{BPF_LD | BPF_W | BPF_ABS, 0, 0, 0}, {BPF_JMP | BPF_JEQ | BPF_K, 0, 1, 359},
+        {BPF_RET, 0, 0, strtoul(words[1], 0, 0)}, {BPF_RET, 0, 0, SECCOMP_RET_ALLOW}};
+    struct sock_fprog program = {4, code};
+    setrlimit(RLIMIT_CORE, &core);
+    prctl(PR_SET_NO_NEW_PRIVS, 1, 0, 0, 0);
+    if (prctl(PR_SET_SECCOMP, SECCOMP_MODE_FILTER, &program))
+        return 99;
+    return syscall(359, 16, -3, 9, 0x77777777, 5, 6) < 0;
+}
+"""
+
+
+def answering(answer, number=SOCKET, conditions=()):
+    """A filter that gives an answer to a syscall, where each of the conditions' arguments has its value."""
+    return filters.with_exception(ret(ALLOW), number, [(at, (1 << 64) - 1, value) for at, value in conditions], answer)
+
+
+class Listener:
+    """Listens to the kernel's audit records (linux/audit.h: AUDIT_NLGRP_READLOG), as journald does."""
+
+    def __init__(self):
+        self.socket = socket.socket(socket.AF_NETLINK, socket.SOCK_RAW, NETLINK_AUDIT)
+        self.socket.bind((0, 1))
+        self.socket.settimeout(PATIENCE)
+
+    def record_of(self, process):
+        """The record of a process that seccomp has."""
+        while True:
+            message = self.socket.recv(1 << 16)
+            if struct.unpack_from("<IH", message)[1] == 1326:
+                text = message[16:].decode("latin-1").rstrip("\0\n")
+                if f" pid={process} " in text:
+                    return f"audit: type=1326 {text}"
+
+
+def why_not_here():
+    """Why nothing can be heard of the kernel's records here, or None where it can."""
+    try:
+        Listener().socket.close()
+    except OSError as error:
+        return f"the kernel's audit records can't be heard here: {error.strerror}"
+    return None
+
+
+WHY_NOT = why_not_here()
+heard = unittest.skipIf(WHY_NOT, WHY_NOT or "")
+
+
+class Causes(Case):
+    def why(self, *words, status=None, **settings):
+        """What the tool prints, line by line."""
+        found, out, err = self.run_tool("why", *words, **settings)
+        self.assertEqual(err, "")
+        if status is not None:
+            self.assertEqual(found, status, out)
+        self.assertTrue(all(line.isprintable() for line in out.split("\n")), out)
+        return out.split("\n")[:-1]
+
+    def confined(self, *stack, flags=0, core=0, call=(SOCKET, AF_NETLINK, 3, NETLINK_AUDIT)):
+        """A process that makes a call under filters: its number, how it ended, and the result and errno."""
+        names = [self.file(f"{at}.bpf", data) for at, data in enumerate(stack)]
+        child = subprocess.Popen([sys.executable, "-ISc", CONFINED, str(flags), str(core), repr(call), *names],
+                                 stdout=subprocess.PIPE, cwd=self.folder)
+        out = child.communicate()[0]
+        self.assertNotEqual(child.returncode, 99, "no filter can be installed here")
+        return child.pid, child.returncode, out.decode()
+
+    def profile(self, *entries, default="SCMP_ACT_ALLOW", **members):
+        return self.file("p.json", json.dumps({"defaultAction": default, "syscalls": list(entries), **members}))
+
+
+@heard
+class Records(Causes):
+    """The kernel's records of what filters answered."""
+
+    # The answers with the flag of the filter without which the kernel writes no record, and how the profile says them.
+    ANSWERS = ((KILL_PROCESS, 0, "SCMP_ACT_KILL_PROCESS"), (KILL_THREAD, 0, "SCMP_ACT_KILL"),
+               (TRAP, WITH_LOG, "SCMP_ACT_TRAP"), (ERRNO | 1, WITH_LOG, "SCMP_ACT_ERRNO"), (LOG, 0, "SCMP_ACT_LOG"),
+               (TRACE | 1, WITH_LOG, "SCMP_ACT_TRACE"), (USER_NOTIF, WITH_LOG, "SCMP_ACT_NOTIFY"))
+
+    def record(self, *stack, **settings):
+        listener = Listener()
+        try:
+            process = self.confined(*stack, **settings)[0]
+            return process, listener.record_of(process)
+        finally:
+            listener.socket.close()
+
+    def test_each_action(self):
+        for answer, flags, action in self.ANSWERS:
+            process, line = self.record(answering(answer), flags=flags)
+            name = action.removeprefix("SCMP_ACT_").replace("NOTIFY", "USER_NOTIF")
+            name = "KILL_THREAD" if name == "KILL" else name
+            profile = self.profile({"names": ["socket"], "action": action})
+            lines = self.why(line, profile, status=0)
+            self.assertRegex(lines[0], rf"^# process {process} \(python3[^ ]*\): the syscall is socket \(41\)$")
+            self.assertTrue(lines[1].startswith(f"# the action is {name}: "), lines)
+            self.assertRegex(lines[3], rf"^{name} [01] entry 0$")
+            self.assertIn("# whatever the arguments are", lines)
+            self.assertIn("# so the profile answers it", lines)
+            # another answer isn't the record's
+            at = [it[2] for it in self.ANSWERS].index(action)
+            for other, _, wrong in self.ANSWERS[max(at - 1, 0):at] + self.ANSWERS[at + 1:at + 2]:
+                lines = self.why(line, self.profile({"names": ["socket"], "action": wrong}), status=1)
+                stricter = other ^ 0x80000000 < (answer ^ 0x80000000) & 0xFFFF0000
+                self.assertEqual("# the profile would have answered more strictly: the process isn't under it"
+                                 in lines, stricter, (action, wrong))
+
+    def test_an_action_without_a_name(self):
+        process, line = self.record(answering(UNNAMED | 5))
+        lines = self.why(line, self.file("f.bpf", answering(UNNAMED | 9)), status=0)
+        self.assertEqual(lines[1], "# the action is UNNAMED 0x12340000: the process is killed, since seccomp(2) has no "
+                                   "such action")
+        self.assertIn("UNNAMED 0x12340009", " ".join(lines))
+        self.assertIn(f"process {process} ", lines[0])
+        self.assertIn("# the filter is more permissive: another filter of the process answered so, or it "
+                      "isn't under the filter", self.why(line, self.file("g.bpf", answering(ERRNO | 1, 42)), status=1))
+
+    def test_a_condition(self):
+        """The record doesn't have the arguments: a call is shown that the profile answers so."""
+        denial = {"names": ["socket"], "action": "SCMP_ACT_ERRNO", "errnoRet": 22, "args": [
+            {"index": 0, "op": "SCMP_CMP_EQ", "value": AF_NETLINK},
+            {"index": 2, "op": "SCMP_CMP_EQ", "value": NETLINK_AUDIT}]}
+        data = answering(ERRNO | 22, SOCKET, ((0, AF_NETLINK), (2, NETLINK_AUDIT)))
+        _, line = self.record(data, flags=WITH_LOG)
+        for given, answer in ((self.profile(denial), "ERRNO 22 entry 0"), (self.file("f.bpf", data), "ERRNO 22")):
+            lines = self.why(line, given, status=0)
+            self.assertIn(answer, lines)
+            example = next(it for it in lines if it.startswith("# for example with args "))
+            numbers = example.partition(": ")[0].split()[5:]
+            self.assertEqual([int(it, 16) for it in numbers][::2][:2], [AF_NETLINK, NETLINK_AUDIT])
+            self.assertRegex("\n".join(lines), "the (profile|filter) answers it with such arguments, and not with all")
+        # what is never answered so isn't this record's, whatever the arguments are
+        _, line = self.record(answering(KILL_PROCESS))
+        self.assertIn("# the profile is more permissive: another filter of the process answered so, or it "
+                      "isn't under the profile", self.why(line, self.profile(denial), status=1))
+
+    def test_which_filter_of_a_stack(self):
+        stack = [answering(ALLOW), answering(ERRNO | 3), answering(TRAP, 42)]
+        _, line = self.record(*stack, flags=WITH_LOG)
+        names = [self.file(f"{at}.bpf", data) for at, data in enumerate(stack)]
+        lines = self.why(line, *names, status=0)
+        self.assertIn("ERRNO 3", lines)
+        self.assertIn(f"# the filter that answers so is {names[1]}", lines)
+        self.assertIn(f"# the last tests on the path in {names[1]}:", lines)
+        self.assertTrue(any("socket: to" in it and "loaded 0x29" in it for it in lines), lines)
+        self.assertIn("# the filters are more permissive: another filter of the process answered so, or it "
+                      "isn't under the filters", self.why(line, names[0], names[2], status=1))
+
+    def test_a_number_that_a_tracer_sets(self):
+        _, line = self.record(answering(KILL_PROCESS, 0xFFFFFFFF), call=(-1, 0))
+        self.assertIn("syscall=-1 ", line)
+        lines = self.why(line, self.file("f.bpf", answering(KILL_PROCESS, 0xFFFFFFFF)), status=0)
+        self.assertIn("the syscall is number -1, which a tracer sets to skip a syscall", lines[0])
+
+    def test_a_number_of_x32(self):
+        _, line = self.record(answering(KILL_PROCESS, 0x40000029), call=(0x40000029, 0))
+        lines = self.why(line, self.profile(), status=0)
+        self.assertIn("an x32 syscall", lines[0])
+        self.assertIn("# by no entry: the syscall is of another ABI", lines)
+        lines = self.why(line, self.profile(architectures=["SCMP_ARCH_X86_64", "SCMP_ARCH_X32"]), status=4)
+        self.assertIn("undetermined: the profile is for this architecture, too", lines)
+
+    def test_what_is_not_logged(self):
+        """ERRNO, TRAP and the like only where the filter has the flag; and each only if it is in actions_logged."""
+        listener = Listener()
+        self.addCleanup(listener.socket.close)
+        silent = [self.confined(answering(answer))[0] for answer in (ERRNO | 1, TRAP, TRACE | 1, USER_NOTIF)]
+        with open(audit_records.ACTIONS_LOGGED, encoding="ascii") as file:
+            before = file.read()
+        try:
+            with open(audit_records.ACTIONS_LOGGED, "w", encoding="ascii") as file:
+                file.write("kill_process")
+            silent += [self.confined(answering(answer), flags=WITH_LOG)[0] for answer in (ERRNO | 1, LOG, KILL_THREAD)]
+        finally:
+            with open(audit_records.ACTIONS_LOGGED, "w", encoding="ascii") as file:
+                file.write(before)
+        last = self.confined(answering(KILL_PROCESS))[0]
+        while True:
+            text = listener.socket.recv(1 << 16)[16:].decode("latin-1")
+            self.assertFalse([it for it in silent if f" pid={it} " in text], text)
+            if f" pid={last} " in text:
+                break
+
+    def test_a_process_that_runs(self):
+        """--pid: its record in the kernel's log, and its own filters."""
+        from confined import WHY_NOT as no_filters, ended, started  # pylint: disable=import-outside-toplevel
+
+        if no_filters or shutil.which("auditctl") and b"pid 0" not in subprocess.run(
+                ["auditctl", "-s"], stdout=subprocess.PIPE, check=False).stdout:
+            self.skipTest("filters aren't shown here, or auditd takes the records")
+        child, _ = started([[]])
+        self.addCleanup(ended, child)
+        given = self.file("f.bpf", answering(ERRNO | 1))
+        child.stdin.write(f"data = open({given!r}, 'rb').read(); "
+                          "library.syscall(317, 1, 2, ctypes.byref(Program(len(data) // 8, data)))\n"
+                          "print(library.socket(16, 3, 9), flush=True)\n")
+        child.stdin.flush()
+        self.assertEqual(child.stdout.readline(), "-1\n")
+        until = time.monotonic() + 60
+        while time.monotonic() < until and not any(f" pid={child.pid} " in it for it in audit_records.kernel_lines()):
+            # (the kernel leaves records out of its log where many come at once)
+            child.stdin.write("print(library.socket(16, 3, 9), flush=True)\n")
+            child.stdin.flush()
+            child.stdout.readline()
+            time.sleep(1)
+        lines = self.why("--pid", str(child.pid), status=0)
+        self.assertIn(f"# process {child.pid} (python3", lines[0])
+        self.assertIn("ERRNO 1", lines)
+        self.assertIn("# so the filter answers it", lines)
+        self.assertEqual(self.why("--pid", "1", status=4)[0], "# the kernel's log has no record of process 1")
+
+
+class Cores(Causes):
+    """Cores that SIGSYS left, with the arguments and the data."""
+
+    def require_cores(self):
+        with open("/proc/sys/kernel/core_pattern", encoding="ascii") as file:
+            pattern = file.read().strip()
+        if pattern != "core":
+            self.skipTest(f"cores are written otherwise here: {pattern}")
+
+    def found_core(self):
+        return next(os.path.join(self.folder, it) for it in os.listdir(self.folder) if it.startswith("core"))
+
+    def core(self, *stack, **settings):
+        """The core of a process that makes a call under filters."""
+        self.require_cores()
+        self.confined(*stack, core=1 << 28, **settings)
+        return self.found_core()
+
+    def test_each_answer_that_leaves_one(self):
+        for answer, named in ((KILL_PROCESS | 7, "KILL_PROCESS 7"), (KILL_THREAD | 8, "KILL_THREAD 8"),
+                              (TRAP | 5, "TRAP 5"), (UNNAMED | 6, "UNNAMED 0x12340006")):
+            core, data = self.core(answering(answer)), answer & 0xFFFF
+            lines = self.why("--core", core, self.file("f.bpf", answering(answer)), status=0)
+            self.assertIn("the syscall is socket (41)", lines[0])
+            self.assertEqual(lines[1], "# the action is TRAP, KILL_THREAD, KILL_PROCESS or UNNAMED, with "
+                                       f"{data} as data")
+            self.assertRegex(lines[2], r"^# its arguments: 0x10 0x3 0x9( 0x[0-9a-f]+){3}: .*AF_NETLINK, SOCK_RAW, ")
+            self.assertIn(named, lines)
+            self.assertIn("# so the filter answers it", lines)
+            # with other data it isn't this answer
+            self.why("--core", core, self.file("g.bpf", answering(answer ^ 1)), status=1)
+            os.remove(core)
+
+    @unittest.skipUnless(shutil.which("cc"), "there is no C compiler here")
+    def test_i386(self):
+        program = os.path.join(self.folder, "of_i386")
+        if subprocess.run(["cc", "-m32", "-x", "c", "-o", program, "-"], input=OF_I386.encode(), check=False,
+                          stderr=subprocess.DEVNULL).returncode:
+            self.skipTest("no program of i386 can be built here")
+        self.require_cores()
+        subprocess.run([program, hex(KILL_PROCESS | 3)], cwd=self.folder, check=False)
+        event = cores.read(self.found_core())
+        self.assertEqual((event.call.number, event.call.architecture, event.call.arguments),
+                         (359, I386, (16, 0xFFFFFFFD, 9, 0x77777777, 5, 6)))
+        self.assertEqual((event.outcome.data, event.name), (3, "of_i386"))
+
+    def test_a_change_that_allows_it(self):
+        """By the steps that are printed the profile allows this call, and no other."""
+        args = {"args": [{"index": 1, "op": "SCMP_CMP_EQ", "value": 77}]}
+        for default, entries in (
+                ("SCMP_ACT_ALLOW", [{"names": ["socket", "mount"], "action": "SCMP_ACT_KILL_PROCESS"}]),
+                # both entries deny the call: to change one of them isn't enough
+                ("SCMP_ACT_ALLOW", [{"names": ["socket"], "action": "SCMP_ACT_KILL_PROCESS"},
+                                    {"names": ["socket"], "action": "SCMP_ACT_KILL_PROCESS", "args": [
+                                        {"index": 1, "op": "SCMP_CMP_EQ", "value": 3}]}]),
+                ("SCMP_ACT_LOG", [{"names": ["mount"], "action": "SCMP_ACT_ERRNO"},
+                                  {"names": ["socket"], "action": "SCMP_ACT_KILL_PROCESS"}]),
+                ("SCMP_ACT_ALLOW", [{"names": ["socket"], "action": "SCMP_ACT_KILL_PROCESS", "args": [
+                    {"index": 1, "op": "SCMP_CMP_GE", "value": 2}]},
+                    {"names": ["socket"], "action": "SCMP_ACT_LOG", "args": [
+                        {"index": 1, "op": "SCMP_CMP_LT", "value": 2}]}]),
+                ("SCMP_ACT_ALLOW", [{"names": ["socket"], "action": "SCMP_ACT_KILL_PROCESS", "args": [
+                    {"index": 0, "op": "SCMP_CMP_EQ", "value": 16}, {"index": 2, "op": "SCMP_CMP_EQ", "value": 9}]}]),
+                ("SCMP_ACT_KILL_PROCESS", [{"names": [it for it in TABLE.names() if it != "socket"],
+                                            "action": "SCMP_ACT_ALLOW"},
+                                           {"names": ["socket"], "action": "SCMP_ACT_ALLOW", **args}])):
+            given = {"defaultAction": default, "syscalls": entries}
+            profile = self.file("p.json", json.dumps(given))
+            core = self.core(self.compiled(given))
+            lines = self.why("--core", core, profile, status=0)
+            os.remove(core)
+            heads = [at for at, line in enumerate(lines) if line.startswith("# this change of the profile allows ")]
+            self.assertGreater(len(heads), 0, lines)
+            for first, last in zip(heads, [*heads[1:], len(lines)]):
+                is_all = not lines[first].startswith("# this change of the profile allows socket where argument 0 is "
+                                                     "0x10 and argument 1 is 0x3 and argument 2 is 0x9,")
+                changed = self.compiled(self.changed(given, lines[first + 1:last]))
+                self.assertEqual(self.confined(changed)[1], 0, lines)
+                for call, is_same in (((SOCKET, 16, 3, 10), True), ((SOCKET, 16, 77, 9), True), ((39, 0), True)):
+                    before, after = self.confined(self.compiled(given), call=call), self.confined(changed, call=call)
+                    if call[0] != SOCKET or not is_all:
+                        self.assertEqual(before[1:] if call[0] == SOCKET else before[1], after[1:] if call[0] == SOCKET
+                                         else after[1], (lines, is_same))
+                    else:
+                        self.assertEqual(after[1], 0)
+
+    def compiled(self, profile):
+        done = subprocess.run([os.path.join(TOP, "tools", "compile"), self.file("c.json", json.dumps(profile))],
+                              stdout=subprocess.PIPE, check=True)
+        return done.stdout
+
+    @staticmethod
+    def changed(profile, steps):
+        """A profile changed as the steps say."""
+        entries = [dict(it, names=list(it["names"])) for it in profile["syscalls"]]
+        gone, added = [], []
+        for step in steps:
+            text = step.removeprefix("#   ")
+            out = re.fullmatch(r"take (\w+) out of the names of entry ([0-9]+)", text)
+            if out:
+                entries[int(out[2])]["names"].remove(out[1])
+            elif text.startswith("remove entry "):
+                gone.append(int(text.split()[2]))
+            else:
+                added.append(json.loads(text.removeprefix("add to syscalls: ")))
+        left = [it for at, it in enumerate(entries) if at not in gone]
+        return {**profile, "syscalls": left + added}
+
+    def test_hostile_cores(self):
+        core = self.core(answering(KILL_PROCESS))
+        with open(core, "rb") as file:
+            data = file.read(1 << 14)
+        for cut in (0, 3, 4, 16, 24, 51, 63, 64, 100, 1000, 3000, 3450, 4000):
+            self.refused(data[:cut], "the core")
+        for at, text, says in ((0, b"\x28\xb5\x2f\xfd", "is compressed"), (16, b"\2\0", "isn't one, but a program"),
+                               (18, b"\xb7\0", "is of another machine"), (4, b"\1", "is of another machine"),
+                               (0x36, b"\x20\0", "program headers of 32 bytes"), (0x38, b"\xff\xff", "the core"),
+                               (0x20, b"\xff" * 8, "is cut"), (0x28 + 0x20, b"\xff" * 8, "")):
+            changed = bytearray(data)
+            changed[at:at + len(text)] = text
+            self.refused(bytes(changed), says)
+        note = data.index(struct.pack("<I", cores.SIGINFO)) + 12
+        for at, text, says in ((0, b"\x0b\0\0\0", "is of signal 11, and not of SIGSYS"),
+                               (8, b"\xfa\xff\xff\xff", "a process sent it (si_code -6)"),
+                               (8, b"\2\0\0\0", "it is of syscall user dispatch")):
+            changed = bytearray(data)
+            changed[note + at:note + at + len(text)] = text
+            self.refused(bytes(changed), says)
+
+    def refused(self, data, says):
+        name = self.file("hostile", data)
+        status, out, err = self.run_tool("why", "--core", name)
+        if status != 0:
+            self.assertEqual((status, out), (3, ""), (out, err))
+            self.assertIn(says, err)
+            self.assertTrue(err.startswith("why: the core "), err)
+
+
+@unittest.skipUnless(shutil.which("strace"), "there is no strace here")
+class Strace(Causes):
+    """The end of what strace writes."""
+
+    def traced(self, *stack, options=(), **settings):
+        """What strace writes of a process under filters."""
+        names = [self.file(f"{at}.bpf", data) for at, data in enumerate(stack)]
+        call = settings.get("call", (SOCKET, AF_NETLINK, 3, NETLINK_AUDIT))
+        log = os.path.join(self.folder, "log")
+        subprocess.run(["strace", *options, "-o", log, sys.executable, "-ISc", CONFINED, "0", "0", repr(call), *names],
+                       stdout=subprocess.DEVNULL, stderr=subprocess.DEVNULL, check=False)
+        if not os.path.exists(log) or not os.path.getsize(log):
+            self.skipTest("strace may not trace here")
+        with open(log, encoding="latin-1") as file:
+            return file.read()
+
+    def test_a_process_that_is_killed(self):
+        for answer, forms in ((KILL_PROCESS, ((), ("-f", "-X", "raw"))), (KILL_THREAD, (("-n", "-tt", "-i"),)),
+                              (UNNAMED, (("-yy", "-T"),))):
+            for options in forms:
+                log = self.traced(answering(answer), options=options)
+                lines = self.why("-", self.file("f.bpf", answering(answer)), given=log.encode("latin-1"), status=0)
+                self.assertIn("the syscall is socket (41)", lines[0])
+                self.assertEqual(lines[1], "# the action is KILL_THREAD, KILL_PROCESS or UNNAMED")
+                self.assertEqual(lines[2], "# its arguments, as far as they are shown: 0 is 0x10, 1 is 0x3, 2 is 0x9")
+                self.assertIn("# so the filter answers it", lines)
+
+    def test_trap(self):
+        for data, options in ((0, ()), (5, ("-f",)), (4000, ("-i",)), (38, ("-n",))):
+            log = self.traced(answering(TRAP | data), options=options)
+            lines = self.why("-", self.file("f.bpf", answering(TRAP | data)), given=log.encode(), status=0)
+            self.assertEqual(lines[1], f"# the action is TRAP {data}: the syscall isn't executed, and the thread gets "
+                                       "SIGSYS")
+            self.why("-", self.file("g.bpf", answering(TRAP | data ^ 1)), given=log.encode(), status=1)
+            # the line of the signal alone says it, too
+            line = next(it for it in log.split("\n") if "--- SIGSYS" in it)
+            lines = self.why(line, self.file("f.bpf", answering(TRAP | data)), status=0)
+            self.assertIn("the syscall is socket (41)", lines[0])
+
+    def test_a_syscall_that_fails(self):
+        log = self.traced(answering(ERRNO | 77))
+        line = next(it for it in log.split("\n") if it.startswith("socket(AF_NETLINK"))
+        lines = self.why(line, self.file("f.bpf", answering(ERRNO | 77)), status=0)
+        self.assertEqual(lines[1], "# it failed with EBADFD: by ERRNO 77, by a tracer or a supervisor, or by the "
+                                   "kernel itself, which strace doesn't show")
+        self.assertIn("# the filter answers otherwise: another filter of the process answered so, or it isn't under "
+                      "the filter", self.why(line, self.file("f.bpf", answering(ERRNO | 76)), status=1))
+        self.assertIn("# the filter is more permissive: the kernel itself, or another filter of the process "
+                      "answered so, or it isn't under the filter",
+                      self.why(line, self.file("f.bpf", answering(ALLOW)), status=1))
+        # TRACE and USER_NOTIF without whom they ask
+        for answer in (TRACE | 1, USER_NOTIF):
+            log = self.traced(answering(answer))
+            line = next(it for it in log.split("\n") if it.startswith("socket(AF_NETLINK"))
+            self.assertIn(" = -1 ENOSYS ", line)
+            self.why(line, self.file("f.bpf", answering(answer)), status=0)
+
+    @unittest.skipUnless(shutil.which("cc"), "there is no C compiler here")
+    def test_i386(self):
+        program, log = (os.path.join(self.folder, it) for it in ("of_i386", "log"))
+        if subprocess.run(["cc", "-m32", "-x", "c", "-o", program, "-"], input=OF_I386.encode(), check=False,
+                          stderr=subprocess.DEVNULL).returncode:
+            self.skipTest("no program of i386 can be built here")
+        for answer in (KILL_PROCESS, TRAP | 5):
+            subprocess.run(["strace", "--quiet=none", "-o", log, program, hex(answer)], cwd=self.folder, check=False,
+                           stderr=subprocess.DEVNULL)
+            with open(log, "rb") as file:
+                data = file.read()
+            lines = self.why("-", self.file("f.bpf", answering(answer, 359)), given=data, status=0)
+            self.assertEqual(lines[0], "# a process: the syscall is socket (359) of the architecture i386")
+            self.assertEqual(lines[2], "# its arguments, as far as they are shown: 0 is 0x10, 1 is 0xfffffffd, "
+                                       "2 is 0x9")
+            self.assertIn("# so the filter answers it", lines)
+
+    THREADS = r"""
+#include <linux/filter.h>
+#include <linux/seccomp.h>
+#include <pthread.h>
+#include <stdlib.h>
+#include <sys/prctl.h>
+#include <sys/socket.h>
+#include <unistd.h>
+static void *waits(void *none) { pause(); return none; }
+static void *fails(void *none) { usleep(100000); socket(16, 3, 9); return none; }
+int main(int count, char **words)
+{
+    pthread_t thread;
+    struct sock_filter code[] = {{BPF_LD | BPF_W | BPF_ABS, 0, 0, 0}, {BPF_JMP | BPF_JEQ | BPF_K, 0, 1, 41},
+        {BPF_RET, 0, 0, strtoul(words[1], 0, 0)}, {BPF_RET, 0, 0, SECCOMP_RET_ALLOW}};
+    struct sock_fprog program = {4, code};
+    prctl(PR_SET_NO_NEW_PRIVS, 1, 0, 0, 0);
+    if (prctl(PR_SET_SECCOMP, SECCOMP_MODE_FILTER, &program))
+        return 99;
+    pthread_create(&thread, 0, waits, 0);
+    pthread_create(&thread, 0, fails, 0);
+    pthread_join(thread, 0);
+    return 0;
+}
+"""
+
+    @unittest.skipUnless(shutil.which("cc"), "there is no C compiler here")
+    def test_one_of_several_threads(self):
+        """All are killed by SIGSYS, and one is the cause."""
+        program, log = (os.path.join(self.folder, it) for it in ("threads", "log"))
+        subprocess.run(["cc", "-x", "c", "-o", program, "-", "-lpthread"], input=self.THREADS.encode(), check=True)
+        for answer in (KILL_PROCESS, KILL_THREAD):
+            subprocess.run(["strace", "-f", "-o", log, program, hex(answer)], stderr=subprocess.DEVNULL, check=False)
+            with open(log, "rb") as file:
+                data = file.read()
+            lines = self.why("-", self.file("f.bpf", answering(answer)), given=data, status=0)
+            self.assertEqual([it for it in lines if "the syscall is " in it], [lines[0]])
+            self.assertIn("the syscall is socket (41)", lines[0])
+
+
+class Lines(Causes):
+    """Each form of a record, and what is none."""
+
+    TAIL = WRITTEN.partition("auid=")[2]
+    INTERPRETED = ("auid=unset uid=root gid=root ses=unset pid=12551 comm=python3 exe=/usr/bin/python3.11 sig=SIGSYS "
+                   "arch=x86_64 syscall=socket compat=0 ip=0x7fc36f3ffdc7 code=kill ")
+
+    def event(self, text):
+        found = events.read(text.split("\n"), TABLE)
+        return [it for it, _ in found.events.values()], found
+
+    def test_each_form(self):
+        for text in (WRITTEN, f"[  624.561849] {WRITTEN}", f"[Fri Nov 27 05:35:00 2026] {WRITTEN}",
+                     f"Nov 27 05:35:00 vm kernel: {WRITTEN}",
+                     f"2026-11-27T05:35:00.752+00:00 vm kernel: [  624.5] {WRITTEN}",
+                     f"Nov 27 05:35:00 vm audit[12551]: SECCOMP auid={self.TAIL}",
+                     f"vm audit: SECCOMP auid={self.TAIL}",
+                     f"type=SECCOMP msg=audit(1795757700.752:2): auid={self.TAIL}",
+                     f"type=SECCOMP msg=audit(1795757700.752:2): auid={self.TAIL}\x1dAUID=\"unset\" "
+                     "UID=\"root\" GID=\"root\" ARCH=x86_64 SYSCALL=socket",
+                     f"node=vm type=SECCOMP msg=audit(1795757700.752:2): auid={self.TAIL}",
+                     f"type=SECCOMP msg=audit(11/27/26 05:35:00.752:2) : {self.INTERPRETED}",
+                     f"{WRITTEN}\r", f"noise\n{WRITTEN}\nnoise"):
+            (event,), found = self.event(text)
+            self.assertEqual(event.call, events.Call(41, X86_64, 0x7FC36F3FFDC7), text)
+            self.assertEqual((event.process, event.name), (12551, "python3"))
+            # ausearch -i names both actions that kill alike
+            self.assertEqual(event.outcome.actions, ("KILL_PROCESS", "KILL_THREAD")[:1 + ("code=kill" in text)])
+            self.assertEqual((found.faults, found.suppressed), ([], 0))
+
+    def test_names_of_actions(self):
+        """As ausearch -i prints them."""
+        for code, actions in (("trap", ["TRAP"]), ("errno", ["ERRNO"]), ("user-notify", ["USER_NOTIF"]),
+                              ("log", ["LOG"]), ("trace", ["TRACE"]),
+                              ("unknown-seccomp-code(0x12340000)", ["UNNAMED"])):
+            text = f"type=SECCOMP msg=audit(1:2) : {self.INTERPRETED}".replace("code=kill", f"code={code}")
+            (event,), _ = self.event(text)
+            self.assertEqual((list(event.outcome.actions), event.outcome.half), (actions, 0x1234 if code[:1] == "u" and
+                                                                                "seccomp" in code else None))
+
+    def test_names_in_hexadecimal(self):
+        """The kernel writes them so where one has a quote, a blank or a control character."""
+        name = 'a" sig=0\x1b'
+        (event,), _ = self.event(WRITTEN.replace('"python3"', name.encode().hex().upper()))
+        self.assertEqual(event.name, name)
+        lines = self.why(WRITTEN.replace('"python3"', name.encode().hex().upper()), status=0)
+        self.assertEqual(lines[0], '# process 12551 (a" sig=0\\x1b): the syscall is socket (41)')
+
+    def test_a_process_forges_nothing(self):
+        """What a process may choose stands before the kernel's own fields, or in a text that strace prints."""
+        forged = " sig=0 arch=40000003 syscall=1 compat=1 ip=0x1 code=0x7ffc0000"
+        (event,), _ = self.event("type=SECCOMP msg=audit(1:2) : " + self.INTERPRETED.replace(
+            "exe=/usr/bin/python3.11", f"exe=/tmp/x{forged} pid=1 comm=init"))
+        self.assertEqual((event.call.number, event.call.architecture, event.process), (41, X86_64, 12551))
+        found, _ = self.event(f'write(1, " {WRITTEN} ", 300) = 300\n')
+        self.assertEqual(found, [])
+
+    def test_values_that_no_kernel_writes(self):
+        for old, new, says in (("syscall=41", "syscall=4294967296", "=4294967296 isn't a number up to 4294967295"),
+                               ("syscall=41", "syscall=" + "9" * 70, "syscall=" + "9" * 64 + ".."),
+                               ("syscall=41", "syscall=\x1b[2J", "syscall=\\x1b[2J"),
+                               ("syscall=41", "syscall=-2", "syscall=-2"),
+                               ("arch=c000003e", "arch=c000003e0", "arch=c000003e0 isn't an architecture"),
+                               ("arch=c000003e ", "", "has no arch="),
+                               ("code=0x80000000", "code=0x80000007",
+                                "code=0x80000007 has data, which the kernel leaves out"),
+                               ("code=0x80000000", "code=bang", "code=bang isn't an action"),
+                               ("ip=0x7fc36f3ffdc7", "ip=0x17fc36f3ffdc712345", "isn't an address"),
+                               (" code=0x80000000", "", "the record is cut"), (" sig=", "\0sig=", "the record is cut")):
+            status, out, err = self.run_tool("why", "-", given=WRITTEN.replace(old, new).encode())
+            self.assertEqual((status, err), (3, ""), new)
+            self.assertTrue(out.startswith("# line 1 isn't judged: "), out)
+            self.assertIn(says, out)
+            self.assertTrue(out[:-1].isprintable(), out)
+
+    def test_what_the_kernel_left_out(self):
+        text = f"audit: kauditd_printk_skb: 12 callbacks suppressed\n{WRITTEN}\n{WRITTEN}"
+        lines = self.why("-", given=text.encode(), status=4)
+        self.assertIn("; such records: 2", lines[0])
+        self.assertEqual(lines[-1], "# records that the kernel left out, since too many came at once: 12")
+
+    def test_many_records(self):
+        text = "\n".join(WRITTEN.replace("syscall=41", f"syscall={it}") for it in range(300))
+        lines = self.why("-", given=text.encode(), status=4)
+        self.assertEqual(sum("the syscall is" in it for it in lines), events.EVENTS)
+        self.assertEqual(lines[-1], "# records of more syscalls than 200 different ones, which aren't judged: 100")
+
+    def test_random_lines(self):
+        """None ends the tool otherwise than by its statuses."""
+        pieces = WRITTEN.split(" ")
+        text = "\n".join(" ".join(pieces[:at] + pieces[at + 1:]) for at in range(len(pieces)))
+        status, out, err = self.run_tool("why", "-", given=text.encode())
+        self.assertEqual((status, err), (3, ""))
+        self.assertTrue(all(it.startswith("# ") for it in out.split("\n")[:-1]), out)
+
+    def test_no_record(self):
+        for text in ("", "hello", "systemd[1]: x.service: Main process exited, code=dumped, status=31/SYS"):
+            self.assertIn("# no syscall that a filter may have answered is in it", self.why("-", given=text.encode(),
+                                                                                       status=4)[0])
+
+
+class Words(Causes):
+    def test_usage(self):
+        self.says_usage("why")
+        for words in (("--pid", "1", "--core", "x"), ("--pid", "x"), ("--pid", "0"), ("-", "-")):
+            self.assertEqual(self.run_tool("why", *words)[:2], (2, ""), words)
+        log = self.file("log", WRITTEN)
+        status, out, err = self.run_tool("why", log)
+        self.assertEqual((status, out), (2, ""))
+        self.assertIn(f"'{log}' is a file: hand it over as standard input", err)
+        profile = self.file("p.json", profile_of("read"))
+        status, out, err = self.run_tool("why", WRITTEN, profile, profile)
+        self.assertEqual((status, out), (2, ""))
+        self.assertIn("is a second profile", err)
+
+    def test_refusals(self):
+        for name, data, line in (("q.json", b"{", "fault profile Json"), ("f.bpf", jeq(0, 9, 0) + ret(ALLOW),
+                                                                         "fault filter Jump at 0")):
+            status, out, err = self.run_tool("why", WRITTEN, self.file(name, data))
+            self.assertEqual((status, err), (1, ""))
+            self.assertIn(f"{line}\n# ", out)
+        status, out, err = self.run_tool("why", WRITTEN, "none")
+        self.assertEqual((status, out, err), (2, "", "why: there is no file 'none'\n"))
+        status, _, err = self.closed_output("why", WRITTEN)
+        self.assertEqual((status, err), (3, "why: the output failed: No space left on device\n"))
+
+    def test_json(self):
+        profile = self.profile({"names": ["socket"], "action": "SCMP_ACT_KILL_PROCESS"})
+        status, out, err = self.run_tool("why", "--json", WRITTEN, profile, self.file("f.bpf", ret(ALLOW)))
+        self.assertEqual((status, err, out.count("\n")), (1, "", 1))
+        found = json.loads(out)
+        event = found["events"][0]
+        self.assertEqual((found["status"], event["process"], event["name"], event["call"]["number"], event["actions"]),
+                         (1, 12551, "python3", 41, ["KILL_PROCESS"]))
+        self.assertEqual((event["profile"]["verdict"], event["profile"]["cases"][0]["reason"],
+                          event["profile"]["cases"][0]["place"]), ("fits", "entry", 0))
+        self.assertEqual((event["filters"]["verdict"], event["filters"]["cases"][0]["answer"]["action"]),
+                         ("contradicts", "ALLOW"))
+        self.assertEqual(event["changes"], [{"taken_out": [0], "added": []}])
+        out = self.run_tool("why", "--json", WRITTEN.replace("syscall=41", "syscall=x"))[1]
+        self.assertEqual(json.loads(out)["faults"],
+                         [{"line": 1, "why": "syscall=x: the table has no such name: print the record without -i"}])
+
+
+class Exceptions(Causes):
+    """The filters by which scf is asked: an exception before a filter, and a filter for some calls alone."""
+
+    def test_they_answer_so(self):
+        conditions = ((0, (1 << 64) - 1, 0x100000010), (2, 0xFFFFFFFF, 9), (5, 0xF0, 0x37))
+        stack = [Stack([made(ret(ERRNO | 1), SOCKET, conditions, TRAP)], Trial(TABLE))
+                 for made in (filters.with_exception, filters.only_on)]
+        for number, first, third, last in ((SOCKET, 0x100000010, 9, 0x30), (SOCKET, 0x100000010, 1 << 32 | 9, 0x13F),
+                                           (SOCKET, 0x10, 9, 0x30), (SOCKET, 0x100000010, 8, 0x30),
+                                           (SOCKET, 0x100000010, 9, 0x40), (42, 0x100000010, 9, 0x30)):
+            meets = number == SOCKET and first == 0x100000010 and third & 0xFFFFFFFF == 9 and last & 0xF0 == 0x30
+            call = events.Call(number, arguments=(first, 0, third, 0, 0, last))
+            expected = ["TRAP 0", "ERRNO 1"] if meets else ["ERRNO 1", "TRAP 0"]
+            self.assertEqual([str(it.answer(call)) for it in stack], expected)
+
+
+if __name__ == "__main__":
+    sys.exit(unittest.main())
