@@ -1,0 +1,155 @@
+"""An audit as a page of HTML: what there is, a verdict for each container, unit and program, what each distinct stack
+allows, and for each bad verdict a call that shows it."""
+from __future__ import annotations
+
+import os
+import shlex
+from collections.abc import Iterator
+
+from . import audit_output, client, engines, output, reasons, surface_page, surfaces
+from .audit import (AS_CONFIGURED, NOT_KNOWN, OTHERWISE, STRICTER, UNIT, WEAKER, Audit, Judgement, Part, Row,
+                    stack_digest)
+from .compare_page import c_call
+from .groups import Groups
+from .html_page import Markup, document, joined, listed, preformatted, table, tag
+from .processes import Stack
+from .surface_page import Named
+from .surfaces import Surface
+from .tables import Table
+
+PROVED = ("Each comparison of a stack of filters with a profile is proved for all x86-64 syscalls and arguments by "
+          "scf; what the files of runtimes and systemd say, and which process belongs to what, isn't.")
+COLOURS = {AS_CONFIGURED: "good", STRICTER: "good", OTHERWISE: "warn", NOT_KNOWN: "warn"}
+# The digits of a hash that are shown.
+DIGITS = 12
+
+
+def _coloured(verdict: str) -> Markup:
+    return tag("span", verdict, class_=COLOURS.get(verdict, "bad"))
+
+
+def _hash(digest: str | None) -> Markup:
+    return tag("code", digest[:DIGITS], title=digest) if digest else Markup("")
+
+
+def repeat(row: Row, part: Part) -> list[str]:
+    """The commands that repeat a comparison of a row's part."""
+    process = next(iter(part.threads), None)
+    if process is None or row.expected.source is None:
+        return []
+    relation = "--no-more " if part.judgement.verdict == WEAKER else ""
+    if row.kind == UNIT:
+        return [f"scf unit-profile {shlex.quote(row.key)} >unit.json",
+                f"scf verify-process {relation}{process} unit.json"]
+    runtime = f"--runtime {row.container.runtime} " if row.container is not None and row.container.runtime else ""
+    return [f"scf verify-process {relation}{runtime}{process} {shlex.quote(row.expected.source)}"]
+
+
+def _head(audit: Audit) -> Iterator[Markup]:
+    system = os.uname()
+    version = client.run(["--version"]).text.strip()
+    yield tag("h1", f"seccomp audit of {output.escaped(system.nodename)}")
+    yield tag("p", f"{audit_output.time_told(audit.time)} · Linux {system.release} · {version} · "
+                   f"{audit.seconds:.2f} seconds")
+    yield listed(audit_output.summary(audit))
+    yield tag("p", PROVED, class_="faint")
+
+
+def _processes(row: Row) -> Markup:
+    names = {it.number: it.name for it in row.processes}
+    shown = [f"{number} {output.escaped(name)}" for number, name in names.items()]
+    count = audit_output.number_told(len(shown), "process", "processes")
+    return tag("details", tag("summary", count), listed(shown))
+
+
+def _row(row: Row, audit: Audit) -> list[object]:
+    numbers = {id(stack): at for at, stack in enumerate(audit.stacks)}
+    held = 0
+    for process in row.processes:
+        held |= process.capabilities
+    capabilities = engines.capabilities_in(held)
+    stacks = [joined([f"{part.judgement.verdict}: " if len(row.parts) > 1 else "",
+                      tag("a", f"stack {numbers[id(part.stack)]}", href=f"#stack-{numbers[id(part.stack)]}"),
+                      f": {part.stack.told}"]) if id(part.stack) in numbers else
+              f"{part.judgement.verdict}: {part.judgement.why or part.stack.told}" for part in row.parts]
+    source = [row.expected.source or "nothing is configured", " ", _hash(row.expected.digest)]
+    if row.expected.why is not None:
+        source += [" ", row.expected.why]
+    return [_coloured(row.verdict), joined([row.kind, " ", tag("strong", row.name, class_="long")]),
+            ", ".join(audit_output.about(row)), tag("span", *source, class_="long"), listed(stacks),
+            tag("details", tag("summary", str(len(capabilities))), " ".join(capabilities)) if capabilities else "none",
+            "yes" if all(it.has_no_new_privileges for it in row.processes) else "no", _processes(row)]
+
+
+def _rows(audit: Audit) -> Iterator[Markup]:
+    yield tag("h2", "Containers, units and programs")
+    head = ("verdict", "what", "engine, image", "profile", "filters", "capabilities", "NoNewPrivs", "processes")
+    yield table(head, (_row(it, audit) for it in audit.rows), "rows")
+
+
+def _shown(judgement: Judgement, table_of: Table) -> Iterator[Markup]:
+    """What shows a verdict: the call in C, both answers, the entry and the filter's lines."""
+    shown = judgement.shown
+    if judgement.why is not None:
+        yield tag("p", judgement.why)
+    if shown is None or shown.call is None or judgement.comparison is None:
+        return
+    yield preformatted([c_call(shown.call, table_of)])
+    than = "the baseline" if judgement.is_of_baseline else "the profile"
+    sides = [(it.told() if it is not None else "unknown") for it in (shown.filters, shown.profile)]
+    yield listed((f"the filters answer {sides[0]}", f"{than} answers {sides[1]}"))
+    lines = list(reasons.of_difference(judgement.comparison, shown))
+    if lines:
+        yield preformatted(lines)
+
+
+def _findings(audit: Audit, table_of: Table) -> Iterator[Markup]:
+    """What shows each verdict that isn't `as configured`, once for each row."""
+    yield tag("h2", "What shows the verdicts")
+    bad = [(row, part) for row in audit.rows for part in row.parts
+           if part.judgement.verdict not in (AS_CONFIGURED, STRICTER) and
+           (part.judgement.why is not None or part.judgement.shown is not None)]
+    if not bad:
+        yield tag("p", "Nothing is weaker than configured, otherwise, or not known.")
+    for row, part in bad:
+        yield tag("h3", _coloured(part.judgement.verdict), f" {audit_output.row_told(row)}")
+        yield from _shown(part.judgement, table_of)
+        command = repeat(row, part)
+        if command:
+            yield tag("p", "To repeat it:")
+            yield preformatted(command)
+
+
+def _surfaces(stacks: list[Stack], table_of: Table, limit: str | None) -> list[Surface | None]:
+    """What each stack allows, with a limit of its own; None if scf refuses it."""
+    found: list[Surface | None] = []
+    for stack in stacks:
+        client.begin_limits()
+        try:
+            found.append(surfaces.of_filters(stack.filters, table_of, limit))
+        except client.Refusal:
+            found.append(None)
+    return found
+
+
+def _since(audit: Audit, before: dict[tuple[str, str], tuple[str, str]] | None) -> Iterator[Markup]:
+    """What changed since an earlier audit."""
+    if before is None:
+        return
+    yield tag("h2", "Since the earlier audit")
+    found = list(audit_output.changes(before, audit))
+    yield listed(joined([_coloured(str(it["verdict"] or "gone")), f" {it['row']}",
+                         f" (was {it['was']})" if it["was"] is not None else " (new)"]) for it in found) \
+        if found else tag("p", "No row is new, gone or has another verdict.")
+
+
+def page(audit: Audit, table_of: Table, limit: str | None,
+         before: dict[tuple[str, str], tuple[str, str]] | None = None) -> str:
+    """The page, with what changed since an earlier audit; what each stack allows is asked of scf for it."""
+    groups = Groups()
+    found = [Named(f"stack {at}", surface, stack.told, stack_digest(stack)) for at, (stack, surface)
+             in enumerate(zip(audit.stacks, _surfaces(audit.stacks, table_of, limit)))]
+    return document(f"seccomp audit of {os.uname().nodename}", *_head(audit), *_since(audit, before), *_rows(audit),
+                    *_findings(audit, table_of), *surface_page.matrix(found, groups),
+                    *surface_page.dangerous(found, table_of), tag("h2", "Distinct stacks"),
+                    *(piece for it in found for piece in surface_page.stack(it, groups)))

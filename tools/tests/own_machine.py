@@ -1,0 +1,157 @@
+"""A machine of its own for tests: PID, mount and UTS namespaces with a /run of their own, in which containers and other
+processes are started. When its first process ends, the kernel ends all others, and nothing of them stays."""
+import contextlib
+import glob
+import json
+import os
+import shutil
+import subprocess
+import unittest
+
+from common import Case, comes
+from confined import here
+
+BUSYBOX = shutil.which("busybox")
+ROOT = unittest.skipIf(os.getuid(), "only root makes namespaces")
+# The first process: runs what it reads, a line of JSON with words, environment and input each, and prints how it ended.
+FIRST = r"""
+import base64, json, os, signal, subprocess, sys, tempfile
+os.system("mount -t tmpfs tmpfs /run && mkdir -p /run/user; "
+          "umount /sys/fs/cgroup/unified 2>/dev/null; hostname audited")
+print("ready", flush=True)
+for line in sys.stdin:
+    words, env, given = json.loads(line)
+    with tempfile.TemporaryFile() as out, tempfile.TemporaryFile() as err:
+        done = subprocess.run(words, input=base64.b64decode(given), stdout=out, stderr=err, env={**os.environ, **env})
+        out.seek(0), err.seek(0)
+        print(json.dumps([done.returncode, base64.b64encode(out.read()).decode(),
+                          base64.b64encode(err.read()).decode()]), flush=True)
+"""
+# Starts processes: its words are a JSON list of a name, the names of filters' files, the number of processes and the
+# number of threads of each. Each process waits in read(2), which its filters must allow. It prints their numbers, and
+# ends.
+CROWD = r"""
+import ctypes, json, os, sys, threading, time
+class Program(ctypes.Structure):
+    _fields_ = [("len", ctypes.c_ushort), ("filter", ctypes.c_char_p)]
+library = ctypes.CDLL(None, use_errno=True)
+threading.stack_size(1 << 16)
+read, write = os.pipe()
+def status_of(number):
+    return dict(it.split(":\t", 1) for it in open(f"/proc/{number}/status", errors="replace") if ":\t" in it)
+def be(name, files, threads):
+    library.prctl(15, name.encode("utf-8", "surrogateescape"), 0, 0, 0)
+    library.prctl(38, 1, 0, 0, 0)
+    for _ in range(threads - 1):
+        threading.Thread(target=os.read, args=(read, 1), daemon=True).start()
+    for file in (0, 1, 2):
+        os.close(file)
+    for data in [open(it, "rb").read() for it in files]:
+        # seccomp(2): SECCOMP_SET_MODE_FILTER, SECCOMP_FILTER_FLAG_TSYNC
+        if library.syscall(317, 1, 1, ctypes.byref(Program(len(data) // 8, data))):
+            os._exit(1)
+    os.read(read, 1)
+numbers = []
+for name, files, count, threads in json.loads(sys.argv[1]):
+    for _ in range(count):
+        number = os.fork()
+        if not number:
+            be(name, files, threads)
+        numbers.append(number)
+        until = time.monotonic() + 60
+        while True:
+            status = status_of(number)
+            if (status["Seccomp_filters"], status["Threads"]) == (f"{len(files)}\n", f"{threads}\n") and \
+                    status["State"][0] == "S":
+                break
+            assert time.monotonic() < until and status["State"][0] not in "XZ", status
+            time.sleep(0.001)
+print(json.dumps(numbers))
+"""
+
+
+def remove_groups(top):
+    """Removes a control group and those below; whether it is still there."""
+    for path, _, _ in os.walk(top, topdown=False):
+        with contextlib.suppress(OSError):
+            os.rmdir(path)
+    return os.path.exists(top)
+
+
+@here
+@ROOT
+class OwnMachine(Case):
+    """Tests on a machine of its own."""
+
+    def setUp(self):
+        super().setUp()
+        if not shutil.which("unshare"):
+            self.skipTest("there is no unshare here")
+        self.first = subprocess.Popen(
+            ["unshare", "--pid", "--mount", "--uts", "--fork", "--mount-proc", "--kill-child", "/usr/bin/python3", "-c",
+             FIRST], stdin=subprocess.PIPE, stdout=subprocess.PIPE, stderr=subprocess.PIPE, text=True)
+        self.addCleanup(self.end)
+        if self.first.stdout.readline() != "ready\n":
+            self.skipTest(f"no namespaces can be made here: {self.first.stderr.read()}")
+
+    def end(self):
+        """Ends all of its processes, and removes the control groups that they were in, once they have left them."""
+        self.first.kill()
+        self.first.communicate()
+        comes(lambda: not any(map(remove_groups, [f"/sys/fs/cgroup/{self.group}",
+                                                  *glob.glob(f"/sys/fs/cgroup/*/{self.group}")])))
+
+    @property
+    def group(self):
+        """The control group of its containers."""
+        return f"scf-audit-{os.getpid()}"
+
+    def on(self, *words, given=b"", **env):
+        """Runs a command on the machine: its status, and what it printed."""
+        import base64
+        self.first.stdin.write(json.dumps([words, env, base64.b64encode(given).decode()]) + "\n")
+        self.first.stdin.flush()
+        status, out, err = json.loads(self.first.stdout.readline())
+        return (status, *(base64.b64decode(it).decode("utf-8", "replace") for it in (out, err)))
+
+    def crowd(self, *groups):
+        """Starts processes, each group with a name, filters, a number of processes and of threads; their numbers."""
+        named = [(name, [self.file(f"crowd/{at}.{index}", data) for index, data in enumerate(filters)], count, threads)
+                 for at, (name, filters, count, threads) in enumerate(groups)]
+        status, out, err = self.on("/usr/bin/python3", "-c", CROWD, json.dumps(named))
+        self.assertEqual(status, 0, err)
+        return json.loads(out)
+
+    def runtime(self, name):
+        """A runtime's command; skips the test where it isn't there."""
+        if not shutil.which(name) or not BUSYBOX:
+            self.skipTest(f"there is no {name if BUSYBOX else 'busybox'} here")
+        return [name]
+
+    def bundle(self, name, seccomp, change=lambda config: None, args=("sleep", "1000")):
+        """A bundle whose configuration has this profile, or none."""
+        where = os.path.join(self.folder, "bundles", name)
+        for folder in ("bin", "proc", "dev", "sys", "tmp", "etc", "run"):
+            os.makedirs(f"{where}/rootfs/{folder}")
+        shutil.copy2(BUSYBOX, f"{where}/rootfs/bin/busybox")
+        for link in ("sh", "sleep"):
+            os.symlink("busybox", f"{where}/rootfs/bin/{link}")
+        subprocess.run([shutil.which("runc") or shutil.which("crun"), "spec"], cwd=where, check=True)
+        with open(f"{where}/config.json", encoding="utf-8") as file:
+            config = json.load(file)
+        config["process"].update(terminal=False, args=list(args), rlimits=[])
+        config["linux"]["cgroupsPath"] = f"/{self.group}/{name}"
+        config["linux"].pop("seccomp", None)
+        if seccomp is not None:
+            config["linux"]["seccomp"] = seccomp
+        change(config)
+        self.file(f"bundles/{name}/config.json", json.dumps(config))
+        return where
+
+    def container(self, runtime, name, seccomp, **settings):
+        """Starts a container; skips the test where the runtime starts none."""
+        words = self.runtime(runtime)
+        where = self.bundle(name, seccomp, **settings)
+        status, out, err = self.on(*words, "run", "--detach", "--bundle", where, name)
+        if status:
+            self.skipTest(f"{runtime} starts no container here: {(out + err).strip()}")

@@ -1,0 +1,398 @@
+"""tools/audit: a machine's containers, units and other confined programs, with real processes and containers."""
+import json
+import os
+import re
+import shutil
+import subprocess
+import unittest
+
+from common import ALLOW, EPERM, Case, filter_of, profile_of, ret, tool
+from confined import processes
+from own_machine import OwnMachine
+from scftools import audit, audit_output, container_files, machine, membership, output, tables
+
+# What is configured for containers, and the same with one call more.
+STATED = {"defaultAction": "SCMP_ACT_ALLOW", "architectures": ["SCMP_ARCH_X86_64"],
+          "syscalls": [{"names": ["mount", "ptrace"], "action": "SCMP_ACT_ERRNO", "errnoRet": 1}]}
+WITH_MOUNT = {**STATED, "syscalls": [{"names": ["ptrace"], "action": "SCMP_ACT_ERRNO", "errnoRet": 1}]}
+OTHER_ERRNO = {**STATED, "syscalls": [{"names": ["mount", "ptrace"], "action": "SCMP_ACT_ERRNO", "errnoRet": 13}]}
+STRICTER = {**STATED, "syscalls": [{"names": ["mount", "ptrace", "chroot"], "action": "SCMP_ACT_ERRNO", "errnoRet": 1}]}
+
+
+# Is under a filter, and starts threads and processes without end.
+COME_AND_GO = """
+import ctypes, os, sys, threading, time
+class Program(ctypes.Structure):
+    _fields_ = [(\"len\", ctypes.c_ushort), (\"filter\", ctypes.c_char_p)]
+library, data = ctypes.CDLL(None), open(sys.argv[1], \"rb\").read()
+library.prctl(38, 1, 0, 0, 0)
+library.prctl(22, 2, ctypes.byref(Program(len(data) // 8, data)), 0, 0)
+while True:
+    threading.Thread(target=time.sleep, args=(0.002,)).start()
+    number = os.fork()
+    if not number:
+        os._exit(0)
+    os.waitpid(number, 0)
+"""
+
+
+class Audited(OwnMachine):
+    def audit(self, *words, status=None, **env):
+        """The object that is printed."""
+        found, out, err = self.on(tool("audit"), "--json", *words, **env)
+        self.assertFalse(err, err)
+        self.assertIn(found, (1, 4) if status is None else (status,))
+        value = json.loads(out)
+        self.assertEqual(value["status"], found)
+        return value
+
+    def rows(self, *words, **env):
+        """The rows by their kind and name."""
+        return {(it["kind"], it["name"]): it for it in self.audit(*words, **env)["rows"]}
+
+    def restate(self, name, seccomp):
+        """Changes what a container's configuration says, after its start."""
+        path = os.path.join(self.folder, "bundles", name, "config.json")
+        with open(path, encoding="utf-8") as file:
+            config = json.load(file)
+        config["linux"]["seccomp"] = seccomp
+        if seccomp is None:
+            del config["linux"]["seccomp"]
+        self.file(path, json.dumps(config))
+
+
+class Programs(Audited):
+    def test_confined_programs(self):
+        """Each executable with a filter has a row, with the processes of each stack; the others are counted."""
+        one, two = filter_of([0, 1, 317]), filter_of([0, 1, 2])
+        numbers = self.crowd(("alpha", [one], 3, 1), ("beta", [one, two], 2, 2), ("gamma", [], 4, 1))
+        value = self.audit()
+        (row,) = value["rows"]
+        self.assertEqual((row["kind"], row["verdict"]), ("program", "stricter"))
+        self.assertEqual(row["name"], os.path.realpath("/usr/bin/python3"))
+        parts = {tuple(value["stacks"][it["stack"]]["filters"]): it for it in row["parts"]}
+        self.assertEqual({key: sorted(it["process"] for it in part["processes"]) for key, part in parts.items()},
+                         {(len(one) // 8,): numbers[:3], (len(one) // 8, len(two) // 8): numbers[3:5]})
+        self.assertEqual([it["threads"] for it in parts[len(one) // 8, len(two) // 8]["processes"]], [2, 2])
+        # those without a filter, the first process of the machine, and the audit's shell, if there is one
+        self.assertEqual(value["processes"], {"confined": 5, "unconfined": 5, "unread": 0})
+        self.assertEqual(value["left_out"], ["processes outside of the PID namespace that this tool runs in"])
+        for number in numbers:
+            self.assertEqual(self.on("cat", f"/proc/{number}/wchan")[0], 0)
+            self.assertRegex(self.on("grep", "TracerPid", f"/proc/{number}/status")[1], r"TracerPid:\t0\n")
+
+
+    def test_many_threads_and_hostile_names(self):
+        """A process with many threads, and names that try to be lines and labels: each is one text."""
+        hostile = ["x\n# done", 'a"} 1\nb', "\x1b[2J", "y\\", "\udcff"]
+        self.crowd(("many", [filter_of([0])], 1, 300), *((it, [filter_of([0])], 1, 1) for it in hostile))
+        (row,) = self.audit()["rows"]
+        (part,) = row["parts"]
+        self.assertEqual([it["threads"] for it in part["processes"]], [300, 1, 1, 1, 1, 1])
+        self.assertEqual([it["name"] for it in part["processes"]],
+                         ["many", "x\\x0a# done", 'a"} 1\\x0ab', "\\x1b[2J", "y\\", "\\xff"])
+        status, out, err = self.on(tool("audit"))
+        self.assertEqual((status, err), (4, ""))
+        self.assertTrue(all(line.startswith(("stricter: ", "# ")) for line in out.splitlines()), out)
+        self.assertTrue(out.replace("\n", "").isprintable())
+
+    def test_one_that_cannot_be_stopped(self):
+        """It doesn't keep the others from being read."""
+        freezer = f"/sys/fs/cgroup/freezer/{self.group}/frozen"
+        numbers = self.crowd(("warm", [filter_of([0])], 2, 1), ("cold", [filter_of([0])], 1, 2))
+        if not os.path.ismount("/sys/fs/cgroup/freezer"):
+            self.skipTest("no control group of version 1 can be frozen here")
+        os.makedirs(freezer)
+        script = f"echo {numbers[2]} >{freezer}/cgroup.procs && echo FROZEN >{freezer}/freezer.state"
+        self.assertEqual(self.on("sh", "-c", script)[0], 0)
+        self.addCleanup(self.on, "sh", "-c", f"echo THAWED >{freezer}/freezer.state")
+        (row,) = self.audit(status=4)["rows"]
+        self.assertEqual((row["verdict"], [it["verdict"] for it in row["parts"]]),
+                         ("not known", ["not known", "stricter"]))
+        self.assertIn("its control group is frozen", row["parts"][0]["why"])
+        self.assertEqual([it["process"] for it in row["parts"][0]["processes"]], numbers[2:])
+        self.on("sh", "-c", f"echo THAWED >{freezer}/freezer.state")
+        self.assertEqual(self.audit(status=4)["rows"][0]["verdict"], "stricter")
+
+    def test_processes_that_come_and_go(self):
+        """Confined processes that start and end meanwhile, and threads that do: those that stay are known."""
+        name = self.file("loop.bpf", ret(ALLOW))
+        numbers = self.crowd(("stays", [filter_of([0])], 3, 1))
+        self.on("sh", "-c", f"/usr/bin/python3 -c '{COME_AND_GO}' {name} >/dev/null 2>&1 & sleep 0.3")
+        for _ in range(3):
+            value = self.audit(status=4)
+            (row,) = value["rows"]
+            stay = [part for part in row["parts"] if part["stack"] is not None and
+                    value["stacks"][part["stack"]]["filters"] == [9]]
+            self.assertEqual([it["process"] for it in stay[0]["processes"]], numbers)
+
+    def test_what_is_expected_of_all(self):
+        """--expect and --baseline: of programs, too."""
+        self.crowd(("alpha", [filter_of([0, 1], foreign=EPERM)], 1, 1))
+        for names, expected, baseline in ((["read", "write"], "as configured", "stricter"),
+                                          (["read", "write", "close"], "stricter", "stricter"),
+                                          (["read"], "weaker", "weaker")):
+            profile = self.file("profile.json", profile_of(*names))
+            self.assertEqual(self.audit("--expect", profile)["rows"][0]["verdict"], expected, names)
+            row = self.audit("--baseline", f"no-more:{profile}")["rows"][0]
+            self.assertEqual(row["verdict"], baseline, names)
+        call = row["parts"][0]["call"]
+        self.assertEqual((call["names"], row["parts"][0]["baseline"]), (["write"], True))
+        (part,) = row["parts"]
+        self.assertEqual((part["filter"]["action"], part["profile"]["action"]), ("ALLOW", "ERRNO"))
+
+
+class Containers(Audited):
+    def test_each_verdict(self):
+        """Containers of runc and crun; what their configurations say is changed after their start."""
+        self.container("runc", "same", STATED)
+        self.container("crun", "more", STATED, change=lambda it: it["linux"].pop("cgroupsPath"))
+        self.container("runc", "errno", STATED)
+        self.container("runc", "less", STRICTER)
+        self.container("runc", "open", None)
+        self.container("runc", "lost", None)
+        for name, stated in (("more", STRICTER), ("errno", OTHER_ERRNO), ("less", STATED), ("lost", STATED)):
+            self.restate(name, stated)
+        rows = self.rows()
+        self.assertEqual({name: it["verdict"] for (_, name), it in rows.items()},
+                         {"same": "as configured", "more": "weaker", "errno": "otherwise", "less": "stricter",
+                          "open": "unconfined by configuration", "lost": "unconfined though configured"})
+        self.assertEqual([name for _, name in rows][:2], ["lost", "open"])
+        self.assertEqual({(it["engine"], it["runtime"]) for it in rows.values()}, {("runc", "runc"), ("crun", "crun")})
+        (part,) = rows["container", "more"]["parts"]
+        self.assertEqual((part["call"]["names"], part["filter"]["action"], part["profile"]),
+                         (["chroot"], "ALLOW", {"action": "ERRNO", "data": 1, "errno": "EPERM"}))
+        self.assertEqual(rows["container", "same"]["profile"]["source"], f"{self.folder}/bundles/same/config.json")
+
+    def test_processes_brought_in(self):
+        """One that enters a container without its filter is unconfined though configured."""
+        self.container("runc", "box", STATED)
+        pid = self.audit()["rows"][0]["parts"][0]["processes"][0]["process"]
+        script = (f"nsenter --target {pid} --pid --mount sleep 1000 >/dev/null 2>&1 & "
+                  "until [ $(grep -lx sleep /proc/[0-9]*/comm | wc -l) -ge 2 ]; do sleep 0.05; done")
+        if self.on("timeout", "300", "sh", "-c", script)[0]:
+            self.skipTest("nothing can be brought into a container here")
+        (row,) = self.audit(status=1)["rows"]
+        self.assertEqual((row["verdict"], [it["verdict"] for it in row["parts"]]),
+                         ("unconfined though configured", ["unconfined though configured", "as configured"]))
+
+    def test_one_of_a_user(self):
+        """A container that crun makes for a user who isn't root, with a user namespace and no control group."""
+        where = self.bundle("mine", STATED, change=rootless)
+        os.chmod(self.folder, 0o755)
+        self.on("sh", "-c", "mkdir -m 700 /run/user/12345 && chown 12345:12345 /run/user/12345")
+        self.on("chown", "-R", "12345:12345", where)
+        status, out, err = self.on("setpriv", "--reuid=12345", "--regid=12345", "--clear-groups", "crun",
+                                   "--cgroup-manager=disabled", "run", "--detach", "--bundle", where, "mine",
+                                   XDG_RUNTIME_DIR="/run/user/12345", HOME="/")
+        if status:
+            self.skipTest(f"crun starts no container of a user here: {(out + err).strip()}")
+        rows = self.rows()
+        self.assertEqual({name: (it["verdict"], it["users"]) for name, it in rows.items()},
+                         {("container", "mine"): ("as configured", [12345])})
+
+    def test_what_a_user_says_of_others(self):
+        """A user's file that names a process of root, a pipe in place of a file, and a link."""
+        self.runtime("crun")
+        numbers = self.crowd(("alpha", [filter_of([0])], 1, 1))
+        state = json.dumps({"pid": numbers[0], "bundle": self.folder, "cgroup-path": "/"})
+        self.file("state", state)
+        script = ("for it in a b c; do mkdir -p /run/user/12345/crun/$it; done; "
+                  "cp state /run/user/12345/crun/a/status; mkfifo /run/user/12345/crun/b/status; "
+                  "ln -s $PWD/state /run/user/12345/crun/c/status; chown -R 12345 /run/user/12345")
+        self.assertEqual(self.on("sh", "-c", f"cd {self.folder}; {script}")[0], 0)
+        self.assertEqual([kind for kind, _ in self.rows()], ["program"])
+
+
+def rootless(config):
+    """Changes a configuration for a user who isn't root, as `runc spec --rootless` does."""
+    config["linux"].pop("cgroupsPath")
+    config["linux"].pop("resources", None)
+    config["linux"]["namespaces"] = [it for it in config["linux"]["namespaces"]
+                                     if it["type"] not in ("network", "cgroup")] + [{"type": "user"}]
+    config["linux"]["uidMappings"] = config["linux"]["gidMappings"] = [{"containerID": 0, "hostID": 12345, "size": 1}]
+    config["mounts"] = [it for it in config["mounts"] if it["destination"] in ("/proc", "/dev", "/dev/shm")]
+
+
+class Units(Audited):
+    """Units of systemd, whose processes are in groups as systemd names them, and a stand-in for systemctl."""
+
+    def unit(self, name, filters):
+        """Starts a process of a unit."""
+        (number,) = self.crowd((name[:15], filters, 1, 1))
+        group = f"/sys/fs/cgroup/systemd/{self.group}/x.slice/{name}"
+        if not os.path.ismount("/sys/fs/cgroup/systemd"):
+            self.skipTest("there is no hierarchy of systemd here")
+        os.makedirs(group)
+        self.assertEqual(self.on("sh", "-c", f"echo {number} >{group}/cgroup.procs")[0], 0)
+        return number
+
+    @property
+    def group(self):
+        return f"scf-audit-{os.getpid()}.slice"
+
+    def test_units(self):
+        self.unit("same.service", [filter_of([0, 1, 231])])
+        self.unit("more.service", [filter_of([0, 1, 231, 101])])
+        self.unit("none.service", [])
+        self.unit("lost.service", [])
+        self.unit("gone.service", [filter_of([0])])
+        shown = {"same": "read write exit_group", "more": "read write exit_group", "none": "~", "lost": "read"}
+        text = "\n\n".join(f"Id={name}.service\nLoadState=loaded\nNeedDaemonReload=no\nFragmentPath="
+                           f"{self.file(name, '')}\nDropInPaths=\nSystemCallFilter={calls}\nSystemCallErrorNumber=1\n"
+                           f"SystemCallArchitectures={'native' if calls != '~' else ''}\nSystemCallLog=~"
+                           for name, calls in shown.items())
+        path = self.file("bin/systemctl", f"#!/bin/sh\ncat <<'END'\n{text}\nEND\n")
+        os.chmod(path, 0o755)
+        rows = self.rows(PATH=f"{self.folder}/bin:/usr/bin:/bin")
+        self.assertEqual({name: it["verdict"] for (_, name), it in rows.items()},
+                         {"lost.service": "unconfined though configured", "none.service": "unconfined by configuration",
+                          "more.service": "weaker", "gone.service": "not known", "same.service": "as configured"})
+        self.assertEqual({kind for kind, _ in rows}, {"unit"})
+        (part,) = rows["unit", "more.service"]["parts"]
+        self.assertEqual(part["call"]["names"], ["ptrace"])
+        # without systemd nothing is known of them, but that two aren't confined
+        path = self.file("bin/systemctl", "#!/bin/sh\necho no bus >&2\nexit 1\n")
+        rows = self.rows(PATH=f"{self.folder}/bin:/usr/bin:/bin")
+        self.assertEqual({it["verdict"] for it in rows.values()}, {"not known"})
+        self.assertEqual([name for (_, name), it in rows.items() if it["is_unconfined"]],
+                         ["lost.service", "none.service"])
+        self.assertIn("no bus", rows["unit", "same.service"]["profile"]["why"])
+
+
+IDENTIFIER = "0123456789abcdef" * 4
+
+
+def process(number=7, name=b"fake", groups=None, **settings):
+    """A process as /proc might describe it."""
+    given = {"parent": 1, "executable": b"/bin/fake", "user": 0, "spaces": ((1, 1),), "inner": number,
+             "capabilities": 0, "has_no_new_privileges": True, "threads": (number,), "is_confined": True,
+             "is_stuck": False, **settings}
+    return machine.Process(number=number, name=name, groups=groups or {}, **given)
+
+
+class Belonging(Case):
+    """To which unit or container a process belongs, by the names of control groups."""
+
+    def test_units(self):
+        for path, expected in (("/system.slice/ssh.service", "ssh.service"),
+                               ("/system.slice/system-getty.slice/getty@tty1.service", "getty@tty1.service"),
+                               ("/user.slice/user-1000.slice/user@1000.service/app.slice/x.service",
+                                "user@1000.service"),
+                               ("/system.slice/_cpu.service/inner", "cpu.service"),
+                               ("/system.slice/dev-hugepages.mount", "dev-hugepages.mount"),
+                               ("/user.slice/user-1000.slice/session-3.scope", None), ("/init.scope", None),
+                               ("/", None), ("/box/ssh.service", None), ("/../ssh.service", None),
+                               ("/system.slice/a\nb.service", None)):
+            for hierarchy in ("", "name=systemd"):
+                found = membership.unit_of(process(groups={hierarchy: path.encode()}))
+                self.assertEqual(found, expected, path)
+
+    def test_containers_that_only_a_name_tells(self):
+        for path, engine, name in ((f"/machine.slice/libpod-{IDENTIFIER}.scope/container", "podman", IDENTIFIER),
+                                   (f"/docker/{IDENTIFIER}", "unknown", IDENTIFIER),
+                                   (f"/system.slice/docker-{IDENTIFIER}.scope/init.scope", "Docker", IDENTIFIER),
+                                   (f"/kubepods.slice/a.slice/cri-containerd-{IDENTIFIER}.scope", "containerd",
+                                    IDENTIFIER), (f"/kubepods.slice/crio-{IDENTIFIER}.scope", "CRI-O", IDENTIFIER),
+                                   ("/system.slice/runc-box.scope", "runc", "box"),
+                                   ("/lxc.payload.box/init.scope", "LXC", "box"),
+                                   ("/machine.slice/machine-box.scope/payload", "systemd-nspawn", "box")):
+            found = membership.named_container(process(groups={"": path.encode()}))
+            self.assertEqual((found.engine, found.identifier), (engine, name), path)
+        self.assertIsNone(membership.named_container(process(groups={"": b"/system.slice/x.service"})))
+
+
+class Output(Case):
+    """What is written of rows whose names are hostile."""
+
+    def setUp(self):
+        super().setUp()
+        self.table = tables.read(None)
+        container = container_files.Described("ab" * 32, "podman", "crun", 7, "/c", name='a"} 1\nb\\', image="i\x1b[0m")
+        self.row = audit.Row(audit.CONTAINER, container.identifier, [process(name=b"x\n# y")], audit.Expected(),
+                             container)
+        stack = processes.Stack((filter_of([0]),), False, {7: [7]})
+        self.row.parts = [audit.Part(stack, {7: [7]}, audit.Judgement(audit.NOT_KNOWN, "it\nis"))]
+        snapshot = machine.Snapshot({7: self.row.processes[0]}, {(stack.filters, False): stack})
+        self.audit = audit.Audit([self.row], snapshot, 0.0, 1.5)
+
+    def test_lines(self):
+        for line in audit_output.lines(self.audit, self.table):
+            self.assertIn(line[:4], ("not ", "    ", "# co", "# un", "# ot", "# pr"))
+
+    def test_json(self):
+        value = audit_output.as_json(self.audit, self.table)
+        self.assertEqual((value["status"], value["time"], value["rows"][0]["name"]),
+                         (4, "1970-01-01T00:00:00Z", 'a"} 1\\x0ab\\'))
+        self.assertEqual([*audit_output.json_lines(self.audit, self.table)][0], value["rows"][0])
+
+    def test_metrics(self):
+        """Each line is a comment or a sample; a label's value is escaped as the text format has it."""
+        text = audit_output.metrics(self.audit)
+        sample = re.compile(r'[a-z_]+(?:\{(?:[a-z]+="(?:[^"\\\n]|\\["\\n])*",?)+\})? [0-9.]+')
+        for line in text.splitlines():
+            self.assertTrue(line.startswith(("# HELP ", "# TYPE ")) or sample.fullmatch(line), line)
+        self.assertIn('scf_container_verdict{id="' + "ab" * 32 + '",name="a\\"} 1\\\\x0ab\\\\",engine="podman",'
+                      'image="i\\\\x1b[0m",pod="",verdict="not known"} 1\n', text)
+        self.assertIn("\nscf_audit_seconds 1.500\n", text)
+
+    @unittest.skipUnless(shutil.which("promtool"), "there is no promtool here")
+    def test_metrics_by_promtool(self):
+        done = subprocess.run(["promtool", "check", "metrics"], input=audit_output.metrics(self.audit).encode(),
+                              stdout=subprocess.PIPE, stderr=subprocess.STDOUT, check=False)
+        self.assertEqual((done.returncode, done.stdout), (0, b""))
+
+    def test_a_file_is_replaced_at_once(self):
+        path = self.file("out.prom", "old")
+        output.replace_file(path, "new")
+        with open(path, encoding="ascii") as file:
+            self.assertEqual((file.read(), os.listdir(self.folder)), ("new", ["out.prom"]))
+        with self.assertRaises(FileNotFoundError):
+            output.replace_file(os.path.join(self.folder, "none", "out.prom"), "new")
+
+    def test_changes(self):
+        before = {("container", "gone"): ("container gone", "weaker"),
+                  ("container", "ab" * 32): ("container x", "as configured")}
+        found = [audit_output.change_told(it) for it in audit_output.changes(before, self.audit)]
+        self.assertEqual(found, ["1970-01-01T00:00:00Z not known: container a\"} 1\\x0ab\\ (podman, i\\x1b[0m, "
+                                 "abababababab) (was as configured)",
+                                 "1970-01-01T00:00:00Z gone: container gone (was weaker)"])
+        self.assertEqual([*audit_output.changes(audit_output.known_rows(self.audit), self.audit)], [])
+
+    def test_status(self):
+        """1 before 4 before 0; what is unconfined by configuration counts, unless it is allowed."""
+        def status(*verdicts, allows=False, left_out=()):
+            rows = [audit.Row(audit.UNIT, str(at), [], audit.Expected()) for at, _ in enumerate(verdicts)]
+            for row, verdict in zip(rows, verdicts):
+                row.parts = [audit.Part(processes.Stack((), False), {}, audit.Judgement(verdict))]
+            return audit.Audit(rows, machine.Snapshot(), 0.0, left_out=list(left_out), allows_unconfined=allows).status
+
+        for verdict, expected in (("as configured", 0), ("stricter", 0), ("otherwise", 0), ("not known", 4),
+                                  ("weaker", 1), ("unconfined by configuration", 1),
+                                  ("unconfined though configured", 1)):
+            self.assertEqual(status("as configured", verdict), expected, verdict)
+        self.assertEqual(status("not known", "weaker"), 1)
+        self.assertEqual(status("unconfined by configuration", allows=True), 0)
+        self.assertEqual(status("unconfined though configured", allows=True), 1)
+        self.assertEqual(status("as configured", left_out=["x"]), 4)
+        self.assertEqual(status(), 0)
+
+
+class Words(Case):
+    def test_an_earlier_object(self):
+        for text in ("{", "[]", "{}", '{"rows": [{}]}', '{"rows": [{"kind": 1}]}'):
+            status, out, err = self.run_tool("audit", "--html", "x", "--since", self.file("a.json", text))
+            self.assertEqual((status, out), (3, ""), text)
+            self.assertIn("a.json' isn't an object that --json printed", err)
+
+    def test_usage(self):
+        self.says_usage("audit", "--baseline", "profile.json")
+        for words in (("--watch", "0"), ("--json", "--json-lines"), ("x",), ("--expect", "none"),
+                      ("--baseline", "no-more:none"), ("--expect", "-", "--baseline", "no-more:-")):
+            status, out, err = self.run_tool("audit", *words)
+            self.assertEqual((status, out), (2, ""), words)
+            self.assertRegex(err, r"audit: [^\n]*\n\Z")
+
+
+if __name__ == "__main__":
+    unittest.main()

@@ -1,0 +1,127 @@
+"""The pages of HTML that audit, surface and compare write."""
+import base64
+import hashlib
+import html.parser
+import os
+import re
+import shutil
+import subprocess
+import unittest
+
+from common import Case, filter_of, profile_of
+from test_audit import process
+from scftools import audit, audit_page, compare, container_files, machine, processes, tables, verdicts
+
+# The elements that a page has, and their attributes.
+TAGS = {"html": {"lang"}, "head": set(), "meta": {"charset", "http-equiv", "content", "name"}, "title": set(),
+        "style": set(), "body": set(), **{it: {"class", "id"} for it in "h1 h2 h3 p ul li code pre span div".split()},
+        "strong": {"class"}, "code": {"class", "title"}, "details": set(), "summary": set(), "table": {"class"},
+        "thead": set(), "tbody": set(), "tr": set(), "th": {"scope"}, "td": {"data-label"}, "a": {"href"}}
+HOSTILE = '"><script>alert(1)</script><img src=x onerror=alert(1)>&lt;\n\x1b[2J\u202e\udcff'
+CHROMIUM = shutil.which("chromium")
+
+
+class Page(html.parser.HTMLParser):
+    """A page, of which each element is one that pages have."""
+
+    def __init__(self, text, case):
+        super().__init__()
+        self.case, self.ids, self.targets, self.texts, self.policy, self.open = case, set(), set(), [], None, []
+        self.style = re.search(r"<style>(.*?)</style>", text, re.S)[1]
+        self.feed(text)
+        self.close()
+        case.assertEqual(self.open, [])
+
+    def handle_starttag(self, tag, attrs):
+        self.case.assertIn(tag, TAGS)
+        attributes = dict(attrs)
+        self.case.assertLessEqual(set(attributes), TAGS[tag], tag)
+        self.ids |= {attributes["id"]} if "id" in attributes else set()
+        if tag == "a":
+            self.case.assertTrue(attributes["href"].startswith("#"))
+            self.targets.add(attributes["href"][1:])
+        if attributes.get("http-equiv") == "Content-Security-Policy":
+            self.policy = attributes["content"]
+        if tag != "meta":
+            self.open.append(tag)
+
+    def handle_endtag(self, tag):
+        self.case.assertEqual(self.open.pop(), tag)
+
+    def handle_data(self, data):
+        self.texts.append(data)
+
+    def check(self):
+        """Its policy allows its style and nothing else; each link leads to a place in it."""
+        digest = base64.b64encode(hashlib.sha256(self.style.encode()).digest()).decode()
+        self.case.assertEqual(self.policy, f"default-src 'none'; style-src 'sha256-{digest}'; base-uri 'none'; "
+                                           "form-action 'none'")
+        self.case.assertLessEqual(self.targets, self.ids)
+        self.case.assertNotRegex(self.style, r"url\(|@import")
+        return "".join(self.texts)
+
+
+class Pages(Case):
+    def made(self):
+        """A page of an audit in which all names are hostile."""
+        table = tables.read(None)
+        container = container_files.Described("i" * 64, "podman", "crun", 7, HOSTILE, name=HOSTILE, image=HOSTILE,
+                                              pod=HOSTILE)
+        stack = processes.Stack((filter_of([0, 41]),), False, {7: [7]})
+        seven, eight = process(name=os.fsencode(HOSTILE)), process(8)
+        asked = compare.Comparison(stack.named, profile_of("read"), table)
+        verdict = asked.run(compare.NATIVE, verdicts.NO_MORE)[1].verdict
+        rows = [audit.Row(audit.CONTAINER, container.identifier, [seven], audit.Expected(source=HOSTILE), container),
+                audit.Row(audit.UNIT, "a.service", [eight], audit.Expected(why=HOSTILE))]
+        rows[0].parts = [audit.Part(stack, {7: [7]}, audit.Judgement(audit.WEAKER, shown=verdict, comparison=asked))]
+        rows[1].parts = [audit.Part(processes.Stack((), False, {8: [8]}), {8: [8]}, audit.Judgement(
+            audit.NOT_KNOWN, HOSTILE, is_unconfined=True))]
+        snapshot = machine.Snapshot({7: seven, 8: eight}, {(stack.filters, False): stack})
+        found = audit.Audit(rows, snapshot, 0.0, left_out=[HOSTILE])
+        return audit_page.page(found, table, None, {("unit", HOSTILE): (HOSTILE, "weaker")})
+
+    def test_an_audit(self):
+        text = Page(self.made(), self).check()
+        shown = HOSTILE.replace("\n", "\\x0a").replace("\x1b", "\\x1b").replace("\u202e", "\\xe2\\x80\\xae").replace(
+            "\udcff", "\\xff")
+        self.assertGreater(text.count(shown), 6)
+        for expected in ("syscall(SYS_socket, 0x0, 0x0, 0x0, 0x0, 0x0, 0x0);", "the filters answer ALLOW",
+                         "the profile answers ERRNO 1: the syscall fails with EPERM", "by the default",
+                         "some: 1 allowed of ", "all denied", "scf verify-process --no-more --runtime crun 7 ",
+                         "(was weaker)", "unconfined"):
+            self.assertIn(expected, text)
+
+    def test_a_surface_and_a_comparison(self):
+        one, two = self.file("one.bpf", filter_of([0, 1])), self.file("<two>.bpf", filter_of([0]))
+        path = os.path.join(self.folder, "page.html")
+        self.assertEqual(self.run_tool("surface", "--html", path, one, "--beside", two)[0], 1)
+        with open(path, encoding="utf-8") as file:
+            text = Page(file.read(), self).check()
+        self.assertIn("some: 2 allowed of ", text)
+        profile = self.file("p&q.json", profile_of("read", "write"))
+        status, out, _ = self.run_tool("compare", "--html", path, two, profile)
+        with open(path, encoding="utf-8") as file:
+            text = Page(file.read(), self).check()
+        self.assertEqual(status, 1)
+        self.assertIn(out, text + "\n")
+        self.assertIn("syscall(SYS_write, ", text)
+        self.assertIn(f"compare '{two}' '{profile}'", text)
+        for name in ("surface", "compare"):
+            words = [one, self.file("p.json", profile_of("read"))] if name == "compare" else [one]
+            status, _, err = self.run_tool(name, "--html", f"{self.folder}/none/x.html", *words)
+            self.assertEqual((status, err), (3, f"{name}: '{self.folder}/none/x.html': No such file or directory\n"))
+
+    @unittest.skipUnless(CHROMIUM, "there is no chromium here")
+    def test_in_a_browser(self):
+        """It logs nothing of the page, and shows it with its own style."""
+        path = self.file("page.html", self.made())
+        done = subprocess.run([CHROMIUM, "--headless", "--no-sandbox", "--disable-gpu", "--enable-logging=stderr",
+                               f"--user-data-dir={self.folder}/browser", "--dump-dom", f"file://{path}"],
+                              stdout=subprocess.PIPE, stderr=subprocess.PIPE, check=False)
+        self.assertEqual(done.returncode, 0)
+        self.assertNotIn(b"CONSOLE", done.stderr)
+        self.assertIn(b"<strong class=\"long\">\"&gt;&lt;script&gt;alert(1)&lt;/script&gt;", done.stdout)
+
+
+if __name__ == "__main__":
+    unittest.main()
