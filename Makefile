@@ -1,6 +1,8 @@
 # make                              builds scf, which takes the Rattle kit
-# make install [PREFIX=/usr/local]  puts it, its tools and manual pages below PREFIX; with DESTDIR below that folder
+# make install [PREFIX=/usr/local]  puts it, its tools, manual pages and completions below PREFIX; with DESTDIR below
+#                                   that folder
 # make uninstall                    takes them away
+# make deb, make dist               makes a Debian package, or an archive, of what is built, in dist/
 # make check                        runs the whole gate
 
 PREFIX = /usr/local
@@ -13,8 +15,12 @@ BIN = $(TO)/bin
 LIB = $(TO)/lib/scf
 MAN = $(TO)/share/man/man1
 DOC = $(TO)/share/doc/scf
+# (where Debian's shells look below /usr, and below /usr/local)
+BASH = $(TO)/share/bash-completion/completions
+ZSH = $(TO)/share/zsh/$(if $(filter /usr,$(PREFIX)),vendor-completions,site-functions)
+FISH = $(TO)/share/fish/vendor_completions.d
 
-.PHONY: all check install uninstall
+.PHONY: all check install uninstall deb dist
 
 all:
 	./build
@@ -26,22 +32,26 @@ check:
 	./test
 
 install: $(PROGRAM) uninstall
-	install -d "$(BIN)" "$(LIB)/tools/scftools" "$(LIB)/tables" "$(LIB)/docs" "$(MAN)" "$(DOC)"
-	install $(PROGRAM) "$(LIB)/scf"
+	install -d "$(BIN)" "$(LIB)/tools/scftools" "$(LIB)/tables" "$(LIB)/docs" "$(MAN)" "$(DOC)" \
+	    "$(BASH)" "$(ZSH)" "$(FISH)"
+	install $(PROGRAM) "$(LIB)/program"
 	install $(TOOLS:%=tools/%) "$(LIB)/tools"
 	install -m 644 tools/scftools/*.py "$(LIB)/tools/scftools"
 	install -m 644 tables/* "$(LIB)/tables"
 	install -m 644 docs/FAULTS.md "$(LIB)/docs"
 	install -m 644 docs/scf.1 "$(MAN)"
-	umask 022; dev/manual "$(MAN)"
+	umask 022; dev/manual "$(MAN)" && dev/completion "$(BASH)/scf" "$(ZSH)/_scf" "$(FISH)/scf.fish"
 	install -m 644 LICENSE "$(DOC)"
 	umask 022; python3 -m compileall -q --invalidation-mode checked-hash $(if $(DESTDIR),-s "$(DESTDIR)") \
 	    "$(LIB)/tools/scftools"
-	ln -sf ../lib/scf/scf "$(BIN)/scf"
+	install scf "$(BIN)"
 	for it in $(TOOLS); do ln -sf "../lib/scf/tools/$$it" "$(BIN)/scf-$$it" || exit 1; done
 	ln -sf scf-resolve-profile.1 "$(MAN)/scf-plain-profile.1"
 
 uninstall:
 	for it in "$(LIB)"/tools/*; do rm -f "$(BIN)/scf-$${it##*/}" "$(MAN)/scf-$${it##*/}.1"; done
-	rm -f "$(BIN)/scf" "$(MAN)/scf.1"
+	rm -f "$(BIN)/scf" "$(MAN)/scf.1" "$(BASH)/scf" "$(ZSH)/_scf" "$(FISH)/scf.fish"
 	rm -rf "$(LIB)" "$(DOC)"
+
+deb dist: $(PROGRAM)
+	dev/package $@ dist
