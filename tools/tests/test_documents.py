@@ -10,18 +10,21 @@ import unittest
 from common import (ALLOW, PATIENCE, SCF, TABLE, TOP, Case, filter_of, for_developers, insn, jeq, load, part, profile_of,
                     ret)
 
+PROGRAM = os.path.join(TOP, "crates", "scf", "out", "scf")
 # The tools that have a page of their own; plain-profile is an old name.
 TOOLS = sorted(it for it in os.listdir(os.path.join(TOP, "tools"))
                if os.path.isfile(os.path.join(TOP, "tools", it)) and it != "plain-profile")
 
 # Which enum of the program is printed for which sources; for some, only these of its kinds.
 SOURCES = {
-    "InputFault": ["input", "table", "profile"], "BundleFault": ["bundle"], "ReadFault": ["filter"],
-    "CheckFault": ["filter"], "TextFault": ["text"],
-    "TableFault": ["table"], "LoadFault": ["profile"], "CompileFault": ["compile"], "PushFault": ["stack"],
+    "InputFault": ["input", "table", "profile"], "BundleFault": ["bundle"],
+    "ReadFault": ["filter", "beside"],
+    "CheckFault": ["filter", "beside"], "TextFault": ["text"],
+    "TableFault": ["table"], "LoadFault": ["profile"], "CompileFault": ["compile"],
+    "PushFault": ["stack", "beside"],
 }
 # These are made of others, or are printed in another way.
-OTHERS = {"VerifyFault", "WriteFault", "NumberFault", "NumeralFault", "RequestFault"}
+OTHERS = {"BesideFault", "VerifyFault", "WriteFault", "NumberFault", "NumeralFault", "RequestFault"}
 
 
 def enums():
@@ -163,6 +166,9 @@ class Faults(Case):
             (["compare", "--limit", "0x"], b"", "fault number limit"),
             (["compare", "--native", "--calls"], b"", "fault command Flags"),
         ]
+        cases += [(["compare", "--beside"], part("beside", given), line.replace("fault filter", "fault beside", 1))
+                  for _, given, line in cases if line.startswith("fault filter")]
+        cases.append((["compare", "--beside"], part("beside", ret(0) * 4096) * 8, "fault beside TooMany total 32796"))
         seen = set()
         for words, given, line in cases:
             with self.subTest(line=line):
@@ -340,8 +346,9 @@ class Recipes(Case):
             count = 1
             while count:
                 body, count = re.subn(r"\$\([^()]*\)", "", body)
-            for name, rest in re.findall(r"\b(?:tools/|scf-)([a-z-]+)([^\n|;&]*)", body):
-                yield name, re.findall(r"(?<= )--[a-z-]+", rest)
+            names = "|".join(sorted(TOOLS, key=len, reverse=True))
+            for name, rest in re.findall(rf"\b(?:tools/|scf[- ])({names})\b([^\n|;&]*)", body):
+                yield name, re.findall(r"(?<= )--[a-z0-9-]+", rest)
 
     def test_each_is_there(self):
         found = list(self.commands())
@@ -367,12 +374,12 @@ class Manual(Case):
                               stdout=subprocess.PIPE, stderr=subprocess.PIPE, check=False)
         self.assertEqual((done.returncode, done.stderr.decode()), (0, ""))
         shown = re.sub(r"\x1b\[[0-9;]*m|.\x08", "", done.stdout.decode())
-        for heading in ("NAME", "SYNOPSIS", "COMMANDS", "OPTIONS", "EXIT STATUS", "EXAMPLES"):
+        for heading in ("NAME", "SYNOPSIS", "COMMANDS OF THE PROGRAM", "OPTIONS", "EXIT STATUS", "EXAMPLES"):
             self.assertIn(f"\n{heading}\n", shown)
 
     def test_every_command_option_and_tool_stands_there(self):
         text = self.text().replace("\\-", "-").replace("\\", "")
-        done = subprocess.run([SCF, "--help"], stdin=subprocess.DEVNULL, stdout=subprocess.PIPE, check=False)
+        done = subprocess.run([PROGRAM, "--help"], stdin=subprocess.DEVNULL, stdout=subprocess.PIPE, check=False)
         commands = re.findall(r"^  ([a-z]+) ", done.stdout.decode(), re.M)
         self.assertIn("compare", commands)
         for command in commands:
