@@ -376,7 +376,7 @@ class Runtimes(Case):
         changed = [profile(*((it, action, {}) for it in names), comment=comment) for action in ("ALLOW", "LOG")]
         for (old, new), status in ((skipped, 0), (changed, 1)):
             words = [tool("compare-profiles"), self.file("a", old), self.file("b", new)]
-            self.assertEqual(self.run_words(words, seconds=10)[0], status)
+            self.assertEqual(self.run_words(words, seconds=60)[0], status)
 
 
 class RandomProfiles(unittest.TestCase):

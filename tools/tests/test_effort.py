@@ -11,7 +11,7 @@ sys.path.append(os.path.join(TOP, "tools"))
 from scftools import client, program  # noqa: E402
 
 # Seconds of a processor, and bytes of address space, that a tool and all that it runs may take.
-SECONDS, MEMORY = 10, 500 << 20
+SECONDS, MEMORY = 30, 500 << 20
 GATE = load(4) + jeq(X86_64, 0, 2) + load(0) + jge(0x40000000, 0, 1) + ret(KILL_PROCESS)
 # Of about 4000 instructions: each bit of an argument again and again, on ways that part and don't meet soon; and orders
 # of all arguments.

@@ -992,7 +992,7 @@ class Container(Linted):
                         entry("clone3", action=ERRNO, errnoRet=38), default="SCMP_ACT_KILL_PROCESS")
         before = taken()
         self.assertEqual(self.found(given, kinds=("covered", "without-effect")), [])
-        self.assertLess(taken() - before, 20)
+        self.assertLess(taken() - before, 60)
         given["syscalls"].append(entry("personality", "read"))
         self.assertEqual([(it["entry"], it["names"]) for it in self.found(given, kinds=("covered", "without-effect"))],
                          [*((it, ["personality"]) for it in range(1, 5)), (7, ["read"])])

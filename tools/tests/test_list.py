@@ -179,7 +179,7 @@ class Graph(Case):
         """As the engines': 1,000 tests are a few nodes, and take no time."""
         tests = b"".join(jeq(number, 0, 1) + ret(ALLOW) for number in range(0, 2000, 2))
         data = load(0) + tests + ret(EPERM)
-        out = self.run_tool("list", "--dot", self.file("f.bpf", data), seconds=5)[1]
+        out = self.run_tool("list", "--dot", self.file("f.bpf", data), seconds=30)[1]
         self.assertLess(out.count(" -> "), 10)
         self.assertIn("and 988 more ranges", out)
 

@@ -367,6 +367,6 @@ class Profiles(Case):
         """It ends soon, and says what is proved."""
         many = b"".join(load(16 + 8 * (at % 6)) + insn(0x0C, 0) + insn(0x07, 0) + jset(1 << at % 32, 0, 1)
                         + insn(0x87, 0) for at in range(600))
-        status, out, _ = self.run_on([gate(many + jset(1, 0, 1) + ret(ALLOW) + ret(EPERM))], seconds=20)
+        status, out, _ = self.run_on([gate(many + jset(1, 0, 1) + ret(ALLOW) + ret(EPERM))], seconds=60)
         self.assertEqual(status, 4)
         self.assertIn("# no profile was found", out)
