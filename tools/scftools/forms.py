@@ -33,7 +33,7 @@ OTHERS = (
      ": `seccomp-tools dump -f raw` writes the filter itself"),
     (rb"#\s*\n# pseudo filter code start", "libseccomp's pseudo code",
      ": seccomp_export_bpf writes the filter itself"),
-    (rb"[> ] ?\s*0  (?:ld|ldx|ret|raw|jeq|ja) |\s*0  (?:ld|ldx|ret|raw|ja)\b", "a listing of tools/list",
+    (rb"[> ] ?\s*0  (?:ld|ldx|ret|raw|jeq|ja) |\s*0  (?:ld|ldx|ret|raw|ja)\b", "a listing of `scf list`",
      ": `scf dis` prints one that is taken"),
     (rb"\s*(?:---\s*\n)?(?:apiVersion|kind):", "YAML", OF_PROFILE),
 )

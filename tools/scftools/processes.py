@@ -55,7 +55,7 @@ class Stack:
 
     @property
     def named(self) -> list[Filter]:
-        """The filters, by the names that `tools/filters-of` gives their files."""
+        """The filters, by the names that `scf filters-of` gives their files."""
         width = len(str(len(self.filters) - 1))
         return [Filter(f"{at:0{width}}.bpf", data) for at, data in enumerate(self.filters)]
 

@@ -121,7 +121,7 @@ def checked(data: bytes, is_runtimes: bool = False) -> bytes:
     """A profile that was read, refused as `read` says."""
     found = profiles.errno_by_name(data)
     if found is not None:
-        hint = "--runtime podman takes it" if is_runtimes else "tools/resolve-profile resolves it"
+        hint = "--runtime podman takes it" if is_runtimes else "scf resolve-profile resolves it"
         raise program.ToolError(f"{found}, which only podman reads: {hint}", program.NEGATIVE)
     misread = profiles.misread_members(data) if is_runtimes else []
     if misread:

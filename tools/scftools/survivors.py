@@ -54,6 +54,6 @@ def filters_of(process: int, found: Found) -> Sequence[Filter]:
         return []
     stacks = processes.read_or_end(lambda: processes.look_at_process(processes.Kernel(), process)).stacks
     if len(stacks) > 1:
-        raise program.ToolError(f"the threads of process {process} have different filters: `tools/filters-of` takes "
+        raise program.ToolError(f"the threads of process {process} have different filters: `scf filters-of` takes "
                               "those of each", program.UNKNOWN)
     return stacks[0].named

@@ -1,4 +1,4 @@
-"""tools/resolve-profile: the rules of the engines, on profiles that use each form."""
+"""scf resolve-profile: the rules of the engines, on profiles that use each form."""
 import json
 import os
 
@@ -292,7 +292,7 @@ class ErrnoByName(Case):
                                     ("verify-process", (str(os.getpid()), "p.json"))):
                     status, out, err = self.run_tool(name, *words)
                     is_runtimes = name in ("compare-profiles", "verify-process")
-                    hint = "--runtime podman takes it" if is_runtimes else "tools/resolve-profile resolves it"
+                    hint = "--runtime podman takes it" if is_runtimes else "scf resolve-profile resolves it"
                     self.assertEqual((status, out, err), (1, "", f"{name}: {says}, which only podman reads: {hint}\n"))
                 found, _ = self.resolved("p.json")
                 self.assertEqual(self.run_tool("ask", "--nr=mkdir", self.file("r.json", found))[0], 0)
