@@ -13,6 +13,7 @@ folders or site packages. So it adds its own folder, by its real name, to the im
     bundles     several inputs as one, which is how scf reads them
     tables      syscall tables; names in them, and names that no syscall has
     number_sources  sources of syscall numbers: kernel headers, syscall_64.tbl, libseccomp
+    libseccomp  the installed libseccomp: names and numbers that it knows
     constants   constants of C, by which arguments are given and shown
     answers     actions, errnos, architectures, and what an answer does
     architectures  architectures by their names and numbers

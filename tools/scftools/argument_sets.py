@@ -133,35 +133,29 @@ class Sets:
                 left += self.nodes[now][1:]
         return {self.nodes[it][0] for it in seen if it > ALL}
 
-    def possible(self, one: int) -> int:
-        """The arguments that are in a set for some value of the variables that aren't bits of arguments."""
+    def _project(self, one: int, first: int, end: int, is_for_all: bool = False) -> int:
+        """A set without the variables before `first` and from `end` on: what is in it for some value of these, or for
+        all of the later ones."""
         memo: dict[int, int] = {}
-
-        def visit(now: int) -> int:
-            variable, low, high = self.nodes[now]
-            if variable >= OTHERS:
-                return ALL if now else NONE
-            if now not in memo:
-                memo[now] = self.node(variable, visit(low), visit(high))
-            return memo[now]
-
-        return visit(one)
-
-    def of_argument(self, one: int, index: int) -> int:
-        """The values of an argument in a set, as the set of all arguments with such a value."""
-        memo: dict[int, int] = {}
-        first, end = BITS * index, BITS * (index + 1)
 
         def visit(now: int) -> int:
             variable, low, high = self.nodes[now]
             if variable >= end:
-                return ALL if now else NONE
+                return ALL if now == ALL or now and not is_for_all else NONE
             if now not in memo:
                 parts = visit(low), visit(high)
                 memo[now] = self.node(variable, *parts) if variable >= first else self.either(*parts)
             return memo[now]
 
         return visit(one)
+
+    def possible(self, one: int) -> int:
+        """The arguments that are in a set for some value of the variables that aren't bits of arguments."""
+        return self._project(one, 0, OTHERS)
+
+    def of_argument(self, one: int, index: int) -> int:
+        """The values of an argument in a set, as the set of all arguments with such a value."""
+        return self._project(one, BITS * index, BITS * (index + 1))
 
     def _from(self, one: int, index: int, value: int, flip: int) -> int | None:
         """The least value of an argument from this one on that is in a set, or None; with every bit flipped if `flip`
@@ -208,27 +202,13 @@ class Sets:
             one = parts[value >> (BITS * (index + 1) - 1 - variable) & 1]
         return one == ALL
 
-    def _with_all(self, one: int, index: int, count: int) -> int:
-        """The values of an argument that are in a set whatever their lowest bits are, so many of them."""
-        memo: dict[int, int] = {}
-
-        def visit(now: int) -> int:
-            variable, low, high = self.nodes[now]
-            if variable >= BITS * (index + 1) - count:
-                return ALL if now == ALL else NONE
-            if now not in memo:
-                memo[now] = self.node(variable, visit(low), visit(high))
-            return memo[now]
-
-        return visit(one)
-
     def widest_mask(self, one: int, index: int, value: int, lowest: int, kept: int) -> int:
         """A mask such that all values of an argument that agree in it with one are in a set of its values.
 
         It has the bits to be kept. It lacks the lowest bits, so many of them, which must be possible, those that don't
         matter, and as many others as can be dropped, from the highest on.
         """
-        mask, now = kept, self._with_all(one, index, lowest)
+        mask, now = kept, self._project(one, 0, BITS * (index + 1) - lowest, is_for_all=True)
         while now > ALL:
             variable, *parts = self.nodes[now]
             bit = 1 << (BITS * (index + 1) - 1 - variable)

@@ -26,7 +26,7 @@ def _added(reason: Reason, profile: bytes, call: Call | None, table: Table,
     elif reason.answer:
         if call is not None:
             yield from explanation.of_call(call, table)
-        yield explanation.of_answer(reason.answer)
+        yield reason.answer.told()
         yield from reasons.told(reason, profile, call, origins)
 
 

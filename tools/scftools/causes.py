@@ -3,9 +3,9 @@ from __future__ import annotations
 
 from collections.abc import Iterator, Sequence
 
-from . import amendment, ask, client, decisions, explanation, paths, program, reasons, refusals
+from . import amendment, ask, client, decisions, paths, program, reasons, refusals
 from .amendment import Amendment
-from .answers import ERRNOS, Answer
+from .answers import ERRNOS
 from .calls import Call
 from .client import Refusal
 from .diagnosis import CONTRADICTS, FITS, UNKNOWN, Case, Stack, cases, rank, verdict_of
@@ -192,7 +192,7 @@ def _of_profile(cause: Cause) -> Iterator[str]:
     for case in party.found:
         reason = reasons.of(given.profile, given.table, case.call.words())
         yield reason.line
-        yield f"# {explanation.of_answer(case.answer)}"
+        yield f"# {case.answer.told()}"
         yield from (f"# {line}" for line in reasons.told(reason, given.profile, case.call if case.is_for_all
                                                          and not cause.event.unknown or not case.is_for_all else None))
         yield from (f"# {line}" for line in _of_case(case, cause.event, given.table))
@@ -219,9 +219,8 @@ def _of_filters(cause: Cause) -> Iterator[str]:
         yield from _of_refusal(party.refusal, Given(given.trial))
         return
     for case in party.found:
-        yield str(Answer(case.answer.action, case.answer.data)) if case.answer.action == "UNNAMED" else \
-            f"{case.answer.action} {case.answer.data}"
-        yield f"# {explanation.of_answer(case.answer)}"
+        yield str(case.answer) if case.answer.action == "UNNAMED" else f"{case.answer.action} {case.answer.data}"
+        yield f"# {case.answer.told()}"
         yield from (f"# {line}" for line in _of_case(case, cause.event, given.table))
         yield from (f"# {line}" for line in _of_path(case, given))
     yield from (f"# {line}" for line in _of_verdict(party, cause.event))

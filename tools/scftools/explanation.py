@@ -4,7 +4,6 @@ from __future__ import annotations
 from collections.abc import Iterator
 
 from . import faults, tables, verdicts
-from .answers import Answer
 from .calls import Call
 from .tables import Table
 from .verdicts import Decision, Fault, Report
@@ -23,10 +22,6 @@ def of_call(call: Call, table: Table, is_native: bool | None = None) -> Iterator
     yield f"the syscall is {call.told(table)}" + (f": {shown}" if shown is not None else "")
     if is_native is False and not call.is_native:
         yield f"--native leaves out {call.left_out_of_native()}"
-
-
-def of_answer(answer: Answer) -> str:
-    return answer.told()
 
 
 def of_differing(verdict: verdicts.Verdict, table: Table, is_native: bool, count: int) -> Iterator[str]:
@@ -95,4 +90,4 @@ def of_decision(call: Call | None, decision: Decision, table: Table) -> Iterator
     elif decision.answer:
         if call is not None:
             yield from of_call(call, table)
-        yield of_answer(decision.answer)
+        yield decision.answer.told()

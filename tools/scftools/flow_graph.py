@@ -23,12 +23,6 @@ MARK = ", penwidth=3, color=red"
 COLOURS = {answers.ALLOWED: "palegreen", answers.DELEGATED: "khaki", answers.DENIED: "lightpink"}
 
 
-def answer_of(word: int) -> answers.Answer:
-    """The answer that a filter returns as these 32 bits."""
-    action = answers.ACTIONS.get(word >> 16)
-    return answers.Answer("UNNAMED", word) if action is None else answers.Answer(action, word & 0xFFFF)
-
-
 def split(ranges: Ranges, first: int) -> tuple[Ranges, Ranges]:
     """The values below `first`, and the others."""
     return ([(low, min(high, first - 1)) for low, high in ranges if low < first],
@@ -201,7 +195,7 @@ class Drawing:
             name, mark = self.name_of(place), MARK if place in self.way else ""
             insn = self.graph.insns[place]
             if insn.code == RETURN_CONSTANT:
-                answer = answer_of(insn.k)
+                answer = answers.Answer.of_word(insn.k)
                 yield (f"    {name} [shape=ellipse, style=filled, fillcolor={COLOURS[answer.disposition]}, "
                        f"label={_quoted(answer.named())}{mark}];")
             else:

@@ -5,17 +5,15 @@ import difflib
 from collections.abc import Iterator, Sequence
 
 from . import tables
+from .architectures import NUMBERS, PREFIX, X32
 from .entries import Object
 from .findings import Finding, listed, shown
 from .profiles import ACTIONS, LETS_THROUGH
 from .reasons import HOLDS
 from .tables import Table
 
-X32 = "SCMP_ARCH_X32"
-# The names of the OCI runtime specification (config-linux, seccomp).
-ARCHITECTURES = tuple(f"SCMP_ARCH_{it}" for it in (
-    "X86_64 X86 X32 ARM AARCH64 LOONGARCH64 M68K MIPS MIPS64 MIPS64N32 MIPSEL MIPSEL64 MIPSEL64N32 PARISC PARISC64 PPC "
-    "PPC64 PPC64LE RISCV64 S390 S390X SH SHEB").split())
+# The names of the OCI runtime specification (config-linux, seccomp), which are libseccomp's.
+ARCHITECTURES = tuple(NUMBERS)
 FLAGS = tuple(f"SECCOMP_FILTER_FLAG_{it}" for it in "TSYNC LOG SPEC_ALLOW WAIT_KILLABLE_RECV".split())
 # Other names for these architectures.
 ALIASES = {"AMD64": "X86_64", "X86-64": "X86_64", "X64": "X86_64", "ARM64": "AARCH64"}
@@ -104,7 +102,7 @@ def of_architectures(top: Object) -> Iterator[Finding]:
     architectures = top.get("architectures", [])
     unknown = (it for it in dict.fromkeys(architectures) if it not in ARCHITECTURES)
     for at, name in enumerate(unknown):
-        near = _near(name, "SCMP_ARCH_", ARCHITECTURES, at)
+        near = _near(name, PREFIX, ARCHITECTURES, at)
         yield Finding("unknown-architecture", f"architectures: the OCI specification has no {shown(name)}, and runc "
                       f"and crun refuse what they don't know{_nearest(near)}", {"name": name, "nearest": near})
     if architectures and X32 not in architectures:

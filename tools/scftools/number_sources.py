@@ -1,15 +1,12 @@
 """Sources of syscall numbers: kernel headers, the kernel's table syscall_64.tbl, and the installed libseccomp."""
 from __future__ import annotations
 
-import os
 import re
-from collections.abc import Callable
 
-from . import program
+from . import libseccomp, program
+from .answers import X32
 from .values import dataclass, field
 
-# The first x32 syscall number (__X32_SYSCALL_BIT); scf takes smaller ones.
-X32 = 0x40000000
 # A number, one with something added to it, or another syscall's name.
 VALUE = r"([0-9]+)|\([ \t]*(\w+)[ \t]*\+[ \t]*([0-9]+)[ \t]*\)|__NR_([A-Za-z_]\w*)"
 DEFINE = re.compile(rf"^[ \t]*#[ \t]*define[ \t]+__(?:ARM_)?NR_([A-Za-z_]\w*)[ \t]+(?:{VALUE})[ \t\r\f\v]*$",
@@ -40,10 +37,8 @@ NUMBERINGS = {
     "x32": Numbering({"__X32_SYSCALL_BIT": 0}, abis=("common", "x32")), "aarch64": Numbering(),
     "arm": Numbering({"__NR_SYSCALL_BASE": 0, "__ARM_NR_BASE": 0x0F0000}, has_aliases=True),
 }
-# SCMP_ARCH_X86_64 (seccomp.h of libseccomp); its numbers end far below this.
-ARCHITECTURE, NUMBERS = 0xC000003E, 4096
-# __NR_SCMP_ERROR, which stands for a name that libseccomp doesn't know.
-UNKNOWN = -1
+# The numbers that are asked of libseccomp; x86-64's end far below.
+NUMBERS = 4096
 
 
 def _add(calls: dict[str, int], name: str, digits: str, base: int = 0, line: int | None = None) -> None:
@@ -107,55 +102,8 @@ def calls_of(data: bytes, architecture: str = "x86_64") -> dict[str, int]:
     return calls
 
 
-def _library():
-    import ctypes  # pylint: disable=import-outside-toplevel
-
-    try:
-        return ctypes.CDLL("libseccomp.so.2")
-    except OSError as error:
-        raise program.ToolError("there is no libseccomp.so.2",
-                              program.IO_ERROR) from error
-
-
-def known_names() -> Callable[[str], bool]:
-    """A function that says whether the installed libseccomp knows a syscall by this name, of any architecture."""
-    import ctypes  # pylint: disable=import-outside-toplevel
-
-    resolve = _library().seccomp_syscall_resolve_name
-    resolve.restype, resolve.argtypes = ctypes.c_int, [ctypes.c_char_p]
-    return lambda name: resolve(os.fsencode(name)) != UNKNOWN
-
-
-def _libseccomp():
-    """The library, and the function that frees the names it returns."""
-    import ctypes  # pylint: disable=import-outside-toplevel
-
-    library, libc = _library(), ctypes.CDLL(None)
-    resolve = library.seccomp_syscall_resolve_num_arch
-    resolve.restype, resolve.argtypes = ctypes.c_void_p, [ctypes.c_uint32, ctypes.c_int]
-    libc.free.restype, libc.free.argtypes = None, [ctypes.c_void_p]
-
-    def name_of(number: int) -> str | None:
-        found = resolve(ARCHITECTURE, number)
-        if not found:
-            return None
-        name = ctypes.string_at(found).decode("utf-8", "surrogateescape")
-        libc.free(found)
-        return name
-
-    return library, name_of
-
-
-def version_of_libseccomp(library) -> str:
-    import ctypes  # pylint: disable=import-outside-toplevel
-
-    library.seccomp_version.restype = ctypes.POINTER(ctypes.c_uint * 3)
-    found = library.seccomp_version()
-    return ".".join(map(str, found.contents)) if found else "of unknown version"
-
-
 def of_libseccomp() -> tuple[str, dict[str, int]]:
     """The version of the installed libseccomp, and the syscalls that it knows."""
-    library, name_of = _libseccomp()
-    named = ((name_of(number), number) for number in range(NUMBERS))
-    return version_of_libseccomp(library), {name: number for name, number in named if name}
+    library = libseccomp.Library()
+    named = ((library.name_of(number), number) for number in range(NUMBERS))
+    return library.version, {name: number for name, number in named if name}

@@ -66,7 +66,7 @@ def meaning(text: str, call: Call | None, table: Table) -> Iterator[str]:
     if reason.answer:
         if call is not None:
             yield from explanation.of_call(call, table)
-        yield explanation.of_answer(reason.answer)
+        yield reason.answer.told()
 
 
 def _shown(entry: object) -> str:

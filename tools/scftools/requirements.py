@@ -13,7 +13,9 @@ from . import entries, output, program, reasons, refusals, strace, tables, trace
 from .answers import ALLOWED, Answer
 from .calls import Call
 from .client import Refusal
+from .engines import KEPT
 from .entries import Condition, Entry, Object
+from .profiles import LETS_THROUGH
 from .reasons import Reason
 from .strace import Seen
 from .tables import Table
@@ -33,9 +35,6 @@ WORDS = {IS_MADE: "allowed", ISNT_MADE: "not allowed", DEPENDS: DEPENDS, UNTOLD:
 # The most entries with conditions for one name, and the most syscalls to judge, each with each of its values.
 CONDITIONS, WAYS = 64, 2000
 REFERRED, EQUAL = ("SCMP_ACT_TRACE", 1), "SCMP_CMP_EQ"
-# What a least profile has of the one that is given, beside its default.
-KEPT = ("architectures", "flags", "listenerPath", "listenerMetadata")
-LETS_THROUGH = ("SCMP_ACT_ALLOW", "SCMP_ACT_LOG")
 # What each least profile allows: a process calls these, which a log needn't show, to continue after a stop or a
 # signal, and to end.
 ALWAYS = ("restart_syscall", "rt_sigreturn", "exit", "exit_group")
@@ -320,7 +319,7 @@ def least_profile(needs: Needs, judge: Judge) -> tuple[str, list[str]]:
         found = {"defaultAction": "SCMP_ACT_ERRNO"}
     elif "defaultErrnoRet" in top:
         found["defaultErrnoRet"] = top["defaultErrnoRet"]
-    found.update((name, top[name]) for name in KEPT if name in top)
+    found.update((name, top[name]) for name in ("architectures", *KEPT) if name in top)
     named = [it for it in needs.judged if judge.table.number_of(it.traced.name) is not None]
     found["syscalls"] = list(_entries(Needs(named), (name for name in ALWAYS if judge.number_of(name) is not None)))
     remarks = list(_of_unjudged(needs))

@@ -15,10 +15,11 @@ from __future__ import annotations
 
 import argparse
 import os
-from collections.abc import Iterator, Sequence
+from collections.abc import Callable, Iterator, Sequence
 
-from . import engines, profile_inputs, program, tables
+from . import engines, libseccomp, profile_inputs, program, tables
 from .engines import OCI_ARCH, Origin, Refused, Setting, listed, told
+from .libseccomp import Library
 from .values import dataclass, field, replace
 
 TYPE_CHECKING = False
@@ -113,39 +114,6 @@ def setting_of_process(given: argparse.Namespace, kernel: processes.Kernel) -> S
                    source="the process's bounding set")
 
 
-class Library:
-    """What names of x86-64 syscalls libseccomp knows, as the one of this machine says; without one, the call table."""
-
-    def __init__(self) -> None:
-        import ctypes  # pylint: disable=import-outside-toplevel
-
-        class Version(ctypes.Structure):
-            """struct scmp_version (seccomp.h)."""
-
-            _fields_ = [(name, ctypes.c_uint) for name in ("major", "minor", "micro")]
-
-        self.told = "libseccomp"
-        try:
-            library = ctypes.CDLL("libseccomp.so.2")
-            self._resolve = library.seccomp_syscall_resolve_name_arch
-            library.seccomp_version.restype = ctypes.POINTER(Version)
-            found = library.seccomp_version().contents
-            self.told = f"this machine's libseccomp {found.major}.{found.minor}.{found.micro}"
-            self._resolve.argtypes = [ctypes.c_uint32, ctypes.c_char_p]
-            self.is_there = True
-        except (OSError, AttributeError, ValueError):
-            self._table, self.is_there = tables.read(None), False
-
-    def number_of(self, name: str) -> int | None:
-        """The number of a name, below 0 where x86-64 has no such syscall and others do; None where it isn't known."""
-        if not self.is_there:
-            return self._table.number_of(name)
-        data = name.encode("utf-8", "surrogatepass")
-        # AUDIT_ARCH_X86_64, and __NR_SCMP_ERROR if there is no such name
-        number = self._resolve(0xC000003E, data) if b"\0" not in data else -1
-        return None if number == -1 else number
-
-
 @dataclass(frozen=True)
 class Applied:
     """A profile as a runtime applies it, in a form of which scf says the same."""
@@ -205,7 +173,9 @@ class _Application:
     """The making of what a runtime applies out of a resolved profile."""
 
     runtime: Runtime
-    library: Library
+    library: Library | None
+    # what a name of x86-64 has as its number: by the library, or without one by the call table
+    number_of: Callable[[str], int | None]
     remarks: list[str] = field(default_factory=list)
     notes: list[str] = field(default_factory=list)
     unknown: dict[str, None] = field(default_factory=dict)
@@ -255,7 +225,7 @@ class _Application:
         for name in dict.fromkeys(names):
             if not name and self.runtime.program == RUNC:
                 self.refuse(f"a name of {where} is empty")
-            number = self.library.number_of(name)
+            number = self.number_of(name)
             if number is None:
                 self.unknown[name] = None
             else:
@@ -320,12 +290,13 @@ class _Application:
         return self.greatest + 1 if is_put and self.greatest and default[0] not in ALLOWS else None
 
     def tell_unknown(self) -> None:
-        if not self.library.is_there:
+        if self.library is None:
             self.remarks.append("there is no libseccomp.so.2 here, so it is unknown which names the runtime's doesn't "
                                 "know")
         elif self.unknown:
             names = listed(list(self.unknown))
-            self.remarks.append(f"left out, since {self.library.told} doesn't know them: {names}")
+            self.remarks.append(f"left out, since this machine's libseccomp {self.library.version} doesn't know "
+                                f"them: {names}")
 
     def run(self, profile: dict[str, Any], origins: Sequence[Origin]) -> Applied:
         default = self.default_of(profile)
@@ -392,7 +363,9 @@ def applied(value: Any, name: str, setting: Setting | None = None) -> Applied:
         setting = replace(setting, ignored=None)
     resolver = engines.Resolver(setting, notes.append)
     resolved = resolver.resolved(value)
-    found = _Application(runtime, Library()).run(resolved, resolver.origins)
+    library = libseccomp.installed()
+    number_of = tables.read(None).number_of if library is None else library.number_of
+    found = _Application(runtime, library, number_of).run(resolved, resolver.origins)
     remarks = list(found.remarks)
     if setting.engine is not None and setting.source is not None:
         names = ", ".join(it[4:] for it in setting.capabilities) or "none"

@@ -15,6 +15,7 @@ from collections.abc import Callable, Iterator, Sequence
 from . import audit_records, output, program, strace
 from .answers import X86_64
 from .calls import SKIPPED, X32
+from .profiles import LETS_THROUGH
 from .strace import KEPT, LEFT
 from .tables import Table
 
@@ -30,8 +31,6 @@ PROBE = re.compile(rf"(?:tracepoint:syscalls:)?sys_enter_({NAME})")
 # `7 05:35:00.123456789 0 ls (1234) > openat dirfd=..`, and `<` where it returns.
 SYSDIG = re.compile(rf"[0-9]{{1,18}} [0-9:.]{{8,24}} [0-9]{{1,5}} .{{1,256}}? \(-?[0-9]{{1,10}}(?:\.[0-9]{{1,10}})?\) "
                     rf"([<>]) ({NAME})(?: |$)")
-# The actions of a profile that let a syscall be made.
-ALLOWING = ("SCMP_ACT_ALLOW", "SCMP_ACT_LOG")
 # The name of a syscall that sysdig has no event for.
 GENERIC = re.compile(rf"\bID=[0-9]{{1,6}}\(({NAME})\)")
 # Events of sysdig that are no syscalls (driver/event_table.c), and those of two syscalls or more.
@@ -173,7 +172,7 @@ class Trace(strace.Log):
         """Takes a profile that was made of a log: each syscall that it allows, with arguments that aren't known."""
         try:
             entries = json.loads(text)["syscalls"]
-            names = [name for entry in entries if entry["action"] in ALLOWING for name in entry["names"]]
+            names = [name for entry in entries if entry["action"] in LETS_THROUGH for name in entry["names"]]
         except (ValueError, LookupError, TypeError, RecursionError) as error:
             raise program.ToolError(f"the log '{output.escaped(self._name)}' is a profile that can't be read",
                                     program.IO_ERROR) from error

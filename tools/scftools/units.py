@@ -13,7 +13,7 @@ import os
 import re
 from collections.abc import Callable, Iterator, Sequence
 
-from . import number_sources, output, program
+from . import libseccomp, output, program
 from .engines import OCI_ARCH
 from .values import dataclass, field
 
@@ -303,7 +303,7 @@ def denied_by(shown: dict[str, str], allowed: CallList, reader: Reader) -> dict[
     values = [value for text in files_of(shown) for value in assignments_of(text, section, "SystemCallFilter")]
     if not any(value.startswith("~") and ":" in value for value in values):
         return {}
-    lenient = Reader(reader.ask, reader.tell, number_sources.known_names(), is_lenient=True)
+    lenient = Reader(reader.ask, reader.tell, libseccomp.Library().knows, is_lenient=True)
     listed = lenient.assigned(values)
     lenient.tell_unknown()
     if listed is None or listed.is_inverted:

@@ -1,0 +1,58 @@
+"""The installed libseccomp: which names and numbers of syscalls it knows (seccomp_syscall_resolve_name(3))."""
+from __future__ import annotations
+
+from . import program
+from .answers import X86_64
+
+# __NR_SCMP_ERROR (seccomp.h), which stands for a name that it doesn't know.
+UNKNOWN = -1
+
+
+class Library:
+    """The library, and its version. Raises ToolError if there is none."""
+
+    def __init__(self) -> None:
+        import ctypes  # pylint: disable=import-outside-toplevel
+
+        try:
+            library = ctypes.CDLL("libseccomp.so.2")
+            self._number_of, self._name_of = (library.seccomp_syscall_resolve_name_arch,
+                                              library.seccomp_syscall_resolve_num_arch)
+            self._free = ctypes.CDLL(None).free
+            version_of = library.seccomp_version
+        except (OSError, AttributeError) as error:
+            raise program.ToolError("there is no libseccomp.so.2", program.IO_ERROR) from error
+        self._string_at = ctypes.string_at
+        self._number_of.argtypes = [ctypes.c_uint32, ctypes.c_char_p]
+        self._name_of.restype, self._name_of.argtypes = ctypes.c_void_p, [ctypes.c_uint32, ctypes.c_int]
+        self._free.restype, self._free.argtypes = None, [ctypes.c_void_p]
+        version_of.restype = ctypes.POINTER(ctypes.c_uint * 3)
+        found = version_of()
+        self.version = ".".join(map(str, found.contents)) if found else "of unknown version"
+
+    def number_of(self, name: str) -> int | None:
+        """The number of a name, below 0 if x86-64 has no such syscall and others do; None if it isn't known."""
+        data = name.encode("utf-8", "surrogatepass")
+        number = self._number_of(X86_64, data) if b"\0" not in data else UNKNOWN
+        return None if number == UNKNOWN else number
+
+    def knows(self, name: str) -> bool:
+        """Whether it knows a syscall by this name, of any architecture."""
+        return self.number_of(name) is not None
+
+    def name_of(self, number: int) -> str | None:
+        """The name of an x86-64 syscall's number."""
+        found = self._name_of(X86_64, number)
+        if not found:
+            return None
+        name = self._string_at(found).decode("utf-8", "surrogateescape")
+        self._free(found)
+        return name
+
+
+def installed() -> Library | None:
+    """The library, or None if there is none."""
+    try:
+        return Library()
+    except program.ToolError:
+        return None
