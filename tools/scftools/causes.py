@@ -3,7 +3,7 @@ from __future__ import annotations
 
 from collections.abc import Iterator, Sequence
 
-from . import amendment, ask, client, decisions, paths, program, reasons, refusals
+from . import amendment, ask, client, decisions, output, paths, program, reasons, refusals
 from .amendment import Amendment
 from .answers import ERRNOS
 from .calls import Call
@@ -175,7 +175,7 @@ def _of_case(case: Case, event: Event, table: Table) -> Iterator[str]:
 def _of_refusal(why: Refusal, given: Given) -> Iterator[str]:
     yield why.line
     if why.fault is not None:
-        yield from (f"# {line}" for line in refusals.sentences(why.fault, given.profile or b"", given.table))
+        yield from output.notes(refusals.sentences(why.fault, given.profile or b"", given.table))
 
 
 def _of_profile(cause: Cause) -> Iterator[str]:
@@ -193,10 +193,10 @@ def _of_profile(cause: Cause) -> Iterator[str]:
         reason = reasons.of(given.profile, given.table, case.call.words())
         yield reason.line
         yield f"# {case.answer.told()}"
-        yield from (f"# {line}" for line in reasons.told(reason, given.profile, case.call if case.is_for_all
-                                                         and not cause.event.unknown or not case.is_for_all else None))
-        yield from (f"# {line}" for line in _of_case(case, cause.event, given.table))
-    yield from (f"# {line}" for line in _of_verdict(party, cause.event))
+        call = None if case.is_for_all and cause.event.unknown else case.call
+        yield from output.notes(reasons.told(reason, given.profile, call))
+        yield from output.notes(_of_case(case, cause.event, given.table))
+    yield from output.notes(_of_verdict(party, cause.event))
 
 
 def _of_path(case: Case, given: Given) -> Iterator[str]:
@@ -221,9 +221,9 @@ def _of_filters(cause: Cause) -> Iterator[str]:
     for case in party.found:
         yield str(case.answer) if case.answer.action == "UNNAMED" else f"{case.answer.action} {case.answer.data}"
         yield f"# {case.answer.told()}"
-        yield from (f"# {line}" for line in _of_case(case, cause.event, given.table))
-        yield from (f"# {line}" for line in _of_path(case, given))
-    yield from (f"# {line}" for line in _of_verdict(party, cause.event))
+        yield from output.notes(_of_case(case, cause.event, given.table))
+        yield from output.notes(_of_path(case, given))
+    yield from output.notes(_of_verdict(party, cause.event))
 
 
 def _of_changes(cause: Cause) -> Iterator[str]:
@@ -235,10 +235,10 @@ def _of_changes(cause: Cause) -> Iterator[str]:
 
 def lines(cause: Cause) -> Iterator[str]:
     """What is printed of an event: scf's lines, and those of the tool marked by `# `."""
-    yield from (f"# {line}" for line in _of_event(cause))
+    yield from output.notes(_of_event(cause))
     yield from _of_profile(cause)
     yield from _of_filters(cause)
-    yield from (f"# {line}" for line in _of_changes(cause))
+    yield from output.notes(_of_changes(cause))
 
 
 def _party_as_json(party: Party, cause: Cause) -> dict[str, object]:
@@ -304,7 +304,7 @@ def report_lines(report: Report) -> Iterator[str]:
     if found.left:
         yield f"# records of more syscalls than {EVENTS} different ones, which aren't judged: {found.left}"
     if not report.causes and not found.faults:
-        yield from (f"# {line}" for line in report.lacking)
+        yield from output.notes(report.lacking)
 
 
 def report_as_json(report: Report) -> dict[str, object]:

@@ -3,7 +3,7 @@ from __future__ import annotations
 
 from collections.abc import Iterator
 
-from . import constants, reasons
+from . import constants, output, reasons
 from .changes import KINDS, NEW, OLD, OTHERWISE, Change, Changes, Source
 from .engines import STUB
 from .reasons import Reason
@@ -86,16 +86,15 @@ def lines(changes: Changes) -> Iterator[str]:
             yield f"# {HEADINGS[kind]}: {len(those)}"
         for change in those:
             yield line_of(change, changes.sources)
-            yield from (f"# {line}" for line in _conditions(changes, change))
+            yield from output.notes(_conditions(changes, change))
     if changes.unnamed is not None and changes.unnamed.call is not None:
         yield "# numbers that the table doesn't name get the defaults, for example:"
         yield line_of(changes.unnamed, changes.sources)
     elif changes.unnamed is not None:
         yield f"# numbers that the table doesn't name: {changes.unnamed.kind}"
-    yield from (f"# {line}" for line in _entries(changes))
-    yield from (f"# {line}" for line in _apart("names that were skipped because the table doesn't have them",
-                                               changes.skipped))
-    yield from (f"# {line}" for line in _apart("other architectures, not compared", changes.architectures))
+    yield from output.notes(_entries(changes))
+    yield from output.notes(_apart("names that were skipped because the table doesn't have them", changes.skipped))
+    yield from output.notes(_apart("other architectures, not compared", changes.architectures))
 
 
 def _change_json(changes: Changes, change: Change, table: Table) -> dict[str, object]:

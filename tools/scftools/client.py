@@ -212,7 +212,7 @@ def _report_spent() -> None:
     """Reports once that the time is up."""
     global _is_spent_reported  # pylint: disable=global-statement
     if not _is_spent_reported:
-        output.say(program.name(), SPENT)
+        program.say(SPENT)
     _is_spent_reported = True
 
 

@@ -268,10 +268,8 @@ def tell(calls: Sequence[Asked], answer: Callable[[Asked], Told], is_json: bool)
         if is_json:
             found.append({"status": answered.status, **answered.as_json()})
             continue
-        for line in answered.lines:
-            output.put_line(line)
-        for line in answered.added():
-            output.put_line(f"# {line}")
+        output.put_lines(answered.lines)
+        output.put_lines(output.notes(answered.added()))
     if is_json:
         output.put_json({"status": client.worst(statuses), "calls": found})
     return client.worst(statuses)

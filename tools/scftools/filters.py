@@ -4,7 +4,7 @@ from __future__ import annotations
 import struct
 from collections.abc import Sequence
 
-from . import bundles, forms, inputs, output, program
+from . import bundles, forms, inputs, program
 from .values import dataclass
 
 # linux/filter.h: struct sock_filter, and BPF_MAXINSNS.
@@ -58,9 +58,9 @@ def taken(name: str, data: bytes) -> Filter:
     form = forms.form_of(data, inputs.told(name))
     if form is None:
         if forms.is_text(data):
-            output.say(program.name(), f"{inputs.told(name)} is text, in none of the forms that `check --help` names")
+            program.say(f"{inputs.told(name)} is text, in none of the forms that `check --help` names")
         return raw
-    output.say(program.name(), f"{inputs.told(name)} is read as {form.name}, instructions: {form.count}")
+    program.say(f"{inputs.told(name)} is read as {form.name}, instructions: {form.count}")
     return Filter(name, form.data)
 
 

@@ -14,12 +14,10 @@ import time
 from collections.abc import Callable
 
 from . import child, restart
+from .filters import INSTRUCTION, LONGEST
 from .ptrace import (PTRACE_DETACH, PTRACE_EVENT_STOP, PTRACE_INTERRUPT, PTRACE_SECCOMP_GET_FILTER, PTRACE_SEIZE,
                      Kernel, contents)
 
-# linux/bpf_common.h and linux/filter.h: the most instructions of a filter, and the bytes of one.
-MAX_INSTRUCTIONS = 4096
-INSTRUCTION = 8
 # linux/capability.h
 CAP_SYS_PTRACE = 19
 CAP_SYS_ADMIN = 21
@@ -352,10 +350,10 @@ def filter_at(kernel: Kernel, thread: int, process: int, place: int) -> bytes | 
     ptrace(2) says that 0 is the newest; the kernel counts from the oldest (get_nth_filter in kernel/seccomp.c). The
     length is asked before the copy and told by it, and the room is that of the longest filter.
     """
-    room = ctypes.create_string_buffer(MAX_INSTRUCTIONS * INSTRUCTION)
+    room = ctypes.create_string_buffer(LONGEST * INSTRUCTION.size)
     try:
         count = kernel.ptrace(PTRACE_SECCOMP_GET_FILTER, thread, place, None)
-        if count <= MAX_INSTRUCTIONS:
+        if count <= LONGEST:
             again = kernel.ptrace(PTRACE_SECCOMP_GET_FILTER, thread, place, ctypes.cast(room, ctypes.c_void_p))
     except OSError as error:
         if error.errno == errno.ENOENT:
@@ -366,13 +364,13 @@ def filter_at(kernel: Kernel, thread: int, process: int, place: int) -> bytes | 
         if error.errno == errno.EINVAL and place == 0 and mode in ("0", "1"):
             return None
         raise Unreadable(why_no_filter(kernel, thread, process, place, error)) from error
-    if count > MAX_INSTRUCTIONS:
+    if count > LONGEST:
         raise Unreadable(f"filter {place} of {called(thread, process)} has {count} instructions, more than a filter "
                          f"may have")
     if again != count:
         raise Unreadable(f"filter {place} of {called(thread, process)} changed its length from {count} to {again} "
                          f"while it was read")
-    return room.raw[: count * INSTRUCTION]
+    return room.raw[:count * INSTRUCTION.size]
 
 
 def stack_of(kernel: Kernel, thread: int, process: int) -> tuple[tuple[bytes, ...], bool]:

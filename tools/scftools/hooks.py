@@ -456,7 +456,7 @@ class Examination:
         """The watchdog's action: it kills the container and reports that."""
         killed = self.process.kill()
         line = f"{self.process.container.told}: the hook was ended or stopped: {killed.line}"
-        output.say(program.name(), line)
+        program.say(line)
         write_log(program.name(), program.IO_ERROR, [line])
 
 

@@ -10,6 +10,7 @@ import errno
 import os
 import re
 import sys
+from collections.abc import Iterable, Iterator
 
 # C0, DEL and C1; and the characters that change the direction of text or end a line (Unicode's Bidi_Control, LINE
 # SEPARATOR and PARAGRAPH SEPARATOR), which make text look different than it is.
@@ -75,6 +76,16 @@ def put(text: str | bytes) -> None:
 def put_line(text: str) -> None:
     """Prints a line, escaped, in colour where that is wanted."""
     put(f"{_colored(escaped(text)) if _is_colored() else escaped(text)}\n")
+
+
+def put_lines(lines: Iterable[str]) -> None:
+    for line in lines:
+        put_line(line)
+
+
+def notes(lines: Iterable[str]) -> Iterator[str]:
+    """Lines marked as a tool's own, which it adds after scf's."""
+    return (f"# {line}" for line in lines)
 
 
 def say(name: str, text: str) -> None:

@@ -210,7 +210,7 @@ def read_or_end(read: Callable[[], Read], has_force: bool = False, is_json: bool
         raise program.ToolError(why, program.IO_ERROR) from error
     except Interrupted as came:
         number = came.args[0]
-        output.say(program.name(), f"ended by {signal.Signals(number).name}; all stopped threads continue")
+        program.say(f"ended by {signal.Signals(number).name}; all stopped threads continue")
         signal.signal(number, signal.SIG_DFL)
         os.kill(os.getpid(), number)
         raise program.ToolError("the signal didn't end it", program.IO_ERROR) from came

@@ -6,7 +6,7 @@ import os
 import re
 from collections.abc import Sequence
 
-from . import engines, filters, inputs, kubernetes, output, profiles, program
+from . import engines, filters, inputs, kubernetes, profiles, program
 from .profiles import Made
 from .values import dataclass
 
@@ -73,7 +73,7 @@ def plain(data: bytes, name: str) -> bytes:
         raise program.ToolError(f"{told}: {why}", program.NEGATIVE) from why
     if spec is None:
         return data
-    output.say(program.name(), f"{told} is a {kubernetes.KIND} of Kubernetes: its spec is the profile")
+    program.say(f"{told} is a {kubernetes.KIND} of Kubernetes: its spec is the profile")
     made = Made(spec)
     made.within = "spec"
     return made
@@ -93,7 +93,7 @@ def _resolved(data: bytes, name: str, caps: str) -> Given:
         given = Given(Made(engines.compact(found)), resolver.origins)
     except engines.Refused as why:
         raise program.ToolError(f"{inputs.told(name)}: {why}", program.NEGATIVE) from why
-    output.say(program.name(), f"{inputs.told(name)} is resolved as by resolve-profile --keep-first --caps {caps}, "
+    program.say(f"{inputs.told(name)} is resolved as by resolve-profile --keep-first --caps {caps}, "
                                f"which says what is left out; entries that are left: {len(found['syscalls'])}")
     return given
 

@@ -8,7 +8,7 @@ from __future__ import annotations
 from collections import Counter
 from collections.abc import Iterable, Iterator, Sequence
 
-from . import answer_sets, compare, engines, newer, program, reasons, runtimes, unnamed
+from . import answer_sets, compare, engines, newer, output, program, reasons, runtimes, unnamed
 from .answer_sets import UNFOLLOWED, Answers
 from .answers import DISPOSITIONS, X32, Answer
 from .argument_sets import ALL, BITS, NONE, OTHERS, Sets, TooMany
@@ -335,7 +335,7 @@ def of_request(request: Request, relation: str) -> Result:
         lines.append("# if runc loaded the filter, --runtime runc expects the ENOSYS that it adds")
     missing = [NO_LESS, NO_MORE]
     for bound in _bounds(request, answers):
-        lines += [f"# {line}" for line in _differences(request, answers, bound)] + [bound.text.rstrip("\n")]
+        lines += [*output.notes(_differences(request, answers, bound)), bound.text.rstrip("\n")]
         missing = [it for it in missing if it not in bound.relations]
     lines += [f"# nor one that is {SAID[it]} than the filters" for it in missing]
     return Result(program.UNKNOWN, "\n".join(lines) + "\n", [])

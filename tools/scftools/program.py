@@ -27,6 +27,12 @@ def name() -> str:
     return f"scf {tool}" if "scf" in sys._xoptions else tool  # pylint: disable=protected-access
 
 
+def say(*lines: str) -> None:
+    """Prints lines on standard error, each after the tool's name."""
+    for line in lines:
+        output.say(name(), line)
+
+
 class ToolError(Exception):
     """Ends a tool with a line on standard error and a status."""
 
@@ -56,15 +62,15 @@ def start(main: Callable[[], int]) -> NoReturn:
         # --help
         status = ended.code if isinstance(ended.code, int) else SUCCESS
     except ToolError as why:
-        output.say(name(), str(why))
+        say(str(why))
         status = why.status
     except MemoryError:
-        output.say(name(), "out of memory")
+        say("out of memory")
         status = IO_ERROR
     except OSError as error:
         what = "the output failed: " if isinstance(error, output.Failed) else \
             "" if error.filename is None else f"'{error.filename}': "
-        output.say(name(), f"{what}{error.strerror}")
+        say(f"{what}{error.strerror}")
         status = IO_ERROR
     finish(status)
 
@@ -74,7 +80,7 @@ def finish(status: int) -> NoReturn:
     try:
         output.flush()
     except OSError as error:
-        output.say(name(), f"the output failed: {error.strerror}")
+        say(f"the output failed: {error.strerror}")
         status = IO_ERROR
     # without the interpreter's exit, which would try to print the rest again
     os._exit(status)

@@ -263,7 +263,7 @@ def lines(needs: Needs) -> Iterator[str]:
     for disposition in (ISNT_MADE, DEPENDS, UNTOLD):
         for one in needs.of(disposition):
             yield from _of_judged(one, needs.are_several)
-    yield from (f"# {line}" for line in _of_unjudged(needs))
+    yield from output.notes(_of_unjudged(needs))
     counts = ", ".join(f"{WORDS[it]} {len(needs.of(it))}" for it in (IS_MADE, ISNT_MADE, DEPENDS, UNTOLD)
                        if it != UNTOLD or needs.of(UNTOLD))
     yield f"# syscalls, each with the arguments that conditions test: {counts}"
@@ -334,7 +334,7 @@ def of_refusal(why: Refusal, profile: bytes, table: Table) -> Iterator[str]:
     """scf's line, and what it means."""
     yield why.line
     if why.fault:
-        yield from (f"# {line}" for line in refusals.sentences(why.fault, profile, table))
+        yield from output.notes(refusals.sentences(why.fault, profile, table))
 
 
 def read(names: Sequence[str], judge: Judge, runtime: str | None = None) -> Needs:
@@ -347,8 +347,3 @@ def read(names: Sequence[str], judge: Judge, runtime: str | None = None) -> Need
     found = find(log, judge)
     found.are_several = len(names) > 1
     return found
-
-
-def put(found: Iterator[str]) -> None:
-    for line in found:
-        output.put_line(line)

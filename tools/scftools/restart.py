@@ -14,9 +14,10 @@ from collections.abc import Sequence
 
 from . import bundles, client, paths, program, verdicts
 from .answers import ALLOWED, DENIED, I386, X32, X86_64, Answer
+from .calls import Call
 from .filters import INSTRUCTION, LOAD_WORD, POINTER, RETURN_CONSTANT
 from .ptrace import Kernel
-from .values import dataclass
+from .values import dataclass, replace
 
 # linux/errno.h. What a handler of a signal doesn't interrupt begins anew by each of them but the last, by which it goes
 # on by restart_syscall; a handler interrupts by NOHAND and by RESTARTBLOCK alike.
@@ -30,30 +31,15 @@ ARGUMENTS = {X86_64: ("rdi", "rsi", "rdx", "r10", "r8", "r9"), I386: ("rbx", "rc
 RETURN_COMPUTED, USER_NOTIF = 0x16, 0x7FC0
 
 
-@dataclass(frozen=True)
-class Call:
-    """A system call as a filter sees it."""
-
-    architecture: int
-    number: int
-    pointer: int
-    arguments: tuple[int, ...]
-
-    @property
-    def restart(self) -> Call:
-        """The restart_syscall by which it goes on: the registers stay as they are."""
-        return Call(self.architecture, RESTART[self.architecture] | self.number & X32 * (self.architecture == X86_64),
-                    self.pointer, self.arguments)
-
-    def words(self) -> list[str]:
-        """The options of scf."""
-        return [f"--nr={self.number}", f"--arch={self.architecture}", f"--ip={self.pointer}",
-                *(f"--a{at}={value}" for at, value in enumerate(self.arguments))]
+def restart_of(call: Call) -> Call:
+    """The restart_syscall by which a syscall goes on: the registers stay as they are."""
+    x32 = call.number & X32 if call.architecture == X86_64 else 0
+    return replace(call, number=RESTART[call.architecture] | x32)
 
 
 def call_of(architecture: int, registers: dict[str, int]) -> Call:
     mask = 0xFFFFFFFF if architecture == I386 else 0xFFFFFFFFFFFFFFFF
-    return Call(architecture, registers["orig_rax"] & 0xFFFFFFFF, registers["rip"] & mask,
+    return Call(registers["orig_rax"] & 0xFFFFFFFF, architecture, registers["rip"] & mask,
                 tuple(registers[name] & mask for name in ARGUMENTS[architecture]))
 
 
@@ -128,7 +114,7 @@ class Restarts:
         if not filters:
             return interrupted.number
         calls = interrupted.calls
-        if interrupted.goes_on and all(self.becomes(filters, call.restart) == ALLOWED for call in calls):
+        if interrupted.goes_on and all(self.becomes(filters, restart_of(call)) == ALLOWED for call in calls):
             return ERESTART_RESTARTBLOCK
         return errno.EINTR if any(self.becomes(filters, call) == DENIED for call in calls) else interrupted.anew
 
@@ -147,7 +133,7 @@ class Restarts:
 
     def answer(self, filters: tuple[bytes, ...], call: Call) -> Answer | None:
         """What filters answer to a syscall; if they test only its number, scf is run once for it."""
-        general = Call(call.architecture, call.number, 0, (0,) * len(call.arguments))
+        general = Call(call.number, call.architecture)
         if (filters, general) not in self.are_by_number:
             self.are_by_number[filters, general] = all(is_by_number(data, general) for data in filters)
         key = filters, general if self.are_by_number[filters, general] else call

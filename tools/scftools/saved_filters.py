@@ -64,8 +64,8 @@ def lines(made: Sequence[Block], found: Found, scope: str) -> Iterator[str]:
             yield ""
         if block.comparison is not None and block.report is not None:
             yield from block.report.printed
-            yield from (f"# {line}" for line in stack_comparison.added(block.comparison, block.report, scope))
-        yield from (f"# {line}" for line in verify.of_threads(block.stack, found))
+            yield from output.notes(stack_comparison.added(block.comparison, block.report, scope))
+        yield from output.notes(verify.of_threads(block.stack, found))
     yield from (f"# {note}" for note in found.notes)
 
 

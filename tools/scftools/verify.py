@@ -113,11 +113,11 @@ def lines(made: Sequence[Block], found: Found, scope: str, is_verbose: bool = Fa
                 report = replace(report, skipped=(), architectures=())
             is_told = is_told or report.verdict is not None
             yield from report.printed if is_verbose else report.brief
-            yield from (f"# {line}" for line in compare.added(comparison, report, scope))
+            yield from output.notes(compare.added(comparison, report, scope))
             if block.stub is not None:
                 yield f"# {runtimes.stub_told(block.stub)}"
-            yield from (f"# {line}" for line in compare.of_foreign(comparison, report, scope))
-        yield from (f"# {line}" for line in of_threads(block.stack, found))
+            yield from output.notes(compare.of_foreign(comparison, report, scope))
+        yield from output.notes(of_threads(block.stack, found))
     yield from (f"# {note}" for note in found.notes)
 
 

@@ -14,6 +14,7 @@ from common import (ALLOW, EPERM, I386, KILL_PROCESS, KILL_THREAD, PATIENCE, X86
                     profile_of, ret)
 from confined import USER_NOTIF, Confined, here, processes, ptrace
 from scftools import hold, program, restart
+from scftools.calls import Call
 
 TRAP, TRACE, LOG = 0x00030000, 0x7FF00000, 0x7FFC0000
 DENIALS = (KILL_PROCESS, KILL_THREAD, EPERM, TRAP, USER_NOTIF, TRACE)
@@ -370,10 +371,10 @@ class Numbers(Case):
         for architecture, mask, number in ((X86_64, 2**64 - 1, RESTART), (I386, 2**32 - 1, RESTART_32)):
             call = restart.call_of(architecture, registers)
             arguments = tuple(registers[name] & mask for name in order[architecture].split())
-            self.assertEqual(call, restart.Call(architecture, NANOSLEEP, registers["rip"] & mask, arguments))
-            self.assertEqual(call.restart, restart.Call(architecture, number, registers["rip"] & mask, arguments))
-        x32 = restart.Call(X86_64, 0x40000000 | NANOSLEEP, 0, (0,) * 6)
-        self.assertEqual(x32.restart.number, 0x40000000 | RESTART)
+            self.assertEqual(call, Call(NANOSLEEP, architecture, registers["rip"] & mask, arguments))
+            self.assertEqual(restart.restart_of(call), Call(number, architecture, registers["rip"] & mask, arguments))
+        x32 = Call(0x40000000 | NANOSLEEP)
+        self.assertEqual(restart.restart_of(x32).number, 0x40000000 | RESTART)
 
 
 if __name__ == "__main__":
