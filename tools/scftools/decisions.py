@@ -77,7 +77,7 @@ def add_options(parser: Parser) -> None:
                              "is standard input")
     _add_numbers(parser)
     parser.table()
-    parser.add_argument("--json", action="store_true", help="print one JSON object instead of lines")
+    parser.json()
 
 
 @dataclass(frozen=True)

@@ -14,9 +14,6 @@ if TYPE_CHECKING:
 
 # argparse would look for translations of its messages at each start, and the tools have none.
 argparse._ = str  # type: ignore
-EPILOG = "Exit status: 0 success, 1 refused or differs, 2 usage error, 3 I/O error, 4 undecided or unfinished."
-# Of tools that compare nothing.
-OF_RUNS = "Exit status: 0 success, 1 refused, 2 usage error, 3 I/O error."
 
 
 class Version(argparse.Action):
@@ -44,12 +41,15 @@ class Formatter(argparse.HelpFormatter):
 
 
 class Parser(argparse.ArgumentParser):
-    """The command line of a tool; the first line of its docstring is the description."""
+    """The command line of a tool, whose docstring has what it does, its statuses and its examples. `needs` says what it
+    needs beside its words."""
 
-    def __init__(self, doc: str, epilog: str = EPILOG, **settings: Any):
-        super().__init__(prog=output.escaped(program.name()), description=doc.split("\n", 1)[0], epilog=epilog,
-                         allow_abbrev=False, formatter_class=Formatter, **settings)
-        self.examples = re.findall(r"(?m)^    (.*)$", doc.rpartition("\nExamples:\n")[2])
+    def __init__(self, doc: str, needs: str = ""):
+        text, _, examples = doc.partition("\nExamples:\n")
+        statuses = [it for it in text.split("\n\n") if it.startswith(("Exit status:", "The exit status is"))]
+        super().__init__(prog=output.escaped(program.name()), description=doc.split("\n", 1)[0],
+                         epilog=" ".join([needs, *statuses]), allow_abbrev=False, formatter_class=Formatter)
+        self.examples = re.findall(r"(?m)^    (.*)$", examples)
         self.add_argument("--version", action=Version)
         self.add_argument("--color", action=Color, choices=("auto", "always", "never"), default=argparse.SUPPRESS,
                           help="whether verdicts are coloured [default: auto, at a terminal unless NO_COLOR is set]")
@@ -57,9 +57,10 @@ class Parser(argparse.ArgumentParser):
     def parse_args(self, *given: Any, **named: Any) -> Any:
         """The given words; for what makes completions of the options, these are printed instead."""
         if sys._xoptions.get("scf") == "options":  # pylint: disable=protected-access
-            output.put_json({"options": [{"names": it.option_strings, "help": (it.help or "").split(" [default")[0],
-                              "value": None if it.nargs == 0 else it.metavar or "", "choices": it.choices and [*it.choices]}
-                                         for it in self._actions if it.option_strings]})
+            output.put_json({"options": [
+                {"names": it.option_strings, "help": (it.help or "").split(" [default")[0],
+                 "value": None if it.nargs == 0 else it.metavar or "", "choices": it.choices and [*it.choices]}
+                for it in self._actions if it.option_strings]})
             program.finish(program.SUCCESS)
         return super().parse_args(*given, **named)
 
@@ -75,6 +76,20 @@ class Parser(argparse.ArgumentParser):
         """Prints the help like any other output."""
         output.put(self.format_help())
         output.put("".join(["\nexamples:\n", *(f"  {it}\n" for it in self.examples)] if self.examples else []))
+
+    def profile(self) -> None:
+        """Adds PROFILE."""
+        self.add_argument("profile", metavar="PROFILE",
+                          help="a resolved profile, or a config.json; - is standard input")
+
+    def filters(self) -> None:
+        """Adds the FILTERs of a stack."""
+        self.add_argument("filters", metavar="FILTER", nargs="+",
+                          help="a raw filter, oldest first; - is standard input")
+
+    def json(self) -> None:
+        """Adds `--json`."""
+        self.add_argument("--json", action="store_true", help="print one JSON object instead of lines")
 
     def table(self, dash: str = "; - is standard input") -> None:
         """Adds `--table`."""

@@ -431,6 +431,17 @@ class ManualOfTools(Case):
             for option in re.findall(r"^  (?:-\w, )?(--[a-z0-9-]+)", shown, re.M):
                 self.assertRegex(page, rf"(?m)^\.B .*{option}\b", name)
 
+    def test_lists_and_statuses_are_in_the_pages(self):
+        for name, item, printed in (("lint", r"(?m)^    (\S+)", r"\.TP\n\.B (\S+)\n"),
+                                    ("needs", r"(?m)^    - (\S+)", r"\.IP \\\(bu 2\n(\S+)")):
+            with open(os.path.join(TOP, "tools", name), encoding="utf-8") as file:
+                items = re.findall(item, file.read().split("\n\n", 2)[2].partition("\nExamples:\n")[0])
+            with open(os.path.join(self.folder, f"scf-{name}.1"), encoding="utf-8") as file:
+                description, _, rest = file.read().replace("\\-", "-").partition(".SH OPTIONS")
+            self.assertGreater(len(items), 4)
+            self.assertEqual(re.findall(printed, description), items, name)
+            self.assertRegex(rest, r"(?m)^\.SH EXIT STATUS\n\.PP\n(Exit status: |The exit status is )", name)
+
     @unittest.skipUnless(shutil.which("groff"), "there is no groff here")
     def test_they_are_shown_without_a_warning(self):
         for name in TOOLS:
