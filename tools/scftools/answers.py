@@ -112,8 +112,8 @@ class Answer:
         errno_member = f', "defaultErrnoRet": {self.data}' if self.action in ("ERRNO", "TRACE") else ""
         return f'{{"defaultAction": "SCMP_ACT_{self.action}"{errno_member}}}'.encode()
 
-    def as_json(self) -> dict[str, object]:
+    def as_json(self, explains: bool = False) -> dict[str, object]:
         found: dict[str, object] = {"action": self.action, "data": self.data}
         if self.action == "ERRNO" and self.data in ERRNOS:
             found["errno"] = ERRNOS[self.data]
-        return found
+        return {**found, "does": self.does()} if explains else found

@@ -205,9 +205,7 @@ def _of_path(case: Case, given: Given) -> Iterator[str]:
     yield from decisions.of_givers(given.filters, givers)
     giver = paths.shown(givers)
     if giver is not None:
-        before, tests = paths.last_tests(giver.filter.data, giver.path, case.call, given.table)
-        yield f"the last tests on the path in {giver.told()}" + (f", after {before} others:" if before else ":")
-        yield from tests
+        yield from giver.last_tests(case.call, given.table)
 
 
 def _of_filters(cause: Cause) -> Iterator[str]:

@@ -102,7 +102,7 @@ def _change_json(changes: Changes, change: Change, table: Table) -> dict[str, ob
     if change.call is not None:
         found["call"] = change.call.as_json(table)
     for side, reason in change.reasons.items():
-        answer = {"answer": {**reason.answer.as_json(), "does": reason.answer.does()}} if reason.answer else {}
+        answer = {"answer": reason.answer.as_json(explains=True)} if reason.answer else {}
         source = changes.sources[side]
         found[side] = {**answer, **reasons.as_json(reason, source.data, change.call, source.origins)}
     return found

@@ -61,8 +61,9 @@ class Fault:
         words = found[3].split()
         return cls(line, found[1], found[2], {name: int(value) for name, value in zip(words[::2], words[1::2])})
 
-    def as_json(self) -> dict[str, object]:
-        return {"source": self.source, "kind": self.kind, "numbers": self.numbers}
+    def as_json(self, sentences: Iterable[str] | None = None) -> dict[str, object]:
+        found: dict[str, object] = {"source": self.source, "kind": self.kind, "numbers": self.numbers}
+        return found if sentences is None else {**found, "sentences": list(sentences)}
 
 
 class Refusal(Exception):

@@ -229,8 +229,7 @@ def added(comparison: Comparison, report: Report, scope: str) -> Iterator[str]:
     yield from before
     if report.verdict:
         yield from explanation.of_verdict(report, table, scope == NATIVE, count)
-        if report.verdict.call:
-            yield from reasons.of_difference(comparison, report.verdict)
+        yield from reasons.of_difference(comparison, report.verdict)
         yield from of_left_out(comparison, report)
     yield from behind
     yield from whose(comparison, report, scope)
@@ -274,11 +273,11 @@ def as_json(comparison: Comparison, report: Report, scope: str, status: int) -> 
     if comparison.relation != SAME:
         found["relation"] = comparison.relation
     if report.fault:
-        found["fault"] = {**report.fault.as_json(), "sentences": list(sentences_of(comparison, report.fault))}
+        found["fault"] = report.fault.as_json(sentences_of(comparison, report.fault))
     if report.verdict:
         found.update(_side_json(report.verdict, table))
-        if report.verdict.call:
-            found.update(reasons.difference_as_json(comparison, report.verdict))
+        difference = reasons.Difference.of(comparison, report.verdict)
+        found.update(difference.as_json() if difference else {})
     calls = report.calls
     if report.verdict and report.verdict.word == DIFFERS:
         for member, one in zip(("no_more", "no_less"), of_both_relations(comparison, scope)):

@@ -1,17 +1,18 @@
-"""What filters answer to syscalls: the requested records, and which filter of a stack gives the answer."""
+"""What filters answer to syscalls: the records of a command line, and which filter of a stack gives the answer."""
 from __future__ import annotations
 
 import re
 from collections.abc import Callable, Iterable, Iterator, Sequence
 
 from . import architectures, bundles, client, explanation, inputs, output, paths, program, tables, verdicts
-from .answers import X32, X86_64
+from .answers import X32, X86_64, Answer
 from .calls import OPTIONS, SKIPPED, Call
+from .client import Fault
 from .constants import argument_in, number_in
 from .filters import Filter
 from .refusals import faulty_filters, named
 from .tables import Table
-from .values import dataclass
+from .values import dataclass, replace
 from .verdicts import Decision
 
 TYPE_CHECKING = False
@@ -26,8 +27,8 @@ HELP = {"ip": "the instruction pointer", **{f"a{index}": f"argument {index}" for
 
 
 @dataclass(frozen=True)
-class Asked:
-    """A requested record: the options of scf as texts; scf checks the numbers."""
+class Query:
+    """A record whose answer is wanted: the options of scf as texts; scf checks the numbers."""
 
     texts: tuple[tuple[str, str], ...]
 
@@ -43,14 +44,14 @@ class Asked:
         return Call(found[0], found[1], found[2], tuple(found[3:])) if len(found) == len(OPTIONS) else None
 
 
-def of_words(words: Sequence[str]) -> Asked:
-    """The record that scf's own options request."""
+def query_in(words: Sequence[str]) -> Query:
+    """The record that scf's own options give."""
     found: dict[str, str] = {}
     for at, word in enumerate(words):
         name, is_given, text = word.partition("=")
         if name[:2] == "--" and name[2:] in OPTIONS:
             found[name[2:]] = text if is_given else "".join(words[at + 1:at + 2])
-    return Asked(tuple(found.items()))
+    return Query(tuple(found.items()))
 
 
 def _add_numbers(parser: Parser) -> None:
@@ -146,27 +147,27 @@ def _rest_of(given: object, numbering: Numbering) -> tuple[tuple[str, str], ...]
     return tuple(texts.items())
 
 
-def one_asked(given: object, table: Table) -> Asked | None:
-    """The record that a command line requests, or None."""
+def one_query(given: object, table: Table) -> Query | None:
+    """The record that a command line gives, or None."""
     number, numbering = getattr(given, "nr"), Numbering(table, getattr(given, "arch"))
     rest = _rest_of(given, numbering)
     if number is None and not rest:
         return None
-    return Asked((("nr", numbering.number_of("0" if number is None else number)), *rest))
+    return Query((("nr", numbering.number_of("0" if number is None else number)), *rest))
 
 
-def asked(given: object, table: Table) -> list[Asked]:
-    """The records that a command line requests, in order."""
+def queries(given: object, table: Table) -> list[Query]:
+    """The records that a command line gives, in order."""
     numbering = Numbering(table, getattr(given, "arch"))
     rest = _rest_of(given, numbering)
-    found = [Asked((("nr", numbering.number_of(text)), *rest)) for text in getattr(given, "nr")]
+    found = [Query((("nr", numbering.number_of(text)), *rest)) for text in getattr(given, "nr")]
     if getattr(given, "calls_from") is not None:
         for number, *arguments in _lines_of(getattr(given, "calls_from")):
             own = tuple(zip(OPTIONS[3:], map(numbering.argument, arguments)))
             left = tuple(pair for pair in rest if pair[0] not in dict(own))
-            found.append(Asked((("nr", numbering.number_of(number)), *left, *own)))
+            found.append(Query((("nr", numbering.number_of(number)), *left, *own)))
         return found
-    return found or [Asked((("nr", numbering.number_of("0")), *rest))]
+    return found or [Query((("nr", numbering.number_of("0")), *rest))]
 
 
 def of_fault(filters: Sequence[Filter], decision: Decision) -> Iterator[str]:
@@ -188,88 +189,98 @@ def of_givers(filters: Sequence[Filter], givers: Sequence[Giver]) -> Iterator[st
         yield f"{which} {named(found)}"
 
 
-def added(filters: Sequence[Filter], one: Asked, decision: Decision, table: Table) -> Iterator[str]:
-    """The lines after scf's for a stack."""
-    yield from explanation.of_decision(one.call, decision, table)
-    yield from of_fault(filters, decision)
-    if decision.answer:
-        givers = paths.givers(filters, one.words(), decision.answer)
-        yield from of_givers(filters, givers)
-        giver = paths.shown(givers)
-        if giver is not None:
-            yield f"the path in {giver.told()}: {giver.path.told()}"
-
-
-def decide(filters: Sequence[Filter], one: Asked) -> tuple[int, Decision]:
-    """scf's exit status, and what the stack answers."""
-    done = client.run(["decide", *one.words()], bundles.of_stack([it.data for it in filters]))
-    return done.status, verdicts.decision(done.text)
-
-
-def _json_of(filters: Sequence[Filter], one: Asked, decision: Decision, table: Table) -> dict[str, object]:
-    found: dict[str, object] = {}
-    if one.call:
-        found["call"] = one.call.as_json(table)
-    if decision.answer:
-        found["answer"] = {**decision.answer.as_json(), "does": decision.answer.does()}
-        if decision.steps is not None:
-            found["steps"] = decision.steps
-    if decision.fault:
-        found["fault"] = {**decision.fault.as_json(), "sentences": list(explanation.of_fault(decision.fault, table))}
-        if len(filters) > 1:
-            found["filters"] = faulty_filters(filters, decision.fault)
-    return found
-
-
 @dataclass(frozen=True)
-class Told:
-    """The answer to a syscall: scf's status and lines, and on request the added lines."""
+class Reply:
+    """What filters or a profile answer to a syscall: scf's status and lines, the syscall, and the answer or a fault; and
+    what gives the answer, in lines and as members in JSON, which takes time to find."""
 
     status: int
     lines: Sequence[str]
-    added: Callable[[], Iterable[str]]
-    as_json: Callable[[], dict[str, object]]
+    call: Call | None
+    answer: Answer | None = None
+    fault: Fault | None = None
+    # what the fault is, and what to do
+    sentences: Callable[[], Iterable[str]] = tuple
+    reasons: Callable[[], Iterable[str]] = tuple
+    members: Callable[[], dict[str, object]] = dict
+
+    def notes(self, table: Table) -> Iterator[str]:
+        """The lines after scf's."""
+        yield from self.sentences()
+        if self.answer:
+            yield from explanation.of_answer(self.call, self.answer, table)
+        yield from self.reasons()
+
+    def as_json(self, table: Table) -> dict[str, object]:
+        found: dict[str, object] = {"status": self.status}
+        if self.call:
+            found["call"] = self.call.as_json(table)
+        if self.answer:
+            found["answer"] = self.answer.as_json(explains=True)
+        if self.fault:
+            found["fault"] = self.fault.as_json(self.sentences())
+        return {**found, **self.members()}
 
 
-def of_stack(filters: Sequence[Filter], one: Asked, table: Table) -> Told:
+def decide(filters: Sequence[Filter], query: Query) -> tuple[int, Decision]:
+    """scf's exit status, and what the stack answers."""
+    done = client.run(["decide", *query.words()], bundles.of_stack([it.data for it in filters]))
+    return done.status, verdicts.decision(done.text)
+
+
+def _reply(status: int, lines: Sequence[str], query: Query, decision: Decision, table: Table) -> Reply:
+    """The reply of filters, without what gives the answer."""
+    fault = decision.fault
+    return Reply(status, lines, query.call, decision.answer, fault,
+                 lambda: explanation.of_fault(fault, table) if fault else ())
+
+
+def of_stack(filters: Sequence[Filter], query: Query, table: Table) -> Reply:
     """What a stack answers to a syscall, which filter gives the answer, and the path through that one."""
-    status, decision = decide(filters, one)
+    status, decision = decide(filters, query)
 
-    def as_json() -> dict[str, object]:
-        found = _json_of(filters, one, decision, table)
-        givers = paths.givers(filters, one.words(), decision.answer) if decision.answer else []
-        giver = paths.shown(givers)
+    def givers() -> list[Giver]:
+        return paths.givers(filters, query.words(), decision.answer) if decision.answer else []
+
+    def reasons() -> Iterator[str]:
+        yield from of_fault(filters, decision)
+        found = givers()
+        yield from of_givers(filters, found)
+        giver = paths.shown(found)
         if giver is not None:
-            if len(filters) > 1:
-                found["filters"] = [it.filter.name for it in givers]
-            found["path"] = giver.as_json()
-        return found
+            yield f"the path in {giver.told()}: {giver.path.told()}"
 
-    return Told(status, [decision.line] if decision.line else [], lambda: added(filters, one, decision, table), as_json)
+    def members() -> dict[str, object]:
+        found = givers()
+        giver, files = paths.shown(found), [it.filter.name for it in found]
+        if decision.fault:
+            files = faulty_filters(filters, decision.fault)
+        return {**({"filters": files} if len(filters) > 1 and (giver or decision.fault) else {}),
+                **({"path": giver.as_json()} if giver else {})}
+
+    return replace(_reply(status, [decision.line] if decision.line else [], query, decision, table), reasons=reasons,
+                   members=members)
 
 
-def of_run(one_filter: Filter, one: Asked, table: Table, with_path: bool) -> Told:
+def of_run(one: Filter, query: Query, table: Table, with_path: bool) -> Reply:
     """What a filter answers to a syscall, in how many instructions, and on request by which path."""
-    path = paths.of(one_filter.data, one.words(), with_path)
-
-    def as_json() -> dict[str, object]:
-        found = _json_of([one_filter], one, path.decision, table)
-        return {**found, "path": list(path.places)} if path.places else found
-
-    return Told(path.status, path.lines, lambda: explanation.of_decision(one.call, path.decision, table), as_json)
+    path = paths.of(one.data, query.words(), with_path)
+    members = {"steps": path.decision.steps, "path": list(path.places) or None}
+    return replace(_reply(path.status, path.lines, query, path.decision, table),
+                   members=lambda: {name: it for name, it in members.items() if it is not None})
 
 
-def tell(calls: Sequence[Asked], answer: Callable[[Asked], Told], is_json: bool) -> int:
-    """Prints the answer to each syscall and what it means; returns the worst status."""
+def print_replies(those: Sequence[Query], answer: Callable[[Query], Reply], table: Table, is_json: bool) -> int:
+    """Prints the reply to each query; returns the worst status."""
     statuses, found = [], []
-    for one in calls:
-        answered = answer(one)
-        statuses.append(answered.status)
+    for query in those:
+        reply = answer(query)
+        statuses.append(reply.status)
         if is_json:
-            found.append({"status": answered.status, **answered.as_json()})
+            found.append(reply.as_json(table))
             continue
-        output.put_lines(answered.lines)
-        output.put_lines(output.notes(answered.added()))
+        output.put_lines(reply.lines)
+        output.put_lines(output.notes(reply.notes(table)))
     if is_json:
         output.put_json({"status": client.worst(statuses), "calls": found})
     return client.worst(statuses)

@@ -4,9 +4,10 @@ from __future__ import annotations
 from collections.abc import Iterator
 
 from . import faults, tables, verdicts
+from .answers import Answer
 from .calls import Call
 from .tables import Table
-from .verdicts import Decision, Fault, Report
+from .verdicts import Fault, Report
 
 
 def of_fault(fault: Fault, table: Table | None) -> Iterator[str]:
@@ -83,11 +84,8 @@ def of_killed_architectures(report: Report) -> Iterator[str]:
         yield "the profile's other architectures are left out"
 
 
-def of_decision(call: Call | None, decision: Decision, table: Table) -> Iterator[str]:
-    """What `scf run` or `scf decide` says about a syscall."""
-    if decision.fault:
-        yield from of_fault(decision.fault, table)
-    elif decision.answer:
-        if call is not None:
-            yield from of_call(call, table)
-        yield decision.answer.told()
+def of_answer(call: Call | None, answer: Answer, table: Table) -> Iterator[str]:
+    """The syscall, and what an answer to it does."""
+    if call is not None:
+        yield from of_call(call, table)
+    yield answer.told()

@@ -62,6 +62,12 @@ class Giver:
     def told(self) -> str:
         return "the filter" if self.is_alone else self.filter.name
 
+    def last_tests(self, call: Call, table: Table) -> Iterator[str]:
+        """The last tests on its path, with a line before them."""
+        before, lines = last_tests(self.filter.data, self.path, call, table)
+        yield f"the last tests on the path in {self.told()}" + (f", after {before} others:" if before else ":")
+        yield from lines
+
     def as_json(self) -> dict[str, object]:
         return {"filter": self.filter.name, "places": list(self.path.places)}
 

@@ -17,6 +17,7 @@ TYPE_CHECKING = False
 if TYPE_CHECKING:
     from .compare import Comparison
     from .engines import Origin
+    from .paths import Giver
 
 PRINTED = re.compile(r"(\w+ \w+) (?:entry ([0-9]+)|(default)|(foreign))")
 BY_STUB = "by the ENOSYS that runc puts before the filter"
@@ -64,9 +65,7 @@ def meaning(text: str, call: Call | None, table: Table) -> Iterator[str]:
     """What output of `scf ask` means without the profile."""
     reason = _read(program.SUCCESS, text)
     if reason.answer:
-        if call is not None:
-            yield from explanation.of_call(call, table)
-        yield reason.answer.told()
+        yield from explanation.of_answer(call, reason.answer, table)
 
 
 def _shown(entry: object) -> str:
@@ -134,34 +133,43 @@ def as_json(reason: Reason, profile: bytes, call: Call | None,
     return found
 
 
-def of_difference(comparison: Comparison, verdict: Verdict) -> Iterator[str]:
-    """The lines after a syscall that differs: what decides in the profile, and the last tests on the filter's path."""
-    if verdict.call is None or verdict.filters is None or verdict.profile is None:
-        return
-    words = verdict.call.words()
-    if comparison.stub is not None and comparison.stub <= verdict.call.number:
-        yield BY_STUB
-    else:
-        reason = of(comparison.profile, comparison.table, words)
-        yield from told(reason, comparison.profile, verdict.call, comparison.origins)
-    giver = paths.shown(paths.givers(comparison.filters, words, verdict.filters))
-    if giver is not None:
-        before, lines = paths.last_tests(giver.filter.data, giver.path, verdict.call, comparison.table)
-        yield f"the last tests on the path in {giver.told()}" + (f", after {before} others:" if before else ":")
-        yield from lines
+@dataclass(frozen=True)
+class Difference:
+    """Why filters and a profile differ on a syscall: the profile's reason, None if runc's stub answers, and the filter
+    whose path is shown."""
 
+    comparison: Comparison
+    call: Call
+    reason: Reason | None
+    giver: Giver | None
 
-def difference_as_json(comparison: Comparison, verdict: Verdict) -> dict[str, object]:
-    """The same as members of an object."""
-    if verdict.call is None or verdict.filters is None or verdict.profile is None:
-        return {}
-    words = verdict.call.words()
-    if comparison.stub is not None and comparison.stub <= verdict.call.number:
+    @classmethod
+    def of(cls, comparison: Comparison, verdict: Verdict) -> Difference | None:
+        """Why the example of a verdict differs, None if it has none."""
+        call = verdict.call
+        if call is None or verdict.filters is None or verdict.profile is None:
+            return None
+        is_stub = comparison.stub is not None and comparison.stub <= call.number
+        return cls(comparison, call, None if is_stub else of(comparison.profile, comparison.table, call.words()),
+                   paths.shown(paths.givers(comparison.filters, call.words(), verdict.filters)))
+
+    def lines(self) -> Iterator[str]:
+        """What decides in the profile, and the last tests on the filter's path."""
+        if self.reason is None:
+            yield BY_STUB
+        else:
+            yield from told(self.reason, self.comparison.profile, self.call, self.comparison.origins)
+        if self.giver is not None:
+            yield from self.giver.last_tests(self.call, self.comparison.table)
+
+    def as_json(self) -> dict[str, object]:
         found: dict[str, object] = {"reason": "stub"}
-    else:
-        reason = of(comparison.profile, comparison.table, words)
-        found = as_json(reason, comparison.profile, verdict.call, comparison.origins)
-    giver = paths.shown(paths.givers(comparison.filters, words, verdict.filters))
-    if giver is not None:
-        found["path"] = giver.as_json()
-    return found
+        if self.reason is not None:
+            found = as_json(self.reason, self.comparison.profile, self.call, self.comparison.origins)
+        return {**found, "path": self.giver.as_json()} if self.giver is not None else found
+
+
+def of_difference(comparison: Comparison, verdict: Verdict) -> Iterator[str]:
+    """The lines after a syscall that differs."""
+    found = Difference.of(comparison, verdict)
+    yield from found.lines() if found is not None else ()
