@@ -23,7 +23,7 @@ from .processes import Kernel, Stack
 from .tables import Table
 from .values import dataclass, field, replace
 from .verdicts import NO_LESS, NO_MORE, SAME, Verdict
-from .verify import Asked
+from .verify import Request
 
 TYPE_CHECKING = False
 if TYPE_CHECKING:
@@ -47,7 +47,7 @@ STRICT = "it is in seccomp's strict mode, which no profile expresses"
 class Expected:
     """What is expected of a row's processes: a profile, or nothing; and where that comes from."""
 
-    asked: Asked | None = None
+    asked: Request | None = None
     source: str | None = None
     # why it isn't known what is expected
     why: str | None = None
@@ -174,7 +174,7 @@ class Judge:
         self.known: dict[tuple[object, ...], Judgement] = {}
         self.foreign: dict[tuple[bytes, ...], list[other_abis.Proved | other_abis.Tried]] = {}
 
-    def judge(self, stack: Stack, asked: Asked | None, relation: str = SAME) -> Judgement:
+    def judge(self, stack: Stack, asked: Request | None, relation: str = SAME) -> Judgement:
         """The verdict on a stack with filters."""
         profile = ALLOWS_ALL if asked is None else asked.profile
         stub = asked.applied.stub if asked is not None and asked.applied is not None else None
@@ -184,11 +184,11 @@ class Judge:
             self.foreign.clear()
         if key not in self.known:
             self.tell(len(self.known))
-            self.known[key] = self._judged(stack, asked or Asked(profile, self.table, self.limit, compare.NATIVE),
+            self.known[key] = self._judged(stack, asked or Request(profile, self.table, self.limit, compare.NATIVE),
                                            relation, asked is None)
         return self.known[key]
 
-    def _judged(self, stack: Stack, asked: Asked, relation: str, is_of_nothing: bool) -> Judgement:
+    def _judged(self, stack: Stack, asked: Request, relation: str, is_of_nothing: bool) -> Judgement:
         """The verdict; syscalls of other ABIs don't count if nothing is configured."""
         comparison = Comparison(stack.named, asked.profile, self.table, self.limit, relation,
                                 asked.applied.origins if asked.applied is not None else None)
@@ -263,9 +263,9 @@ class Expectations:
 
     def __init__(self, options: Options) -> None:
         self.options = options
-        self.known: dict[tuple[str, str | None], Asked | str] = {}
+        self.known: dict[tuple[str, str | None], Request | str] = {}
 
-    def _asked(self, config: dict[str, Any], runtime: str | None) -> Asked | str:
+    def _asked(self, config: dict[str, Any], runtime: str | None) -> Request | str:
         """The question about a configuration, once for each distinct one; or why there is none."""
         key = json.dumps(config), runtime
         if key not in self.known:
@@ -285,7 +285,7 @@ class Expectations:
             return None
         name, data = self.options.expected
         if runtime is None:
-            return Expected(Asked(data, self.options.table, self.options.limit, compare.NATIVE), name)
+            return Expected(Request(data, self.options.table, self.options.limit, compare.NATIVE), name)
         value = json.loads(data)
         linux = value.get("linux") if isinstance(value, dict) else None
         return self._of_config({"linux": linux if isinstance(linux, dict) else {"seccomp": value}}, runtime, name)
@@ -329,7 +329,7 @@ class Expectations:
             profile = units.profile_of(settings).encode()
         except (units.Refused, program.ToolError) as why:
             return Expected(source=source, why=str(why))
-        return Expected(Asked(profile, self.options.table, self.options.limit, compare.NATIVE), source)
+        return Expected(Request(profile, self.options.table, self.options.limit, compare.NATIVE), source)
 
 
 def rows_of(kernel: Kernel, snapshot: Snapshot, options: Options) -> list[Row]:
@@ -373,7 +373,7 @@ def judged(stack: Stack, expected: Expected, options: Options, judge: Judge) -> 
         found = judge.judge(stack, expected.asked)
     if options.baseline is None:
         return found
-    asked = Asked(options.baseline[1], options.table, options.limit, compare.NATIVE, NO_MORE)
+    asked = Request(options.baseline[1], options.table, options.limit, compare.NATIVE, NO_MORE)
     least = judge.judge(stack, asked, NO_MORE)
     if VERDICTS.index(least.verdict) < VERDICTS.index(found.verdict) and least.verdict in (WEAKER, NOT_KNOWN):
         return replace(least, is_of_baseline=True)

@@ -149,11 +149,11 @@ def member(value: Any, wanted: str, path: str) -> Any:
 
 
 def asked_of(config: dict[str, Any], runtime: str | None, keeps_first: bool, table: Table, limit: str | None,
-             relation: str) -> verify.Asked:
+             relation: str) -> verify.Request:
     """The question about a container with this configuration, as its runtime applies it."""
     try:
         if runtime is not None:
-            return verify.Asked.of_runtime(runtimes.applied(config, runtime), table, limit, compare.NATIVE,
+            return verify.Request.of_runtime(runtimes.applied(config, runtime), table, limit, compare.NATIVE,
                                               relation)
         text = json.dumps(config)
         if keeps_first:
@@ -161,7 +161,7 @@ def asked_of(config: dict[str, Any], runtime: str | None, keeps_first: bool, tab
             profile = resolver.resolved(config)
             resolver.keep_first(profile)
             text = engines.printed(profile)
-        return verify.Asked(text.encode(), table, limit, compare.NATIVE, relation)
+        return verify.Request(text.encode(), table, limit, compare.NATIVE, relation)
     except RecursionError as error:
         raise Failed("the container's configuration: the profile is nested too deep") from error
     except engines.Refused as why:
@@ -342,27 +342,21 @@ class Result:
     value: dict[str, object]
 
 
-def verdict_of(block: verify.Block) -> str | None:
-    if block.report is None:
-        return "strict" if block.stack.is_strict else "unconfined"
-    return block.report.verdict.word if block.report.verdict else None
-
-
-def finding_of(found: Found, asked: verify.Asked, members: Members) -> Finding:
+def finding_of(found: Found, asked: verify.Request, members: Members) -> Finding:
     """What is said of each distinct stack, but for the names that were left out, which are counted."""
     blocks, others = verify.blocks(found, asked), members.others_told()
-    status, verdict = verify.worst(blocks), verdict_of(blocks[0])
+    status, verdict = verify.worst(blocks), blocks[0].verdict
     if others is not None and status == program.SUCCESS:
         status, verdict = program.UNKNOWN, None
     remarks = [*asked.remarks, *members.remarks, *([others] if others else [])]
 
     def lines() -> list[str]:
-        own = [line for line in verify.lines(blocks, found, asked.scope)
+        own = [line for line in verify.lines(blocks, found, asked)
                if line and not line.startswith(verdicts.LEFT_OUT)]
         return own + [f"# {it}" for it in remarks]
 
     def value() -> dict[str, object]:
-        own = verify.as_json(blocks, found, asked.scope, None)
+        own = verify.as_json(blocks, found, asked, None)
         return {**own, "status": status, "verdict": verdict, "remarks": remarks}
 
     return Finding(status, verdict, lines, value)

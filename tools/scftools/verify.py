@@ -1,4 +1,5 @@
-"""The filters of processes compared with a profile: a verdict for each distinct stack, and the threads that have it."""
+"""The filters of processes compared with a profile, or with filters that were saved: a verdict for each distinct stack,
+and the threads that have it."""
 from __future__ import annotations
 
 from collections.abc import Iterator, Sequence
@@ -11,6 +12,11 @@ from .tables import Table
 from .values import dataclass, replace
 from .verdicts import Report
 
+TYPE_CHECKING = False
+if TYPE_CHECKING:
+    from .saved_filters import SavedRequest
+    from .stack_comparison import StackComparison
+
 # The sources of faults that no stack causes.
 OF_ALL = ("profile", "table", "number", "command", "input")
 
@@ -21,7 +27,7 @@ class Block:
 
     stack: Stack
     status: int
-    comparison: Comparison | None = None
+    comparison: Comparison | StackComparison | None = None
     report: Report | None = None
     # the least number that runc answers with ENOSYS, if it does so here
     stub: int | None = None
@@ -31,10 +37,17 @@ class Block:
         """Whether every stack would have this fault."""
         return bool(self.report and self.report.fault and self.report.fault.source in OF_ALL)
 
+    @property
+    def verdict(self) -> str | None:
+        """The verdict; of a stack without filters why there is none."""
+        if self.report is None:
+            return "strict" if self.stack.is_strict else "unconfined"
+        return self.report.verdict.word if self.report.verdict else None
+
 
 @dataclass(frozen=True)
-class Asked:
-    """The settings for each stack; with a runtime also what that makes of the profile."""
+class Request:
+    """A profile, and how each stack is compared with it; with a runtime also what that makes of the profile."""
 
     profile: bytes
     table: Table
@@ -44,7 +57,7 @@ class Asked:
     applied: Applied | None = None
 
     @classmethod
-    def of_runtime(cls, applied: Applied, table: Table, limit: str | None, scope: str, relation: str) -> Asked:
+    def of_runtime(cls, applied: Applied, table: Table, limit: str | None, scope: str, relation: str) -> Request:
         """The settings for a profile as a runtime applies it."""
         return cls(applied.data, table, limit, scope, relation, applied)
 
@@ -53,28 +66,40 @@ class Asked:
         """Notes on the profile as its runtime applies it."""
         return list(self.applied.remarks) if self.applied is not None else []
 
+    def judge(self, stack: Stack) -> Block:
+        comparison = Comparison(stack.named, self.profile, self.table, self.limit, self.relation)
+        if self.applied is None:
+            status, report = comparison.run(self.scope)
+            return Block(stack, status, comparison, report)
+        comparison = replace(comparison, origins=self.applied.origins)
+        stub = self.applied.stub
+        status, report, has_stub = newer.compared_with_stub(comparison, self.scope, stub)
+        return Block(stack, status, newer.expecting_stub(comparison, stub), report, stub if has_stub else None)
 
-def judged(stack: Stack, asked: Asked) -> Block:
-    if not stack.filters:
-        # strict mode allows four syscalls, which no profile can express
-        return Block(stack, program.UNKNOWN if stack.is_strict else program.NEGATIVE)
-    comparison = Comparison(stack.named, asked.profile, asked.table, asked.limit, asked.relation)
-    if asked.applied is None:
-        status, report = comparison.run(asked.scope)
-        return Block(stack, status, comparison, report)
-    comparison = replace(comparison, origins=asked.applied.origins)
-    stub = asked.applied.stub
-    status, report, has_stub = newer.compared_with_stub(comparison, asked.scope, stub)
-    return Block(stack, status, newer.expecting_stub(comparison, stub), report, stub if has_stub else None)
+    def notes(self, block: Block) -> Iterator[str]:
+        """What is added to scf's lines."""
+        yield from compare.added(block.comparison, block.report, self.scope)
+        if block.stub is not None:
+            yield runtimes.stub_told(block.stub)
+        yield from compare.of_foreign(block.comparison, block.report, self.scope)
+
+    def as_json(self, block: Block) -> dict[str, object]:
+        own = compare.as_json(block.comparison, block.report, self.scope, block.status)
+        return own if block.stub is None else {**own, "stub": block.stub}
 
 
-def blocks(found: Found, asked: Asked) -> list[Block]:
+def _block(stack: Stack, request: Request | SavedRequest) -> Block:
+    # strict mode allows four syscalls, which no profile can express
+    nothing = program.UNKNOWN if stack.is_strict else program.NEGATIVE
+    return request.judge(stack) if stack.filters else Block(stack, nothing)
+
+
+def blocks(found: Found, request: Request | SavedRequest) -> list[Block]:
     """A block for each distinct stack, the worst first; a fault of all stacks is reported once."""
     made: list[Block] = []
     for stack in found.stacks:
-        if stack.filters and any(block.is_of_all for block in made):
-            continue
-        made.append(judged(stack, asked))
+        if not stack.filters or not any(block.is_of_all for block in made):
+            made.append(_block(stack, request))
     return sorted(made, key=lambda it: client.rank(it.status))
 
 
@@ -100,49 +125,38 @@ def of_threads(stack: Stack, found: Found) -> Iterator[str]:
         yield line
 
 
-def lines(made: Sequence[Block], found: Found, scope: str, is_verbose: bool = False) -> Iterator[str]:
+def lines(made: Sequence[Block], found: Found, request: Request | SavedRequest, is_verbose: bool = False) -> \
+        Iterator[str]:
     """The text output: scf's lines for each block, with --verbose also the skipped names, and then added lines,
     marked by `# `."""
     is_told = False
     for at, block in enumerate(made):
         if at:
             yield ""
-        comparison, report = block.comparison, block.report
-        if comparison is not None and report is not None:
+        report = block.report
+        if report is not None:
             if is_told:
                 report = replace(report, skipped=(), architectures=())
             is_told = is_told or report.verdict is not None
             yield from report.printed if is_verbose else report.brief
-            yield from output.notes(compare.added(comparison, report, scope))
-            if block.stub is not None:
-                yield f"# {runtimes.stub_told(block.stub)}"
-            yield from output.notes(compare.of_foreign(comparison, report, scope))
+            yield from output.notes(request.notes(replace(block, report=report)))
         yield from output.notes(of_threads(block.stack, found))
-    yield from (f"# {note}" for note in found.notes)
+    yield from output.notes(found.notes)
 
 
-def threads_json(stack: Stack, found: Found) -> list[dict[str, object]]:
-    """The threads that have a stack."""
-    return [{"process": process, "name": output.escaped(found.names[process]), "threads": threads}
-            for process, threads in stack.threads.items()]
-
-
-def _block_json(block: Block, found: Found, scope: str) -> dict[str, object]:
-    own: dict[str, object] = {"status": block.status}
-    if block.comparison is not None and block.report is not None:
-        own = compare.as_json(block.comparison, block.report, scope, block.status)
-        if block.stub is not None:
-            own["stub"] = block.stub
-    else:
-        own["verdict"] = "strict" if block.stack.is_strict else "unconfined"
+def _block_json(block: Block, found: Found, request: Request | SavedRequest) -> dict[str, object]:
+    own: dict[str, object] = {"status": block.status, "verdict": block.verdict}
+    if block.report is not None:
+        own = request.as_json(block)
     return {**own, "filters": [len(data) // 8 for data in block.stack.filters],
-            "processes": threads_json(block.stack, found)}
+            "processes": [{"process": process, "name": output.escaped(found.names[process]), "threads": threads}
+                          for process, threads in block.stack.threads.items()]}
 
 
-def as_json(made: Sequence[Block], found: Found, scope: str, container: str | None) -> dict[str, object]:
+def as_json(made: Sequence[Block], found: Found, request: Request | SavedRequest, container: str | None) -> \
+        dict[str, object]:
     """The same as `lines`, as one object, with the container: the verdict is that of the worst stack."""
-    stacks = [_block_json(block, found, scope) for block in made]
-    return {"status": worst(made), "scope": scope, "verdict": stacks[0].get("verdict"), "container": container,
-            "stacks": stacks,
+    return {"status": worst(made), "scope": request.scope, "verdict": made[0].verdict, "container": container,
+            "stacks": [_block_json(block, found, request) for block in made],
             "passed_over": [{"process": process, "why": why} for process, why in found.passed_over.items()],
             "asked_again": [{"process": process, "thread": thread} for process, thread in found.asked_again]}
