@@ -1,8 +1,8 @@
 """What scf's tools share: a module for each subject, each fact once, and only Python's standard library.
 
 A program tools/NAME parses its command line and combines these modules, which import each other without a cycle. It
-begins with `#!/usr/bin/env -S python3 -IS`, since the tools run as root: nothing is imported from the user's environment,
-folders or site packages. So it adds its own folder, by its real name, to the import path.
+begins with `#!/usr/bin/env -S python3 -IS`, since the tools run as root: nothing is imported from the user's
+environment, folders or site packages. So it adds its own folder, by its real name, to the import path.
 
     values      value classes, as Python's dataclasses, without what these cost
     output      output that is safe for a terminal, and complete or reported as failed

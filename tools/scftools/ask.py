@@ -9,13 +9,10 @@ from .calls import Call
 from .compare import NATIVE, Comparison
 from .decisions import Query, Reply
 from .filters import RETURN_CONSTANT, Filter, instruction
+from .profiles import Origin
 from .reasons import Reason
 from .tables import Table
 from .verdicts import FOR_OTHER_ABI, UNDETERMINED
-
-TYPE_CHECKING = False
-if TYPE_CHECKING:
-    from .engines import Origin
 
 
 def _architectures(profile: bytes, table: Table) -> tuple[str, ...]:

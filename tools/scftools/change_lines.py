@@ -5,7 +5,7 @@ from collections.abc import Iterator
 
 from . import constants, output, reasons
 from .changes import KINDS, NEW, OLD, OTHERWISE, Change, Changes, Source
-from .engines import STUB
+from .profiles import STUB
 from .reasons import Reason
 from .tables import Table
 from .verdicts import LESS, MORE, UNDECIDED, UNFINISHED

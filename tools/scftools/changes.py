@@ -9,8 +9,8 @@ from .answers import DISPOSITIONS, Answer
 from .calls import Call
 from .client import Refusal
 from .compare import CALLS, NATIVE, Comparison
-from .engines import STUB, Origin
 from .filters import Filter, answering_from
+from .profiles import STUB, Origin
 from .questions import checked
 from .reasons import Reason
 from .tables import Table

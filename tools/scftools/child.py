@@ -14,18 +14,14 @@ import signal
 import time
 from collections.abc import Callable
 
-TYPE_CHECKING = False
-if TYPE_CHECKING:
-    from typing import NoReturn, TypeVar
-
-    Result = TypeVar("Result")
+from .values import Any, NoReturn
 
 # linux/prctl.h
 PR_SET_PDEATHSIG = 1
 # The signals that end a tool unless they are ignored.
 ENDING = (signal.SIGHUP, signal.SIGINT, signal.SIGQUIT, signal.SIGTERM)
-# How often the tool looks for signals while it waits for the child, and how long a child may take to end by one; how
-# much later than the tool the child's own timer ends it, and how long a child that was killed is waited for, in seconds.
+# In seconds: how often the tool looks for signals while it waits for the child, and how long a child may take to end by
+# one; how much later than the tool the child's own timer ends it, and how long a child that was killed is waited for.
 PAUSE, TO_END, TIMER_DELAY, LAST_WAIT = 0.05, 1.0, 0.5, 0.2
 
 
@@ -48,7 +44,7 @@ def look_for_signals() -> None:
         raise Interrupted(came.si_signo)
 
 
-def run(work: Callable[[], Result], seconds: float) -> Result:
+def run(work: Callable[[], Any], seconds: float) -> Any:
     """The result or exception of a function run in a child process; it calls `look_for_signals` now and then."""
     until = time.monotonic() + seconds
     heeded = {it for it in ENDING if signal.getsignal(it) != signal.SIG_IGN}
@@ -109,7 +105,7 @@ def _wait_for(child: int) -> None:
         pass
 
 
-def _be_child(work: Callable[[], Result], file: int, seconds: float, parent: int) -> NoReturn:
+def _be_child(work: Callable[[], Any], file: int, seconds: float, parent: int) -> NoReturn:
     """Runs the function, with all signals blocked but that of the timer."""
     try:
         os.setpgid(0, 0)

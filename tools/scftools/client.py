@@ -14,7 +14,8 @@ SCF = os.path.join(program.TOP, "scf")
 PROGRAMS = (os.path.join(program.TOP, "program"), os.path.join(program.TOP, "crates", "scf", "out", "scf"))
 # SIGKILL (signal(7)), which ends a process that exceeds its limit of CPU time.
 KILLED = 9
-# The most bytes of address space that the tools give scf. Real inputs take a tenth; 4 MiB of `{"":0}` would take 520 MB.
+# The most bytes of address space that the tools give scf. Real inputs take a tenth; 4 MiB of `{"":0}` would take 520
+# MB.
 MAX_MEMORY = 350 << 20
 # A tool's comparisons without --limit: seconds of CPU time for the tool and all that it runs; after the first limit
 # comparisons have few steps, after the second none.
@@ -129,8 +130,8 @@ def _all_of(file: int) -> bytes:
 
 
 def _limit(child: int, seconds: float | None) -> None:
-    """Limits scf's memory, so that it reports `Memory` instead of taking more, and its CPU time, after which it is killed
-    without a core dump."""
+    """Limits scf's memory, so that it reports `Memory` instead of taking more, and its CPU time, after which it is
+    killed without a core dump."""
     import resource  # pylint: disable=import-outside-toplevel
 
     limits = [(resource.RLIMIT_AS, MAX_MEMORY)]

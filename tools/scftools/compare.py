@@ -7,16 +7,12 @@ from . import (bundles, client, explanation, newer, other_abis, profiles, progra
                verdicts)
 from .answers import DENIED
 from .filters import Filter, looks_at_pointer
+from .profiles import Origin, Profile
 from .refusals import faulty_filters
 from .tables import Table
 from .values import dataclass, field, replace
 from .verdicts import (ALL, CALLS, DIFFERS, FOR_OTHER_ABI, LESS, MORE, NATIVE, NO_LESS, NO_MORE, SAME,
                        SAME_DISPOSITION, UNDECIDED, UNDETERMINED, NamedCall, Report, Verdict)
-
-TYPE_CHECKING = False
-if TYPE_CHECKING:
-    from .engines import Origin
-    from .profiles import Profile
 
 SCOPES = {ALL: [], NATIVE: ["--native"], CALLS: ["--calls"]}
 # The line about a scope that leaves out other ABIs.

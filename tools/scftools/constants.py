@@ -106,8 +106,8 @@ def argument_in(text: str, architecture: str) -> str:
     parts = [it.strip() for it in text.split("|")]
     octal = next((it for it in parts if re.fullmatch("0[0-7]{1,30}", it) and int(it) != int(it, 8)), None)
     if octal is not None:
-        raise program.ToolError(f"{octal} is ambiguous: write {hex(int(octal, 8))} for C's octal number, or {int(octal)} "
-                                f"for the decimal one")
+        raise program.ToolError(f"{octal} is ambiguous: write {hex(int(octal, 8))} for C's octal number, or "
+                                f"{int(octal)} for the decimal one")
     if "|" not in text and not NAME.fullmatch(text):
         return text
     found = (_part(it, text, architecture) for it in parts)

@@ -10,6 +10,7 @@ from .calls import OPTIONS, SKIPPED, Call
 from .client import Fault
 from .constants import argument_in, number_in
 from .filters import Filter
+from .paths import Giver
 from .refusals import faulty_filters, named
 from .tables import Table
 from .values import dataclass, replace
@@ -17,7 +18,6 @@ from .verdicts import Decision
 
 TYPE_CHECKING = False
 if TYPE_CHECKING:
-    from .paths import Giver
     from .words import Parser
 
 
@@ -191,8 +191,8 @@ def of_givers(filters: Sequence[Filter], givers: Sequence[Giver]) -> Iterator[st
 
 @dataclass(frozen=True)
 class Reply:
-    """What filters or a profile answer to a syscall: scf's status and lines, the syscall, and the answer or a fault; and
-    what gives the answer, in lines and as members in JSON, which takes time to find."""
+    """What filters or a profile answer to a syscall: scf's status and lines, the syscall, and the answer or a fault;
+    and what gives the answer, in lines and as members in JSON, which takes time to find."""
 
     status: int
     lines: Sequence[str]

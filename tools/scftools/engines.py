@@ -11,12 +11,8 @@ import re
 from collections.abc import Callable, Iterator, Sequence
 
 from . import profiles
-from .profiles import NUMBER, SECCOMP, TEXT, VERSION, where_in
-from .values import dataclass
-
-TYPE_CHECKING = False
-if TYPE_CHECKING:
-    from typing import Any
+from .profiles import NUMBER, SECCOMP, TEXT, VERSION, Origin, where_in
+from .values import Any, dataclass
 
 # What a container has by default: moby's oci/caps, and containers-common's containers.conf.
 DOCKER = (
@@ -249,29 +245,6 @@ def at_most(notes: Sequence[str]) -> Iterator[str]:
     yield from notes[:MAX_NOTES]
     if len(notes) > MAX_NOTES:
         yield f"{len(notes) - MAX_NOTES} more such lines"
-
-
-@dataclass(frozen=True)
-class Origin:
-    """Where an entry of a resolved profile comes from: its index in the user's profile, and its first names there."""
-
-    index: int
-    names: str
-
-    def told(self) -> str:
-        return f"entry {self.index}" + (f" ({self.names})" if self.names else "")
-
-
-# Where an answer comes from that runc puts before the filter: no entry of the user's profile.
-STUB = Origin(-1, "")
-
-
-def as_given(numbers: dict[str, int], origins: Sequence[Origin]) -> Iterator[str]:
-    """The entries of the user's profile for those that a fault in the resolved one names."""
-    named = [numbers[it] for it in ("entry", "first", "second") if it in numbers]
-    found = [origins[index].told() for index in named if index < len(origins)]
-    if found:
-        yield f"in the original file that is {' and '.join(dict.fromkeys(found))}"
 
 
 class Resolver:

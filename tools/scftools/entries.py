@@ -10,11 +10,7 @@ from collections.abc import Callable, Iterable, Iterator, Sequence
 
 from .profiles import LONGEST_NUMBER
 from .reasons import HOLDS
-from .values import dataclass, replace
-
-TYPE_CHECKING = False
-if TYPE_CHECKING:
-    from typing import Any
+from .values import Any, dataclass, replace
 
 MOST = (1 << 64) - 1
 # The most values of an argument to try, and the most records.

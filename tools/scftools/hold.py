@@ -116,8 +116,8 @@ class Hold:
         self.passed_over: dict[int, str] = {}
         # Those that aren't to be held any more, and couldn't be let go: they end, and are waited for.
         self.leaving: set[int] = set()
-        # Of a thread that the kernel refuses to trace: since when it does, how often it was listed so, and whether it is
-        # a zombie; and the same before the last listing.
+        # Of a thread that the kernel refuses to trace: since when it does, how often it was listed so, and whether it
+        # is a zombie; and the same before the last listing.
         self.refused: dict[int, tuple[float, int, bool]] = {}
         self.refused_before: dict[int, tuple[float, int, bool]] = {}
         # Held by this thread, but for the time in which it waits in PTRACE_SEIZE; then the other one waits for threads,
@@ -325,8 +325,8 @@ class Hold:
                            f"seccomp supervisor, which would get its syscall twice if it were stopped")
         for thread in sorted(self.stopping):
             state = self.kernel.status_of(thread).get("State", "none")
-            return Unreadable(f"{called(thread, self.process_of[thread])} didn't stop within {self.patience:g} seconds: "
-                              f"its state is {state}")
+            return Unreadable(f"{called(thread, self.process_of[thread])} didn't stop within {self.patience:g} "
+                              f"seconds: its state is {state}")
         return Unreadable(f"threads came and went for {self.patience:g} seconds, faster than they can be stopped")
 
 

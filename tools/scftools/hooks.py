@@ -24,12 +24,8 @@ from . import (compare, containers, engines, hold, inputs, output, processes, pr
                verdicts, verify)
 from .processes import Found, Kernel
 from .tables import Table
-from .values import dataclass
+from .values import Any, dataclass
 from .watchdog import Watchdog, Worker
-
-TYPE_CHECKING = False
-if TYPE_CHECKING:
-    from typing import Any
 
 CONFIG = "config.json"
 # The container's own program isn't executed yet; runc calls a poststart hook so.

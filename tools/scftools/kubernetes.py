@@ -7,11 +7,7 @@ import sys
 
 from . import engines
 from .engines import Refused
-
-TYPE_CHECKING = False
-if TYPE_CHECKING:
-    from types import ModuleType
-    from typing import Any
+from .values import Any
 
 KIND = "SeccompProfile"
 # The most bytes of YAML, which takes a Python reader some seconds; Kubernetes keeps no larger object.
@@ -32,7 +28,7 @@ def is_yaml(data: bytes) -> bool:
         re.search(rb"^apiVersion:", data, re.M) and re.search(rb"^kind:", data, re.M))
 
 
-def _module() -> ModuleType | None:
+def _module() -> Any:
     """PyYAML, from a folder of the system."""
     import importlib  # pylint: disable=import-outside-toplevel
 

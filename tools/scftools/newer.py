@@ -12,7 +12,7 @@ from collections.abc import Iterator, Sequence
 from . import bundles, client, verdicts
 from .answers import Answer
 from .calls import Call
-from .engines import STUB
+from .profiles import STUB
 from .tables import Table
 from .values import dataclass, replace
 from .verdicts import CALLS, DIFFERS, SAME, NamedCall, Report, Verdict

@@ -38,7 +38,7 @@ def escaped(text: str | bytes) -> str:
     return CONTROL.sub(_bytes_of, data.decode("utf-8", "backslashreplace"))
 
 
-# Verdicts, and how other lines begin that say as much: in green, in red and in yellow (ECMA-48), where output is coloured.
+# Verdicts, and how other lines begin that say as much: in green, in red and in yellow (ECMA-48), where there is colour.
 VERDICTS = {"same": 32, "no more": 32, "no less": 32, "differs": 31, "more": 31, "less": 31, "unfinished": 33}
 BEGINNINGS = {"accepted ": 32, "fault ": 31, "undecided at ": 33, "undetermined: ": 33}
 # `always`, `never`, or `auto`, which colours at a terminal unless NO_COLOR is set (no-color.org).

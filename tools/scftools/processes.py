@@ -17,16 +17,12 @@ from .containers import Container, container_of
 from .filters import Filter
 from .hold import Ended, Hold, Unreadable, Waiting, called, require_rights, stack_of
 from .ptrace import Kernel
-from .values import dataclass, field
+from .values import Any, dataclass, field
 
 TYPE_CHECKING = False
 if TYPE_CHECKING:
-    from typing import TypeVar
-
     from .restart import Restarts
     from .words import Parser
-
-    Read = TypeVar("Read")
 
 __all__ = ("Container", "Found", "Interrupted", "Kernel", "Stack", "Unreadable", "called", "container_of")
 
@@ -198,7 +194,7 @@ def add_force(parser: Parser) -> None:
                              "second time")
 
 
-def read_or_end(read: Callable[[], Read], has_force: bool = False, is_json: bool = False) -> Read:
+def read_or_end(read: Callable[[], Any], has_force: bool = False, is_json: bool = False) -> Any:
     """What is read; ends the tool where that can't be, with an object that says so where one is wanted, or where a
     signal came that ends it."""
     try:

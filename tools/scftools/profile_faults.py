@@ -13,19 +13,16 @@ from .client import Fault
 from .json_places import Path
 from .profiles import ACTIONS, LONGEST_NUMBER, Made
 from .reasons import HOLDS
+from .values import Any
 
-TYPE_CHECKING = False
-if TYPE_CHECKING:
-    from typing import Any
-
-    # a kind of fault, the path of the value that is wrong or lacks a member, and what is to be said
-    Found = tuple[str, Path, str]
+# A kind of fault, the path of the value that is wrong or lacks a member, and what is to be said.
+Found = tuple[str, Path, str]
 
 X86_64, WITH_ERRNO = "SCMP_ARCH_X86_64", ("SCMP_ACT_ERRNO", "SCMP_ACT_TRACE")
 WORD, MOST_ERRNO = 1 << 64, 65535
 # The kinds of faults that are about one member, or two entries.
-KINDS = ("Missing", "Kind", "Action", "Operator", "EmptyNames", "Index", "RepeatedIndex", "Errno", "ErrnoRange", "NoX8664",
-         "EngineForm", "Conflict")
+KINDS = ("Missing", "Kind", "Action", "Operator", "EmptyNames", "Index", "RepeatedIndex", "Errno", "ErrnoRange",
+         "NoX8664", "EngineForm", "Conflict")
 # At most so many characters of a value are printed.
 LONGEST = 60
 

@@ -7,12 +7,11 @@ import re
 from collections.abc import Sequence
 
 from . import engines, filters, inputs, kubernetes, profiles, program
-from .profiles import Made
+from .profiles import Made, Origin
 from .values import dataclass
 
 TYPE_CHECKING = False
 if TYPE_CHECKING:
-    from .engines import Origin
     from .words import Parser
 
 # What `podman inspect`, `docker inspect` and `crictl inspect` print, by members that they have.

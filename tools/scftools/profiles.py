@@ -10,11 +10,7 @@ import re
 from collections.abc import Callable, Iterator
 
 from . import json_places
-from .values import dataclass
-
-TYPE_CHECKING = False
-if TYPE_CHECKING:
-    from typing import Any
+from .values import Any, dataclass
 
 DEEPEST = 127
 # Half of a character, which stands alone.
@@ -255,3 +251,26 @@ def where_json_ends(data: bytes) -> str:
         pass
     return _odd_value(text) or ("Python's JSON parser accepts it: look for unpaired surrogates, and for numbers out of "
                                 "range")
+
+
+@dataclass(frozen=True)
+class Origin:
+    """Where an entry of a resolved profile comes from: its index in the user's profile, and its first names there."""
+
+    index: int
+    names: str
+
+    def told(self) -> str:
+        return f"entry {self.index}" + (f" ({self.names})" if self.names else "")
+
+
+# Where an answer comes from that runc puts before the filter: no entry of the user's profile.
+STUB = Origin(-1, "")
+
+
+def original_entries(numbers: dict[str, int], origins: Sequence[Origin]) -> Iterator[str]:
+    """The entries of the user's profile for those that a fault in the resolved one names."""
+    named = [numbers[it] for it in ("entry", "first", "second") if it in numbers]
+    found = [origins[index].told() for index in named if index < len(origins)]
+    if found:
+        yield f"in the original file that is {' and '.join(dict.fromkeys(found))}"

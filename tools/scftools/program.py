@@ -6,18 +6,15 @@ import sys
 from collections.abc import Callable
 
 from . import output
-
-TYPE_CHECKING = False
-if TYPE_CHECKING:
-    from typing import NoReturn
+from .values import NoReturn
 
 TOP = os.path.dirname(os.path.dirname(os.path.dirname(os.path.realpath(__file__))))
 TABLE = os.path.join(TOP, "tables", "x86_64.table")
 OTHER_NAMES = os.path.join(TOP, "tables", "other_architectures.names")
 FAULTS = os.path.join(TOP, "docs", "FAULTS.md")
 
-# The statuses of scf and of its tools: all is as it should be; something differs, is found or is refused; a usage error;
-# an input can't be read or the output not written; it isn't known; scf isn't built.
+# The statuses of scf and of its tools: all is as it should be; something differs, is found or is refused; a usage
+# error; an input can't be read or the output not written; it isn't known; scf isn't built.
 SUCCESS, NEGATIVE, USAGE_ERROR, IO_ERROR, UNKNOWN, NOT_BUILT = 0, 1, 2, 3, 4, 125
 
 

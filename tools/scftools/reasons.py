@@ -9,6 +9,8 @@ from collections.abc import Iterator, Sequence
 from . import bundles, client, explanation, paths, profiles, program
 from .answers import Answer
 from .calls import Call
+from .paths import Giver
+from .profiles import Origin
 from .tables import Table
 from .values import dataclass
 from .verdicts import Fault, Verdict
@@ -16,8 +18,6 @@ from .verdicts import Fault, Verdict
 TYPE_CHECKING = False
 if TYPE_CHECKING:
     from .compare import Comparison
-    from .engines import Origin
-    from .paths import Giver
 
 PRINTED = re.compile(r"(\w+ \w+) (?:entry ([0-9]+)|(default)|(foreign))")
 BY_STUB = "by the ENOSYS that runc puts before the filter"

@@ -3,14 +3,11 @@ from __future__ import annotations
 
 from collections.abc import Iterator, Sequence
 
-from . import client, engines, explanation, profile_faults, profiles
+from . import client, explanation, profile_faults, profiles
 from .client import Fault
 from .filters import LONGEST_STACK, MORE_OF_OLDER, Filter
+from .profiles import Origin
 from .tables import Table
-
-TYPE_CHECKING = False
-if TYPE_CHECKING:
-    from .engines import Origin
 
 
 def named(names: Sequence[str]) -> str:
@@ -25,7 +22,7 @@ def sentences(fault: Fault, profile: bytes, table: Table, origins: Sequence[Orig
     if (fault.source, fault.kind) == ("profile", "Json"):
         yield profiles.where_json_ends(profile)
     elif fault.source == "profile" and origins is not None:
-        yield from engines.as_given(fault.numbers, origins)
+        yield from profiles.original_entries(fault.numbers, origins)
     elif fault.source == "profile":
         yield from profile_faults.told(fault, profile)
 

@@ -20,12 +20,10 @@ from collections.abc import Callable, Iterator, Sequence
 from . import engines, libseccomp, profile_inputs, program, tables
 from .engines import OCI_ARCH, Origin, Refused, Setting, listed, told
 from .libseccomp import Library
-from .values import dataclass, field, replace
+from .values import Any, dataclass, field, replace
 
 TYPE_CHECKING = False
 if TYPE_CHECKING:
-    from typing import Any
-
     from . import processes
 
 RUNC, CRUN = "runc", "crun"

@@ -339,8 +339,8 @@ def settings_in(shown: dict[str, str], unit: str, reader: Reader) -> Settings:
         try:
             found.calls.update(denied_by(shown, found, reader))
         except (Unknown, ValueError) as why:
-            raise program.ToolError("it can't be known which syscalls the allow-list denies with an errno of their own, "
-                                  f"which systemctl show doesn't print: {why}", program.UNKNOWN) from why
+            raise program.ToolError("it can't be known which syscalls the allow-list denies with an errno of their "
+                                    f"own, which systemctl show doesn't print: {why}", program.UNKNOWN) from why
     return Settings(found, refusal_of(shown.get("SystemCallErrorNumber", "")),
                     architectures_of(shown.get("SystemCallArchitectures", "")),
                     reader.shown(shown.get("SystemCallLog", "~")))

@@ -1,7 +1,8 @@
-"""Value classes: `dataclass`, `field` and `replace` of Python's own module, as far as the tools need them.
+"""Value classes: `dataclass`, `field` and `replace` of Python's own module, as far as the tools need them; and the
+types `Any` and `NoReturn`.
 
 Python's module imports `inspect` and compiles methods for each class, which takes a tool longer at its start than all
-else; here the methods of all classes are the same few functions.
+else; here the methods of all classes are the same few functions. The types are only for who reads or checks them.
 """
 from __future__ import annotations
 
@@ -9,7 +10,9 @@ TYPE_CHECKING = False
 if TYPE_CHECKING:
     from collections.abc import Callable
     from dataclasses import dataclass, field, replace
-    from typing import Any
+    from typing import Any, NoReturn
+else:
+    Any = NoReturn = object
 
 
 class Default:

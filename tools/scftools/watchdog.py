@@ -11,10 +11,7 @@ import time
 from collections.abc import Callable, Sequence
 
 from . import processes, program
-
-TYPE_CHECKING = False
-if TYPE_CHECKING:
-    from typing import Any
+from .values import Any
 
 # linux/prctl.h
 PR_SET_PDEATHSIG = 1

@@ -7,10 +7,7 @@ import sys
 from collections.abc import Iterable
 
 from . import client, output, program, verdicts
-
-TYPE_CHECKING = False
-if TYPE_CHECKING:
-    from typing import Any, NoReturn
+from .values import Any, NoReturn
 
 # argparse would look for translations of its messages at each start, and the tools have none.
 argparse._ = str  # type: ignore
