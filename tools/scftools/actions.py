@@ -7,7 +7,7 @@ from collections.abc import Iterator
 from .answers import ERRNOS, MAX_ERRNO
 from .entries import Object
 from .findings import Finding
-from .profiles import LETS_THROUGH
+from .profiles import ALLOWING
 
 # The errnos that the kernel uses internally (include/linux/errno.h).
 INTERNAL = {512: "ERESTARTSYS", 513: "ERESTARTNOINTR", 514: "ERESTARTNOHAND", 515: "ENOIOCTLCMD",
@@ -60,5 +60,5 @@ def of_supervisors(top: Object) -> Iterator[Finding]:
 def of_default(top: Object) -> Iterator[Finding]:
     """A default that allows."""
     default = top["defaultAction"]
-    if default in LETS_THROUGH:
+    if default in ALLOWING:
         yield Finding("default-allows", f"{default}: a syscall that no entry names is allowed", {"action": default})

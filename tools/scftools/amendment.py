@@ -42,7 +42,7 @@ class Amendment:
         for entry in self.added:
             yield f"add to syscalls: {json.dumps(entry)}"
 
-    def told(self) -> str:
+    def describe(self) -> str:
         """The calls that it allows."""
         where = " and ".join(f"argument {index} " + (f"& {mask:#x} " if mask != WORD else "") + f"is {value & mask:#x}"
                              for index, mask, value in self.conditions)

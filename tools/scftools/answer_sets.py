@@ -106,11 +106,11 @@ class Machine:
         at = self._variables.setdefault(what, len(self._variables))
         return self.sets.node(OTHERS + BITS + at, NONE, ALL)
 
-    def _unfollowed(self, origin: object) -> Unknown:
+    def _opaque(self, origin: object) -> Unknown:
         """A word that isn't followed, by what it was computed from."""
         return self._unknown.setdefault(origin, Unknown(len(self._unknown)))
 
-    def loaded(self, word: int) -> Word:
+    def load(self, word: int) -> Word:
         if word == NUMBER:
             return Numbers(self.numbers)
         if word == ARCHITECTURE:
@@ -120,7 +120,7 @@ class Machine:
             return Bits(tuple(self.sets.node(first + at, NONE, ALL) for at in range(32)))
         return Bits(self.sets.bits_of((word - ARGUMENTS) // 2, word % 2))
 
-    def _those(self, holds: Callable[[int, int], bool], a: Word, value: Word) -> int:
+    def _numbers_where(self, holds: Callable[[int, int], bool], a: Word, value: Word) -> int:
         ones = a.values if isinstance(a, Numbers) else (a,) * len(self.numbers)
         others = value.values if isinstance(value, Numbers) else (value,) * len(self.numbers)
         self.sets.spend(len(ones))
@@ -136,10 +136,10 @@ class Machine:
             if value >> at & 1:
                 found = sets.both(bit, found)
             else:
-                found = sets.both(sets.negated(bit), found) if test == JEQ else sets.either(bit, found)
+                found = sets.both(sets.complement(bit), found) if test == JEQ else sets.either(bit, found)
         return found
 
-    def tested(self, a: Word, test: int, value: Word) -> tuple[int, int]:
+    def test(self, a: Word, test: int, value: Word) -> tuple[int, int]:
         """The arguments and the numbers for which a test holds: for those of both together."""
         key = a, test, value
         if key not in self._tested:
@@ -159,14 +159,14 @@ class Machine:
             above = self.every >> end << end
             equal = self.every >> first << first & ~above
             return {JEQ: equal, JGT: above, JGE: equal | above}[test]
-        return self._those(HOLDS[test], a, value)
+        return self._numbers_where(HOLDS[test], a, value)
 
     def _sum(self, a: Sequence[int], value: int) -> Bits:
         """A word and a constant."""
         sets, carry, found = self.sets, NONE, []
         for at, bit in enumerate(reversed(a)):
             if value >> at & 1:
-                found.append(sets.negated(sets.differ(bit, carry)))
+                found.append(sets.complement(sets.differ(bit, carry)))
                 carry = sets.either(bit, carry)
             else:
                 found.append(sets.differ(bit, carry))
@@ -175,7 +175,7 @@ class Machine:
 
     def _of_bits(self, operation: int, a: tuple[int, ...], value: int) -> Word:
         """An operation on a word by a constant."""
-        negated, bits = self.sets.negated, [value >> (31 - at) & 1 for at in range(32)]
+        negated, bits = self.sets.complement, [value >> (31 - at) & 1 for at in range(32)]
         if operation == AND:
             return Bits(tuple(one if bit else NONE for one, bit in zip(a, bits)))
         if operation == OR:
@@ -192,9 +192,9 @@ class Machine:
             return self._sum(a, value if operation == ADD else -value & WORD)
         if operation == NEG:
             return self._sum(tuple(map(negated, a)), 1)
-        return self._unfollowed((operation, a, value))
+        return self._opaque((operation, a, value))
 
-    def computed(self, operation: int, a: Word, value: Word) -> Word:
+    def compute(self, operation: int, a: Word, value: Word) -> Word:
         """The result of an operation; that of a division by 0 has no meaning."""
         if isinstance(a, int) and isinstance(value, int):
             return COMPUTE[operation](a, value) & WORD
@@ -205,7 +205,7 @@ class Machine:
         if isinstance(a, int) and operation in (ADD, AND, OR, XOR):
             a, value = value, a
         if not isinstance(a, Bits) or not isinstance(value, int):
-            return self._unfollowed((operation, a, value))
+            return self._opaque((operation, a, value))
         found = self._of_bits(operation, a.sets, value)
         if isinstance(found, Bits) and all(it in (NONE, ALL) for it in found.sets):
             return sum(it << (31 - at) for at, it in enumerate(found.sets))
@@ -217,11 +217,11 @@ class Machine:
             yield word, arguments, numbers
         elif isinstance(word, Numbers):
             for value in set(word.values):
-                yield value, arguments, numbers & self._those(HOLDS[JEQ], word, value)
+                yield value, arguments, numbers & self._numbers_where(HOLDS[JEQ], word, value)
         else:
             parts = {0: arguments} if isinstance(word, Bits) else {}
             for bit in word.sets if isinstance(word, Bits) else ():
-                halves = ((0, self.sets.negated(bit)), (1, bit))
+                halves = ((0, self.sets.complement(bit)), (1, bit))
                 parts = {value << 1 | digit: self.sets.both(those, one) for value, those in parts.items()
                          for digit, one in halves if self.sets.both(those, one)}
                 if len(parts) > VALUES:
@@ -251,7 +251,7 @@ class Run:
 
     def _test(self, place: int, state: State, arguments: int, numbers: int) -> None:
         insn, sets = self.insns[place], self.machine.sets
-        where, those = self.machine.tested(state.a, insn.code & 0xF0, state.x if insn.code & BY_X else insn.k)
+        where, those = self.machine.test(state.a, insn.code & 0xF0, state.x if insn.code & BY_X else insn.k)
         if_true, if_false = insn.targets(place)
         self._reach(if_true, state, sets.both(arguments, where), numbers & those)
         if those == self.machine.every:
@@ -263,15 +263,15 @@ class Run:
         insn, machine = self.insns[place], self.machine
         operation, value = insn.code & 0xF0, state.x if insn.code & BY_X else insn.k
         if operation == DIV:
-            where, those = machine.tested(value, JEQ, 0)
+            where, those = machine.test(value, JEQ, 0)
             self._answer(OF_DIVISION, machine.sets.both(arguments, where), numbers & those)
             if those == machine.every:
                 arguments = machine.sets.without(arguments, where)
             else:
                 numbers &= ~those
-        self._reach(place + 1, replace(state, a=machine.computed(operation, state.a, value)), arguments, numbers)
+        self._reach(place + 1, replace(state, a=machine.compute(operation, state.a, value)), arguments, numbers)
 
-    def _moved(self, insn: Instruction, state: State) -> State:
+    def _move(self, insn: Instruction, state: State) -> State:
         """The state after a load, a store or a move."""
         if insn.code in (STORE_A, STORE_X):
             word = state.a if insn.code == STORE_A else state.x
@@ -280,7 +280,7 @@ class Run:
             return replace(state, x=state.a) if insn.code == TAX else replace(state, a=state.x)
         loaded: Word = insn.k
         if insn.word is not None:
-            loaded = self.machine.loaded(insn.word)
+            loaded = self.machine.load(insn.word)
         elif insn.code & ~INTO_X == LOAD_LENGTH:
             loaded = LENGTH
         elif insn.code & ~INTO_X == LOAD_SCRATCH:
@@ -302,7 +302,7 @@ class Run:
                     elif insn.kind == ALU:
                         self._compute(place, state, arguments, numbers)
                     else:
-                        self._reach(place + 1, self._moved(insn, state), arguments, numbers)
+                        self._reach(place + 1, self._move(insn, state), arguments, numbers)
             self._states[place] = {}
         return self.answers
 

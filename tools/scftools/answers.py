@@ -98,7 +98,7 @@ class Answer:
             return f"the syscall fails with errno {MAX_ERRNO}, the greatest that the kernel returns"
         return f"the syscall fails with {ERRNOS.get(self.data, f'errno {self.data}')}"
 
-    def told(self) -> str:
+    def describe(self) -> str:
         return f"{self}: {self.does()}"
 
     def named(self) -> str:

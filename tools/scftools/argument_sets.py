@@ -51,7 +51,7 @@ class Sets:
             self.nodes.append(key)
         return found
 
-    def _joined(self, one: int, other: int, end: int) -> int:
+    def _join(self, one: int, other: int, end: int) -> int:
         """The intersection of two sets, if `end` is NONE, which ends it, or the union, if it is ALL."""
         if one > other:
             one, other = other, one
@@ -69,29 +69,29 @@ class Sets:
                 low = high = one
             elif second > first:
                 other_low = other_high = other
-            found = self._memo[key] = self.node(min(first, second), self._joined(low, other_low, end),
-                                                self._joined(high, other_high, end))
+            found = self._memo[key] = self.node(min(first, second), self._join(low, other_low, end),
+                                                self._join(high, other_high, end))
         return found
 
     def both(self, one: int, other: int) -> int:
         """The intersection."""
-        return self._joined(one, other, NONE)
+        return self._join(one, other, NONE)
 
     def either(self, one: int, other: int) -> int:
         """The union."""
-        return self._joined(one, other, ALL)
+        return self._join(one, other, ALL)
 
-    def negated(self, one: int) -> int:
+    def complement(self, one: int) -> int:
         """The complement."""
         found = self._negated.get(one)
         if found is None:
             variable, low, high = self.nodes[one]
-            found = self.node(variable, self.negated(low), self.negated(high))
+            found = self.node(variable, self.complement(low), self.complement(high))
             self._negated[one], self._negated[found] = found, one
         return found
 
     def without(self, one: int, other: int) -> int:
-        return self.both(one, self.negated(other))
+        return self.both(one, self.complement(other))
 
     def differ(self, one: int, other: int) -> int:
         """What is in exactly one of both."""
@@ -103,7 +103,7 @@ class Sets:
             found = self.either(found, one)
         return found
 
-    def copied(self, one: int, theirs: Sets) -> int:
+    def copy(self, one: int, theirs: Sets) -> int:
         """A set of others."""
         memo = {NONE: NONE, ALL: ALL}
 
@@ -190,7 +190,7 @@ class Sets:
 
     def run_around(self, one: int, index: int, value: int) -> tuple[int, int]:
         """The first and the last value of the longest run of values of an argument around one that is in a set."""
-        others = self.negated(one)
+        others = self.complement(one)
         after = self._from(others, index, value, 0)
         before = self._from(others, index, value ^ MOST, 1)
         return 0 if before is None else (before ^ MOST) + 1, MOST if after is None else after - 1
@@ -259,11 +259,11 @@ class Sets:
             return self.cube(index, two, value)
         if op in ("SCMP_CMP_EQ", "SCMP_CMP_NE"):
             found = self.cube(index, value, MOST)
-            return found if op == "SCMP_CMP_EQ" else self.negated(found)
+            return found if op == "SCMP_CMP_EQ" else self.complement(found)
         # at least `value`, or above it
         least = value + (op in ("SCMP_CMP_GT", "SCMP_CMP_LE"))
         found = self.from_on(index, least) if least <= MOST else NONE
-        return found if op in ("SCMP_CMP_GE", "SCMP_CMP_GT") else self.negated(found)
+        return found if op in ("SCMP_CMP_GE", "SCMP_CMP_GT") else self.complement(found)
 
     def of_conditions(self, those: Iterable[Condition]) -> int:
         found = ALL

@@ -35,5 +35,5 @@ def ask(profile: bytes, query: Query, table: Table, origins: Sequence[Origin] | 
     fault = reason.fault
     return Reply(reason.status, [reason.line] if reason.line else [], call, reason.answer, fault,
                  lambda: refusals.sentences(fault, profile, table, origins) if fault else (),
-                 lambda: reasons.told(reason, profile, call, origins),
+                 lambda: reasons.describe(reason, profile, call, origins),
                  lambda: reasons.as_json(reason, profile, call, origins))

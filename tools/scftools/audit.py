@@ -270,8 +270,8 @@ class Expectations:
         key = json.dumps(config), runtime
         if key not in self.known:
             try:
-                self.known[key] = hooks.asked_of(config, runtime, False, self.options.table, self.options.limit, SAME)
-            except hooks.Failed as why:
+                self.known[key] = hooks.request_of(config, runtime, False, self.options.table, self.options.limit, SAME)
+            except hooks.HookError as why:
                 self.known[key] = str(why)
         return self.known[key]
 
@@ -299,7 +299,7 @@ class Expectations:
             return Expected(source=one.config or None, why=one.why)
         try:
             config = hooks.seccomp_in(one.configuration, one.config)
-        except hooks.Failed as why:
+        except hooks.HookError as why:
             return Expected(source=one.config, why=str(why))
         if config is None:
             return Expected(source=one.config)
@@ -327,7 +327,7 @@ class Expectations:
             if settings.filter is None and settings.log is None and not shown.get("SystemCallArchitectures"):
                 return Expected(source=source)
             profile = units.profile_of(settings).encode()
-        except (units.Refused, program.ToolError) as why:
+        except (units.SettingError, program.ToolError) as why:
             return Expected(source=source, why=str(why))
         return Expected(Request(profile, self.options.table, self.options.limit, compare.NATIVE), source)
 

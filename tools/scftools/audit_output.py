@@ -67,7 +67,7 @@ def judgement_told(judgement: Judgement, table: Table) -> str:
     call = judgement.shown.call
     arguments = " ".join(map(hex, call.arguments))
     pointer = f" at {call.pointer:#x}" if call.pointer else ""
-    return (f"{call.told(table)} with {arguments}{pointer} is answered {judgement.shown.filters}, by {than} "
+    return (f"{call.describe(table)} with {arguments}{pointer} is answered {judgement.shown.filters}, by {than} "
             f"{judgement.shown.profile}")
 
 

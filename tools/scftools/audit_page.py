@@ -70,8 +70,8 @@ def _row(row: Row, audit: Audit) -> list[object]:
     capabilities = engines.capabilities_in(held)
     stacks = [joined([f"{part.judgement.verdict}: " if len(row.parts) > 1 else "",
                       tag("a", f"stack {numbers[id(part.stack)]}", href=f"#stack-{numbers[id(part.stack)]}"),
-                      f": {part.stack.told}"]) if id(part.stack) in numbers else
-              f"{part.judgement.verdict}: {part.judgement.why or part.stack.told}" for part in row.parts]
+                      f": {part.stack.description}"]) if id(part.stack) in numbers else
+              f"{part.judgement.verdict}: {part.judgement.why or part.stack.description}" for part in row.parts]
     source = [row.expected.source or "nothing is configured", " ", _hash(row.expected.digest)]
     if row.expected.why is not None:
         source += [" ", row.expected.why]
@@ -96,7 +96,7 @@ def _shown(judgement: Judgement, table_of: Table) -> Iterator[Markup]:
         return
     yield preformatted([c_call(shown.call, table_of)])
     than = "the baseline" if judgement.is_of_baseline else "the profile"
-    sides = [(it.told() if it is not None else "unknown") for it in (shown.filters, shown.profile)]
+    sides = [(it.describe() if it is not None else "unknown") for it in (shown.filters, shown.profile)]
     yield listed((f"the filters answer {sides[0]}", f"{than} answers {sides[1]}"))
     lines = list(reasons.of_difference(judgement.comparison, shown))
     if lines:
@@ -147,7 +147,7 @@ def page(audit: Audit, table_of: Table, limit: str | None,
          before: dict[tuple[str, str], tuple[str, str]] | None = None) -> str:
     """The page, with what changed since an earlier audit; what each stack allows is asked of scf for it."""
     groups = Groups()
-    found = [Named(f"stack {at}", surface, stack.told, stack_digest(stack)) for at, (stack, surface)
+    found = [Named(f"stack {at}", surface, stack.description, stack_digest(stack)) for at, (stack, surface)
              in enumerate(zip(audit.stacks, _surfaces(audit.stacks, table_of, limit)))]
     return document(f"seccomp audit of {os.uname().nodename}", *_head(audit), *_since(audit, before), *_rows(audit),
                     *_findings(audit, table_of), *surface_page.matrix(found, groups),

@@ -45,7 +45,7 @@ class Pair:
         is_alike = one.said == other.said and (one.said == DEPENDS or one.answer == other.answer)
         if not is_alike or verdict.call is None or verdict.filters is None or verdict.profile is None:
             return ""
-        told = constants.call_told(self.names[0], verdict.call.arguments)
+        told = constants.call_text(self.names[0], verdict.call.arguments)
         return f"such as {told}: {verdict.filters.named()} {BESIDE} {verdict.profile.named()}"
 
 

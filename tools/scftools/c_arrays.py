@@ -164,7 +164,7 @@ def _elements(text: str) -> list[str]:
     return found
 
 
-def looks_so(text: str) -> bool:
+def looks_like_array(text: str) -> bool:
     """Whether a text is meant to be such an array."""
     bare = re.sub(COMMENT, " ", text).lstrip()
     row = re.match(r"\{\s*(?:[{(0-9]|BPF_)|BPF_(?:STMT|JUMP)\b|0x[0-9a-fA-F]{2}\s*,", bare)

@@ -68,7 +68,7 @@ class Call:
         numbers = (self.number, self.architecture, self.pointer, *self.arguments)
         return [f"--{name}={number:#x}" for name, number in zip(OPTIONS, numbers) if number is not None]
 
-    def told(self, table: Table) -> str:
+    def describe(self, table: Table) -> str:
         """The syscall's name and number."""
         if self.number == SKIPPED:
             return number_text(self.number)
@@ -85,7 +85,7 @@ class Call:
     def as_c(self, table: Table) -> str | None:
         """The syscall as C would have it, with constants for its arguments; None if it has no name on x86-64."""
         named = self.names(table) if self.is_native else []
-        return constants.call_told(named[0], self.arguments) if named else None
+        return constants.call_text(named[0], self.arguments) if named else None
 
     def left_out_of_native(self) -> str:
         """What --native leaves out, of which this foreign syscall is a part."""

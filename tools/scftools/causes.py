@@ -9,7 +9,7 @@ from .answers import ERRNOS
 from .calls import Call
 from .client import Refusal
 from .diagnosis import CONTRADICTS, FITS, UNKNOWN, Case, Stack, cases, rank, verdict_of
-from .events import CORE, EVENTS, RECORD, STRACE, Event, Found
+from .events import CORE, EVENTS, RECORD, STRACE, Event, EventLog
 from .filters import Filter
 from .tables import Table
 from .trials import Trial
@@ -27,7 +27,7 @@ WANTED = ("no syscall that a filter may have answered is in it: an audit record 
 
 
 @dataclass(frozen=True)
-class Party:
+class Side:
     """What a profile, or a stack of filters, answers to an event; or why scf refuses it."""
 
     # "the profile", "the filter" or "the filters"
@@ -45,7 +45,7 @@ class Party:
 
 
 @dataclass(frozen=True)
-class Given:
+class Inputs:
     """What is given beside events: a profile, filters oldest first, and how scf is asked."""
 
     trial: Trial
@@ -63,47 +63,47 @@ class Cause:
 
     event: Event
     count: int
-    given: Given
-    profile: Party | None = None
-    filters: Party | None = None
+    given: Inputs
+    profile: Side | None = None
+    filters: Side | None = None
     changes: list[Amendment] = field(default_factory=list)
 
     @property
-    def parties(self) -> list[Party]:
+    def sides(self) -> list[Side]:
         return [it for it in (self.profile, self.filters) if it is not None]
 
     @property
     def status(self) -> int:
         verdicts = {CONTRADICTS: program.NEGATIVE, UNKNOWN: program.UNKNOWN, FITS: program.SUCCESS}
-        return client.worst(verdicts[it.verdict] if it.refusal is None else it.refusal.status for it in self.parties)
+        return client.worst(verdicts[it.verdict] if it.refusal is None else it.refusal.status for it in self.sides)
 
 
-def _party(name: str, stack: Stack, event: Event) -> Party:
+def _side(name: str, stack: Stack, event: Event) -> Side:
     try:
         found = tuple(cases(stack, event))
     except Refusal as why:
-        return Party(name, refusal=why)
-    return Party(name, found, verdict_of(found))
+        return Side(name, refusal=why)
+    return Side(name, found, verdict_of(found))
 
 
-def of(event: Event, count: int, given: Given) -> Cause:
+def of(event: Event, count: int, given: Inputs) -> Cause:
     """What a profile and filters say of an event."""
     found = Cause(event, count, given)
     if given.filters:
         name = "the filter" if len(given.filters) == 1 else "the filters"
-        found.filters = _party(name, Stack([it.data for it in given.filters], given.trial), event)
+        found.filters = _side(name, Stack([it.data for it in given.filters], given.trial), event)
     if given.profile is None:
         return found
     try:
         stack = Stack([given.trial.filter_of(given.profile)], given.trial)
     except Refusal as why:
-        found.profile = Party("the profile", refusal=why)
+        found.profile = Side("the profile", refusal=why)
         return found
     reason = reasons.of(given.profile, given.table, event.call.words())
     if ask.is_undetermined(reason, event.call, given.profile, given.table):
-        found.profile = Party("the profile", is_undetermined=True)
+        found.profile = Side("the profile", is_undetermined=True)
         return found
-    found.profile = _party("the profile", stack, event)
+    found.profile = _side("the profile", stack, event)
     denied = next((it for it in found.profile.found if not it.answer.allows), None)
     if denied is not None:
         reason = reasons.of(given.profile, given.table, denied.call.words())
@@ -121,7 +121,7 @@ def _of_event(cause: Cause) -> Iterator[str]:
     """What the source says, and what it doesn't."""
     event = cause.event
     more = f"; such records: {cause.count}" if cause.count > 1 else ""
-    yield f"{event.who()}: the syscall is {event.call.told(cause.given.table)}{more}"
+    yield f"{event.who()}: the syscall is {event.call.describe(cause.given.table)}{more}"
     if event.outcome.is_result:
         code = event.outcome.data or 0
         yield (f"it failed with {ERRNOS.get(code, f'errno {code}')}: by ERRNO {code}, by a tracer or a supervisor, or "
@@ -129,7 +129,7 @@ def _of_event(cause: Cause) -> Iterator[str]:
     else:
         data = "" if event.outcome.data is None or len(event.outcome.actions) == 1 else \
             f", with {event.outcome.data} as data"
-        yield f"the action is {event.outcome.told()}{data}"
+        yield f"the action is {event.outcome.describe()}{data}"
     known = [(index, values[0]) for index, values in enumerate(event.arguments) if values and len(values) == 1]
     if known and not event.unknown:
         yield f"its arguments: {_arguments(event.with_values(dict(known)), cause.given.table)}"
@@ -138,30 +138,30 @@ def _of_event(cause: Cause) -> Iterator[str]:
     yield LACKS[event.source]
 
 
-def _relation(party: Party, event: Event) -> str:
+def _relation(side: Side, event: Event) -> str:
     """How the answers of a party stand beside an event that they contradict."""
-    s, them = "" if party.are else "s", "them" if party.are else "it"
-    ranks, own = [rank(it.answer.word >> 16) for it in party.found], list(map(rank, event.outcome.halves))
-    others = f"another filter of the process answered so, or it isn't under {party.name}"
+    s, them = "" if side.are else "s", "them" if side.are else "it"
+    ranks, own = [rank(it.answer.word >> 16) for it in side.found], list(map(rank, event.outcome.halves))
+    others = f"another filter of the process answered so, or it isn't under {side.name}"
     if min(ranks) > max(own):
         itself = "the kernel itself, or " if event.outcome.is_result else ""
-        return f"{party.name} {'are' if party.are else 'is'} more permissive: {itself}{others}"
+        return f"{side.name} {'are' if side.are else 'is'} more permissive: {itself}{others}"
     if max(ranks) < min(own):
-        return f"{party.name} would have answered more strictly: the process isn't under {them}"
-    return f"{party.name} answer{s} otherwise: {others}"
+        return f"{side.name} would have answered more strictly: the process isn't under {them}"
+    return f"{side.name} answer{s} otherwise: {others}"
 
 
-def _of_verdict(party: Party, event: Event) -> Iterator[str]:
+def _of_verdict(side: Side, event: Event) -> Iterator[str]:
     """Whether a party answers as the event was answered."""
-    s = "" if party.are else "s"
-    if party.verdict == CONTRADICTS:
-        yield _relation(party, event)
-    elif party.verdict == UNKNOWN:
-        yield f"whether {party.name} answer{s} so with other arguments isn't known"
-    elif all(it.fits and it.is_for_all for it in party.found):
-        yield f"so {party.name} answer{s} it"
+    s = "" if side.are else "s"
+    if side.verdict == CONTRADICTS:
+        yield _relation(side, event)
+    elif side.verdict == UNKNOWN:
+        yield f"whether {side.name} answer{s} so with other arguments isn't known"
+    elif all(it.fits and it.is_for_all for it in side.found):
+        yield f"so {side.name} answer{s} it"
     else:
-        yield f"so {party.name} answer{s} it with such arguments, and not with all"
+        yield f"so {side.name} answer{s} it with such arguments, and not with all"
 
 
 def _of_case(case: Case, event: Event, table: Table) -> Iterator[str]:
@@ -172,7 +172,7 @@ def _of_case(case: Case, event: Event, table: Table) -> Iterator[str]:
         yield "whatever the arguments are" if len(event.unknown) == 6 else "whatever the other arguments are"
 
 
-def _of_refusal(why: Refusal, given: Given) -> Iterator[str]:
+def _of_refusal(why: Refusal, given: Inputs) -> Iterator[str]:
     yield why.line
     if why.fault is not None:
         yield from output.notes(refusals.sentences(why.fault, given.profile or b"", given.table))
@@ -180,54 +180,54 @@ def _of_refusal(why: Refusal, given: Given) -> Iterator[str]:
 
 def _of_profile(cause: Cause) -> Iterator[str]:
     """What the profile answers, and by which entry."""
-    party, given = cause.profile, cause.given
-    if party is None or given.profile is None:
+    side, given = cause.profile, cause.given
+    if side is None or given.profile is None:
         return
-    if party.refusal is not None:
-        yield from _of_refusal(party.refusal, given)
+    if side.refusal is not None:
+        yield from _of_refusal(side.refusal, given)
         return
-    if party.is_undetermined:
+    if side.is_undetermined:
         yield FOR_OTHER_ABI
         return
-    for case in party.found:
+    for case in side.found:
         reason = reasons.of(given.profile, given.table, case.call.words())
         yield reason.line
-        yield f"# {case.answer.told()}"
+        yield f"# {case.answer.describe()}"
         call = None if case.is_for_all and cause.event.unknown else case.call
-        yield from output.notes(reasons.told(reason, given.profile, call))
+        yield from output.notes(reasons.describe(reason, given.profile, call))
         yield from output.notes(_of_case(case, cause.event, given.table))
-    yield from output.notes(_of_verdict(party, cause.event))
+    yield from output.notes(_of_verdict(side, cause.event))
 
 
-def _of_path(case: Case, given: Given) -> Iterator[str]:
+def _of_path(case: Case, given: Inputs) -> Iterator[str]:
     """Which of the filters gives the answer, and its last tests."""
-    givers = paths.givers(given.filters, case.call.words(), case.answer)
+    givers = paths.deciding_filters(given.filters, case.call.words(), case.answer)
     yield from decisions.of_givers(given.filters, givers)
-    giver = paths.shown(givers)
+    giver = paths.to_show(givers)
     if giver is not None:
         yield from giver.last_tests(case.call, given.table)
 
 
 def _of_filters(cause: Cause) -> Iterator[str]:
     """What the filters answer, and by which tests."""
-    party, given = cause.filters, cause.given
-    if party is None:
+    side, given = cause.filters, cause.given
+    if side is None:
         return
-    if party.refusal is not None:
-        yield from _of_refusal(party.refusal, Given(given.trial))
+    if side.refusal is not None:
+        yield from _of_refusal(side.refusal, Inputs(given.trial))
         return
-    for case in party.found:
+    for case in side.found:
         yield str(case.answer) if case.answer.action == "UNNAMED" else f"{case.answer.action} {case.answer.data}"
-        yield f"# {case.answer.told()}"
+        yield f"# {case.answer.describe()}"
         yield from output.notes(_of_case(case, cause.event, given.table))
         yield from output.notes(_of_path(case, given))
-    yield from output.notes(_of_verdict(party, cause.event))
+    yield from output.notes(_of_verdict(side, cause.event))
 
 
 def _of_changes(cause: Cause) -> Iterator[str]:
     """The changes of the profile that allow the syscall."""
     for change in cause.changes:
-        yield f"this change of the profile allows {change.told()}, and no other answer changes:"
+        yield f"this change of the profile allows {change.describe()}, and no other answer changes:"
         yield from (f"  {step}" for step in change.steps())
 
 
@@ -239,13 +239,13 @@ def lines(cause: Cause) -> Iterator[str]:
     yield from output.notes(_of_changes(cause))
 
 
-def _party_as_json(party: Party, cause: Cause) -> dict[str, object]:
-    found: dict[str, object] = {"verdict": party.verdict, "cases": [
+def _side_json(side: Side, cause: Cause) -> dict[str, object]:
+    found: dict[str, object] = {"verdict": side.verdict, "cases": [
         {"call": it.call.as_json(cause.given.table), "answer": it.answer.as_json(), "is_for_all": it.is_for_all,
-         "fits": it.fits} for it in party.found]}
-    if party.refusal is not None:
-        fault = party.refusal.fault
-        found["fault"] = fault.as_json() if fault else party.refusal.line
+         "fits": it.fits} for it in side.found]}
+    if side.refusal is not None:
+        fault = side.refusal.fault
+        found["fault"] = fault.as_json() if fault else side.refusal.line
     return found
 
 
@@ -257,14 +257,14 @@ def as_json(cause: Cause) -> dict[str, object]:
         "data": event.outcome.data,
         "arguments": [None if values is None else list(map(hex, values)) for values in event.arguments]}
     if cause.profile is not None:
-        found["profile"] = _party_as_json(cause.profile, cause)
+        found["profile"] = _side_json(cause.profile, cause)
         for case, shown in zip(cause.profile.found, found["profile"]["cases"]):
             reason = reasons.of(given.profile or b"", given.table, case.call.words())
             shown.update(reasons.as_json(reason, given.profile or b"", None))
     if cause.filters is not None:
-        found["filters"] = _party_as_json(cause.filters, cause)
+        found["filters"] = _side_json(cause.filters, cause)
         for case, shown in zip(cause.filters.found, found["filters"]["cases"]):
-            givers = paths.givers(given.filters, case.call.words(), case.answer)
+            givers = paths.deciding_filters(given.filters, case.call.words(), case.answer)
             shown["filters"] = [it.filter.name for it in givers]
     found["changes"] = [it.as_json() for it in cause.changes]
     return found
@@ -274,7 +274,7 @@ def as_json(cause: Cause) -> dict[str, object]:
 class Report:
     """The causes of all events that were found, and what else was."""
 
-    found: Found
+    found: EventLog
     causes: list[Cause]
     # what is printed where there is none
     lacking: Sequence[str] = (WANTED,)

@@ -17,7 +17,7 @@ HEADINGS = {MORE: "syscalls for which the new profile is more permissive",
             UNDECIDED: "syscalls that are undecided",
             UNFINISHED: "syscalls that are undecided within the limit"}
 # At most so many names are listed.
-TOLD = 20
+MOST_LISTED = 20
 
 
 def _by(reason: Reason, source: Source) -> str:
@@ -41,10 +41,10 @@ def _conditions(changes: Changes, change: Change) -> Iterator[str]:
     """The conditions of both profiles' entries that the example meets, and the example as C would have it."""
     for side, reason in change.reasons.items():
         source = changes.sources[side]
-        for line in list(reasons.told(reason, source.data, change.call, source.origins))[1:]:
+        for line in list(reasons.describe(reason, source.data, change.call, source.origins))[1:]:
             yield f"{side}: {line}"
     if change.names and change.call is not None and any(change.call.arguments):
-        yield f"the syscall is {constants.call_told(change.names[0], change.call.arguments)}"
+        yield f"the syscall is {constants.call_text(change.names[0], change.call.arguments)}"
 
 
 def _entries(changes: Changes) -> Iterator[str]:
@@ -54,11 +54,11 @@ def _entries(changes: Changes) -> Iterator[str]:
                  if change is not None and change.reasons}
         source = changes.sources[side]
         for place in sorted((it for it in found if it is not None)):
-            told = next(iter(reasons.told(found[place], source.data, None, source.origins)), "")
-            yield f"{side}: {told.partition(' ')[2]}"
+            by = next(iter(reasons.describe(found[place], source.data, None, source.origins)), "")
+            yield f"{side}: {by.partition(' ')[2]}"
         if None in found:
             answer = found[None].answer
-            yield f"{side}: default: {answer.told() if answer else ''}"
+            yield f"{side}: default: {answer.describe() if answer else ''}"
 
 
 def _apart(what: str, of_sides: dict[str, tuple[str, ...]]) -> Iterator[str]:
@@ -70,9 +70,9 @@ def _apart(what: str, of_sides: dict[str, tuple[str, ...]]) -> Iterator[str]:
     for side, other in ((OLD, NEW), (NEW, OLD)):
         others = set(of_sides[other])
         names = [name for name in dict.fromkeys(of_sides[side]) if name not in others]
-        more = f" and {len(names) - TOLD} more" if len(names) > TOLD else ""
+        more = f" and {len(names) - MOST_LISTED} more" if len(names) > MOST_LISTED else ""
         if names:
-            yield f"only in the {side} one: {', '.join(names[:TOLD])}{more}"
+            yield f"only in the {side} one: {', '.join(names[:MOST_LISTED])}{more}"
 
 
 def lines(changes: Changes) -> Iterator[str]:

@@ -24,7 +24,7 @@ FAILED = {DIFFERS: "that differ", MORE: "answered more permissively than by {}",
           LESS: "answered more strictly than by {}"}
 PROFILE = "the profile"
 # At most so many syscalls without a verdict are listed.
-UNTOLD = 20
+MOST_UNDECIDED = 20
 
 
 @dataclass
@@ -103,7 +103,7 @@ def undecided_alone(comparison: Comparison, scope: str) -> Iterator[tuple[Filter
             yield one, verdict.at
 
 
-def whose_files(comparison: Comparison, report: Report, scope: str) -> list[str]:
+def responsible_files(comparison: Comparison, report: Report, scope: str) -> list[str]:
     """The files of the filters in a stack that cause a fault or are undecided."""
     if len(comparison.filters) < 2:
         return []
@@ -114,7 +114,7 @@ def whose_files(comparison: Comparison, report: Report, scope: str) -> list[str]
     return [one.name for one, _ in undecided_alone(comparison, scope)]
 
 
-def whose(comparison: Comparison, report: Report, scope: str) -> Iterator[str]:
+def responsible_filters(comparison: Comparison, report: Report, scope: str) -> Iterator[str]:
     """Which filters of a stack cause a fault or are undecided."""
     if len(comparison.filters) > 1 and report.fault:
         for name in faulty_filters(comparison.filters, report.fault):
@@ -124,7 +124,7 @@ def whose(comparison: Comparison, report: Report, scope: str) -> Iterator[str]:
             yield f"alone, {one.name} is undecided at {place}"
 
 
-def counted(calls: Sequence[NamedCall], other: str = PROFILE) -> Iterator[str]:
+def count_lines(calls: Sequence[NamedCall], other: str = PROFILE) -> Iterator[str]:
     """The count and the lines of the syscalls that differ from another side, and of those without a verdict."""
     differing = [call for call in calls if call.verdict.fails]
     if differing:
@@ -133,8 +133,8 @@ def counted(calls: Sequence[NamedCall], other: str = PROFILE) -> Iterator[str]:
     if len(differing) < len(calls):
         untold = [call.line for call in calls if not call.verdict.fails]
         yield f"syscalls in the table without a verdict: {len(untold)}"
-        yield from untold[:UNTOLD]
-        yield from [f"more such syscalls: {len(untold) - UNTOLD}"] * (len(untold) > UNTOLD)
+        yield from untold[:MOST_UNDECIDED]
+        yield from [f"more such syscalls: {len(untold) - MOST_UNDECIDED}"] * (len(untold) > MOST_UNDECIDED)
 
 
 def of_native_calls(comparison: Comparison, report: Report) -> tuple[list[str], list[str]]:
@@ -150,17 +150,17 @@ def of_native_calls(comparison: Comparison, report: Report) -> tuple[list[str], 
         all_named = ["each syscall in the table is answered as the profile says"]
     found = newer.calls_of(comparison) if comparison.relation == SAME and comparison.stub is None else None
     if found is None:
-        return [], all_named if by_name.verdict.holds else list(counted(by_name.calls))
+        return [], all_named if by_name.verdict.holds else list(count_lines(by_name.calls))
     others = [call for call in by_name.calls if not found.has(call)]
     count, others_differ = len(by_name.calls) - len(others), newer.another_call(comparison, found)
-    told = [found.told(others_differ is None, comparison.table)]
+    newer_lines = [found.told(others_differ is None, comparison.table)]
     if count:
-        told.append(f"syscalls in the table among these: {count}")
+        newer_lines.append(f"syscalls in the table among these: {count}")
     if others_differ is None:
-        return told, [] if count else all_named
-    lines = list(counted(others)) or list(
+        return newer_lines, [] if count else all_named
+    lines = list(count_lines(others)) or list(
         explanation.of_differing(others_differ, comparison.table, True, len(comparison.filters)))
-    return (lines + told, []) if report.verdict.call.number >= found.first else ([], lines + told)
+    return (lines + newer_lines, []) if report.verdict.call.number >= found.first else ([], lines + newer_lines)
 
 
 def of_both_relations(comparison: Comparison, scope: str) -> tuple[Report, Report]:
@@ -194,7 +194,7 @@ def of_left_out(comparison: Comparison, report: Report) -> Iterator[str]:
     """What was left out of the profile: skipped names, and other architectures."""
     if report.skipped:
         facts = comparison.facts
-        yield from explanation.of_skipped(report, comparison.table, bool(facts and facts.lets_through_by_default))
+        yield from explanation.of_skipped(report, comparison.table, bool(facts and facts.allows_by_default))
     yield from explanation.of_architectures(report)
 
 
@@ -208,7 +208,7 @@ def of_foreign(comparison: Comparison, report: Report, scope: str, is_quiet: boo
         yield from other_abis.told(found, report.architectures)
 
 
-def added(comparison: Comparison, report: Report, scope: str) -> Iterator[str]:
+def notes(comparison: Comparison, report: Report, scope: str) -> Iterator[str]:
     """The lines after scf's."""
     table, count = comparison.table, len(comparison.filters)
     if report.fault:
@@ -228,11 +228,11 @@ def added(comparison: Comparison, report: Report, scope: str) -> Iterator[str]:
         yield from reasons.of_difference(comparison, report.verdict)
         yield from of_left_out(comparison, report)
     yield from behind
-    yield from whose(comparison, report, scope)
+    yield from responsible_filters(comparison, report, scope)
 
 
-def compiled(profile: bytes, table: Table,
-             origins: Sequence[Origin] | None = None) -> tuple[int, bytes, list[str]]:
+def compile_profile(profile: bytes, table: Table,
+                    origins: Sequence[Origin] | None = None) -> tuple[int, bytes, list[str]]:
     """scf's exit status, a profile's filter, and lines about a refusal, or about what was left out. `origins` are those
     of a profile that was resolved."""
     done = client.run(["compile"], bundles.of_compilation(profile, table.data))
@@ -243,7 +243,7 @@ def compiled(profile: bytes, table: Table,
     comparison = Comparison([Filter("the compiled one", done.out)], profile, table, "0")
     report = comparison.run(NATIVE)[1]
     facts = comparison.facts if report.skipped else None
-    lets_through = bool(facts and facts.lets_through_by_default)
+    lets_through = bool(facts and facts.allows_by_default)
     return done.status, done.out, [*explanation.of_skipped(report, table, lets_through),
                                    *explanation.of_killed_architectures(report)]
 
@@ -289,11 +289,11 @@ def as_json(comparison: Comparison, report: Report, scope: str, status: int) -> 
     found["skipped"], found["other"] = list(report.skipped), list(report.architectures)
     if report.skipped:
         found["unknown"] = [{"name": name, "nearest": near}
-                            for name, near in tables.told_apart(report.skipped, table).unknown]
+                            for name, near in tables.classify(report.skipped, table).unknown]
     if scope in LOOKED_AT and report.verdict is not None:
         filters = [one.data for one in comparison.filters]
         found["foreign"] = [one.as_json() for one in other_abis.let_through(filters, comparison.limit)]
-    whose_it_is = list(whose_files(comparison, report, scope))
+    whose_it_is = list(responsible_files(comparison, report, scope))
     if whose_it_is:
         found["files"] = whose_it_is
     return found

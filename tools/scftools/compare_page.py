@@ -19,7 +19,7 @@ def c_call(call: Call, table: Table) -> str:
     names = table.names_of(call.number) if call.is_native else []
     arguments = ", ".join(f"{it:#x}" for it in call.arguments)
     if not call.is_native:
-        return f"/* {call.told(table)}, with {arguments} */"
+        return f"/* {call.describe(table)}, with {arguments} */"
     return f"syscall({f'SYS_{names[0]}' if names else call.number}, {arguments});"
 
 

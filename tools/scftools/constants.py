@@ -63,14 +63,14 @@ def _nearest(name: str) -> str:
 def number_of(name: str, architecture: str) -> int:
     """The number of a constant on the architecture of this OCI name; raises ToolError if it isn't known."""
     known = _unlike().get(architecture)
-    told = architecture.removeprefix(architectures.PREFIX).lower()
+    shown = architecture.removeprefix(architectures.PREFIX).lower()
     if known is None:
-        raise program.ToolError(f"constants are known for x86-64, i386, x32, aarch64 and arm: for {told}, give the "
+        raise program.ToolError(f"constants are known for x86-64, i386, x32, aarch64 and arm: for {shown}, give the "
                               f"number of '{name}'")
     if name not in numbers():
         raise program.ToolError(f"no constant is known by the name '{name}'{_nearest(name)}")
     if name in known:
-        raise program.ToolError(f"{name} isn't the same on {told} as on x86-64: give its number")
+        raise program.ToolError(f"{name} isn't the same on {shown} as on x86-64: give its number")
     return numbers()[name]
 
 
@@ -154,7 +154,7 @@ class Family:
         # what has more bits goes first, as O_SYNC before O_DSYNC
         self.bits = dict(sorted(self.bits.items(), key=lambda it: (-bin(it[0]).count("1"), it[0])))
 
-    def told(self, value: int) -> str | None:
+    def describe(self, value: int) -> str | None:
         """A value below 2^32 by its constants, or None if it has none."""
         low, rest = value & self.mask, value & ~self.mask
         found = [self.of_mask[low]] if low in self.of_mask and (low or self.mask or not rest) else []
@@ -168,7 +168,7 @@ class Family:
         return "|".join(sorted(found, key=lambda it: self.ranks[it]) + ([hex(rest)] if rest else []))
 
 
-    def bits_told(self, value: int) -> str | None:
+    def bit_names(self, value: int) -> str | None:
         """A mask below 2^32 by the constants of its bits, or None if one of them has none."""
         found, rest = [], value
         for number, name in self.bits.items():
@@ -196,7 +196,7 @@ def _families() -> tuple[dict[str, Family], dict[str, list[str]]]:
     return families, calls
 
 
-def _number_told(value: int, kind: str) -> str:
+def _number_text(value: int, kind: str) -> str:
     if kind == arguments.ADDRESS:
         return hex(value) if value else "NULL"
     if value >= REGISTER - SMALL:
@@ -204,13 +204,13 @@ def _number_told(value: int, kind: str) -> str:
     return str(value) if value < SMALL else hex(value)
 
 
-def _value_told(value: int, kind: str, family: Family | None) -> str:
+def _value_text(value: int, kind: str, family: Family | None) -> str:
     """An argument as C would have it. Of an `int` the sign of 64 bits is that of 32."""
     known = value
     if kind == arguments.HALF and value >= REGISTER - WORD // 2:
         known = value % WORD
-    named = family.told(known) if family is not None and known < WORD else None
-    return _number_told(value, kind) if named is None else named
+    named = family.describe(known) if family is not None and known < WORD else None
+    return _number_text(value, kind) if named is None else named
 
 
 def family_of(name: str, index: int, first: int | None) -> Family | None:
@@ -218,23 +218,23 @@ def family_of(name: str, index: int, first: int | None) -> Family | None:
     families, calls = _families()
     words = calls.get(name, [])
     if index and first is not None and words and words[0] in families and first < WORD:
-        words = calls.get(f"{name}[{families[words[0]].told(first)}]", words)
+        words = calls.get(f"{name}[{families[words[0]].describe(first)}]", words)
     return families.get(words[index]) if index < len(words) else None
 
 
-def call_told(name: str, values: Sequence[int]) -> str:
+def call_text(name: str, values: Sequence[int]) -> str:
     """A syscall of x86-64 as C would have it: socket(AF_NETLINK, 0, NETLINK_AUDIT). `..` stands for three zeros or more
     at the end; syscall(SYS_NAME, ..) for a call with more arguments than it is known to have."""
     families, calls = _families()
     kinds = arguments.read().get(name, "")
     words = calls.get(name, [])
-    first = families[words[0]].told(values[0]) if words and words[0] in families and values[0] < WORD else None
+    first = families[words[0]].describe(values[0]) if words and words[0] in families and values[0] < WORD else None
     words = calls.get(f"{name}[{first}]", words)
     is_whole = name in arguments.read() and not any(values[len(kinds):])
     shown = []
     for index, value in enumerate(values[:len(kinds)] if is_whole else values):
         family = families.get(words[index]) if index < len(words) else None
-        shown.append(_value_told(value, kinds[index] if index < len(kinds) else arguments.WHOLE, family))
+        shown.append(_value_text(value, kinds[index] if index < len(kinds) else arguments.WHOLE, family))
     zeros = next((at for at, value in enumerate(reversed(values[:len(shown)])) if value), len(shown))
     if zeros > MOST_ZEROS:
         shown = [*shown[:len(shown) - zeros], ".."]

@@ -57,7 +57,7 @@ class Container:
     others: Callable[[], list[int]] = list
 
     @property
-    def told(self) -> str:
+    def description(self) -> str:
         return "a PID namespace" if self.group is None else f"the control group {output.escaped(self.group)}"
 
 
@@ -66,7 +66,7 @@ def why_no_group(process: int, path: bytes) -> str:
             f"shows the control group of the process as {output.escaped(path)}: run it in the initial one")
 
 
-def told_groups(kernel: Kernel, process: int, path: bytes) -> Iterator[bytes]:
+def known_groups(kernel: Kernel, process: int, path: bytes) -> Iterator[bytes]:
     """The groups at or above a process's that are known to be a container's."""
     for root in kernel.mounted_groups(process):
         if root != b"/" and (path + b"/").startswith(root + b"/"):
@@ -92,8 +92,8 @@ def group_of(kernel: Kernel, process: int) -> Group | None:
             continue
         if path.startswith(b"/../") or path == b"/..":
             raise Unreadable(why_no_group(process, path))
-        told = list(told_groups(kernel, process, path))
-        return Group(name, min(told, key=len, default=path), bool(told))
+        known = list(known_groups(kernel, process, path))
+        return Group(name, min(known, key=len, default=path), bool(known))
     if any(name in groups for name in HIERARCHIES) and not kernel.is_root_the_first():
         raise Unreadable(why_no_group(process, b"/"))
     return None
@@ -127,7 +127,7 @@ def is_unknown(kernel: Kernel, process: int) -> bool:
     return group is None or not group.is_told
 
 
-def others_told(kernel: Kernel, container: Container) -> str | None:
+def others_note(kernel: Kernel, container: Container) -> str | None:
     """The line about processes that may also be the container's, and aren't checked."""
     others = container.others()
     if not others:

@@ -29,7 +29,7 @@ class _Cover:
     """The search for a cover of a set, in which single values are listed, or joined by any mask."""
 
     def __init__(self, sets: Sets, whole: int, is_listing: bool):
-        self.sets, self.whole, self.outside, self.is_listing = sets, whole, sets.negated(whole), is_listing
+        self.sets, self.whole, self.outside, self.is_listing = sets, whole, sets.complement(whole), is_listing
         self.indices = sorted({variable // BITS for variable in sets.variables(whole)})
 
     def _cube(self, values: int, index: int, value: int, run: tuple[int, int]) -> Condition:
@@ -55,7 +55,7 @@ class _Cover:
         """The widest condition on an argument that holds of a value, and only of some values; None if of all."""
         if values == ALL:
             return None
-        others = self.sets.negated(values)
+        others = self.sets.complement(values)
         if self.sets.weight(others) << BITS == self.sets.weight(ALL):
             return Condition(index, "SCMP_CMP_NE", self.sets.least(others)[index], 0)
         first, last = self.sets.run_around(values, index, value)
@@ -74,7 +74,7 @@ class _Cover:
                                               for index in self.indices}
         for index in order:
             others = sets.of_conditions(it for at, it in found.items() if at != index and it is not None)
-            values = sets.negated(sets.of_argument(sets.both(others, self.outside), index))
+            values = sets.complement(sets.of_argument(sets.both(others, self.outside), index))
             found[index] = self._widest(values, index, arguments[index])
         return tuple(it for it in found.values() if it is not None)
 
@@ -134,7 +134,7 @@ class Covers:
     def _search(self, arguments: int, is_listing: bool) -> list[Alternative] | None:
         sets = Sets()
         try:
-            found = _Cover(sets, sets.copied(arguments, self.sets), is_listing).find()
+            found = _Cover(sets, sets.copy(arguments, self.sets), is_listing).find()
         except (TooMany, TooManyAlternatives):
             found = None
         self._count += ALTERNATIVES if found is None else len(found)

@@ -11,7 +11,7 @@ from .client import Fault
 from .constants import argument_in, number_in
 from .filters import Filter
 from .paths import Giver
-from .refusals import faulty_filters, named
+from .refusals import faulty_filters, join_names
 from .tables import Table
 from .values import dataclass, replace
 from .verdicts import Decision
@@ -132,37 +132,37 @@ class Numbering:
 def _lines_of(name: str) -> Iterator[list[str]]:
     """The words of each line of a list of syscalls; a line that begins with `#` is a comment."""
     for line in inputs.read_whole(name, "list of syscalls").decode("utf-8", "surrogateescape").split("\n"):
-        given = line.split()
-        if given and not given[0].startswith("#"):
-            if len(given) > 7 or "\0" in line or max(map(len, given)) > LONGEST_WORD:
+        words = line.split()
+        if words and not words[0].startswith("#"):
+            if len(words) > 7 or "\0" in line or max(map(len, words)) > LONGEST_WORD:
                 raise program.ToolError(f"a line of the list isn't a syscall and up to six numbers: {line[:80]}")
-            yield given
+            yield words
 
 
-def _rest_of(given: object, numbering: Numbering) -> tuple[tuple[str, str], ...]:
+def _rest_of(options: object, numbering: Numbering) -> tuple[tuple[str, str], ...]:
     """The given fields of a record beside its number."""
-    texts = {name: getattr(given, name) for name in OPTIONS[1:] if getattr(given, name) is not None}
+    texts = {name: getattr(options, name) for name in OPTIONS[1:] if getattr(options, name) is not None}
     for name, text in texts.items():
         texts[name] = architectures.number_in(text) if name == "arch" else numbering.argument(text)
     return tuple(texts.items())
 
 
-def one_query(given: object, table: Table) -> Query | None:
+def one_query(options: object, table: Table) -> Query | None:
     """The record that a command line gives, or None."""
-    number, numbering = getattr(given, "nr"), Numbering(table, getattr(given, "arch"))
-    rest = _rest_of(given, numbering)
+    number, numbering = getattr(options, "nr"), Numbering(table, getattr(options, "arch"))
+    rest = _rest_of(options, numbering)
     if number is None and not rest:
         return None
     return Query((("nr", numbering.number_of("0" if number is None else number)), *rest))
 
 
-def queries(given: object, table: Table) -> list[Query]:
+def queries(options: object, table: Table) -> list[Query]:
     """The records that a command line gives, in order."""
-    numbering = Numbering(table, getattr(given, "arch"))
-    rest = _rest_of(given, numbering)
-    found = [Query((("nr", numbering.number_of(text)), *rest)) for text in getattr(given, "nr")]
-    if getattr(given, "calls_from") is not None:
-        for number, *arguments in _lines_of(getattr(given, "calls_from")):
+    numbering = Numbering(table, getattr(options, "arch"))
+    rest = _rest_of(options, numbering)
+    found = [Query((("nr", numbering.number_of(text)), *rest)) for text in getattr(options, "nr")]
+    if getattr(options, "calls_from") is not None:
+        for number, *arguments in _lines_of(getattr(options, "calls_from")):
             own = tuple(zip(OPTIONS[3:], map(numbering.argument, arguments)))
             left = tuple(pair for pair in rest if pair[0] not in dict(own))
             found.append(Query((("nr", numbering.number_of(number)), *left, *own)))
@@ -174,7 +174,7 @@ def of_fault(filters: Sequence[Filter], decision: Decision) -> Iterator[str]:
     """Which filter of several causes a fault."""
     found = faulty_filters(filters, decision.fault) if decision.fault and len(filters) > 1 else []
     if found:
-        yield f"the filter is {named(found)}"
+        yield f"the filter is {join_names(found)}"
 
 
 def of_givers(filters: Sequence[Filter], givers: Sequence[Giver]) -> Iterator[str]:
@@ -186,7 +186,7 @@ def of_givers(filters: Sequence[Filter], givers: Sequence[Giver]) -> Iterator[st
         yield f"{'both' if len(found) == 2 else f'all {len(found)}'} filters answer so"
     elif found:
         which = "the filter that answers so is" if len(found) == 1 else "the filters that answer so are"
-        yield f"{which} {named(found)}"
+        yield f"{which} {join_names(found)}"
 
 
 @dataclass(frozen=True)
@@ -240,19 +240,19 @@ def of_stack(filters: Sequence[Filter], query: Query, table: Table) -> Reply:
     status, decision = decide(filters, query)
 
     def givers() -> list[Giver]:
-        return paths.givers(filters, query.words(), decision.answer) if decision.answer else []
+        return paths.deciding_filters(filters, query.words(), decision.answer) if decision.answer else []
 
     def reasons() -> Iterator[str]:
         yield from of_fault(filters, decision)
         found = givers()
         yield from of_givers(filters, found)
-        giver = paths.shown(found)
+        giver = paths.to_show(found)
         if giver is not None:
-            yield f"the path in {giver.told()}: {giver.path.told()}"
+            yield f"the path in {giver.describe()}: {giver.path.describe()}"
 
     def members() -> dict[str, object]:
         found = givers()
-        giver, files = paths.shown(found), [it.filter.name for it in found]
+        giver, files = paths.to_show(found), [it.filter.name for it in found]
         if decision.fault:
             files = faulty_filters(filters, decision.fault)
         return {**({"filters": files} if len(filters) > 1 and (giver or decision.fault) else {}),

@@ -80,11 +80,11 @@ class Stack:
                   more: Sequence[bytes] = ()) -> Verdict | None:
         """Whether the filters, with more of them, answer so to each call of a number with these arguments; None if it
         can't be compared."""
-        told = as_profiles(answer)
-        if told is None:
+        wanted = as_profiles(answer)
+        if wanted is None:
             return None
         conditions = tuple(Condition(index, EQUAL, value, 0) for index, value in values.items())
-        profile = entries.profile_of(("SCMP_ACT_ALLOW", 0), [Entry(0, ("it",), told, conditions)])
+        profile = entries.profile_of(("SCMP_ACT_ALLOW", 0), [Entry(0, ("it",), wanted, conditions)])
         exact = [(index, WORD, value) for index, value in values.items()]
         only = [filters.only_on(it, number, exact, ALLOW.word) for it in self.data]
         if any(len(it) > filters.LONGEST * filters.INSTRUCTION.size for it in only):

@@ -56,7 +56,7 @@ ERRNOS = (
 MAX_DIGITS, MAX_TOLD, MAX_LISTED, MAX_NOTES = 20, 64, 3, 1000
 
 
-class Refused(Exception):
+class ResolveError(Exception):
     """The engines refuse the profile, or it is ambiguous."""
 
 
@@ -80,7 +80,7 @@ class Setting:
         return ENGINES[self.engine] if self.engine is not None else ()
 
 
-def told(value: Any) -> str:
+def excerpt(value: Any) -> str:
     """Untrusted text or another value in a note, truncated."""
     if isinstance(value, (list, dict)):
         return "a list" if isinstance(value, list) else "an object"
@@ -88,9 +88,9 @@ def told(value: Any) -> str:
     return text if len(text) <= MAX_TOLD else f"{text[:MAX_TOLD]}.."
 
 
-def listed(texts: Sequence[Any]) -> str:
+def excerpts(texts: Sequence[Any]) -> str:
     more = f" and {len(texts) - MAX_LISTED} more" if len(texts) > MAX_LISTED else ""
-    return ", ".join(told(it) for it in texts[:MAX_LISTED]) + more
+    return ", ".join(excerpt(it) for it in texts[:MAX_LISTED]) + more
 
 
 def members(pairs: list[tuple[str, Any]]) -> dict[str, Any]:
@@ -99,49 +99,49 @@ def members(pairs: list[tuple[str, Any]]) -> dict[str, Any]:
         seen: set[str] = set()
         for name, _ in pairs:
             if name in seen:
-                raise Refused(f"the member '{told(name)}' is repeated in one object")
+                raise ResolveError(f"the member '{excerpt(name)}' is repeated in one object")
             seen.add(name)
     return found
 
 
-def fraction(text: str) -> Any:
-    raise Refused(f"the number {told(text)} isn't an integer")
+def refuse_fraction(text: str) -> Any:
+    raise ResolveError(f"the number {excerpt(text)} isn't an integer")
 
 
-def whole(text: str) -> int | float:
+def parse_integer(text: str) -> int | float:
     if len(text.lstrip("-")) > MAX_DIGITS:
-        raise Refused(f"the number {told(text)} has more than 64 bits")
+        raise ResolveError(f"the number {excerpt(text)} has more than 64 bits")
     # Go takes -0 for no number without a sign
     return int(text) if text != "-0" else -0.0
 
 
 def read(data: bytes) -> Any:
     try:
-        return json.loads(data.decode("utf-8"), object_pairs_hook=members, parse_float=fraction,
-                          parse_constant=fraction, parse_int=whole)
+        return json.loads(data.decode("utf-8"), object_pairs_hook=members, parse_float=refuse_fraction,
+                          parse_constant=refuse_fraction, parse_int=parse_integer)
     except UnicodeDecodeError as error:
-        raise Refused("the profile isn't UTF-8") from error
+        raise ResolveError("the profile isn't UTF-8") from error
     except RecursionError as error:
-        raise Refused("the profile is nested too deep") from error
+        raise ResolveError("the profile is nested too deep") from error
     except ValueError as error:
-        raise Refused(f"the profile isn't JSON: {error}") from error
+        raise ResolveError(f"the profile isn't JSON: {error}") from error
 
 
-def compact(profile: dict[str, Any]) -> bytes:
+def to_bytes(profile: dict[str, Any]) -> bytes:
     """The bytes of a resolved profile for scf."""
     try:
         return json.dumps(profile).encode()
     except RecursionError as error:
-        raise Refused("the profile is nested too deep") from error
+        raise ResolveError("the profile is nested too deep") from error
 
 
-def printed(profile: dict[str, Any]) -> str:
+def to_text(profile: dict[str, Any]) -> str:
     """The text of a resolved profile, made entry by entry, of which there may be many."""
     try:
         entries = [json.dumps(entry, indent=4).replace("\n", "\n        ") for entry in profile["syscalls"]]
         text = json.dumps({**profile, "syscalls": []}, indent=4)
     except RecursionError as error:
-        raise Refused("the profile is nested too deep") from error
+        raise ResolveError("the profile is nested too deep") from error
     if entries:
         text = text.removesuffix("[]\n}") + "[\n        " + ",\n        ".join(entries) + "\n    ]\n}"
     return text + "\n"
@@ -151,17 +151,17 @@ def _check_one(value: Any, kind: str, where: str, name: str) -> None:
     """Refuses a member that isn't a string, a number or a kernel version as the engines read it."""
     if kind == NUMBER:
         if type(value) is not int or not 0 <= value < 1 << 64:
-            raise Refused(f"{where_in(where, name)} isn't an integer from 0 to 2^64-1")
+            raise ResolveError(f"{where_in(where, name)} isn't an integer from 0 to 2^64-1")
     elif not isinstance(value, str):
         what = "isn't a string" if kind == TEXT else "isn't a kernel version such as 4.8"
-        raise Refused(f"{where_in(where, name)} {what}")
+        raise ResolveError(f"{where_in(where, name)} {what}")
     elif kind == VERSION:
         version_of(value, where_in(where, name))
 
 
 def _check_list(value: Any, kind: Any, where: str, setting: Setting) -> None:
     if not isinstance(value, list) or (kind == TEXT and not all(isinstance(it, str) for it in value)):
-        raise Refused(f"{where} isn't a list" + " of strings" * (kind == TEXT))
+        raise ResolveError(f"{where} isn't a list" + " of strings" * (kind == TEXT))
     if kind != TEXT:
         parent, _, name = where.rpartition(": ")
         for index, one in enumerate(value):
@@ -172,13 +172,13 @@ def check(value: Any, members: dict[str, Any], where: str, setting: Setting) -> 
     """Refuses an object that the engines refuse for what stands in its members, or that they read otherwise than it is
     spelled. A member that is null is absent."""
     if not isinstance(value, dict):
-        raise Refused(f"{where} isn't an object")
+        raise ResolveError(f"{where} isn't an object")
     for name, one in value.items():
         kind = members.get(name)
         if kind is None:
             read_as = next((it for it in members if profiles.folded(it) == profiles.folded(name)), None)
             if read_as is not None:
-                raise Refused(profiles.Misread(where, name, read_as).told())
+                raise ResolveError(profiles.Misread(where, name, read_as).describe())
         elif one is None or name in setting.unread:
             pass
         elif isinstance(kind, dict):
@@ -214,7 +214,7 @@ def version_of(text: str, where: str) -> tuple[int, int]:
     parts = re.fullmatch(r"([0-9]+)\.([0-9]+)", text) if len(text) <= MAX_TOLD else None
     found = (int(parts[1]), int(parts[2])) if parts else (0, 0)
     if found == (0, 0) or max(found) > 255:
-        raise Refused(f"{where} isn't a kernel version such as 4.8")
+        raise ResolveError(f"{where} isn't a kernel version such as 4.8")
     return found
 
 
@@ -232,9 +232,9 @@ def why_left_out(entry: dict[str, Any], setting: Setting, where: str) -> str | N
     if most is not None and setting.kernel >= version_of(most, f"{where}: excludes: minKernel"):
         return f"only below kernel {most}" if most else "for no kernel, since excludes: minKernel is empty"
     if arches and ENGINE_ARCH not in arches:
-        return f"only on {listed(arches)}"
+        return f"only on {excerpts(arches)}"
     if lacking:
-        return f"only with {listed(lacking)}"
+        return f"only with {excerpts(lacking)}"
     if least is not None and setting.kernel < version_of(least, f"{where}: includes: minKernel"):
         return f"only from kernel {least} on"
     return None
@@ -274,17 +274,17 @@ class Resolver:
             return holder.get(number)
         is_number = len(text) <= MAX_TOLD and re.fullmatch("[0-9]+", text) and int(text) < 1 << 32
         if not is_number and text not in ERRNOS:
-            raise Refused(f"{where}: {name} '{told(text)}' isn't an errno that podman knows")
+            raise ResolveError(f"{where}: {name} '{excerpt(text)}' isn't an errno that podman knows")
         value = int(text) if is_number else getattr(errno, text)
         if holder.get(number) not in (None, value):
-            self.note(f"{where}: {name} '{text}' is used, not {number} {told(holder[number])}")
+            self.note(f"{where}: {name} '{text}' is used, not {number} {excerpt(holder[number])}")
         return value
 
     def architectures_of(self, top: dict[str, Any]) -> list[str]:
         """The architectures that the engine hands on."""
         names, mapped = top.get("architectures", []), top.get("archMap", [])
         if names and mapped:
-            raise Refused("the profile has both architectures and archMap, and the engines take one")
+            raise ResolveError("the profile has both architectures and archMap, and the engines take one")
         for one in mapped:
             if one.get("architecture") == OCI_ARCH:
                 names = [OCI_ARCH, *(one.get("subArchitectures") or [])]
@@ -292,15 +292,15 @@ class Resolver:
         others = [it for it in names if it != OCI_ARCH]
         if self.setting.is_native and others:
             if OCI_ARCH not in names:
-                raise Refused(f"the profile isn't for {OCI_ARCH}")
-            self.note(f"architectures left out: {listed(others)}")
+                raise ResolveError(f"the profile isn't for {OCI_ARCH}")
+            self.note(f"architectures left out: {excerpts(others)}")
             return [OCI_ARCH]
         return names
 
     def entry_of(self, entry: dict[str, Any], where: str) -> dict[str, Any] | None:
         """The resolved form of an entry, or None if it has no name."""
         if entry.get("name") and entry.get("names"):
-            raise Refused(f"{where} has both name and names, and the engines take one")
+            raise ResolveError(f"{where} has both name and names, and the engines take one")
         names = [entry["name"]] if entry.get("name") else entry.get("names", [])
         found = {"names": names, "action": entry.get("action", "")}
         number = self.errno_of(entry, "errno", "errnoRet", where)
@@ -323,9 +323,9 @@ class Resolver:
         for where, name in unknown_members(top, SECCOMP, "the profile"):
             is_ignored = self.setting.ignored is None or name in self.setting.ignored
             if where.startswith("entry ") and not is_ignored:
-                raise Refused(f"{where} has a member '{told(name)}', which no engine reads, and which may be a "
-                              f"condition: --ignore {told(name)} ignores it")
-            self.note(f"{where}: nothing reads '{told(name)}'")
+                raise ResolveError(f"{where} has a member '{excerpt(name)}', which no engine reads, and which may be a "
+                                   f"condition: --ignore {excerpt(name)} ignores it")
+            self.note(f"{where}: nothing reads '{excerpt(name)}'")
         if self.setting.unread:
             for where, name in self._of_other_engines(top):
                 self.note(f"{where}: {self.setting.engine} doesn't read '{name}'")
@@ -348,7 +348,7 @@ class Resolver:
         check(value, SECCOMP, "linux.seccomp" if value is None else "the profile", self.setting)
         top = members_of(value, self.setting)
         if not top.get("defaultAction"):
-            raise Refused("there is no defaultAction")
+            raise ResolveError("there is no defaultAction")
         self.tell_unread(value)
         found = {"defaultAction": top["defaultAction"]}
         number = self.errno_of(top, "defaultErrno", "defaultErrnoRet", "the profile")
@@ -368,7 +368,7 @@ class Resolver:
         made = None if why else self.entry_of(entry, f"entry {at}")
         origin = Origin(at, names_of(entry))
         if made is None:
-            self.note(f"{origin.told()} left out: {why or 'it has no name'}")
+            self.note(f"{origin.describe()} left out: {why or 'it has no name'}")
             return []
         self.origins.append(origin)
         return [made]
@@ -382,8 +382,8 @@ class Resolver:
             if not entry.get("args"):
                 for name in entry["names"]:
                     if first.setdefault(name, answer) != answer:
-                        self.note(f"{told(name)} left out of an entry with {told(entry['action'])}: an earlier entry "
-                                  f"has it with {told(first[name][0])}")
+                        self.note(f"{excerpt(name)} left out of an entry with {excerpt(entry['action'])}: an earlier "
+                                  f"entry has it with {excerpt(first[name][0])}")
                 entry["names"] = [name for name in entry["names"] if first[name] == answer]
             if entry["names"]:
                 kept.append((entry, origin))
@@ -393,7 +393,7 @@ class Resolver:
 
 def names_of(entry: dict[str, Any]) -> str:
     """The first names of an entry."""
-    return listed([entry["name"]] if entry.get("name") else entry.get("names", []))
+    return excerpts([entry["name"]] if entry.get("name") else entry.get("names", []))
 
 
 def capabilities_of(text: str) -> list[str]:

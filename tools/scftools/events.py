@@ -57,7 +57,7 @@ class Outcome:
             return answer.action != "ERRNO" or min(answer.data, MAX_ERRNO) == self.data
         return self.data in (None, answer.data)
 
-    def told(self) -> str:
+    def describe(self) -> str:
         """The actions, and what the kernel does with the syscall."""
         if self.half is not None and self.actions == ("UNNAMED",):
             return f"UNNAMED {self.half << 16:#010x}: {DOES['UNNAMED']}"
@@ -66,7 +66,7 @@ class Outcome:
         answer = Answer(self.actions[0], self.data or 0)
         if self.actions == ("ERRNO",) and self.data is None:
             return "ERRNO: the syscall isn't executed, and returns an errno"
-        return answer.told() if self.data is not None else f"{answer.action}: {answer.does()}"
+        return answer.describe() if self.data is not None else f"{answer.action}: {answer.does()}"
 
 
 @dataclass(frozen=True)
@@ -111,7 +111,7 @@ class Event:
 
 
 @dataclass
-class Found:
+class EventLog:
     """What a text has: its events with how often each stands in it, faulty records, and records that the kernel left
     out."""
 
@@ -239,7 +239,7 @@ def _of_failed(ends: _Ends) -> Event | None:
     return None if code is None else ends.final.event(Outcome(FAILS, data=code, is_result=True))
 
 
-def _of_ends(ends: _Ends, found: Found) -> None:
+def _of_ends(ends: _Ends, found: EventLog) -> None:
     """The events of a strace log: each SIGSYS, or else the last syscall."""
     for who, members, call in ends.signals:
         try:
@@ -256,9 +256,9 @@ def _of_ends(ends: _Ends, found: Found) -> None:
         found.add(failed)
 
 
-def read(lines: Iterable[str], table: Table) -> Found:
+def read(lines: Iterable[str], table: Table) -> EventLog:
     """The events in the lines of a log of any kind."""
-    found, ends = Found(), _Ends(table)
+    found, ends = EventLog(), _Ends(table)
     for number, line in enumerate(lines, 1):
         kind, suppressed = audit_records.kind_of(line), audit_records.SUPPRESSED.search(line)
         # a text that a program writes may look like a record

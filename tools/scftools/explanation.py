@@ -13,14 +13,14 @@ from .verdicts import Fault, Report
 def of_fault(fault: Fault, table: Table | None) -> Iterator[str]:
     yield from faults.what_a_row_says(fault.line)
     if (fault.source, fault.kind) == ("profile", "Conflict") and table is not None:
-        yield f"the syscall is {Call(fault.numbers['number']).told(table)}"
+        yield f"the syscall is {Call(fault.numbers['number']).describe(table)}"
 
 
 def of_call(call: Call, table: Table, is_native: bool | None = None) -> Iterator[str]:
     """A syscall's name, with the arguments as C would have them, and whether --native leaves it out, if that could be
     given."""
     shown = call.as_c(table) if any(call.arguments) else None
-    yield f"the syscall is {call.told(table)}" + (f": {shown}" if shown is not None else "")
+    yield f"the syscall is {call.describe(table)}" + (f": {shown}" if shown is not None else "")
     if is_native is False and not call.is_native:
         yield f"--native leaves out {call.left_out_of_native()}"
 
@@ -31,9 +31,9 @@ def of_differing(verdict: verdicts.Verdict, table: Table, is_native: bool, count
         return
     yield from of_call(verdict.call, table, is_native)
     if verdict.filters:
-        yield f"{'the filters answer' if count > 1 else 'the filter answers'} {verdict.filters.told()}"
+        yield f"{'the filters answer' if count > 1 else 'the filter answers'} {verdict.filters.describe()}"
     if verdict.profile:
-        yield f"the profile answers {verdict.profile.told()}"
+        yield f"the profile answers {verdict.profile.describe()}"
     if verdict.word != verdicts.DIFFERS and verdict.filters and verdict.profile:
         yield (f"the syscall is {verdict.filters.disposition} by the filter{'s' * (count > 1)}, and "
                f"{verdict.profile.disposition} by the profile")
@@ -54,16 +54,16 @@ def of_skipped(report: Report, table: Table, default_lets_through: bool) -> Iter
     """What the skipped names are, and what is lost with them."""
     if not report.skipped:
         return
-    found = tables.told_apart(report.skipped, table)
+    found = tables.classify(report.skipped, table)
     yield (f"names in the profile that were skipped because the table doesn't have them: {len(report.skipped)}"
            + (", all of them syscalls of other architectures" if not found.left_out and not found.unknown else ""))
-    for name in found.left_out[:tables.TOLD]:
+    for name in found.left_out[:tables.MOST_LISTED]:
         yield f"{name} is an x86-64 syscall that this table leaves out"
-    for name, near in found.unknown[:tables.TOLD]:
+    for name, near in found.unknown[:tables.MOST_LISTED]:
         shown = name if len(name) <= tables.LONGEST else f"{name[:tables.LONGEST]}.."
         nearest = f"; the nearest name in the table is {near}" if near else ""
         yield f"no known syscall is named {shown}{nearest}"
-    more = max(len(found.left_out) - tables.TOLD, 0) + max(len(found.unknown) - tables.TOLD, 0)
+    more = max(len(found.left_out) - tables.MOST_LISTED, 0) + max(len(found.unknown) - tables.MOST_LISTED, 0)
     if more:
         yield f"more such names: {more}"
     if default_lets_through and (found.left_out or found.unknown):
@@ -88,4 +88,4 @@ def of_answer(call: Call | None, answer: Answer, table: Table) -> Iterator[str]:
     """The syscall, and what an answer to it does."""
     if call is not None:
         yield from of_call(call, table)
-    yield answer.told()
+    yield answer.describe()

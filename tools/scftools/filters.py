@@ -46,21 +46,21 @@ def are_codes(data: bytes) -> bool:
 def read(name: str) -> Filter:
     """The filter of a file, a pipe or standard input: raw, or a text in one of the forms of `forms`, which is told on
     standard error."""
-    return taken(name, inputs.read(name, "filter", most=LONGEST_TEXT))
+    return filter_in(name, inputs.read(name, "filter", most=LONGEST_TEXT))
 
 
-def taken(name: str, data: bytes) -> Filter:
+def filter_in(name: str, data: bytes) -> Filter:
     """The filter in what was read of an input."""
     # what is raw and too long is cut so far that scf says so
     raw = Filter(name, data[:inputs.LIMITS["filter"] + 1])
     if data[1:2] == b"\0":
         return raw
-    form = forms.form_of(data, inputs.told(name))
+    form = forms.form_of(data, inputs.label(name))
     if form is None:
         if forms.is_text(data):
-            program.say(f"{inputs.told(name)} is text, in none of the forms that `check --help` names")
+            program.say(f"{inputs.label(name)} is text, in none of the forms that `check --help` names")
         return raw
-    program.say(f"{inputs.told(name)} is read as {form.name}, instructions: {form.count}")
+    program.say(f"{inputs.label(name)} is read as {form.name}, instructions: {form.count}")
     return Filter(name, form.data)
 
 
@@ -86,7 +86,7 @@ def looks_at_pointer(data: bytes) -> bool:
     return any(code == LOAD_WORD and k in POINTER for code, _, _, k in INSTRUCTION.iter_unpack(whole))
 
 
-def answering_from(data: bytes, number: int, answer: int) -> bytes:
+def with_answer_from(data: bytes, number: int, answer: int) -> bytes:
     """A filter that gives this answer from this syscall number on, and otherwise runs these bytes.
 
     The accumulator is 0 again when they start, as in the kernel.

@@ -11,7 +11,8 @@ from collections.abc import Iterator, Sequence
 from . import answers, output
 from .answers import X32
 from .filters import BY_X, JEQ, JGE, JGT, JUMP, RETURN_CONSTANT
-from .listing import ARCHITECTURE, ARGUMENTS, NUMBER, RETURNS, WORDS, Instruction, Known, held, instructions, name_of
+from .listing import (ARCHITECTURE, ARGUMENTS, NUMBER, RETURNS, WORDS, Instruction, Known, instructions, known_facts,
+                      name_of)
 from .tables import Table
 from .values import dataclass, field
 
@@ -66,7 +67,7 @@ class Graph:
 
     def __init__(self, data: bytes) -> None:
         self.insns = instructions(data)
-        self.known = held(self.insns)
+        self.known = known_facts(self.insns)
         self.nodes: dict[int, Node] = {}
         # the first return of each answer
         self.returns: dict[int, int] = {}
@@ -125,7 +126,7 @@ class Graph:
         return node
 
 
-def _value_told(value: int, node: Node, table: Table) -> str:
+def _value_text(value: int, node: Node, table: Table) -> str:
     if node.word == NUMBER:
         return "x32" if value == X32 else name_of(value, node.known.architecture, table)
     if node.word == ARCHITECTURE:
@@ -133,18 +134,18 @@ def _value_told(value: int, node: Node, table: Table) -> str:
     return hex(value)
 
 
-def _range_told(low: int, high: int, node: Node, table: Table) -> str:
-    first = _value_told(low, node, table)
+def _range_text(low: int, high: int, node: Node, table: Table) -> str:
+    first = _value_text(low, node, table)
     if low == high:
         return first
-    return f"from {first} on" if high == GREATEST else f"{first} to {_value_told(high, node, table)}"
+    return f"from {first} on" if high == GREATEST else f"{first} to {_value_text(high, node, table)}"
 
 
-def _edge_told(ranges: Ranges, is_rest: bool, node: Node, table: Table) -> str:
+def _edge_text(ranges: Ranges, is_rest: bool, node: Node, table: Table) -> str:
     """Which values of a word lead to a target."""
     if is_rest:
         return "all others"
-    shown = [_range_told(low, high, node, table) for low, high in ranges[:MOST_RANGES]]
+    shown = [_range_text(low, high, node, table) for low, high in ranges[:MOST_RANGES]]
     more = f"and {len(ranges) - MOST_RANGES} more ranges" if len(ranges) > MOST_RANGES else ""
     return "\n".join([*shown, *[more] * bool(more)])
 
@@ -207,7 +208,7 @@ class Drawing:
             rest = max(sizes, key=lambda it: sizes[it], default=None) if node.word is not None else None
             for at, (target, ranges) in enumerate(node.targets.items()):
                 if node.word is not None:
-                    label = _edge_told(ranges, target == rest and len(ranges) > 1, node, self.table)
+                    label = _edge_text(ranges, target == rest and len(ranges) > 1, node, self.table)
                 else:
                     label = ("yes", "no")[at] if len(node.targets) > 1 else ""
                 mark = MARK if (place, target) in self.edges else ""

@@ -99,7 +99,7 @@ def _of_decimals(text: str) -> bytes | None:
 
 
 def _of_array(text: str) -> bytes | None:
-    if not c_arrays.looks_so(text):
+    if not c_arrays.looks_like_array(text):
         return None
     found = c_arrays.rows_in(text)
     return found if isinstance(found, bytes) else _packed(found)
@@ -118,12 +118,12 @@ def _of_assembler(text: str) -> bytes | None:
 FORMS = ((HEXADECIMAL, _of_hexadecimal), (DECIMALS, _of_decimals), (ARRAY, _of_array), (ASSEMBLER, _of_assembler))
 
 
-def _forms_of(text: str, told: str) -> Iterator[Form]:
+def _forms_of(text: str, label: str) -> Iterator[Form]:
     for name, read in FORMS:
         try:
             data = read(text)
         except c_arrays.Malformed as why:
-            raise program.ToolError(f"{told} begins as {name}, but isn't one: {why}") from why
+            raise program.ToolError(f"{label} begins as {name}, but isn't one: {why}") from why
         if data is not None:
             yield Form(name, data)
 
@@ -133,20 +133,20 @@ def is_text(data: bytes) -> bool:
     return bool(data.strip()) and re.fullmatch(rb"[\t\n\r -~]*", data) is not None
 
 
-def form_of(data: bytes, told: str) -> Form | None:
-    """The form of a filter that isn't raw, or None if the bytes are to be judged as they are. `told` names the input.
+def form_of(data: bytes, label: str) -> Form | None:
+    """The form of a filter that isn't raw, or None if the bytes are to be judged as they are. `label` names the input.
     Raises ToolError if they are known to be something else, or can be read in two ways."""
     for begins, what, hint in OTHERS:
         if re.match(begins, data):
-            raise program.ToolError(f"{told} is {what}, not a filter{hint}")
+            raise program.ToolError(f"{label} is {what}, not a filter{hint}")
     try:
         text = data.decode("ascii")
     except UnicodeDecodeError:
         return None
     if "\0" in text or not text.strip():
         return None
-    found = list(_forms_of(text, told))
+    found = list(_forms_of(text, label))
     if len({it.data for it in found}) > 1:
         names = " and as ".join(it.name for it in found)
-        raise program.ToolError(f"{told} can be read as {names}: give the raw filter")
+        raise program.ToolError(f"{label} can be read as {names}: give the raw filter")
     return found[0] if found else None

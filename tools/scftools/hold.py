@@ -203,8 +203,8 @@ class Hold:
             self.drop(thread)
         self.process_of.update(listed)
         self.refused_before, self.refused = self.refused, {}
-        told = [self.trace(thread, process) for thread, process in listed.items() if thread not in held]
-        return bool(others) or any(told)
+        changes = [self.trace(thread, process) for thread, process in listed.items() if thread not in held]
+        return bool(others) or any(changes)
 
     def trace(self, thread: int, process: int) -> bool:
         """Whether there was a change: the thread is traced, or has ended since it was listed, or may yet be traced."""

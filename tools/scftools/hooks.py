@@ -22,7 +22,7 @@ from collections.abc import Callable, Iterator, Sequence
 
 from . import (compare, containers, engines, hold, inputs, output, processes, profiles, program, runtimes,
                verdicts, verify)
-from .processes import Found, Kernel
+from .processes import Inspection, Kernel
 from .tables import Table
 from .values import Any, dataclass
 from .watchdog import Watchdog, Worker
@@ -46,7 +46,7 @@ OF_NO_GROUP = ("the container has neither a PID namespace nor a control group of
 STARTUP = 10
 
 
-class Failed(Exception):
+class HookError(Exception):
     """Why it is unknown whether the container is confined."""
 
 
@@ -60,14 +60,14 @@ class Container:
     bundle: str
 
     @property
-    def told(self) -> str:
+    def description(self) -> str:
         return f"container {output.escaped(self.name)}"
 
 
 def _member(state: dict[str, Any], name: str) -> str:
     value = state.get(name)
     if not isinstance(value, str) or not value:
-        raise Failed(f"the container's state has no {name}")
+        raise HookError(f"the container's state has no {name}")
     return value
 
 
@@ -76,16 +76,16 @@ def container_of(data: bytes) -> Container:
     try:
         state = json.loads(data.decode("utf-8"))
     except (ValueError, RecursionError) as error:
-        raise Failed("the container's state on standard input isn't JSON") from error
+        raise HookError("the container's state on standard input isn't JSON") from error
     if not isinstance(state, dict):
-        raise Failed("the container's state isn't an object")
+        raise HookError("the container's state isn't an object")
     _member(state, "ociVersion")
     name, status, bundle = (_member(state, it) for it in ("id", "status", "bundle"))
     pid = state.get("pid")
     if type(pid) is not int or not 0 < pid < 2**31:
-        raise Failed(f"the state of container {name} has no pid")
+        raise HookError(f"the state of container {name} has no pid")
     if not bundle.startswith("/") or "\0" in bundle:
-        raise Failed(f"the bundle of container {name} isn't an absolute path")
+        raise HookError(f"the bundle of container {name} isn't an absolute path")
     return Container(name, status, pid, bundle)
 
 
@@ -95,14 +95,14 @@ def state(seconds: float) -> bytes:
     while len(found) <= inputs.LIMITS["state"]:
         try:
             if not select.select([0], [], [], max(0.0, until - time.monotonic()))[0]:
-                raise Failed(f"the container's state didn't come on standard input within {seconds:g} seconds")
+                raise HookError(f"the container's state didn't come on standard input within {seconds:g} seconds")
             piece = os.read(0, 1 << 16)
         except OSError as error:
-            raise Failed(inputs.why("-", "state", error)) from error
+            raise HookError(inputs.why("-", "state", error)) from error
         if not piece:
             return found
         found += piece
-    raise Failed(f"the state on standard input has more than {inputs.LIMITS['state']} bytes")
+    raise HookError(f"the state on standard input has more than {inputs.LIMITS['state']} bytes")
 
 
 def contents(name: str) -> bytes:
@@ -112,7 +112,7 @@ def contents(name: str) -> bytes:
     except (OSError, ValueError):
         is_other = False
     if is_other and not os.path.isdir(name):
-        raise Failed(f"'{name}' isn't a regular file")
+        raise HookError(f"'{name}' isn't a regular file")
     return inputs.read_whole(name, "profile")
 
 
@@ -121,8 +121,8 @@ def configured(container: Container) -> dict[str, Any] | None:
     name = os.path.join(container.bundle, CONFIG)
     try:
         value = engines.read(contents(name))
-    except (program.ToolError, engines.Refused) as why:
-        raise Failed(f"the container's configuration: {why}") from why
+    except (program.ToolError, engines.ResolveError) as why:
+        raise HookError(f"the container's configuration: {why}") from why
     return seccomp_in(value, name)
 
 
@@ -137,31 +137,31 @@ def seccomp_in(value: Any, name: str) -> dict[str, Any] | None:
 def member(value: Any, wanted: str, path: str) -> Any:
     """A member of an object in a configuration; refused if a runtime in Go also reads another one as it."""
     if not isinstance(value, dict):
-        raise Failed(f"'{path}' isn't a container's configuration")
+        raise HookError(f"'{path}' isn't a container's configuration")
     others = [it for it in value if it != wanted and profiles.folded(it) == wanted]
     if others:
-        raise Failed(f"'{path}' has a member '{others[0]}', which runc reads as {wanted} and crun doesn't")
+        raise HookError(f"'{path}' has a member '{others[0]}', which runc reads as {wanted} and crun doesn't")
     return value.get(wanted)
 
 
-def asked_of(config: dict[str, Any], runtime: str | None, keeps_first: bool, table: Table, limit: str | None,
-             relation: str) -> verify.Request:
+def request_of(config: dict[str, Any], runtime: str | None, keeps_first: bool, table: Table, limit: str | None,
+               relation: str) -> verify.Request:
     """The question about a container with this configuration, as its runtime applies it."""
     try:
         if runtime is not None:
-            return verify.Request.of_runtime(runtimes.applied(config, runtime), table, limit, compare.NATIVE,
+            return verify.Request.of_runtime(runtimes.apply(config, runtime), table, limit, compare.NATIVE,
                                               relation)
         text = json.dumps(config)
         if keeps_first:
             resolver = engines.Resolver(engines.Setting((), (0, 0), False), lambda _: None)
             profile = resolver.resolved(config)
             resolver.keep_first(profile)
-            text = engines.printed(profile)
+            text = engines.to_text(profile)
         return verify.Request(text.encode(), table, limit, compare.NATIVE, relation)
     except RecursionError as error:
-        raise Failed("the container's configuration: the profile is nested too deep") from error
-    except engines.Refused as why:
-        raise Failed(f"the container's configuration: {why}") from why
+        raise HookError("the container's configuration: the profile is nested too deep") from error
+    except engines.ResolveError as why:
+        raise HookError(f"the container's configuration: {why}") from why
 
 
 @dataclass(frozen=True)
@@ -173,7 +173,7 @@ class Members:
     end_together: bool = False
     remarks: Sequence[str] = ()
     # The lines about other processes that may also be the container's.
-    others_told: Callable[[], str | None] = lambda: None
+    others_note: Callable[[], str | None] = lambda: None
 
 
 def members_of(kernel: Kernel, pid: int) -> Members:
@@ -186,7 +186,7 @@ def members_of(kernel: Kernel, pid: int) -> Members:
     try:
         found = processes.container_of(kernel, pid)
         if found.group is not None and os.getpid() not in found.processes():
-            return Members(found.processes, others_told=lambda: containers.others_told(kernel, found))
+            return Members(found.processes, others_note=lambda: containers.others_note(kernel, found))
     except processes.Unreadable:
         pass
     return Members(lambda: descendants(kernel, pid), remarks=(OF_NO_GROUP,))
@@ -202,7 +202,7 @@ def descendants(kernel: Kernel, pid: int) -> list[int]:
     return found
 
 
-def sent(file: int, number: int) -> int | None:
+def send_signal(file: int, number: int) -> int | None:
     """Sends a signal by a pidfd; returns the errno if that fails."""
     try:
         signal.pidfd_send_signal(file, number)
@@ -211,7 +211,7 @@ def sent(file: int, number: int) -> int | None:
     return None
 
 
-def held_by(pid: int) -> Iterator[int]:
+def pidfds_of(pid: int) -> Iterator[int]:
     """A pidfd of a process, if it exists."""
     try:
         yield os.pidfd_open(pid)
@@ -228,47 +228,47 @@ class Process:
         try:
             self.file = os.pidfd_open(container.pid)
         except ProcessLookupError as error:
-            raise Failed(f"there is no process {container.pid}") from error
+            raise HookError(f"there is no process {container.pid}") from error
         except OSError as error:
-            raise Failed(f"process {container.pid} can't be held: {error.strerror}") from error
+            raise HookError(f"process {container.pid} can't be held: {error.strerror}") from error
         self.members = members_of(self.kernel, container.pid)
 
     def has_ended(self, seconds: float = 0.0) -> bool:
         """Whether it has ended, or does so within so many seconds: a pidfd can be read then (pidfd_open(2))."""
         return bool(select.select([self.file], [], [], seconds)[0])
 
-    def kill(self) -> Killed:
+    def kill(self) -> Kill:
         """Kills it and the others of the container."""
         pid, until = self.container.pid, time.monotonic() + KILL_SECONDS
         was_there = not self.has_ended()
-        others = {} if self.members.end_together else self.held_others()
-        why = sent(self.file, signal.SIGKILL)
+        others = {} if self.members.end_together else self.hold_others()
+        why = send_signal(self.file, signal.SIGKILL)
         count = self.kill_others(others, until)
         more = f", and {count} more of the container" if count else ""
         if not was_there or why == errno.ESRCH:
-            return Killed(count > 0, f"process {pid} has ended already" + (f"{more} were killed" if more else ""))
+            return Kill(count > 0, f"process {pid} has ended already" + (f"{more} were killed" if more else ""))
         if why is not None:
-            return Killed(False, f"process {pid} can't be killed: {os.strerror(why)}")
+            return Kill(False, f"process {pid} can't be killed: {os.strerror(why)}")
         if not self.has_ended(max(0.0, until - time.monotonic())):
-            return Killed(True, f"SIGKILL was sent to process {pid}{more}; it hasn't ended yet")
-        return Killed(True, f"process {pid} was killed{more}")
+            return Kill(True, f"SIGKILL was sent to process {pid}{more}; it hasn't ended yet")
+        return Kill(True, f"process {pid} was killed{more}")
 
     def kill_others(self, others: dict[int, int], until: float) -> int:
         """Kills the held processes and those that they started meanwhile; returns how many."""
         killed: set[int] = set()
         while others:
-            killed.update(pid for pid, file in others.items() if sent(file, signal.SIGKILL) is None)
+            killed.update(pid for pid, file in others.items() if send_signal(file, signal.SIGKILL) is None)
             for file in others.values():
                 os.close(file)
             if time.monotonic() > until:
                 break
             time.sleep(0.001)
-            others = self.held_others()
+            others = self.hold_others()
         return len(killed)
 
-    def held_others(self) -> dict[int, int]:
+    def hold_others(self) -> dict[int, int]:
         """The pidfds of the other processes that run, each held before it was listed again."""
-        held = {pid: file for pid in self.running_others() for file in held_by(pid)}
+        held = {pid: file for pid in self.running_others() for file in pidfds_of(pid)}
         still = set(self.running_others())
         for pid in held.keys() - still:
             os.close(held[pid])
@@ -288,7 +288,7 @@ class Process:
             found.update((it, other) for it in self.kernel.threads_of(other) if other != pid)
         return found
 
-    def look(self, is_forced: bool = False) -> Found:
+    def look(self, is_forced: bool = False) -> Inspection:
         """What all threads have."""
         pid = self.container.pid
         found = processes.look(self.kernel, self.threads, processes.PATIENCE, is_forced)
@@ -301,7 +301,7 @@ class Process:
         of_threads = [self.kernel.status_of(it) for it in self.threads()]
         return all(it.get("Seccomp") != "0" or it.get("State", "Z")[:1] in "ZX" for it in of_threads)
 
-    def confined(self, seconds: float, is_forced: bool) -> Found:
+    def confined(self, seconds: float, is_forced: bool) -> Inspection:
         """What all threads have, once each has a filter or the time is up."""
         until = time.monotonic() + seconds
         while not self.has_ended() and not self.has_filters() and time.monotonic() < until:
@@ -310,7 +310,7 @@ class Process:
 
 
 @dataclass(frozen=True)
-class Killed:
+class Kill:
     """Whether a process was killed, and the line about it."""
 
     is_so: bool
@@ -338,27 +338,27 @@ class Result:
     value: dict[str, object]
 
 
-def finding_of(found: Found, asked: verify.Request, members: Members) -> Finding:
+def finding_of(found: Inspection, request: verify.Request, members: Members) -> Finding:
     """What is said of each distinct stack, but for the names that were left out, which are counted."""
-    blocks, others = verify.blocks(found, asked), members.others_told()
+    blocks, others = verify.blocks(found, request), members.others_note()
     status, verdict = verify.worst(blocks), blocks[0].verdict
     if others is not None and status == program.SUCCESS:
         status, verdict = program.UNKNOWN, None
-    remarks = [*asked.remarks, *members.remarks, *([others] if others else [])]
+    remarks = [*request.remarks, *members.remarks, *([others] if others else [])]
 
     def lines() -> list[str]:
-        own = [line for line in verify.lines(blocks, found, asked)
+        own = [line for line in verify.lines(blocks, found, request)
                if line and not line.startswith(verdicts.LEFT_OUT)]
         return own + [f"# {it}" for it in remarks]
 
     def value() -> dict[str, object]:
-        own = verify.as_json(blocks, found, asked, None)
+        own = verify.as_json(blocks, found, request, None)
         return {**own, "status": status, "verdict": verdict, "remarks": remarks}
 
     return Finding(status, verdict, lines, value)
 
 
-def stated(status: int, verdict: str | None, line: str) -> Finding:
+def plain_finding(status: int, verdict: str | None, line: str) -> Finding:
     """A finding of a single line."""
     value: dict[str, object] = {"status": status, "scope": compare.NATIVE, "verdict": verdict}
     return Finding(status, verdict, lambda: [line], lambda: value if verdict else {**value, "why": line})
@@ -368,14 +368,14 @@ def result(finding: Finding) -> Result:
     return Result(finding.status, finding.verdict, finding.lines(), finding.value())
 
 
-def unstated(is_allowed: bool) -> Finding:
+def without_profile(is_allowed: bool) -> Finding:
     """The configuration has no profile."""
-    return stated(program.SUCCESS if is_allowed else program.NEGATIVE, "unstated",
-                  "the configuration has no seccomp profile: the container isn't confined")
+    return plain_finding(program.SUCCESS if is_allowed else program.NEGATIVE, "unstated",
+                         "the configuration has no seccomp profile: the container isn't confined")
 
 
-def failed(why: str, status: int = program.IO_ERROR) -> Finding:
-    return stated(status, None, why)
+def failure(why: str, status: int = program.IO_ERROR) -> Finding:
+    return plain_finding(status, None, why)
 
 
 def report(finding: Finding, is_json: bool, send: Callable[[object], None]) -> None:
@@ -396,7 +396,7 @@ def result_of(worker: Worker, seconds: float, is_json: bool, settle: Callable[[i
     status, verdict = known
     settle(status)
     until = time.monotonic() + EXPLANATION_SECONDS
-    found = result(stated(status, verdict, f"no explanation: it takes longer than {EXPLANATION_SECONDS:g} "
+    found = result(plain_finding(status, verdict, f"no explanation: it takes longer than {EXPLANATION_SECONDS:g} "
                                            f"seconds"))
     found.lines = worker.receive(until) or found.lines
     found.value = is_json and worker.receive(until) or found.value
@@ -406,11 +406,11 @@ def result_of(worker: Worker, seconds: float, is_json: bool, settle: Callable[[i
 def unknown(status: int | None, seconds: float) -> Finding:
     """The finding if a worker reports nothing: it ended with a status, or still runs."""
     if status is None:
-        return failed(f"undecided after {seconds:g} seconds", program.UNKNOWN)
+        return failure(f"undecided after {seconds:g} seconds", program.UNKNOWN)
     if status == program.NOT_BUILT:
-        return failed("scf can't be run", program.NOT_BUILT)
+        return failure("scf can't be run", program.NOT_BUILT)
     how = f"signal {-status}" if status < 0 else f"status {status}"
-    return failed(f"the check ended with {how}")
+    return failure(f"the check ended with {how}")
 
 
 class Examination:
@@ -421,18 +421,18 @@ class Examination:
         self.process = process
         self.seconds = seconds
         self.kills = kills
-        self.killed: list[Killed] = []
+        self.killed: list[Kill] = []
         self.watchdog: Watchdog | None = None
 
     def result(self, find: Callable[[], Finding], is_json: bool) -> Result:
         try:
             if self.kills:
                 self.watchdog = Watchdog(self.bark, time.monotonic() + self.seconds + GRACE)
-            worker = Worker(lambda send: report(guarded(find), is_json, send),
+            worker = Worker(lambda send: report(run_safely(find), is_json, send),
                             [self.watchdog.end] if self.watchdog else [])
         except OSError as error:
             self.settle(program.IO_ERROR)
-            return result(failed(f"no process can be started: {error.strerror}"))
+            return result(failure(f"no process can be started: {error.strerror}"))
         return result_of(worker, self.seconds, is_json, self.settle)
 
     def settle(self, status: int) -> None:
@@ -445,7 +445,7 @@ class Examination:
     def bark(self) -> None:
         """The watchdog's action: it kills the container and reports that."""
         killed = self.process.kill()
-        line = f"{self.process.container.told}: the hook was ended or stopped: {killed.line}"
+        line = f"{self.process.container.description}: the hook was ended or stopped: {killed.line}"
         program.say(line)
         write_log(program.name(), program.IO_ERROR, [line])
 
@@ -463,7 +463,7 @@ def write_log(name: str, status: int, lines: Sequence[str]) -> None:
 
 def verdict_line(container: Container | None, result: Result) -> str:
     """A line that says how it came out."""
-    who = container.told if container else "a container"
+    who = container.description if container else "a container"
     if result.status == program.SUCCESS:
         return f"{who}: confined as configured ({result.verdict})"
     if result.status == program.NEGATIVE and result.verdict is not None:
@@ -509,21 +509,21 @@ def own_path() -> str:
     return os.path.abspath(sys.argv[0])
 
 
-def guarded(find: Callable[[], Finding]) -> Finding:
+def run_safely(find: Callable[[], Finding]) -> Finding:
     """What is found; if anything fails, why."""
     try:
         return find()
-    except (Failed, program.ToolError) as why:
-        return failed(str(why), program.NOT_BUILT if getattr(why, "status", None) == program.NOT_BUILT
-                      else program.IO_ERROR)
+    except (HookError, program.ToolError) as why:
+        return failure(str(why), program.NOT_BUILT if getattr(why, "status", None) == program.NOT_BUILT
+                       else program.IO_ERROR)
     except processes.Unreadable as why:
-        return failed(f"{why} (--force stops it)" if isinstance(why, hold.Waiting) else str(why))
+        return failure(f"{why} (--force stops it)" if isinstance(why, hold.Waiting) else str(why))
     except processes.Interrupted as came:
-        return failed(f"the check was ended by {signal.Signals(came.args[0]).name}")
+        return failure(f"the check was ended by {signal.Signals(came.args[0]).name}")
     except MemoryError:
-        return failed("out of memory")
+        return failure("out of memory")
     except OSError as error:
-        return failed(f"the container can't be inspected: {error.strerror}")
+        return failure(f"the container can't be inspected: {error.strerror}")
     except Exception as error:  # pylint: disable=broad-exception-caught
         # a fault of this tool's own: nothing fails open
-        return failed(f"{program.name()} itself failed: {type(error).__name__}")
+        return failure(f"{program.name()} itself failed: {type(error).__name__}")

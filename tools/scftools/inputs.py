@@ -19,13 +19,13 @@ LIMITS = {"bundle": 1 << 24, "filter": 1 << 15, "profile": 1 << 22, "table": 1 <
           "state": 1 << 20}
 
 
-def told(name: str) -> str:
+def label(name: str) -> str:
     """How messages call an input."""
     return "standard input" if name == "-" else f"'{output.escaped(name)}'"
 
 
 def why(name: str, kind: str, error: OSError) -> str:
-    shown = told(name)
+    shown = label(name)
     if error.errno == errno.EISDIR:
         return f"the {kind} {shown} is a folder"
     if error.errno == errno.ENOENT:
@@ -65,5 +65,5 @@ def read_whole(name: str, kind: str) -> bytes:
     """The bytes of an input that scf doesn't see; raises Refused if there are too many."""
     data = read(name, kind)
     if is_too_long(data, kind):
-        raise program.ToolError(f"the {kind} {told(name)} has more than {LIMITS[kind]} bytes")
+        raise program.ToolError(f"the {kind} {label(name)} has more than {LIMITS[kind]} bytes")
     return data

@@ -14,7 +14,7 @@ LONGEST = 40
 Path = Sequence["str | int"]
 
 
-def path_told(path: Path) -> str:
+def path_text(path: Path) -> str:
     """A path as JavaScript has it; of the whole text nothing."""
     found = ""
     for step in path:
@@ -85,5 +85,5 @@ def where_in(text: str, at: int) -> str:
         if begin > at:
             break
         is_over = token not in ("[", "{") and begin + len(token) <= at
-        word, path = "after" if is_over else "in", path_told(here)
+        word, path = "after" if is_over else "in", path_text(here)
     return f"{word} {path}" if path else ""

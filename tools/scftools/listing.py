@@ -82,7 +82,7 @@ def _after(insn: Instruction, known: Known) -> Iterator[Known]:
     yield known
 
 
-def held(insns: Sequence[Instruction]) -> list[Known]:
+def known_facts(insns: Sequence[Instruction]) -> list[Known]:
     """What holds at each instruction; all jumps go forwards."""
     found: dict[int, Known] = {0: Known()}
     for place, insn in enumerate(insns):
@@ -128,17 +128,17 @@ def _meaning(place: int, insn: Instruction, known: Known, table: Table, count: i
     return (f"{what}: " if what else "") + f"to {shown[0]}" + (f", else {shown[1]}" if len(shown) > 1 else "")
 
 
-def marked(lines: Iterable[str], places: Iterable[int]) -> Iterator[str]:
+def mark_lines(lines: Iterable[str], places: Iterable[int]) -> Iterator[str]:
     """The lines of a listing, some instructions marked by `>`."""
     on_path = frozenset(places)
     for place, line in enumerate(lines):
         yield f"{'>' if place in on_path else ' '} {line}"
 
 
-def listed(data: bytes, lines: Sequence[str], table: Table) -> Iterator[str]:
+def listing_lines(data: bytes, lines: Sequence[str], table: Table) -> Iterator[str]:
     """The lines of `scf dis`, each after its index and before its comment."""
     insns = instructions(data)
     place_width, line_width = len(str(len(lines) - 1)), max(map(len, lines), default=0)
-    for place, (line, insn, known) in enumerate(zip(lines, insns, held(insns))):
+    for place, (line, insn, known) in enumerate(zip(lines, insns, known_facts(insns))):
         means = _meaning(place, insn, known, table, len(insns))
         yield f"{place:{place_width}}  " + (f"{line:{line_width}}  // {means}" if means else line)

@@ -134,7 +134,7 @@ class _Pass:
     unread: dict[int, str] = field(default_factory=dict)
     asked_again: list[tuple[int, int]] = field(default_factory=list)
 
-    def add(self, number: int, pieces: list[processes.Found]) -> None:
+    def add(self, number: int, pieces: list[processes.Inspection]) -> None:
         """Adds what was found of a process."""
         for one in pieces:
             self.asked_again += one.asked_again
@@ -166,7 +166,7 @@ def _read_all(kernel: Kernel, numbers: Iterable[int], is_forced: bool, until: fl
 
 
 def _read_slices(kernel: Kernel, number: int, patience: float, is_forced: bool, restarts: Restarts,
-                 tell: Callable[[int], None]) -> Iterator[processes.Found]:
+                 tell: Callable[[int], None]) -> Iterator[processes.Inspection]:
     """Reads the threads of a process, some at a time, until none is new."""
     seen: set[int] = set()
     most = len(kernel.threads_of(number)) + MOST_NEW

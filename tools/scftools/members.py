@@ -75,5 +75,5 @@ def misread(data: bytes) -> Iterator[Finding]:
     """Members that Go programs (runc, Docker, podman) read as others, and scf and crun don't."""
     for one in profiles.misread_members(data):
         if one.name != one.read_as:
-            yield Finding("folded-member", f"{one.told()}; scf and crun don't",
+            yield Finding("folded-member", f"{one.describe()}; scf and crun don't",
                           {"where": one.where, "member": one.name, "read_as": one.read_as})

@@ -8,7 +8,7 @@ from . import tables
 from .architectures import NUMBERS, PREFIX, X32
 from .entries import Object
 from .findings import Finding, listed, shown
-from .profiles import ACTIONS, LETS_THROUGH
+from .profiles import ACTIONS, ALLOWING
 from .reasons import HOLDS
 from .tables import Table
 
@@ -31,7 +31,7 @@ def _places(top: Object) -> dict[str, int]:
 def of_names(top: Object, table: Table) -> Iterator[Finding]:
     """Names that no syscall has, and a count of names that only other architectures have."""
     places = _places(top)
-    skipped = tables.told_apart([name for name in places if table.number_of(name) is None], table)
+    skipped = tables.classify([name for name in places if table.number_of(name) is None], table)
     for name, near in skipped.unknown:
         nearest = f"; the nearest name in the table is {near}" if near else ""
         yield Finding("unknown-name", f"entry {places[name]}: no known syscall is named {shown(name)}{nearest}",
@@ -53,7 +53,7 @@ def of_names(top: Object, table: Table) -> Iterator[Finding]:
 def _near(name: str, prefix: str, known: Sequence[str], count: int) -> str | None:
     """The word most like a name behind their common prefix, if one is much like it; none for a name that comes after so
     many."""
-    if count >= tables.TOLD or len(name) > tables.LONGEST:
+    if count >= tables.MOST_LISTED or len(name) > tables.LONGEST:
         return None
     last = name.upper().removeprefix(prefix)
     likely = difflib.get_close_matches(ALIASES.get(last, last), [it[len(prefix):] for it in known], 1, 0.75)
@@ -107,7 +107,7 @@ def of_architectures(top: Object) -> Iterator[Finding]:
                       f"and crun refuse what they don't know{_nearest(near)}", {"name": name, "nearest": near})
     if architectures and X32 not in architectures:
         default = top["defaultAction"]
-        then = f"the default, {default}, allows them all" if default in LETS_THROUGH else \
+        then = f"the default, {default}, allows them all" if default in ALLOWING else \
             f"the default, {default}, answers them all"
         yield Finding("x32", f"architectures has no {X32}: x32 syscalls are those of x86-64 with 0x40000000 added. "
                       f"Filters of scf and of libseccomp deny them; in a filter that doesn't test for them {then}",

@@ -36,7 +36,7 @@ class Needless:
 
 
 @dataclass(frozen=True)
-class Untold:
+class Undecided:
     """An undecided name of an entry, and the verdict; None if it wasn't checked."""
 
     place: int
@@ -56,7 +56,7 @@ class Search:
         self.entries = {it.place: it for it in entries}
         self.looks = LOOKS
         self.gone: set[Named] = set()
-        self.untold: list[Untold] = []
+        self.untold: list[Undecided] = []
         self._by_number: dict[int | None, dict[Named, Entry]] = {}
         for entry in entries:
             for name in entry.names:
@@ -99,7 +99,7 @@ class Search:
     def _settle(self, doubtful: Sequence[Named]) -> None:
         """Removes what scf proves to be without effect: all of it, or else the same for its halves."""
         if self.trial.count >= COMPARISONS:
-            self.untold += [Untold(*it, None) for it in doubtful]
+            self.untold += [Undecided(*it, None) for it in doubtful]
             return
         gone = self.gone | set(doubtful)
         verdict = self.trial.verdict([self.filter], profile_of(self.default, self._kept(gone)))
@@ -109,7 +109,7 @@ class Search:
             self._settle(doubtful[:len(doubtful) // 2])
             self._settle(doubtful[len(doubtful) // 2:])
         elif not verdict.fails:
-            self.untold.append(Untold(*doubtful[0], verdict))
+            self.untold.append(Undecided(*doubtful[0], verdict))
 
     def _is_within(self, entry: Entry, names: Sequence[str], others: Sequence[Entry]) -> bool:
         """Whether scf proves that others cover an entry."""
@@ -175,11 +175,11 @@ def _overlap(one: Conditions, other: Conditions) -> bool:
     return record_of([one, other], []) is not None
 
 
-def conflicts(trial: Trial, entries: Sequence[Entry], told: int) -> Iterator[Conflict]:
+def conflicts(trial: Trial, entries: Sequence[Entry], most: int) -> Iterator[Conflict]:
     """Entries that conflict, each two once, at most so many of them."""
     seen: set[tuple[int, int]] = set()
     for count, (first, second, name) in enumerate(_pairs(entries, trial.table.number_of)):
-        if count >= PAIRS or len(seen) >= told:
+        if count >= PAIRS or len(seen) >= most:
             return
         if (first.place, second.place) not in seen and _overlap(first.conditions, second.conditions):
             seen.add((first.place, second.place))

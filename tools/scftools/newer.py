@@ -70,7 +70,7 @@ def compared_with_stub(comparison: Comparison, scope: str, first: int | None) ->
 
 def _told(calls: str, are_all: bool, first: int, table: Table) -> str:
     return (f"{'only ' if are_all else ''}{calls} with numbers above all that the profile names differ, the first is "
-            f"{Call(first).told(table)}; both sides deny them")
+            f"{Call(first).describe(table)}; both sides deny them")
 
 
 def greatest_named(comparison: Comparison) -> int | None:

@@ -27,7 +27,7 @@ class Path:
     decision: Decision
     places: tuple[int, ...] = ()
 
-    def told(self) -> str:
+    def describe(self) -> str:
         """The indexes; three or more consecutive ones as a range."""
         return " ".join(f"{first}-{last}" if last - first > 1 else " ".join(map(str, range(first, last + 1)))
                         for first, last in _stretches(self.places))
@@ -59,20 +59,20 @@ class Giver:
     is_alone: bool
     path: Path
 
-    def told(self) -> str:
+    def describe(self) -> str:
         return "the filter" if self.is_alone else self.filter.name
 
     def last_tests(self, call: Call, table: Table) -> Iterator[str]:
         """The last tests on its path, with a line before them."""
         before, lines = last_tests(self.filter.data, self.path, call, table)
-        yield f"the last tests on the path in {self.told()}" + (f", after {before} others:" if before else ":")
+        yield f"the last tests on the path in {self.describe()}" + (f", after {before} others:" if before else ":")
         yield from lines
 
     def as_json(self) -> dict[str, object]:
         return {"filter": self.filter.name, "places": list(self.path.places)}
 
 
-def givers(filters: Sequence[Filter], words: Sequence[str], answer: Answer) -> list[Giver]:
+def deciding_filters(filters: Sequence[Filter], words: Sequence[str], answer: Answer) -> list[Giver]:
     """The filters of a stack, oldest first, that give its answer; the kernel takes it from the last of them.
 
     It runs the newest first, and of equal actions keeps the one that it has (seccomp_run_filters in kernel/seccomp.c).
@@ -81,7 +81,7 @@ def givers(filters: Sequence[Filter], words: Sequence[str], answer: Answer) -> l
     return [it for it in runs if it.path.decision.answer == answer and it.path.places]
 
 
-def shown(found: Sequence[Giver]) -> Giver | None:
+def to_show(found: Sequence[Giver]) -> Giver | None:
     """Of the filters with the same answer, the one whose path is shown: the newest, whose answer the kernel takes.
 
     The kernel begins with ALLOW and takes it from no filter: then it is the one that runs the most instructions, since
@@ -120,6 +120,6 @@ def _tests(insns: Sequence[Instruction], places: Sequence[int], call: Call) -> I
 def last_tests(data: bytes, path: Path, call: Call, table: Table) -> tuple[int, list[str]]:
     """The last tests on a path and its end, as lines of the listing; and the number of tests before them."""
     insns = listing.instructions(data)
-    lines = list(listing.listed(data, client.run(["dis"], data).lines, table))
+    lines = list(listing.listing_lines(data, client.run(["dis"], data).lines, table))
     found = [f"{lines[place]}{way}" for place, way in _tests(insns, path.places, call)]
     return max(len(found) - MOST, 0), found[-MOST:]

@@ -56,7 +56,7 @@ class Stack:
         return [Filter(f"{at:0{width}}.bpf", data) for at, data in enumerate(self.filters)]
 
     @property
-    def told(self) -> str:
+    def description(self) -> str:
         """The number of filters, and their lengths."""
         if self.is_strict:
             return "no filter, but seccomp's strict mode"
@@ -67,7 +67,7 @@ class Stack:
 
 
 @dataclass
-class Found:
+class Inspection:
     """What was read while all threads were stopped."""
 
     # The distinct stacks, in the order of their first threads.
@@ -87,7 +87,7 @@ class Found:
                   f"time" for process, thread in self.asked_again)]
 
 
-def threads_told(threads: Sequence[int]) -> str:
+def threads_text(threads: Sequence[int]) -> str:
     """Threads by their numbers, which rise; neighbours as `7 to 9`."""
     runs: list[list[int]] = []
     for thread in threads:
@@ -99,7 +99,7 @@ def threads_told(threads: Sequence[int]) -> str:
     return f"thread{'s' * (len(threads) > 1)} {shown}"
 
 
-def found_in(kernel: Kernel, hold: Hold) -> Found:
+def found_in(kernel: Kernel, hold: Hold) -> Inspection:
     """What the stopped threads have. An equal filter of another thread is kept once."""
     stacks: dict[tuple[tuple[bytes, ...], bool], Stack] = {}
     names: dict[int, bytes] = {}
@@ -114,11 +114,11 @@ def found_in(kernel: Kernel, hold: Hold) -> Found:
         if process not in names:
             names[process] = kernel.name_of(process)
     passed_over = {process: why for process, why in hold.passed_over.items() if process not in names}
-    return Found(list(stacks.values()), names, passed_over, asked_again)
+    return Inspection(list(stacks.values()), names, passed_over, asked_again)
 
 
 def read_threads(kernel: Kernel, listed: Callable[[], dict[int, int]], patience: float,
-                 is_forced: bool = False, restarts: Restarts | None = None) -> Found:
+                 is_forced: bool = False, restarts: Restarts | None = None) -> Inspection:
     """Stops all threads that are listed, reads what each has, and lets them run on. `restarts` is that of an earlier
     call, if there was one."""
     require_rights(kernel)
@@ -131,7 +131,7 @@ def read_threads(kernel: Kernel, listed: Callable[[], dict[int, int]], patience:
                 hold.drop(ended.args[0])
 
 
-def look(kernel: Kernel, listed: Callable[[], dict[int, int]], patience: float, is_forced: bool) -> Found:
+def look(kernel: Kernel, listed: Callable[[], dict[int, int]], patience: float, is_forced: bool) -> Inspection:
     """Reads all threads that are listed, in a child process, so that it ends in time whatever it waits for."""
     try:
         return child.run(lambda: read_threads(kernel, listed, TO_STOP * patience, is_forced), patience)
@@ -151,7 +151,7 @@ def process_of(kernel: Kernel, number: int) -> int:
 
 
 def look_at_process(kernel: Kernel, process: int, thread: int | None = None, patience: float = PATIENCE,
-                    is_forced: bool = False) -> Found:
+                    is_forced: bool = False) -> Inspection:
     """Reads all threads of a process, or one of them."""
 
     def listed() -> dict[int, int]:
@@ -168,7 +168,7 @@ def look_at_process(kernel: Kernel, process: int, thread: int | None = None, pat
 
 
 def look_at_container(kernel: Kernel, container: Container, patience: float = PATIENCE,
-                      is_forced: bool = False) -> Found:
+                      is_forced: bool = False) -> Inspection:
     """Reads all threads of all processes of a container."""
 
     def listed() -> dict[int, int]:

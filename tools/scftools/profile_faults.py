@@ -11,12 +11,12 @@ from collections.abc import Iterator
 from . import json_places
 from .client import Fault
 from .json_places import Path
-from .profiles import ACTIONS, LONGEST_NUMBER, Made
+from .profiles import ACTIONS, LONGEST_NUMBER, DerivedProfile
 from .reasons import HOLDS
 from .values import Any
 
 # A kind of fault, the path of the value that is wrong or lacks a member, and what is to be said.
-Found = tuple[str, Path, str]
+MemberFault = tuple[str, Path, str]
 
 X86_64, WITH_ERRNO = "SCMP_ARCH_X86_64", ("SCMP_ACT_ERRNO", "SCMP_ACT_TRACE")
 WORD, MOST_ERRNO = 1 << 64, 65535
@@ -38,15 +38,15 @@ def _is_whole(value: object, least: int = 0) -> bool:
     return type(value) is int and least <= value < WORD
 
 
-def _kind(path: Path, value: object, what: str) -> Found:
+def _kind(path: Path, value: object, what: str) -> MemberFault:
     return "Kind", path, f"is {_shown(value)}, not {what}"
 
 
-def _missing(path: Path, name: str) -> Found:
+def _missing(path: Path, name: str) -> MemberFault:
     return "Missing", path, f"has no {name}"
 
 
-def _word(holder: dict[str, Any], path: Path, name: str, known: tuple[str, ...], kind: str) -> Iterator[Found]:
+def _word(holder: dict[str, Any], path: Path, name: str, known: tuple[str, ...], kind: str) -> Iterator[MemberFault]:
     """An action or an operator."""
     value = holder.get(name)
     if value is None:
@@ -57,7 +57,7 @@ def _word(holder: dict[str, Any], path: Path, name: str, known: tuple[str, ...],
         yield kind, [*path, name], f"is {_shown(value)}, which is none"
 
 
-def _errno(holder: dict[str, Any], path: Path, name: str, action: object) -> Iterator[Found]:
+def _errno(holder: dict[str, Any], path: Path, name: str, action: object) -> Iterator[MemberFault]:
     value = holder.get(name)
     if value is None:
         return
@@ -69,12 +69,12 @@ def _errno(holder: dict[str, Any], path: Path, name: str, action: object) -> Ite
         yield "ErrnoRange", [*path, name], f"is {_shown(value)}"
 
 
-def _engine_member(holder: dict[str, Any], path: Path, name: str) -> Iterator[Found]:
+def _engine_member(holder: dict[str, Any], path: Path, name: str) -> Iterator[MemberFault]:
     if holder.get(name) is not None and holder[name] not in ({}, []):
         yield "EngineForm", [*path, name], f"is {_shown(holder[name])}"
 
 
-def _condition(one: Any, path: Path, seen: set[int]) -> Iterator[Found]:
+def _condition(one: Any, path: Path, seen: set[int]) -> Iterator[MemberFault]:
     if not isinstance(one, dict):
         yield _kind(path, one, "an object")
         return
@@ -96,7 +96,7 @@ def _condition(one: Any, path: Path, seen: set[int]) -> Iterator[Found]:
     seen.add(index)
 
 
-def _entry(entry: Any, path: Path) -> Iterator[Found]:
+def _entry(entry: Any, path: Path) -> Iterator[MemberFault]:
     if not isinstance(entry, dict):
         yield _kind(path, entry, "an object")
         return
@@ -122,7 +122,7 @@ def _entry(entry: Any, path: Path) -> Iterator[Found]:
         yield from _condition(one, [*path, "args", at], seen)
 
 
-def _profile(top: Any, path: Path) -> Iterator[Found]:
+def _profile(top: Any, path: Path) -> Iterator[MemberFault]:
     """The faults of a seccomp object, in the order in which scf tests it; the first is scf's."""
     if not isinstance(top, dict):
         yield _kind(path, top, "an object")
@@ -146,7 +146,7 @@ def _profile(top: Any, path: Path) -> Iterator[Found]:
         yield from _entry(entry, [*path, "syscalls", at])
 
 
-def _root(value: Any) -> tuple[Any, list[str], Found | None]:
+def _root(value: Any) -> tuple[Any, list[str], MemberFault | None]:
     """The seccomp object of a profile or a whole config.json, its path, or a fault on the way to it."""
     if not isinstance(value, dict):
         return value, [], _kind([], value, "an object")
@@ -170,21 +170,21 @@ def _read(data: bytes) -> tuple[str, Any] | None:
 
 def _line(data: bytes, text: str, path: Path, what: str) -> str:
     within = getattr(data, "within", None)
-    told = json_places.path_told([within, *path] if within else path) or "the profile"
-    where = None if isinstance(data, Made) else json_places.place_of(text, path)
-    return f"{told} {what}" + (f", at {where}" if where is not None else "")
+    member = json_places.path_text([within, *path] if within else path) or "the profile"
+    where = None if isinstance(data, DerivedProfile) else json_places.place_of(text, path)
+    return f"{member} {what}" + (f", at {where}" if where is not None else "")
 
 
 def _of_conflict(data: bytes, text: str, value: Any, fault: Fault) -> Iterator[str]:
     _, path, _ = _root(value)
     places = [json_places.place_of(text, [*path, "syscalls", fault.numbers[name]]) for name in ("first", "second")]
-    if not isinstance(data, Made) and None not in places:
+    if not isinstance(data, DerivedProfile) and None not in places:
         yield f"the entries begin at {places[0]} and at {places[1]}"
 
 
-def told(fault: Fault, data: bytes) -> Iterator[str]:
+def describe(fault: Fault, data: bytes) -> Iterator[str]:
     """The member that a fault of a profile is about, and where it stands, if that is known."""
-    is_resolved = isinstance(data, Made) and data.within is None
+    is_resolved = isinstance(data, DerivedProfile) and data.within is None
     is_told = fault.source == "profile" and fault.kind in KINDS and not is_resolved
     found = _read(data) if is_told else None
     if found is None:

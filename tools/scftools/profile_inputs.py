@@ -7,7 +7,7 @@ import re
 from collections.abc import Sequence
 
 from . import engines, filters, inputs, kubernetes, profiles, program
-from .profiles import Made, Origin
+from .profiles import DerivedProfile, Origin
 from .values import dataclass
 
 TYPE_CHECKING = False
@@ -23,7 +23,7 @@ HELP = ("PROFILE is an engine's own: resolve it, as resolve-profile does, for a 
 
 
 @dataclass(frozen=True)
-class Given:
+class ProfileInput:
     """A profile for scf; of one that was resolved, where its entries stand in the file."""
 
     data: bytes
@@ -35,28 +35,28 @@ def add_caps(parser: Parser) -> None:
     parser.add_argument("--caps", metavar="LIST", help=HELP)
 
 
-def _refuse_others(data: bytes, told: str) -> None:
+def _refuse_others(data: bytes, label: str) -> None:
     """Refuses what isn't a profile, where that is known."""
     if data.startswith(b"\x7fELF"):
-        raise program.ToolError(f"{told} is an ELF file (a program, library or object), not a profile")
+        raise program.ToolError(f"{label} is an ELF file (a program, library or object), not a profile")
     if filters.are_codes(data):
-        raise program.ToolError(f"{told} is a raw filter, not a profile; `surface A --beside B` compares two filters")
+        raise program.ToolError(f"{label} is a raw filter, not a profile; `surface A --beside B` compares two filters")
     if not data.lstrip().startswith((b"[", b"{")):
         return
     if OF_CRI in data and b'"defaultAction"' in data:
-        raise program.ToolError(f"{told} is what `crictl inspect` prints: take its .info.runtimeSpec, as with jq")
+        raise program.ToolError(f"{label} is what `crictl inspect` prints: take its .info.runtimeSpec, as with jq")
     if OF_DOCKER not in data:
         return
     if OF_PODMAN in data:
-        raise program.ToolError(f"{told} is what `podman inspect` prints: take the file that `podman inspect -f "
+        raise program.ToolError(f"{label} is what `podman inspect` prints: take the file that `podman inspect -f "
                                 "'{{.OCIConfigPath}}' NAME` names")
     found = ID.search(data)
     name = found[1].decode() if found else "ID"
-    raise program.ToolError(f"{told} is what `docker inspect` prints: take {TASK.format(name)}, as long as the "
+    raise program.ToolError(f"{label} is what `docker inspect` prints: take {TASK.format(name)}, as long as the "
                             f"container runs")
 
 
-def looks_so(data: bytes) -> bool:
+def looks_like_profile(data: bytes) -> bool:
     """Whether an input is meant to be a profile, and not a filter: an object, which no C array is, or YAML."""
     is_object = data.lstrip(b" \t\r\n")[:1] == b"{" and not re.match(rb"\s*\{\s*(?:[{(0-9]|BPF_)", data)
     return is_object or kubernetes.is_yaml(data)
@@ -64,21 +64,21 @@ def looks_so(data: bytes) -> bool:
 
 def plain(data: bytes, name: str) -> bytes:
     """A profile as runtimes read it: of a SeccompProfile its spec, all else as it is. Refuses what isn't one."""
-    told = inputs.told(name)
-    _refuse_others(data, told)
+    label = inputs.label(name)
+    _refuse_others(data, label)
     try:
         spec = kubernetes.spec_of(data)
-    except engines.Refused as why:
-        raise program.ToolError(f"{told}: {why}", program.NEGATIVE) from why
+    except engines.ResolveError as why:
+        raise program.ToolError(f"{label}: {why}", program.NEGATIVE) from why
     if spec is None:
         return data
-    program.say(f"{told} is a {kubernetes.KIND} of Kubernetes: its spec is the profile")
-    made = Made(spec)
+    program.say(f"{label} is a {kubernetes.KIND} of Kubernetes: its spec is the profile")
+    made = DerivedProfile(spec)
     made.within = "spec"
     return made
 
 
-def _resolved(data: bytes, name: str, caps: str) -> Given:
+def _resolved(data: bytes, name: str, caps: str) -> ProfileInput:
     """An engine's profile resolved for a container with these capabilities, on this kernel."""
     try:
         capabilities = engines.capabilities_of(caps)
@@ -89,10 +89,10 @@ def _resolved(data: bytes, name: str, caps: str) -> Given:
         resolver = engines.Resolver(setting, lambda _: None)
         found = resolver.resolved(engines.read(data))
         resolver.keep_first(found)
-        given = Given(Made(engines.compact(found)), resolver.origins)
-    except engines.Refused as why:
-        raise program.ToolError(f"{inputs.told(name)}: {why}", program.NEGATIVE) from why
-    program.say(f"{inputs.told(name)} is resolved as by resolve-profile --keep-first --caps {caps}, "
+        given = ProfileInput(DerivedProfile(engines.to_bytes(found)), resolver.origins)
+    except engines.ResolveError as why:
+        raise program.ToolError(f"{inputs.label(name)}: {why}", program.NEGATIVE) from why
+    program.say(f"{inputs.label(name)} is resolved as by resolve-profile --keep-first --caps {caps}, "
                                f"which says what is left out; entries that are left: {len(found['syscalls'])}")
     return given
 
@@ -107,13 +107,13 @@ def read_as_it_is(name: str, caps: str | None = None) -> bytes:
     return plain(inputs.read(name, "profile"), name) if caps is None else read(name, caps).data
 
 
-def read(name: str, caps: str | None = None, is_runtimes: bool = False) -> Given:
+def read(name: str, caps: str | None = None, is_runtimes: bool = False) -> ProfileInput:
     """The profile in a file, a pipe or standard input, with `caps` an engine's. Refuses one with members that only
     podman reads otherwise than scf, or, if a runtime is said to apply it, that any program in Go does; scf itself
     refuses the other members of engines."""
     if caps is not None:
         return _resolved(read_engines(name), name, caps)
-    return Given(checked(plain(inputs.read(name, "profile"), name), is_runtimes))
+    return ProfileInput(checked(plain(inputs.read(name, "profile"), name), is_runtimes))
 
 
 def checked(data: bytes, is_runtimes: bool = False) -> bytes:
@@ -124,5 +124,5 @@ def checked(data: bytes, is_runtimes: bool = False) -> bytes:
         raise program.ToolError(f"{found}, which only podman reads: {hint}", program.NEGATIVE)
     misread = profiles.misread_members(data) if is_runtimes else []
     if misread:
-        raise program.ToolError(f"{misread[0].told()}", program.NEGATIVE)
+        raise program.ToolError(f"{misread[0].describe()}", program.NEGATIVE)
     return data

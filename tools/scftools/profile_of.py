@@ -190,7 +190,7 @@ class ProvedProfile:
 
     @property
     def text(self) -> str:
-        return engines.printed(self.profile)
+        return engines.to_text(self.profile)
 
 
 @dataclass(frozen=True)
@@ -204,10 +204,10 @@ class Request:
 
     def comparison(self, profile: dict[str, object], relation: str = SAME) -> tuple[Comparison, int | None]:
         """The comparison of the filters with a profile, and the number from which on the runtime may put a stub."""
-        found = Comparison(self.filters, engines.compact(profile), self.table, self.limit, OF_FILTERS[relation])
+        found = Comparison(self.filters, engines.to_bytes(profile), self.table, self.limit, OF_FILTERS[relation])
         if self.runtime is None:
             return found, None
-        applied = runtimes.applied(engines.read(found.profile), self.runtime)
+        applied = runtimes.apply(engines.read(found.profile), self.runtime)
         return replace(found, profile=applied.data, origins=applied.origins), applied.stub
 
     def compared(self, profile: dict[str, object], relation: str, scope: str = NATIVE) -> tuple[Report, int | None]:
@@ -270,7 +270,7 @@ def _bounds(request: Request, answers: FilterAnswers) -> list[ProvedProfile]:
 
 def _other_number(request: Request, answers: FilterAnswers, profile: dict[str, object]) -> Iterator[str]:
     """A line with an example of a number that the table doesn't name, if the profile's default isn't its answer."""
-    asker, data = Asker([it.data for it in request.filters], request.limit), engines.compact(profile)
+    asker, data = Asker([it.data for it in request.filters], request.limit), engines.to_bytes(profile)
     default = {it: profile[it] for it in ("defaultAction", "defaultErrnoRet") if it in profile}
     for number, found in answers.others():
         for word, arguments in found:
@@ -323,7 +323,7 @@ def of_request(request: Request, relation: str) -> Result:
     if same is not None:
         comparison, _ = request.comparison(same.profile)
         remarks = list(compare.of_foreign(comparison, same.report, NATIVE, is_quiet=True))
-        return Result(program.SUCCESS, same.text, remarks + ([runtimes.stub_told(same.stub)] if same.stub else []))
+        return Result(program.SUCCESS, same.text, remarks + ([runtimes.stub_note(same.stub)] if same.stub else []))
     if relation != SAME:
         bound = _bound(request, answers, relation)
         if bound is None:

@@ -18,7 +18,7 @@ SURROGATE = re.compile("[\ud800-\udfff]")
 # No number that scf takes has more digits.
 LONGEST_NUMBER = 40
 # The default actions that allow what no rule names.
-LETS_THROUGH = ("SCMP_ACT_ALLOW", "SCMP_ACT_LOG")
+ALLOWING = ("SCMP_ACT_ALLOW", "SCMP_ACT_LOG")
 ACTIONS = tuple(f"SCMP_ACT_{it}" for it in
                 "ALLOW LOG ERRNO TRACE TRAP NOTIFY KILL KILL_THREAD KILL_PROCESS".split())
 
@@ -40,7 +40,7 @@ CONFIG = {**SECCOMP, "linux": {"seccomp": SECCOMP}}
 _FOLD = {**{upper: upper + 32 for upper in range(ord("A"), ord("Z") + 1)}, 0x17F: ord("s"), 0x212A: ord("k")}
 
 
-class Made(bytes):
+class DerivedProfile(bytes):
     """A profile that a tool made of another one: no line and no column of it is one of the user's file. `within` is the
     member of the file that it is, or None if the file has other entries."""
 
@@ -57,8 +57,8 @@ class Profile:
     names: list[str]
 
     @property
-    def lets_through_by_default(self) -> bool:
-        return self.default in LETS_THROUGH
+    def allows_by_default(self) -> bool:
+        return self.default in ALLOWING
 
     def default_alone(self) -> bytes:
         """The profile without its entries."""
@@ -125,7 +125,7 @@ class Misread:
     name: str
     read_as: str
 
-    def told(self) -> str:
+    def describe(self) -> str:
         if self.name == self.read_as:
             return f"{self.where} has the member '{self.name}' more than once: programs in Go take the last"
         spelled = self.name.encode("ascii", "backslashreplace").decode()
@@ -140,8 +140,8 @@ def where_in(where: str, name: str, index: int | None = None) -> str:
     """The name of a nested value, such as "entry 3: args 0"."""
     if name == "syscalls":
         return "syscalls" if index is None else f"entry {index}"
-    told = name if index is None else f"{name} {index}"
-    return told if where == "the profile" else f"{where}: {told}"
+    member = name if index is None else f"{name} {index}"
+    return member if where == "the profile" else f"{where}: {member}"
 
 
 def _misread_in(value: object, members: object, where: str) -> Iterator[Misread]:
@@ -218,7 +218,7 @@ def _odd_value(text: str) -> str | None:
     """A value that Python's reader takes, and scf's doesn't: NaN and the like, a number out of range, an unpaired
     surrogate."""
     for at, path, token in json_places.values(text):
-        where = f"at {json_places.place(text, at)} {json_places.path_told(path) or 'the profile'}"
+        where = f"at {json_places.place(text, at)} {json_places.path_text(path) or 'the profile'}"
         if token in ("NaN", "Infinity", "-Infinity"):
             return f"{where} is {token}, which isn't a JSON number"
         if token[0] in "-0123456789" and len(token) <= LONGEST_NUMBER and abs(float(token)) == float("inf"):
@@ -260,7 +260,7 @@ class Origin:
     index: int
     names: str
 
-    def told(self) -> str:
+    def describe(self) -> str:
         return f"entry {self.index}" + (f" ({self.names})" if self.names else "")
 
 
@@ -271,6 +271,6 @@ STUB = Origin(-1, "")
 def original_entries(numbers: dict[str, int], origins: Sequence[Origin]) -> Iterator[str]:
     """The entries of the user's profile for those that a fault in the resolved one names."""
     named = [numbers[it] for it in ("entry", "first", "second") if it in numbers]
-    found = [origins[index].told() for index in named if index < len(origins)]
+    found = [origins[index].describe() for index in named if index < len(origins)]
     if found:
         yield f"in the original file that is {' and '.join(dict.fromkeys(found))}"

@@ -68,7 +68,7 @@ def meaning(text: str, call: Call | None, table: Table) -> Iterator[str]:
         yield from explanation.of_answer(call, reason.answer, table)
 
 
-def _shown(entry: object) -> str:
+def _entry_text(entry: object) -> str:
     """An entry as JSON on one line, truncated if it is long."""
     text = json.dumps(entry)
     more = len(text) - LONGEST
@@ -80,7 +80,7 @@ def _conditions(entry: object) -> list[dict[str, object]]:
     return [it for it in given if isinstance(it, dict)] if isinstance(given, list) else []
 
 
-def _held(condition: dict[str, object], call: Call) -> str | None:
+def _condition_text(condition: dict[str, object], call: Call) -> str | None:
     """A condition that the record meets, with the argument's value; None if it doesn't, or that is unknown."""
     index, value, two = condition.get("index"), condition.get("value"), condition.get("valueTwo") or 0
     op = condition.get("op")
@@ -98,7 +98,8 @@ def index_of(reason: Reason, origins: Sequence[Origin] | None) -> int | None:
     return reason.entry if reason.entry is None or origins is None else origins[reason.entry].index
 
 
-def told(reason: Reason, profile: bytes, call: Call | None, origins: Sequence[Origin] | None = None) -> Iterator[str]:
+def describe(reason: Reason, profile: bytes, call: Call | None,
+             origins: Sequence[Origin] | None = None) -> Iterator[str]:
     """What gives the answer; for an entry also which conditions hold."""
     if reason.answer is None:
         return
@@ -111,9 +112,9 @@ def told(reason: Reason, profile: bytes, call: Call | None, origins: Sequence[Or
         if index is not None and index < 0:
             yield BY_STUB
             return
-        yield f"by entry {index} of syscalls" + (f": {_shown(entry)}" if entry is not None else "")
+        yield f"by entry {index} of syscalls" + (f": {_entry_text(entry)}" if entry is not None else "")
         for condition in _conditions(entry) if call else ():
-            held = _held(condition, call)
+            held = _condition_text(condition, call)
             if held:
                 yield held
 
@@ -128,7 +129,7 @@ def as_json(reason: Reason, profile: bytes, call: Call | None,
     found: dict[str, object] = {"reason": word}
     if reason.entry is not None and word == "entry":
         entry = profiles.entry_at(profile, reason.entry)
-        held = [_held(it, call) for it in _conditions(entry)] if call else []
+        held = [_condition_text(it, call) for it in _conditions(entry)] if call else []
         found.update(place=index, entry=entry, held=[it for it in held if it])
     return found
 
@@ -151,14 +152,14 @@ class Difference:
             return None
         is_stub = comparison.stub is not None and comparison.stub <= call.number
         return cls(comparison, call, None if is_stub else of(comparison.profile, comparison.table, call.words()),
-                   paths.shown(paths.givers(comparison.filters, call.words(), verdict.filters)))
+                   paths.to_show(paths.deciding_filters(comparison.filters, call.words(), verdict.filters)))
 
     def lines(self) -> Iterator[str]:
         """What decides in the profile, and the last tests on the filter's path."""
         if self.reason is None:
             yield BY_STUB
         else:
-            yield from told(self.reason, self.comparison.profile, self.call, self.comparison.origins)
+            yield from describe(self.reason, self.comparison.profile, self.call, self.comparison.origins)
         if self.giver is not None:
             yield from self.giver.last_tests(self.call, self.comparison.table)
 

@@ -10,7 +10,7 @@ from .profiles import Origin
 from .tables import Table
 
 
-def named(names: Sequence[str]) -> str:
+def join_names(names: Sequence[str]) -> str:
     """Names in a sentence."""
     return names[0] if len(names) == 1 else ", ".join(names[:-1]) + f" and {names[-1]}"
 
@@ -24,7 +24,7 @@ def sentences(fault: Fault, profile: bytes, table: Table, origins: Sequence[Orig
     elif fault.source == "profile" and origins is not None:
         yield from profiles.original_entries(fault.numbers, origins)
     elif fault.source == "profile":
-        yield from profile_faults.told(fault, profile)
+        yield from profile_faults.describe(fault, profile)
 
 
 def faulty_filters(filters: Sequence[Filter], fault: Fault) -> list[str]:

@@ -15,7 +15,7 @@ from .calls import Call
 from .client import Refusal
 from .engines import KEPT
 from .entries import Condition, Entry, Object
-from .profiles import LETS_THROUGH
+from .profiles import ALLOWING
 from .reasons import Reason
 from .strace import Seen
 from .tables import Table
@@ -29,9 +29,9 @@ if TYPE_CHECKING:
     # an example that is allowed, and one that isn't, with its answer
     Answers = tuple[Call | None, tuple[Call, Answer] | None]
 
-IS_MADE, ISNT_MADE, DEPENDS, UNTOLD = "made", "not made", "depends", "untold"
+IS_ALLOWED, ISNT_ALLOWED, DEPENDS, UNDECIDED = "made", "not made", "depends", "untold"
 # The words of text output; JSON has those above.
-WORDS = {IS_MADE: "allowed", ISNT_MADE: "not allowed", DEPENDS: DEPENDS, UNTOLD: "undecided"}
+WORDS = {IS_ALLOWED: "allowed", ISNT_ALLOWED: "not allowed", DEPENDS: DEPENDS, UNDECIDED: "undecided"}
 # The most entries with conditions for one name, and the most syscalls to judge, each with each of its values.
 CONDITIONS, WAYS = 64, 2000
 REFERRED, EQUAL = ("SCMP_ACT_TRACE", 1), "SCMP_CMP_EQ"
@@ -49,7 +49,7 @@ OF_RUNTIMES = {
 
 
 @dataclass(frozen=True)
-class Traced:
+class TracedCall:
     """A syscall in a log: its number, its name, and the values of the arguments that a condition tests; None if one
     isn't known."""
 
@@ -73,17 +73,17 @@ class Traced:
         for values in itertools.product(*(values for _, values in pairs)):
             yield dict(zip((index for index, _ in pairs), values))
 
-    def told(self) -> str:
+    def describe(self) -> str:
         shown = "".join(f" arg {index} {values[0]:#x}" for index, values in self.arguments
                         if values is not None and len(values) == 1)
         return f"{self.number} {self.name}{shown}"
 
 
 @dataclass(frozen=True)
-class Judged:
+class Judgement:
     """The result for a syscall: allowed, not allowed, or it depends; with examples and their answers."""
 
-    traced: Traced
+    traced: TracedCall
     disposition: str
     line: str = ""
     made: Call | None = None
@@ -94,7 +94,7 @@ class Judged:
 class Needs:
     """The result: the syscalls that were judged, and what wasn't."""
 
-    judged: list[Judged]
+    judged: list[Judgement]
     unnamed: dict[str, int] = field(default_factory=dict)
     foreign: int = 0
     unread: int = 0
@@ -106,7 +106,7 @@ class Needs:
     # whether there are several logs, whose names lines then say
     are_several: bool = False
 
-    def of(self, disposition: str) -> list[Judged]:
+    def of(self, disposition: str) -> list[Judgement]:
         return [it for it in self.judged if it.disposition == disposition]
 
     @property
@@ -117,9 +117,9 @@ class Needs:
 
     @property
     def status(self) -> int:
-        if self.of(ISNT_MADE):
+        if self.of(ISNT_ALLOWED):
             return program.NEGATIVE
-        return program.UNKNOWN if self.of(DEPENDS) or self.of(UNTOLD) or self.isnt_whole else program.SUCCESS
+        return program.UNKNOWN if self.of(DEPENDS) or self.of(UNDECIDED) or self.isnt_whole else program.SUCCESS
 
 
 class Judge:
@@ -146,16 +146,17 @@ class Judge:
     def number_of(self, name: str) -> int | None:
         return strace.number_of(name, self.table)
 
-    def of(self, traced: Traced) -> Judged:
+    def of(self, traced: TracedCall) -> Judgement:
         made, refused, line = None, None, ""
         for values in traced.known():
             answers = self._compared(traced, values) if traced.unknown else self._asked(traced, values)
             if isinstance(answers, Verdict):
-                return Judged(traced, UNTOLD, answers.word)
+                return Judgement(traced, UNDECIDED, answers.word)
             made, refused = answers[0] or made, answers[1] or refused
         if refused:
             line = self._reason(refused[0]).line
-        return Judged(traced, DEPENDS if made and refused else IS_MADE if made else ISNT_MADE, line, made, refused)
+        disposition = DEPENDS if made and refused else IS_ALLOWED if made else ISNT_ALLOWED
+        return Judgement(traced, disposition, line, made, refused)
 
     def _reason(self, call: Call) -> Reason:
         found = reasons.of(self.profile, self.table, call.words())
@@ -163,13 +164,13 @@ class Judge:
             raise Refusal(found.line, found.status)
         return found
 
-    def _asked(self, traced: Traced, values: dict[int, int]) -> Answers:
+    def _asked(self, traced: TracedCall, values: dict[int, int]) -> Answers:
         """By `scf ask`: the syscall with these arguments, as one that is allowed or one that isn't."""
         call = Call(traced.number, arguments=tuple(values.get(index, 0) for index in range(6)))
         answer = self._reason(call).answer
         return (call, None) if answer is None or answer.disposition == ALLOWED else (None, (call, answer))
 
-    def _verdict(self, traced: Traced, values: dict[int, int], default: str, answer: tuple[str, int],
+    def _verdict(self, traced: TracedCall, values: dict[int, int], default: str, answer: tuple[str, int],
                  relation: str) -> Verdict:
         """What scf says of the filter beside a profile that gives the calls with these arguments an answer."""
         conditions = tuple(Condition(index, EQUAL, value, 0) for index, value in values.items())
@@ -177,7 +178,7 @@ class Judge:
         table = f"it {traced.number}\n".encode()
         return self.trial.report([self.filter], beside, table, "--native", relation).verdict or Verdict(UNFINISHED)
 
-    def _compared(self, traced: Traced, values: dict[int, int]) -> Answers | Verdict:
+    def _compared(self, traced: TracedCall, values: dict[int, int]) -> Answers | Verdict:
         """By comparisons: a syscall with these arguments that is allowed, and one that isn't; or only a verdict."""
         less = self._verdict(traced, values, "SCMP_ACT_ERRNO", ("SCMP_ACT_ALLOW", 0), "--no-less")
         more = self._verdict(traced, values, "SCMP_ACT_ALLOW", REFERRED, "--no-more")
@@ -190,13 +191,13 @@ class Judge:
 def find(log: Trace, judge: Judge) -> Needs:
     """The calls of a log, by their numbers, each judged."""
     found = Needs([], {}, log.foreign.count, log.unread.count, log.cut.count, log.left.count, log.lost.count, log.fault)
-    traced: list[Traced] = []
+    traced: list[TracedCall] = []
     for (name, values), seen in log.calls.items():
         number = judge.number_of(name)
         if number is None:
             found.unnamed[name] = found.unnamed.get(name, 0) + seen.count
         else:
-            traced.append(Traced(number, name, tuple(zip(judge.looked_at(name), values)), seen))
+            traced.append(TracedCall(number, name, tuple(zip(judge.looked_at(name), values)), seen))
     ways = 0
     for one in sorted(traced, key=lambda it: (it.number, it.name, it.seen.line)):
         ways += sum(1 for _ in one.known())
@@ -215,18 +216,18 @@ def _where(seen: Seen, are_several: bool) -> str:
     return f"{'once' if seen.count == 1 else f'{seen.count} times, first'} in line {seen.line} of {log}"
 
 
-def _of_judged(one: Judged, are_several: bool) -> Iterator[str]:
+def _of_judged(one: Judgement, are_several: bool) -> Iterator[str]:
     """The lines of a syscall that isn't allowed, or not always."""
-    if one.disposition == ISNT_MADE:
-        yield f"{one.traced.told()} {one.line}"
+    if one.disposition == ISNT_ALLOWED:
+        yield f"{one.traced.describe()} {one.line}"
     elif one.disposition == DEPENDS:
         unsure = one.traced.unsure
         args = f"arg {unsure[0]}" if len(unsure) == 1 else f"args {', '.join(map(str, unsure))}"
-        yield f"{one.traced.told()} depends on {args}"
+        yield f"{one.traced.describe()} depends on {args}"
         if one.made and one.refused:
             yield (f"# allowed with {_arguments(one.made)}; with {_arguments(one.refused[0])} it is {one.refused[1]}")
     else:
-        yield f"{one.traced.told()} {one.line}"
+        yield f"{one.traced.describe()} {one.line}"
     yield f"# {_where(one.traced.seen, are_several)}"
 
 
@@ -237,11 +238,11 @@ def _arguments(call: Call) -> str:
 def _of_unjudged(needs: Needs) -> Iterator[str]:
     """What in the log wasn't judged."""
     elsewhere = tables.names_elsewhere() if needs.unnamed else ()
-    for name, count in sorted(needs.unnamed.items())[:tables.TOLD]:
+    for name, count in sorted(needs.unnamed.items())[:tables.MOST_LISTED]:
         yield (f"not judged, since the table doesn't have it: {name}, times: {count}"
                + ("; it is a syscall of other architectures alone" if name in elsewhere else ""))
-    if len(needs.unnamed) > tables.TOLD:
-        yield f"more such names: {len(needs.unnamed) - tables.TOLD}"
+    if len(needs.unnamed) > tables.MOST_LISTED:
+        yield f"more such names: {len(needs.unnamed) - tables.MOST_LISTED}"
     if needs.foreign:
         yield f"syscalls not judged, since their processes don't run in 64-bit mode: {needs.foreign}"
     if needs.cut:
@@ -260,12 +261,12 @@ def _of_unjudged(needs: Needs) -> Iterator[str]:
 
 def lines(needs: Needs) -> Iterator[str]:
     """The text output: what isn't allowed, what depends, and counts."""
-    for disposition in (ISNT_MADE, DEPENDS, UNTOLD):
+    for disposition in (ISNT_ALLOWED, DEPENDS, UNDECIDED):
         for one in needs.of(disposition):
             yield from _of_judged(one, needs.are_several)
     yield from output.notes(_of_unjudged(needs))
-    counts = ", ".join(f"{WORDS[it]} {len(needs.of(it))}" for it in (IS_MADE, ISNT_MADE, DEPENDS, UNTOLD)
-                       if it != UNTOLD or needs.of(UNTOLD))
+    counts = ", ".join(f"{WORDS[it]} {len(needs.of(it))}" for it in (IS_ALLOWED, ISNT_ALLOWED, DEPENDS, UNDECIDED)
+                       if it != UNDECIDED or needs.of(UNDECIDED))
     yield f"# syscalls, each with the arguments that conditions test: {counts}"
 
 
@@ -284,7 +285,7 @@ def as_json(needs: Needs, table: Table) -> dict[str, object]:
                                 "reason": one.line.split(" ", 2)[-1]}
         if one.made and one.disposition == DEPENDS:
             shown["made"] = one.made.as_json(table)
-        if one.disposition == UNTOLD:
+        if one.disposition == UNDECIDED:
             shown["verdict"] = one.line
         found.append(shown)
     return {"status": needs.status, "calls": found,
@@ -315,7 +316,7 @@ def least_profile(needs: Needs, judge: Judge) -> tuple[str, list[str]]:
     """The smallest profile that allows the syscalls of the log, as JSON, and what isn't in it."""
     top, default = judge.top, judge.top["defaultAction"]
     found: dict[str, object] = {"defaultAction": default}
-    if default in LETS_THROUGH:
+    if default in ALLOWING:
         found = {"defaultAction": "SCMP_ACT_ERRNO"}
     elif "defaultErrnoRet" in top:
         found["defaultErrnoRet"] = top["defaultErrnoRet"]

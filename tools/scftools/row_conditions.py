@@ -49,24 +49,24 @@ def _together(text: str) -> str:
     return f"({text})" if "|" in text else text
 
 
-def _told_condition(one: Condition, syscall: str, others: Alternative) -> str:
+def _condition_text(one: Condition, syscall: str, others: Alternative) -> str:
     """A condition as people write it, among those that hold together."""
     first = next((it.value for it in others if it.index == 0 and it.op == "SCMP_CMP_EQ"), None)
     family, name = constants.family_of(syscall, one.index, first), _name_of(syscall, one.index)
     is_whole = one.op != "SCMP_CMP_MASKED_EQ" or one.value == HALF
     value = one.value if one.op != "SCMP_CMP_MASKED_EQ" else one.two
-    told = None
+    shown = None
     if family is not None and value <= HALF and (value or is_whole) and one.op not in ("SCMP_CMP_LE", "SCMP_CMP_GE"):
-        told = family.told(value) if is_whole else family.bits_told(value)
+        shown = family.describe(value) if is_whole else family.bit_names(value)
     # a value of which only some bits have names is a number
-    shown = _together(_number(value) if told is None or "|0x" in told else told)
+    shown = _together(_number(value) if shown is None or "|0x" in shown else shown)
     if one.op != "SCMP_CMP_MASKED_EQ":
         return f"{name} {SIGNS[one.op]} {shown}"
-    bits = family.bits_told(one.value) if family is not None and not is_whole and one.value <= HALF else None
+    bits = family.bit_names(one.value) if family is not None and not is_whole and one.value <= HALF else None
     return f"{name} & {_together(bits or _number(one.value))} == {shown}"
 
 
-def told_answer(answer: Answer) -> str:
+def answer_text(answer: Answer) -> str:
     """A disposition, with what else is to be known of an answer."""
     word = word_of(disposition_of(answer))
     if answer.action == "ERRNO":
@@ -86,15 +86,15 @@ class Conditions:
     otherwise: Answer
     is_whole: bool
 
-    def _told(self, answer: Answer) -> str:
-        return told_answer(answer) if self.is_whole else word_of(disposition_of(answer))
+    def _answer_text(self, answer: Answer) -> str:
+        return answer_text(answer) if self.is_whole else word_of(disposition_of(answer))
 
-    def told(self) -> str:
-        def told(alternative: Alternative) -> str:
-            return " and ".join(_told_condition(it, self.names[0], alternative) for it in alternative)
+    def describe(self) -> str:
+        def shown(alternative: Alternative) -> str:
+            return " and ".join(_condition_text(it, self.names[0], alternative) for it in alternative)
 
-        parts = [f"{self._told(answer)} where {' or '.join(map(told, those))}" for answer, those in self.parts]
-        return f"{'; '.join(parts)}, else {self._told(self.otherwise)}"
+        parts = [f"{self._answer_text(answer)} where {' or '.join(map(shown, those))}" for answer, those in self.parts]
+        return f"{'; '.join(parts)}, else {self._answer_text(self.otherwise)}"
 
     def _json_of(self, answer: Answer) -> dict[str, object]:
         whole = {"answer": answer.as_json()} if self.is_whole else {}

@@ -18,7 +18,7 @@ import os
 from collections.abc import Callable, Iterator, Sequence
 
 from . import engines, libseccomp, profile_inputs, program, tables
-from .engines import OCI_ARCH, Origin, Refused, Setting, listed, told
+from .engines import OCI_ARCH, Origin, ResolveError, Setting, excerpt, excerpts
 from .libseccomp import Library
 from .values import Any, dataclass, field, replace
 
@@ -84,36 +84,36 @@ def add_options(parser: argparse.ArgumentParser, without_caps: str = "podman for
                         help="ignore a member of entries that no engine reads, which may be a condition")
 
 
-def is_engines(given: argparse.Namespace) -> bool:
+def is_engines(options: argparse.Namespace) -> bool:
     """Whether some word says that a profile is an engine's."""
-    return any(getattr(given, it) is not None for it in ("engine", "caps", "kernel", "arch", "ignore"))
+    return any(getattr(options, it) is not None for it in ("engine", "caps", "kernel", "arch", "ignore"))
 
 
-def setting_of_words(given: argparse.Namespace, parser: argparse.ArgumentParser) -> Setting:
+def setting_of_words(options: argparse.Namespace, parser: argparse.ArgumentParser) -> Setting:
     """The container that an engine resolves profiles for."""
-    engine = given.engine or (RUNTIMES[given.runtime].engine if given.runtime else None)
+    engine = options.engine or (RUNTIMES[options.runtime].engine if options.runtime else None)
     is_podman = engine == "podman"
     try:
-        return Setting(engines.capabilities_of(given.caps if given.caps is not None else
+        return Setting(engines.capabilities_of(options.caps if options.caps is not None else
                                                "podman" if is_podman else "docker"),
-                       engines.kernel_of(given.kernel or os.uname().release), given.arch == "native", engine,
-                       given.ignore or ())
+                       engines.kernel_of(options.kernel or os.uname().release), options.arch == "native", engine,
+                       options.ignore or ())
     except ValueError as why:
         parser.error(str(why))
 
 
-def setting_of_process(given: argparse.Namespace, kernel: processes.Kernel) -> Setting:
+def setting_of_process(options: argparse.Namespace, kernel: processes.Kernel) -> Setting:
     """The container of a process: without `--caps` with the capabilities of the process's bounding set, which are those
     that the engine gave the container."""
-    bounding = kernel.status_of(given.pid).get("CapBnd")
-    if given.caps is not None or bounding is None:
-        return given.setting
-    return replace(given.setting, capabilities=engines.capabilities_in(int(bounding, 16)),
+    bounding = kernel.status_of(options.pid).get("CapBnd")
+    if options.caps is not None or bounding is None:
+        return options.setting
+    return replace(options.setting, capabilities=engines.capabilities_in(int(bounding, 16)),
                    source="the process's bounding set")
 
 
 @dataclass(frozen=True)
-class Applied:
+class AppliedProfile:
     """A profile as a runtime applies it, in a form of which scf says the same."""
 
     runtime: Runtime
@@ -129,17 +129,17 @@ class Applied:
     @property
     def data(self) -> bytes:
         """The profile's text."""
-        return engines.compact(self.profile)
+        return engines.to_bytes(self.profile)
 
-    def told(self) -> Iterator[str]:
+    def describe(self) -> Iterator[str]:
         """What is to be known of it, and all that was left out."""
         yield from engines.at_most(self.notes)
         yield from self.remarks
         if self.stub is not None:
-            yield f"not in the profile: {stub_told(self.stub)}"
+            yield f"not in the profile: {stub_note(self.stub)}"
 
 
-def stub_told(first: int) -> str:
+def stub_note(first: int) -> str:
     """What is said of a filter with runc's stub before it."""
     return f"runc answers the numbers from {first} on, above all that the profile names, with ENOSYS"
 
@@ -182,17 +182,17 @@ class _Application:
     has_ignored: bool = False
 
     def refuse(self, why: str) -> None:
-        raise Refused(f"{self.runtime.program} refuses the profile: {why}")
+        raise ResolveError(f"{self.runtime.program} refuses the profile: {why}")
 
     def count_rules(self, more: int) -> None:
         self.count += more
         if self.count > MAX_RULES:
-            raise Refused(f"the profile has more than {MAX_RULES} rules (one for each name of an entry)")
+            raise ResolveError(f"the profile has more than {MAX_RULES} rules (one for each name of an entry)")
 
     def answer_of(self, action: str, number: int | None, where: str) -> Answer:
         """What libseccomp is given for an action and its number."""
         if action not in ACTIONS:
-            self.refuse(f"{where} has an unknown action: '{told(action)}'")
+            self.refuse(f"{where} has an unknown action: '{excerpt(action)}'")
         action = ACTIONS[action]
         if action in WITH_NUMBER:
             if self.runtime.program == CRUN and number is not None and number >= 1 << 32:
@@ -239,7 +239,7 @@ class _Application:
         if answer[0] == NOTIFY and self.runtime.program == RUNC and "write" in entry["names"]:
             self.refuse(f"{where} has write with {NOTIFY}")
         if answer == default:
-            self.notes.append(f"{origin.told()} left out: its answer is the default's")
+            self.notes.append(f"{origin.describe()} left out: its answer is the default's")
             return
         self.check(answer, where)
         args = entry.get("args", [])
@@ -252,7 +252,7 @@ class _Application:
         if is_all:
             yield _Rule(names, answer, args, origin)
             return
-        self.notes.append(f"{origin.told()} has two conditions on one argument: its conditions are alternatives")
+        self.notes.append(f"{origin.describe()} has two conditions on one argument: its conditions are alternatives")
         yield from (_Rule(list(names), answer, [one], origin) for one in args)
 
     def keep_counting(self, rules: Sequence[_Rule]) -> None:
@@ -270,8 +270,8 @@ class _Application:
                     gone.setdefault(counts.origin, []).append(name)
             left_out = {name for names in gone.values() for name in names}
             rule.names = [name for name in rule.names if name not in left_out]
-            self.notes += [f"{listed(names)} left out of entry {rule.origin.index}: entry {origin.index}, which has no "
-                           f"conditions, covers all such syscalls" for origin, names in gone.items()]
+            self.notes += [f"{excerpts(names)} left out of entry {rule.origin.index}: entry {origin.index}, which has "
+                           f"no conditions, covers all such syscalls" for origin, names in gone.items()]
 
     def architectures_of(self, names: Sequence[str]) -> list[str]:
         """The architectures, x86-64 among them."""
@@ -292,11 +292,11 @@ class _Application:
             self.remarks.append("there is no libseccomp.so.2 here, so it is unknown which names the runtime's doesn't "
                                 "know")
         elif self.unknown:
-            names = listed(list(self.unknown))
+            names = excerpts(list(self.unknown))
             self.remarks.append(f"left out, since this machine's libseccomp {self.library.version} doesn't know "
                                 f"them: {names}")
 
-    def run(self, profile: dict[str, Any], origins: Sequence[Origin]) -> Applied:
+    def run(self, profile: dict[str, Any], origins: Sequence[Origin]) -> AppliedProfile:
         default = self.default_of(profile)
         rules = [rule for entry, origin in zip(profile["syscalls"], origins)
                  for rule in self.rules_of(entry, origin, default)]
@@ -312,8 +312,8 @@ class _Application:
         found.update((name, profile[name]) for name in engines.KEPT if name in profile)
         found["syscalls"] = [rule.as_entry() for rule in rules]
         self.tell_unknown()
-        return Applied(self.runtime, found, [rule.origin for rule in rules], self.remarks, self.notes,
-                       self.stub_of(profile, default))
+        return AppliedProfile(self.runtime, found, [rule.origin for rule in rules], self.remarks, self.notes,
+                              self.stub_of(profile, default))
 
 
 def _is_config(value: Any) -> bool:
@@ -324,7 +324,7 @@ def _is_config(value: Any) -> bool:
 def _seccomp_of(value: Any) -> Any:
     """The seccomp object of a config.json, where runtimes look for it and nowhere else."""
     if value.get("defaultAction") is not None:
-        raise Refused("both defaultAction and linux are at the top: is it a profile or a config.json?")
+        raise ResolveError("both defaultAction and linux are at the top: is it a profile or a config.json?")
     return value
 
 
@@ -335,8 +335,8 @@ def _refuse_engines(value: Any, program: str) -> None:
     found = [name for name in ("archMap", "defaultErrno") if value.get(name)]
     found += [name for name in ("includes", "excludes", "name", "errno") if any(it.get(name) for it in entries)]
     if found:
-        raise Refused(f"{program} doesn't read {found[0]}: it is an engine's profile, which --runtime docker and "
-                      f"--runtime podman resolve")
+        raise ResolveError(f"{program} doesn't read {found[0]}: it is an engine's profile, which --runtime docker and "
+                           f"--runtime podman resolve")
 
 
 def setting_of(runtime: Runtime) -> Setting:
@@ -345,7 +345,7 @@ def setting_of(runtime: Runtime) -> Setting:
                    runtime.engine)
 
 
-def applied(value: Any, name: str, setting: Setting | None = None) -> Applied:
+def apply(value: Any, name: str, setting: Setting | None = None) -> AppliedProfile:
     """What the runtime of a name makes of a profile, or of a whole config.json, that `engines.read` read. Refused where
     the runtime, or the engine before it, refuses it or reads it otherwise than it is spelled."""
     runtime = RUNTIMES[name]
@@ -371,9 +371,9 @@ def applied(value: Any, name: str, setting: Setting | None = None) -> Applied:
     return replace(found, remarks=remarks, notes=list(dict.fromkeys([*notes, *found.notes])))
 
 
-def read(path: str, name: str, setting: Setting) -> Applied:
+def read(path: str, name: str, setting: Setting) -> AppliedProfile:
     """What a runtime makes of the profile in a file; ends the tool where it refuses it."""
     try:
-        return applied(engines.read(profile_inputs.read_engines(path)), name, setting)
-    except Refused as why:
+        return apply(engines.read(profile_inputs.read_engines(path)), name, setting)
+    except ResolveError as why:
         raise program.ToolError(f"{path}: {why}", program.NEGATIVE) from why

@@ -65,7 +65,7 @@ def _of_path(filters: Sequence[Filter], words: Sequence[str], verdict: Verdict, 
              is_right: bool) -> Iterator[str]:
     """The last tests on a side's path to its answer."""
     answer = verdict.profile if is_right else verdict.filters
-    giver = None if answer is None else paths.shown(paths.givers(filters, words, answer))
+    giver = None if answer is None else paths.to_show(paths.deciding_filters(filters, words, answer))
     if giver is not None and verdict.call is not None:
         before, lines = paths.last_tests(giver.filter.data, giver.path, verdict.call, table)
         yield f"the last tests on the path in {giver.filter.name}" + (f", after {before} others:" if before else ":")
@@ -78,8 +78,8 @@ def _of_difference(comparison: StackComparison, verdict: Verdict) -> Iterator[st
         return
     words, table = verdict.call.words(), comparison.table
     yield from explanation.of_call(verdict.call, table)
-    yield f"the {_answers(comparison.left)} {verdict.filters.told()}"
-    yield f"the other {_answers(comparison.right)} {verdict.profile.told()}"
+    yield f"the {_answers(comparison.left)} {verdict.filters.describe()}"
+    yield f"the other {_answers(comparison.right)} {verdict.profile.describe()}"
     yield from _of_path(comparison.left, words, verdict, table, False)
     yield from _of_path(comparison.right, words, verdict, table, True)
 
@@ -93,7 +93,7 @@ def _of_calls(comparison: StackComparison) -> Iterator[str]:
         yield "each x86-64 syscall in the table gets the same answer from both sides" if comparison.relation == SAME \
             else "no x86-64 syscall in the table is among those"
     else:
-        yield from compare.counted(by_name.calls, "the other side")
+        yield from compare.count_lines(by_name.calls, "the other side")
 
 
 def faulty(comparison: StackComparison, report: Report) -> list[str]:
@@ -129,7 +129,7 @@ def _path_json(filters: Sequence[Filter], verdict: Verdict, is_right: bool) -> d
     answer = verdict.profile if is_right else verdict.filters
     if verdict.call is None or answer is None:
         return None
-    giver = paths.shown(paths.givers(filters, verdict.call.words(), answer))
+    giver = paths.to_show(paths.deciding_filters(filters, verdict.call.words(), answer))
     return None if giver is None else giver.as_json()
 
 

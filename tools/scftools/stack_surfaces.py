@@ -8,8 +8,8 @@ from .beside import Beside
 from .client import Fault, Refusal
 from .filters import Filter
 from .groups import Groups
-from .processes import Found, Stack
-from .refusals import faulty_filters, named
+from .processes import Inspection, Stack
+from .refusals import faulty_filters, join_names
 from .surfaces import Surface
 from .tables import Table
 from .values import dataclass
@@ -65,7 +65,7 @@ def of_stack(filters: Sequence[Filter], asked: Asked, threads: Stack | None = No
     return Block(both.status, filters, one, both, threads=threads)
 
 
-def of_process(found: Found, asked: Asked) -> list[Block]:
+def of_process(found: Inspection, asked: Asked) -> list[Block]:
     """A block for each distinct stack of a process, the worst first; a fault of all stacks is reported once."""
     blocks = []
     for stack in found.stacks:
@@ -87,10 +87,10 @@ def _of_refusal(block: Block) -> Iterator[str]:
     yield from (f"# {line}" for line in explanation.of_fault(block.fault, None))
     those = faulty_filters(block.filters, block.fault) if len(block.filters) > 1 else []
     if those:
-        yield f"# the filter is {named(those)}"
+        yield f"# the filter is {join_names(those)}"
 
 
-def lines(blocks: Sequence[Block], found: Found | None, width: int | None) -> Iterator[str]:
+def lines(blocks: Sequence[Block], found: Inspection | None, width: int | None) -> Iterator[str]:
     """The text output; after a process's stack the threads that have it, in lines marked by `# `."""
     groups = Groups()
     for at, block in enumerate(blocks):
@@ -107,7 +107,7 @@ def lines(blocks: Sequence[Block], found: Found | None, width: int | None) -> It
         yield from (f"# {note}" for note in found.notes)
 
 
-def _json_of(block: Block, found: Found | None, groups: Groups) -> dict[str, object]:
+def _json_of(block: Block, found: Inspection | None, groups: Groups) -> dict[str, object]:
     said: dict[str, object] = {"status": block.status}
     if block.fault is not None:
         said["fault"] = {**block.fault.as_json(), "sentences": list(explanation.of_fault(block.fault, None))}
@@ -124,7 +124,7 @@ def _json_of(block: Block, found: Found | None, groups: Groups) -> dict[str, obj
     return said
 
 
-def as_json(blocks: Sequence[Block], found: Found | None) -> dict[str, object]:
+def as_json(blocks: Sequence[Block], found: Inspection | None) -> dict[str, object]:
     """The same as `lines`, as one object."""
     groups = Groups()
     if found is None:

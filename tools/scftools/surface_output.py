@@ -56,7 +56,7 @@ def of_whole(surface: Surface) -> list[str]:
 def details(row: Row) -> list[str]:
     """The conditions of a number, or its examples by disposition, or else one answer."""
     if row.conditions is not None:
-        return [row.conditions.told()]
+        return [row.conditions.describe()]
     if row.shown:
         return [f"{word_of(disposition)} {shown.told()}" for disposition, shown in row.shown.items()]
     return [str(row.answer)] if row.answer else []
@@ -65,7 +65,7 @@ def details(row: Row) -> list[str]:
 def details_as_c(row: Row) -> list[str]:
     """The same for a table, which is read by people: syscalls as C would have them, and errnos by name."""
     if row.conditions is not None:
-        return [row.conditions.told()]
+        return [row.conditions.describe()]
     if row.shown:
         return [f"{word_of(disposition)} {shown.told_as_c(row.names[0])}" for disposition, shown in row.shown.items()]
     return [row.answer.named()] if row.answer else []

@@ -49,7 +49,7 @@ class Shown:
     def told_as_c(self, name: str) -> str:
         """The same, as C would have the syscall, and with the name of an errno."""
         at = f"ip {self.call.pointer:#x} " if self.call.pointer else "" if self.is_whole else "at some ip "
-        return f"{at}{constants.call_told(name, self.call.arguments)} {self.answer.named()}"
+        return f"{at}{constants.call_text(name, self.call.arguments)} {self.answer.named()}"
 
     def as_json(self) -> dict[str, object]:
         return {"arguments": [hex(it) for it in self.call.arguments], "is_whole": self.is_whole,

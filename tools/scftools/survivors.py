@@ -5,7 +5,7 @@ import os
 from collections.abc import Sequence
 
 from . import audit_records, events, processes, program
-from .events import Found
+from .events import EventLog
 from .filters import Filter
 from .tables import Table
 
@@ -18,7 +18,7 @@ def _is_of(line: str, process: int) -> bool:
     return found is not None and found[1] == str(process)
 
 
-def read(process: int, table: Table) -> Found:
+def read(process: int, table: Table) -> EventLog:
     """The records of a process in the kernel's log."""
     return events.read((line for line in audit_records.kernel_lines() if _is_of(line, process)), table)
 
@@ -46,7 +46,7 @@ def lacking(process: int) -> list[str]:
             "auditd takes the records where it runs: ausearch -m SECCOMP -p PID --raw prints them"]
 
 
-def filters_of(process: int, found: Found) -> Sequence[Filter]:
+def filters_of(process: int, found: EventLog) -> Sequence[Filter]:
     """The filters of a process, if it runs, and is the one of the records: it didn't begin after them."""
     begun = started(process)
     times = [event.time for event, _ in found.events.values() if event.time is not None]

@@ -14,7 +14,7 @@ OTHERS = {f"SCMP_ARCH_{it}": os.path.join(program.TOP, "tables", f"{file}.table"
     ("X86", "i386"), ("X32", "x32"), ("AARCH64", "aarch64"), ("ARM", "arm"))}
 LINE = re.compile(rb"[ \t]*([A-Za-z_][A-Za-z0-9_]*)[ \t]+0*([0-9]{1,10})[ \t]*\r?")
 # At most so many unknown names are listed, and longer ones get no nearest name.
-TOLD, LONGEST = 20, 64
+MOST_LISTED, LONGEST = 20, 64
 # The least similarity of a nearest name (difflib's ratio): two swapped letters in a name of four.
 NEAR = 0.75
 
@@ -105,7 +105,7 @@ def nearest(name: str, table: Table) -> str | None:
     return next(iter(get_close_matches(name, list(table.names()), n=1, cutoff=NEAR)), None)
 
 
-def told_apart(names: Sequence[str], table: Table) -> Skipped:
+def classify(names: Sequence[str], table: Table) -> Skipped:
     """What the names are that a table doesn't have; each once, in order."""
     elsewhere, known = names_elsewhere(), read(None)
     found = Skipped([], [], [])
@@ -115,5 +115,5 @@ def told_apart(names: Sequence[str], table: Table) -> Skipped:
         elif known.number_of(name) is not None:
             found.left_out.append(name)
         else:
-            found.unknown.append((name, nearest(name, table) if len(found.unknown) < TOLD else None))
+            found.unknown.append((name, nearest(name, table) if len(found.unknown) < MOST_LISTED else None))
     return found

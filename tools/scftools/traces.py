@@ -15,7 +15,7 @@ from collections.abc import Callable, Iterator, Sequence
 from . import audit_records, output, program, strace
 from .answers import X86_64
 from .calls import SKIPPED, X32
-from .profiles import LETS_THROUGH
+from .profiles import ALLOWING
 from .strace import KEPT, LEFT
 from .tables import Table
 
@@ -172,7 +172,7 @@ class Trace(strace.Log):
         """Takes a profile that was made of a log: each syscall that it allows, with arguments that aren't known."""
         try:
             entries = json.loads(text)["syscalls"]
-            names = [name for entry in entries if entry["action"] in LETS_THROUGH for name in entry["names"]]
+            names = [name for entry in entries if entry["action"] in ALLOWING for name in entry["names"]]
         except (ValueError, LookupError, TypeError, RecursionError) as error:
             raise program.ToolError(f"the log '{output.escaped(self._name)}' is a profile that can't be read",
                                     program.IO_ERROR) from error

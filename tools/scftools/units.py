@@ -46,11 +46,11 @@ MOST_PRINTED, DEEPEST = 1 << 20, 16
 MOST_BYTES, MOST_TOLD = 1 << 20, 20
 
 
-class Refused(Exception):
+class SettingError(Exception):
     """What systemd prints, or what is given in its place, isn't as systemd.exec(5) says."""
 
 
-class Unknown(Exception):
+class UnknownSettings(Exception):
     """The contents of a unit's files can't be known."""
 
 
@@ -110,7 +110,7 @@ def answer_of_errno(text: str) -> Answer:
     if number is None and len(text) <= 16 and NUMBER.fullmatch(text):
         number = int(re.sub("^([+-]?)0(?=[0-7])", r"\g<1>0o", text), 0)
     if number is None or number > MOST_ERRNO:
-        raise Refused(f"'{text[:64]}' isn't an errno")
+        raise SettingError(f"'{text[:64]}' isn't an errno")
     return Answer("SCMP_ACT_ERRNO", number)
 
 
@@ -124,7 +124,7 @@ def architectures_of(text: str) -> list[str]:
     words = text.split()
     for word in words:
         if word not in ARCHITECTURES:
-            raise Refused(f"'{word[:64]}' isn't an architecture")
+            raise SettingError(f"'{word[:64]}' isn't an architecture")
     return list(dict.fromkeys([OCI_ARCH, *(ARCHITECTURES[word] for word in words)])) if words else list(LOCAL)
 
 
@@ -173,7 +173,7 @@ class Reader:
         if name not in self.known:
             self.tell(f"{name} left out: systemd knows no such group")
         elif depth > DEEPEST:
-            raise Refused(f"the group {name} is nested too deep")
+            raise SettingError(f"the group {name} is nested too deep")
         else:
             for member in self.known[name]:
                 yield from self.calls_of(member, depth + 1)
@@ -186,7 +186,7 @@ class Reader:
             return
         try:
             own = answer_of_errno(text) if colon else None
-        except Refused as why:
+        except SettingError as why:
             if not self.is_lenient:
                 raise
             self.tell(f"{word} left out: {why}")
@@ -286,9 +286,9 @@ def files_of(shown: dict[str, str]) -> Iterator[str]:
             with open(_systemds_root() + path, "rb") as file:
                 data = file.read(MOST_BYTES + 1)
         except OSError as error:
-            raise Unknown(f"'{output.escaped(path)}' can't be read: {error.strerror}") from error
+            raise UnknownSettings(f"'{output.escaped(path)}' can't be read: {error.strerror}") from error
         if len(data) > MOST_BYTES:
-            raise Unknown(f"'{output.escaped(path)}' has more than {MOST_BYTES} bytes")
+            raise UnknownSettings(f"'{output.escaped(path)}' has more than {MOST_BYTES} bytes")
         yield data.decode("utf-8", "surrogateescape")
 
 
@@ -298,7 +298,7 @@ def denied_by(shown: dict[str, str], allowed: CallList, reader: Reader) -> dict[
     systemd doesn't show them (property_get_syscall_filter of its core/dbus-execute.c), so the unit's files are read.
     """
     if shown.get("NeedDaemonReload") != "no":
-        raise Unknown("its files changed since systemd read them; run systemctl daemon-reload")
+        raise UnknownSettings("its files changed since systemd read them; run systemctl daemon-reload")
     section = SECTIONS.get(shown.get("Id", "").rpartition(".")[2], "")
     values = [value for text in files_of(shown) for value in assignments_of(text, section, "SystemCallFilter")]
     if not any(value.startswith("~") and ":" in value for value in values):
@@ -307,10 +307,10 @@ def denied_by(shown: dict[str, str], allowed: CallList, reader: Reader) -> dict[
     listed = lenient.assigned(values)
     lenient.tell_unknown()
     if listed is None or listed.is_inverted:
-        raise Unknown("its files have another list than systemd shows")
+        raise UnknownSettings("its files have another list than systemd shows")
     own = {call: answer for call, answer in listed.calls.items() if answer is not None}
     if not allowed.calls.keys() <= listed.calls.keys() - own.keys():
-        raise Unknown("its files have another list than systemd shows")
+        raise UnknownSettings("its files have another list than systemd shows")
     return own
 
 
@@ -338,7 +338,7 @@ def settings_in(shown: dict[str, str], unit: str, reader: Reader) -> Settings:
     if found is not None and not found.is_inverted:
         try:
             found.calls.update(denied_by(shown, found, reader))
-        except (Unknown, ValueError) as why:
+        except (UnknownSettings, ValueError) as why:
             raise program.ToolError("it can't be known which syscalls the allow-list denies with an errno of their "
                                     f"own, which systemctl show doesn't print: {why}", program.UNKNOWN) from why
     return Settings(found, refusal_of(shown.get("SystemCallErrorNumber", "")),

@@ -93,7 +93,7 @@ class Report:
         return replace(self, skipped=()).printed
 
 
-def _shown(lines: Sequence[str]) -> Verdict:
+def _example(lines: Sequence[str]) -> Verdict:
     call = Call.read(lines[1]) if len(lines) > 3 else None
     if call is None:
         return Verdict(lines[0])
@@ -104,7 +104,7 @@ def _shown(lines: Sequence[str]) -> Verdict:
 def _verdict(lines: Sequence[str]) -> Verdict | None:
     word, _, rest = lines[0].partition(" ")
     if lines[0] in FAILS:
-        return _shown(lines)
+        return _example(lines)
     if lines[0] in (*HOLDS, UNFINISHED):
         return Verdict(lines[0])
     place = re.fullmatch("at ([0-9]+)", rest)

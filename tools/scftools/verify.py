@@ -6,8 +6,8 @@ from collections.abc import Iterator, Sequence
 
 from . import client, compare, newer, output, program, runtimes, verdicts
 from .compare import Comparison
-from .processes import Found, Stack, threads_told
-from .runtimes import Applied
+from .processes import Inspection, Stack, threads_text
+from .runtimes import AppliedProfile
 from .tables import Table
 from .values import dataclass, replace
 from .verdicts import Report
@@ -54,10 +54,10 @@ class Request:
     limit: str | None
     scope: str
     relation: str = verdicts.SAME
-    applied: Applied | None = None
+    applied: AppliedProfile | None = None
 
     @classmethod
-    def of_runtime(cls, applied: Applied, table: Table, limit: str | None, scope: str, relation: str) -> Request:
+    def of_runtime(cls, applied: AppliedProfile, table: Table, limit: str | None, scope: str, relation: str) -> Request:
         """The settings for a profile as a runtime applies it."""
         return cls(applied.data, table, limit, scope, relation, applied)
 
@@ -78,9 +78,9 @@ class Request:
 
     def notes(self, block: Block) -> Iterator[str]:
         """What is added to scf's lines."""
-        yield from compare.added(block.comparison, block.report, self.scope)
+        yield from compare.notes(block.comparison, block.report, self.scope)
         if block.stub is not None:
-            yield runtimes.stub_told(block.stub)
+            yield runtimes.stub_note(block.stub)
         yield from compare.of_foreign(block.comparison, block.report, self.scope)
 
     def as_json(self, block: Block) -> dict[str, object]:
@@ -94,7 +94,7 @@ def _block(stack: Stack, request: Request | SavedRequest) -> Block:
     return request.judge(stack) if stack.filters else Block(stack, nothing)
 
 
-def blocks(found: Found, request: Request | SavedRequest) -> list[Block]:
+def blocks(found: Inspection, request: Request | SavedRequest) -> list[Block]:
     """A block for each distinct stack, the worst first; a fault of all stacks is reported once."""
     made: list[Block] = []
     for stack in found.stacks:
@@ -107,25 +107,25 @@ def worst(made: Sequence[Block]) -> int:
     return made[0].status
 
 
-def _called(process: int, found: Found) -> str:
+def _called(process: int, found: Inspection) -> str:
     return f"process {process} ({output.escaped(found.names[process])})"
 
 
-def of_threads(stack: Stack, found: Found) -> Iterator[str]:
+def of_threads(stack: Stack, found: Inspection) -> Iterator[str]:
     """Which threads have a stack: a line for each process."""
     for process, threads in stack.threads.items():
         who, count = _called(process, found), sum(len(it.threads.get(process, ())) for it in found.stacks)
         if len(threads) < count:
-            line = f"{threads_told(threads)} of {who} {'have' if len(threads) > 1 else 'has'} {stack.told}"
+            line = f"{threads_text(threads)} of {who} {'have' if len(threads) > 1 else 'has'} {stack.description}"
         else:
-            line = f"{who} has {stack.told}" + (f", in each of its {count} threads" if count > 1 else "")
+            line = f"{who} has {stack.description}" + (f", in each of its {count} threads" if count > 1 else "")
         if not stack.filters and not stack.is_strict:
             line += ": they aren't confined" if len(threads) > 1 else ": it isn't confined"
             line += ", and every syscall is allowed"
         yield line
 
 
-def lines(made: Sequence[Block], found: Found, request: Request | SavedRequest, is_verbose: bool = False) -> \
+def lines(made: Sequence[Block], found: Inspection, request: Request | SavedRequest, is_verbose: bool = False) -> \
         Iterator[str]:
     """The text output: scf's lines for each block, with --verbose also the skipped names, and then added lines,
     marked by `# `."""
@@ -144,7 +144,7 @@ def lines(made: Sequence[Block], found: Found, request: Request | SavedRequest, 
     yield from output.notes(found.notes)
 
 
-def _block_json(block: Block, found: Found, request: Request | SavedRequest) -> dict[str, object]:
+def _block_json(block: Block, found: Inspection, request: Request | SavedRequest) -> dict[str, object]:
     own: dict[str, object] = {"status": block.status, "verdict": block.verdict}
     if block.report is not None:
         own = request.as_json(block)
@@ -153,7 +153,7 @@ def _block_json(block: Block, found: Found, request: Request | SavedRequest) -> 
                           for process, threads in block.stack.threads.items()]}
 
 
-def as_json(made: Sequence[Block], found: Found, request: Request | SavedRequest, container: str | None) -> \
+def as_json(made: Sequence[Block], found: Inspection, request: Request | SavedRequest, container: str | None) -> \
         dict[str, object]:
     """The same as `lines`, as one object, with the container: the verdict is that of the worst stack."""
     return {"status": worst(made), "scope": request.scope, "verdict": made[0].verdict, "container": container,

@@ -22,7 +22,7 @@ def _is_ready(file: int, until: float) -> bool:
     return bool(select.select([file], [], [], max(0.0, until - time.monotonic()))[0])
 
 
-def _begun(run: Callable[[], object]) -> int:
+def _start(run: Callable[[], object]) -> int:
     """A child in a process group of its own that runs this and ends."""
     child = os.fork()
     try:
@@ -38,7 +38,7 @@ def _begun(run: Callable[[], object]) -> int:
         os._exit(program.IO_ERROR)
 
 
-def _ended(child: int) -> int | None:
+def _status_of(child: int) -> int | None:
     """Waits for a child and returns its status, negative for a signal; None if it was already reaped, as by the kernel
     if SIGCHLD is ignored."""
     try:
@@ -59,7 +59,7 @@ class Watchdog:
         # The hook keeps both ends: a write to a watchdog that has ended isn't to end the hook.
         self.file, self.end = os.pipe()
         hook = os.getpid()
-        _begun(lambda: self._watch(act, until, hook))
+        _start(lambda: self._watch(act, until, hook))
 
     def _watch(self, act: Callable[[], object], until: float, hook: int) -> None:
         os.close(self.end)
@@ -86,7 +86,7 @@ class Worker:
         self.file, end = os.pipe()
         self.pending = b""
         parent = os.getpid()
-        self.child = _begun(lambda: self._work(work, end, parent, unneeded))
+        self.child = _start(lambda: self._work(work, end, parent, unneeded))
         os.close(end)
 
     def _work(self, work: Callable[[Callable[[object], None]], object], end: int, parent: int,
@@ -114,4 +114,4 @@ class Worker:
 
     def status(self) -> int | None:
         """How it ended; None if it hasn't, or if that can't be known."""
-        return _ended(self.child) if _is_ready(self.file, 0.0) else None
+        return _status_of(self.child) if _is_ready(self.file, 0.0) else None

@@ -132,7 +132,7 @@ class Watch:
         is_always, arguments = self._is_always(name), [hex(it) for it in call.arguments]
         _, where, entry = self._answer(call)
         how = "" if is_always else f" with some arguments, such as {' '.join(arguments)},"
-        return Finding("dangerous-call", f"{call.told(self.trial.table)} is allowed{how} {where}: {danger.reason}",
+        return Finding("dangerous-call", f"{call.describe(self.trial.table)} is allowed{how} {where}: {danger.reason}",
                        {**more, "is_always": is_always, "arguments": arguments, "entry": entry})
 
     def of_needed(self) -> Iterator[tuple[bool, Finding]]:
@@ -150,7 +150,7 @@ class Watch:
             return False, Finding(one.kind, f"undecided whether {one.name} ({number}) is always allowed",
                                   more)
         return True, Finding(one.kind, f"{listed(users, 'and')} {'is' if len(users) == 1 else 'are'} allowed, and "
-                             f"{one.name} ({number}) is not: {one.why} is answered {where} {answer.told()}",
+                             f"{one.name} ({number}) is not: {one.why} is answered {where} {answer.describe()}",
                              {**more, "entry": entry})
 
     def of_fallbacks(self) -> Iterator[Finding]:

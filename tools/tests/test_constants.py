@@ -214,12 +214,12 @@ class AsC(Case):
                 ("my_own", (5,), "syscall(SYS_my_own, 5, ..)"),
                 ("prctl", (22, 2), "prctl(PR_SET_SECCOMP, SECCOMP_MODE_FILTER, ..)"),
                 ("openat", (ALL_ONES - 99, 0x1000, 0x80000), "openat(AT_FDCWD, 0x1000, O_RDONLY|O_CLOEXEC, 0)")):
-            self.assertEqual(constants.call_told(name, (*values, *[0] * (6 - len(values)))), shown)
+            self.assertEqual(constants.call_text(name, (*values, *[0] * (6 - len(values)))), shown)
 
     def test_what_is_shown_is_taken(self):
         """Each argument that is shown, given to a tool, is the number that it was."""
         for name, *values in some_calls():
-            shown = constants.call_told(name, (*values, 0))
+            shown = constants.call_text(name, (*values, 0))
             parts = shown[shown.index("(") + 1:-1].split(", ")
             for text, value in zip((it for it in parts if it != ".." and not it.startswith("SYS_")), values):
                 taken = int(constants.argument_in(text, "SCMP_ARCH_X86_64"), 0)
@@ -246,7 +246,7 @@ class AsC(Case):
         for (name, *values), line in zip(calls, lines):
             found = strace.CALL.match(line)
             self.assertEqual(found[1], name)
-            shown = constants.call_told(name, (*values, 0))
+            shown = constants.call_text(name, (*values, 0))
             ours = shown[shown.index("(") + 1:-1].split(", ")
             printed = strace._in_registers(name, strace.arguments_in(line, found.end())[0])
             for place, text in printed.items():

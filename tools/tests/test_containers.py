@@ -77,11 +77,11 @@ class Groups(Case):
         kernel.namespaces_of = lambda it: [(1, 1)] if it in (12, containers.os.getpid()) else [(1, 7), (1, 1)]
         container = containers.container_of(kernel, 7)
         self.assertEqual((container.processes(), container.others()), ([7, 8], [10, 11, 13]))
-        self.assertIn("10 (fake), 11 (fake), 13 (fake); whether", containers.others_told(kernel, container))
+        self.assertIn("10 (fake), 11 (fake), 13 (fake); whether", containers.others_note(kernel, container))
         # it shares the tool's namespace
         kernel.namespaces_of = lambda _: [(1, 1)]
         container = containers.container_of(kernel, 7)
-        self.assertEqual((container.processes(), containers.others_told(kernel, container)), ([7, 8], None))
+        self.assertEqual((container.processes(), containers.others_note(kernel, container)), ([7, 8], None))
 
 
 if __name__ == "__main__":

@@ -76,7 +76,7 @@ class Members(Case):
         twice = '{"defaultAction":"A","syscalls":[{"names":["ptrace"],"action":"B"}],"syscalls":[{"action":"C"}]}'
         self.assertEqual(engine_code.resolved([("docker", (), twice)])[0][0]["syscalls"],
                          [{"names": ["ptrace"], "action": "C"}])
-        self.assertEqual([it.told() for it in profiles.misread_members(twice.encode())],
+        self.assertEqual([it.describe() for it in profiles.misread_members(twice.encode())],
                          ["the profile has the member 'syscalls' more than once: programs in Go take the last"])
 
     def test_tools_that_speak_of_a_runtime_refuse_them(self):
@@ -109,7 +109,7 @@ class Members(Case):
                 ('{"linux":{"seccomp":{"Flags":[]}}}', "linux: seccomp has a member 'Flags', which programs in Go read "
                                                        "as 'flags'"),
                 ('{"Linux":{}}', "the profile has a member 'Linux', which programs in Go read as 'linux'")):
-            self.assertEqual([it.told() for it in profiles.misread_members(text.encode())], [says])
+            self.assertEqual([it.describe() for it in profiles.misread_members(text.encode())], [says])
         for text in ('{"annotations":{"a":1,"A":2},"process":{"Names":1},"x":1,"X":2}', "[", "\ud800", "[1]",
                      '{"syscalls":{"Names":1}}', '{"syscalls":[[1],2,null]}', "[" * 100000):
             self.assertEqual(profiles.misread_members(text.encode("utf-8", "surrogatepass")), [], text[:50])
@@ -193,7 +193,7 @@ class Drawn(Case):
         for text, (made, refused) in zip(texts, answers):
             try:
                 found = as_go_prints(engines.Resolver(setting, lambda _: None).resolved(engines.read(text.encode())))
-            except engines.Refused as why:
+            except engines.ResolveError as why:
                 found = str(why)
             yield text, found, f"refused: {refused}" if refused else as_go_prints(made)
 

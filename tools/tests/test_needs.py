@@ -183,7 +183,7 @@ class Forms(unittest.TestCase):
             self.assertEqual(log_of(text), (calls, 0, foreign), text)
 
 
-class Judged(Case):
+class Judgement(Case):
     PROFILE = {"defaultAction": ERRNO, "syscalls": [
         {"names": ["read", "write", "exit_group"], "action": ALLOW},
         {"names": ["socket"], "action": ALLOW, "args": [{"index": 0, "op": "SCMP_CMP_NE", "value": 40}]},
@@ -210,7 +210,7 @@ class Judged(Case):
         return {it["name"]: it["fate"] for it in report["calls"]}, report, out
 
 
-class Needs(Judged):
+class Needs(Judgement):
     def test_usage(self):
         self.says_usage("needs", "a")
         status, out, err = self.run_tool("needs", "--profile", "--json", "a", "b")
@@ -366,7 +366,7 @@ class Needs(Judged):
                                        self.file("q.json", profile_of("look")))[0], 0)
 
 
-class Least(Judged):
+class Least(Judgement):
     LOG = ("read(3, 0x7f, 1) = 1\nopen(\"a\", O_RDONLY) = 3\nsocket(40, 1, 0) = 3\nsocket(1, 1, 0) = 3\n"
            "wait4(-1, NULL, 0, NULL) = 3\nread(4, 0x7f, 1) = 1\n")
 
@@ -429,7 +429,7 @@ class Least(Judged):
         self.assertEqual(err, "needs: not judged, since the table doesn't have it: no_such_call, times: 1\n")
 
 
-class Hostile(Judged):
+class Hostile(Judgement):
     def test_control_characters(self):
         for text in ("\x1b[2J\x1b[Hread(1) = 1", "read(\"\x1b[2J\n# made\", 1) = 1", "\x9b2Jread(1) = 1\r",
                      "1 \x00read(1) = 1", "no_such_call\x1b(1) = 1", "read(\u2028\u202e) = 1", "# calls: made 7"):
@@ -584,7 +584,7 @@ class Registers(Case):
 
 
 @unittest.skipUnless(shutil.which("strace"), "there is no strace here")
-class Real(Judged):
+class Real(Judgement):
     """A log that strace wrote, in each of its forms."""
 
     SCRIPT = "ls / | head -n 1; (sleep 0.05) & wait; kill -USR1 $$; exit 3"

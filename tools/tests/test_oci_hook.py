@@ -100,7 +100,7 @@ class OfStates(Hook):
             self.assertIn("container a\\xed\\xbf\\xbf", err)
             self.assertIn(says, err)
         with mock.patch.object(hooks, "failed", side_effect=str):
-            self.assertIn("itself failed: KeyError", hooks.guarded(lambda: {}["none"]))
+            self.assertIn("itself failed: KeyError", hooks.run_safely(lambda: {}["none"]))
 
     def test_a_process_that_is_gone(self):
         child = subprocess.Popen(["true"])
@@ -299,9 +299,9 @@ class OfProcesses(Hook):
         """Of a process it can't be known whether it is the container's, too."""
         child = self.child([refusing(MOUNT)])
         process = hooks.Process(hooks.container_of(self.state(child.pid, self.bundle(refuses("mount")))))
-        asked = hooks.asked_of(hooks.configured(process.container), None, False, tables.read(None), None, "same")
+        asked = hooks.request_of(hooks.configured(process.container), None, False, tables.read(None), None, "same")
         for told, expected in ((None, (0, "same")), ("others are there", (4, None))):
-            finding = hooks.finding_of(process.look(), asked, hooks.Members(list, others_told=lambda it=told: it))
+            finding = hooks.finding_of(process.look(), asked, hooks.Members(list, others_note=lambda it=told: it))
             self.assertEqual((finding.status, finding.verdict), expected)
             self.assertEqual("# others are there" in finding.lines(), told is not None)
 
@@ -516,7 +516,7 @@ class OfTime(Hook):
         self.assertEqual((found.status, found.verdict, found.value), (1, "differs", {
             "status": 1, "scope": "native", "verdict": "differs"}))
         self.assertEqual(found.lines, ["no explanation: it takes longer than 0.1 seconds"])
-        self.assertEqual(examination.killed, [hooks.Killed(True, f"process {child.pid} was killed")])
+        self.assertEqual(examination.killed, [hooks.Kill(True, f"process {child.pid} was killed")])
         self.is_killed(child, 20)
 
     def test_no_standard_input(self):
@@ -554,7 +554,7 @@ class Inside(Hook):
             process.look()
         self.assertEqual(str(caught.exception), f"process {child.pid} has ended")
         with mock.patch("os.kill") as kill:
-            self.assertEqual(process.kill(), hooks.Killed(False, f"process {child.pid} has ended already"))
+            self.assertEqual(process.kill(), hooks.Kill(False, f"process {child.pid} has ended already"))
         kill.assert_not_called()
 
     def test_a_process_that_does_not_end_at_once(self):
@@ -565,19 +565,19 @@ class Inside(Hook):
         self.addCleanup(child.kill)
         process = self.process(pid=child.pid)
         with mock.patch.object(hooks, "sent"), mock.patch.object(hooks, "KILL_SECONDS", 0.1):
-            hooks.sent.return_value = None
-            self.assertEqual(process.kill(), hooks.Killed(True, f"SIGKILL was sent to process {child.pid}; it hasn't "
+            hooks.send_signal.return_value = None
+            self.assertEqual(process.kill(), hooks.Kill(True, f"SIGKILL was sent to process {child.pid}; it hasn't "
                                                                 f"ended yet"))
 
     def test_whatever_fails(self):
         """It is said, and isn't taken for a process that is confined."""
         for error, says in ((MemoryError(), "out of memory"),
                             (OSError(5, "failed"), "the container can't be inspected: failed"),
-                            (program.ToolError("no scf", program.NOT_BUILT), "no scf"), (hooks.Failed("no"), "no"),
+                            (program.ToolError("no scf", program.NOT_BUILT), "no scf"), (hooks.HookError("no"), "no"),
                             (hold.Waiting("it waits"), "it waits (--force stops it)"),
                             (processes.Unreadable("it can't"), "it can't"),
                             (processes.Interrupted(15), "the check was ended by SIGTERM")):
-            result = hooks.result(hooks.guarded(mock.Mock(side_effect=error)))
+            result = hooks.result(hooks.run_safely(mock.Mock(side_effect=error)))
             status = 125 if says == "no scf" else 3
             self.assertEqual((result.status, result.lines, result.value["verdict"]), (status, [says], None))
 

@@ -327,14 +327,14 @@ class Asked(Case):
 
     def test_the_name_of_a_group_is_a_stranger_s(self):
         group = b"/\x1b[2J\xff/box"
-        self.assertEqual(processes.Container(group, list).told, "the control group /\\x1b[2J\\xff/box")
+        self.assertEqual(processes.Container(group, list).description, "the control group /\\x1b[2J\\xff/box")
         with mock.patch.object(ptrace, "contents", return_value=b"0::/a:b\n3:cpu,cpuacct:" + group + b"\nx\n"):
             self.assertEqual(processes.Kernel().groups_of(7), {"": b"/a:b", "cpu": group, "cpuacct": group})
 
     def test_numbers_told(self):
         for threads, told in (([7], "thread 7"), ([7, 8], "threads 7, 8"), ([7, 8, 9, 11], "threads 7 to 9, 11"),
                               ([1, 3, 4, 5, 6], "threads 1, 3 to 6")):
-            self.assertEqual(processes.threads_told(threads), told)
+            self.assertEqual(processes.threads_text(threads), told)
 
 
 @here

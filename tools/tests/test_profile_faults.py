@@ -88,7 +88,7 @@ class Paths(unittest.TestCase):
     def test_how_they_are_told(self):
         for path, told in ((["syscalls", 3, "args", 0, "op"], "syscalls[3].args[0].op"), ([], ""), (["a b"], '["a b"]'),
                            (["a", "\x1b"], 'a["\\u001b"]'), (["x" * 99], f'["{"x" * 40}.."]'), ([0, 1], "[0][1]")):
-            self.assertEqual(json_places.path_told(path), told)
+            self.assertEqual(json_places.path_text(path), told)
 
 
 if __name__ == "__main__":

@@ -98,7 +98,7 @@ class Path(Case):
         self.assertEqual(self.holds(load(0) + jeq(9, 0, 0) * 4094 + ret(ALLOW), call), list(range(4096)))
         jumps = load(0) + jeq(7, 1, 0) * 4093 + ret(EPERM) + ret(ALLOW)
         self.assertEqual(self.holds(jumps, call), [0, *range(1, 4096, 2)])
-        self.assertEqual(paths.of(jumps, call.words()).told()[:12], "0 1 3 5 7 9 ")
+        self.assertEqual(paths.of(jumps, call.words()).describe()[:12], "0 1 3 5 7 9 ")
 
     def test_a_fault_has_no_path(self):
         path = paths.of(jeq(0, 9, 0) + ret(ALLOW), Call(0).words())
@@ -315,7 +315,7 @@ class Ask(Case):
                                  (0, f"{kernel_profiles.answer_of(profile, call).action} {reason.answer.data} {word}"))
                 self.assertEqual(reason.answer, kernel_profiles.answer_of(profile, call))
                 self.assertEqual(reason.entry, place)
-                told = list(reasons.told(reason, profile, call))
+                told = list(reasons.describe(reason, profile, call))
                 self.assertEqual(len(told), 1 + len(conditions))
                 seen.add((word[:5], bool(conditions)))
         self.assertEqual(seen, {("entry", True), ("entry", False), ("defau", False), ("forei", False)})
