@@ -9,7 +9,7 @@ from .answers import DISPOSITIONS, Answer
 from .calls import Call
 from .client import Refusal
 from .compare import CALLS, NATIVE, Comparison
-from .filters import Filter, with_answer_from
+from .filters import Filter, answering_from
 from .profiles import STUB, Origin
 from .questions import checked
 from .reasons import Reason
@@ -105,7 +105,7 @@ class Given:
         comparison = Comparison([one.filter], other.data, self.table, self.limit, relation)
         default = newer.default_of(comparison) if self.end is not None else None
         if self.end is not None and default is not None:
-            alike = with_answer_from(one.filter.data, self.end, default[1].word)
+            alike = answering_from(one.filter.data, self.end, default[1].word)
             comparison = replace(comparison, filters=[Filter(one.word, alike)])
         status, report = comparison.run(scope)
         if report.fault is not None:

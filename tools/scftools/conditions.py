@@ -12,7 +12,6 @@ from .answers import Answer
 from .calls import Call
 from .entries import Condition, Entry, profile_of, record_of
 from .findings import MOST, Finding, listed
-from .profiles import ALLOWING
 from .reasons import Reason
 from .tables import Table
 from .trials import Trial
@@ -116,7 +115,7 @@ class Denials:
         having = self._of_number[number]
         self.looks -= len(having)
         answer = next((it.answer for it in having if entries.meet(it.conditions, record)), self.default)
-        return answer[0] in ALLOWING
+        return answer[0] in ("SCMP_ACT_ALLOW", "SCMP_ACT_LOG")
 
     def _evaded(self, number: int, entry: Entry, one: Condition) -> tuple[dict[int, int], dict[int, int]] | None:
         """Arguments that are denied, and are allowed with a bit in the upper half."""

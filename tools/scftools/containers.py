@@ -22,8 +22,7 @@ HIERARCHIES = ("", "name=systemd", "pids")
 # How runtimes name the group of a container: by its identifier of 64 hexadecimal digits, alone or as in libpod-ID,
 # docker-ID.scope, cri-containerd-ID.scope and crio-ID.scope; podman's has the container in a group below. runc and crun
 # by themselves make NAME.scope of a name; LXC and systemd-nspawn name what is the container's beside what is their own.
-NAMED = re.compile(rb".*/(?:(?:[a-z-]+-)?[0-9a-f]{64}(?:\.scope)?(?:/container)?|"
-                   rb"(?:runc|crun)-[^/]+\.scope(?:/container)?|"
+NAMED = re.compile(rb".*/(?:(?:[a-z-]+-)?[0-9a-f]{64}(?:\.scope)?(?:/container)?|(?:runc|crun)-[^/]+\.scope(?:/container)?|"
                    rb"lxc\.payload[./][^/]+|(?:machine-[^/]+\.scope|systemd-nspawn@[^/]+\.service)/payload)(?=/|\Z)")
 # systemd's groups (systemd.special(7)) if they aren't at the top, and aren't those of a user's service manager.
 OF_SYSTEMD = re.compile(rb"(/.*?[^/]+)/(?:init\.scope|system\.slice)(?:/|\Z)")

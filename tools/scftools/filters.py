@@ -86,7 +86,7 @@ def looks_at_pointer(data: bytes) -> bool:
     return any(code == LOAD_WORD and k in POINTER for code, _, _, k in INSTRUCTION.iter_unpack(whole))
 
 
-def with_answer_from(data: bytes, number: int, answer: int) -> bytes:
+def answering_from(data: bytes, number: int, answer: int) -> bytes:
     """A filter that gives this answer from this syscall number on, and otherwise runs these bytes.
 
     The accumulator is 0 again when they start, as in the kernel.

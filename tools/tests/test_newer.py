@@ -147,5 +147,5 @@ class Before(Case):
         for number in (6, 7, 8):
             for least in (6, 7, 8, 9):
                 whole = self.answer(code, number)
-                self.assertEqual(self.answer(filters.with_answer_from(code, least, EPERM), number),
+                self.assertEqual(self.answer(filters.answering_from(code, least, EPERM), number),
                                  "ERRNO 1" if number >= least else whole)

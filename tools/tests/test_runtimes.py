@@ -19,7 +19,7 @@ sys.path.append(os.path.join(TOP, "tools"))
 # pylint: disable=wrong-import-position
 from scftools import client, engines, inputs, libseccomp, newer, processes, runtimes, tables  # noqa: E402
 from scftools.compare import NATIVE, Comparison  # noqa: E402
-from scftools.filters import Filter, with_answer_from  # noqa: E402
+from scftools.filters import Filter, answering_from  # noqa: E402
 
 ALLOW, ERRNO, LOG, TRAP = "SCMP_ACT_ALLOW", "SCMP_ACT_ERRNO", "SCMP_ACT_LOG", "SCMP_ACT_TRAP"
 X86_64, X86, X32 = "SCMP_ARCH_X86_64", "SCMP_ARCH_X86", "SCMP_ARCH_X32"
@@ -195,7 +195,7 @@ class Runtimes(Case):
         for first in (94, 96):
             found = runtimes.apply(given, "runc")
             self.assertEqual(found.stub, 95)
-            data = with_answer_from(compiled(found.data), first, 0x00050026)
+            data = answering_from(compiled(found.data), first, 0x00050026)
             comparison = Comparison([Filter("it", data)], found.data, tables.read(None))
             status, report, has_stub = newer.compared_with_stub(comparison, NATIVE, found.stub)
             self.assertEqual((status, report.printed[0], has_stub, report.verdict.call.number),
@@ -260,7 +260,7 @@ class Runtimes(Case):
         """It is the call that is shown, and not one of those that runc answers by ENOSYS."""
         found = runtimes.apply({"defaultAction": ERRNO, "architectures": [X86_64],
                                 "syscalls": [entry("read", "lchown")]}, "runc")
-        stub = with_answer_from(compiled(found.data), found.stub, 0x00050026)
+        stub = answering_from(compiled(found.data), found.stub, 0x00050026)
         for number in (95, 460, 0x3FFFFFFF):
             hole = load(0) + jeq(number, 0, 1) + ret(ALLOWED) + insn(0, 0) + stub
             comparison = Comparison([Filter("it", hole)], found.data, tables.read(None))
@@ -365,7 +365,7 @@ class VerifyProcess(Case):
         table, given = tables.read(None), {"defaultAction": ERRNO, "architectures": [X86_64]}
         given["syscalls"] = [entry(*(it for it in NAMES if table.number_of(it) <= 449))]
         found = runtimes.apply(given, "runc")
-        stub = with_answer_from(compiled(found.data), 450, 0x00050026)
+        stub = answering_from(compiled(found.data), 450, 0x00050026)
         for number, name in ((460, "lsm_set_self_attr"), (0x3FFFFFFF, None)):
             hole = load(0) + jeq(number, 0, 1) + ret(ALLOWED) + insn(0, 0) + stub
             child, _ = started([[self.file("f.bpf", hole)]])
