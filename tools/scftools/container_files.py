@@ -226,7 +226,7 @@ def _with_config(one: Described) -> Described:
         return replace(one, configuration=engines.read(read(one.config)))
     except Unreadable as why:
         return replace(one, why=str(why))
-    except engines.ResolveError as why:
+    except engines.Refused as why:
         return replace(one, why=f"'{one.config}': {why}")
 
 

@@ -56,7 +56,7 @@ ERRNOS = (
 MAX_DIGITS, MAX_TOLD, MAX_LISTED, MAX_NOTES = 20, 64, 3, 1000
 
 
-class ResolveError(Exception):
+class Refused(Exception):
     """The engines refuse the profile, or it is ambiguous."""
 
 
@@ -99,18 +99,18 @@ def members(pairs: list[tuple[str, Any]]) -> dict[str, Any]:
         seen: set[str] = set()
         for name, _ in pairs:
             if name in seen:
-                raise ResolveError(f"the member '{excerpt(name)}' is repeated in one object")
+                raise Refused(f"the member '{excerpt(name)}' is repeated in one object")
             seen.add(name)
     return found
 
 
 def refuse_fraction(text: str) -> Any:
-    raise ResolveError(f"the number {excerpt(text)} isn't an integer")
+    raise Refused(f"the number {excerpt(text)} isn't an integer")
 
 
 def parse_integer(text: str) -> int | float:
     if len(text.lstrip("-")) > MAX_DIGITS:
-        raise ResolveError(f"the number {excerpt(text)} has more than 64 bits")
+        raise Refused(f"the number {excerpt(text)} has more than 64 bits")
     # Go takes -0 for no number without a sign
     return int(text) if text != "-0" else -0.0
 
@@ -120,11 +120,11 @@ def read(data: bytes) -> Any:
         return json.loads(data.decode("utf-8"), object_pairs_hook=members, parse_float=refuse_fraction,
                           parse_constant=refuse_fraction, parse_int=parse_integer)
     except UnicodeDecodeError as error:
-        raise ResolveError("the profile isn't UTF-8") from error
+        raise Refused("the profile isn't UTF-8") from error
     except RecursionError as error:
-        raise ResolveError("the profile is nested too deep") from error
+        raise Refused("the profile is nested too deep") from error
     except ValueError as error:
-        raise ResolveError(f"the profile isn't JSON: {error}") from error
+        raise Refused(f"the profile isn't JSON: {error}") from error
 
 
 def to_bytes(profile: dict[str, Any]) -> bytes:
@@ -132,16 +132,16 @@ def to_bytes(profile: dict[str, Any]) -> bytes:
     try:
         return json.dumps(profile).encode()
     except RecursionError as error:
-        raise ResolveError("the profile is nested too deep") from error
+        raise Refused("the profile is nested too deep") from error
 
 
-def to_text(profile: dict[str, Any]) -> str:
+def printed(profile: dict[str, Any]) -> str:
     """The text of a resolved profile, made entry by entry, of which there may be many."""
     try:
         entries = [json.dumps(entry, indent=4).replace("\n", "\n        ") for entry in profile["syscalls"]]
         text = json.dumps({**profile, "syscalls": []}, indent=4)
     except RecursionError as error:
-        raise ResolveError("the profile is nested too deep") from error
+        raise Refused("the profile is nested too deep") from error
     if entries:
         text = text.removesuffix("[]\n}") + "[\n        " + ",\n        ".join(entries) + "\n    ]\n}"
     return text + "\n"
@@ -151,17 +151,17 @@ def _check_one(value: Any, kind: str, where: str, name: str) -> None:
     """Refuses a member that isn't a string, a number or a kernel version as the engines read it."""
     if kind == NUMBER:
         if type(value) is not int or not 0 <= value < 1 << 64:
-            raise ResolveError(f"{where_in(where, name)} isn't an integer from 0 to 2^64-1")
+            raise Refused(f"{where_in(where, name)} isn't an integer from 0 to 2^64-1")
     elif not isinstance(value, str):
         what = "isn't a string" if kind == TEXT else "isn't a kernel version such as 4.8"
-        raise ResolveError(f"{where_in(where, name)} {what}")
+        raise Refused(f"{where_in(where, name)} {what}")
     elif kind == VERSION:
         version_of(value, where_in(where, name))
 
 
 def _check_list(value: Any, kind: Any, where: str, setting: Setting) -> None:
     if not isinstance(value, list) or (kind == TEXT and not all(isinstance(it, str) for it in value)):
-        raise ResolveError(f"{where} isn't a list" + " of strings" * (kind == TEXT))
+        raise Refused(f"{where} isn't a list" + " of strings" * (kind == TEXT))
     if kind != TEXT:
         parent, _, name = where.rpartition(": ")
         for index, one in enumerate(value):
@@ -172,13 +172,13 @@ def check(value: Any, members: dict[str, Any], where: str, setting: Setting) -> 
     """Refuses an object that the engines refuse for what stands in its members, or that they read otherwise than it is
     spelled. A member that is null is absent."""
     if not isinstance(value, dict):
-        raise ResolveError(f"{where} isn't an object")
+        raise Refused(f"{where} isn't an object")
     for name, one in value.items():
         kind = members.get(name)
         if kind is None:
             read_as = next((it for it in members if profiles.folded(it) == profiles.folded(name)), None)
             if read_as is not None:
-                raise ResolveError(profiles.Misread(where, name, read_as).describe())
+                raise Refused(profiles.Misread(where, name, read_as).describe())
         elif one is None or name in setting.unread:
             pass
         elif isinstance(kind, dict):
@@ -214,7 +214,7 @@ def version_of(text: str, where: str) -> tuple[int, int]:
     parts = re.fullmatch(r"([0-9]+)\.([0-9]+)", text) if len(text) <= MAX_TOLD else None
     found = (int(parts[1]), int(parts[2])) if parts else (0, 0)
     if found == (0, 0) or max(found) > 255:
-        raise ResolveError(f"{where} isn't a kernel version such as 4.8")
+        raise Refused(f"{where} isn't a kernel version such as 4.8")
     return found
 
 
@@ -274,7 +274,7 @@ class Resolver:
             return holder.get(number)
         is_number = len(text) <= MAX_TOLD and re.fullmatch("[0-9]+", text) and int(text) < 1 << 32
         if not is_number and text not in ERRNOS:
-            raise ResolveError(f"{where}: {name} '{excerpt(text)}' isn't an errno that podman knows")
+            raise Refused(f"{where}: {name} '{excerpt(text)}' isn't an errno that podman knows")
         value = int(text) if is_number else getattr(errno, text)
         if holder.get(number) not in (None, value):
             self.note(f"{where}: {name} '{text}' is used, not {number} {excerpt(holder[number])}")
@@ -284,7 +284,7 @@ class Resolver:
         """The architectures that the engine hands on."""
         names, mapped = top.get("architectures", []), top.get("archMap", [])
         if names and mapped:
-            raise ResolveError("the profile has both architectures and archMap, and the engines take one")
+            raise Refused("the profile has both architectures and archMap, and the engines take one")
         for one in mapped:
             if one.get("architecture") == OCI_ARCH:
                 names = [OCI_ARCH, *(one.get("subArchitectures") or [])]
@@ -292,7 +292,7 @@ class Resolver:
         others = [it for it in names if it != OCI_ARCH]
         if self.setting.is_native and others:
             if OCI_ARCH not in names:
-                raise ResolveError(f"the profile isn't for {OCI_ARCH}")
+                raise Refused(f"the profile isn't for {OCI_ARCH}")
             self.note(f"architectures left out: {excerpts(others)}")
             return [OCI_ARCH]
         return names
@@ -300,7 +300,7 @@ class Resolver:
     def entry_of(self, entry: dict[str, Any], where: str) -> dict[str, Any] | None:
         """The resolved form of an entry, or None if it has no name."""
         if entry.get("name") and entry.get("names"):
-            raise ResolveError(f"{where} has both name and names, and the engines take one")
+            raise Refused(f"{where} has both name and names, and the engines take one")
         names = [entry["name"]] if entry.get("name") else entry.get("names", [])
         found = {"names": names, "action": entry.get("action", "")}
         number = self.errno_of(entry, "errno", "errnoRet", where)
@@ -323,8 +323,8 @@ class Resolver:
         for where, name in unknown_members(top, SECCOMP, "the profile"):
             is_ignored = self.setting.ignored is None or name in self.setting.ignored
             if where.startswith("entry ") and not is_ignored:
-                raise ResolveError(f"{where} has a member '{excerpt(name)}', which no engine reads, and which may be a "
-                                   f"condition: --ignore {excerpt(name)} ignores it")
+                raise Refused(f"{where} has a member '{excerpt(name)}', which no engine reads, and which may be a "
+                              f"condition: --ignore {excerpt(name)} ignores it")
             self.note(f"{where}: nothing reads '{excerpt(name)}'")
         if self.setting.unread:
             for where, name in self._of_other_engines(top):
@@ -348,7 +348,7 @@ class Resolver:
         check(value, SECCOMP, "linux.seccomp" if value is None else "the profile", self.setting)
         top = members_of(value, self.setting)
         if not top.get("defaultAction"):
-            raise ResolveError("there is no defaultAction")
+            raise Refused("there is no defaultAction")
         self.tell_unread(value)
         found = {"defaultAction": top["defaultAction"]}
         number = self.errno_of(top, "defaultErrno", "defaultErrnoRet", "the profile")

@@ -10,7 +10,11 @@ from collections.abc import Callable, Iterable, Iterator, Sequence
 
 from .profiles import LONGEST_NUMBER
 from .reasons import HOLDS
-from .values import Any, dataclass, replace
+from .values import dataclass, replace
+
+TYPE_CHECKING = False
+if TYPE_CHECKING:
+    from typing import Any
 
 MOST = (1 << 64) - 1
 # The most values of an argument to try, and the most records.

@@ -121,7 +121,7 @@ def configured(container: Container) -> dict[str, Any] | None:
     name = os.path.join(container.bundle, CONFIG)
     try:
         value = engines.read(contents(name))
-    except (program.ToolError, engines.ResolveError) as why:
+    except (program.ToolError, engines.Refused) as why:
         raise HookError(f"the container's configuration: {why}") from why
     return seccomp_in(value, name)
 
@@ -149,18 +149,18 @@ def request_of(config: dict[str, Any], runtime: str | None, keeps_first: bool, t
     """The question about a container with this configuration, as its runtime applies it."""
     try:
         if runtime is not None:
-            return verify.Request.of_runtime(runtimes.apply(config, runtime), table, limit, compare.NATIVE,
+            return verify.Request.of_runtime(runtimes.applied(config, runtime), table, limit, compare.NATIVE,
                                               relation)
         text = json.dumps(config)
         if keeps_first:
             resolver = engines.Resolver(engines.Setting((), (0, 0), False), lambda _: None)
             profile = resolver.resolved(config)
             resolver.keep_first(profile)
-            text = engines.to_text(profile)
+            text = engines.printed(profile)
         return verify.Request(text.encode(), table, limit, compare.NATIVE, relation)
     except RecursionError as error:
         raise HookError("the container's configuration: the profile is nested too deep") from error
-    except engines.ResolveError as why:
+    except engines.Refused as why:
         raise HookError(f"the container's configuration: {why}") from why
 
 

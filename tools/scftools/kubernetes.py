@@ -6,7 +6,7 @@ import re
 import sys
 
 from . import engines
-from .engines import ResolveError
+from .engines import Refused
 from .values import Any
 
 KIND = "SeccompProfile"
@@ -57,14 +57,14 @@ def _scalar(node: Any) -> Any:
         return CONSTANTS[text.lower()]
     if kind == "int" and re.fullmatch("0|-?[1-9][0-9]{0,20}|0x[0-9a-fA-F]{1,16}", text):
         return int(text, 0)
-    raise ResolveError(f"line {node.start_mark.line + 1} of the YAML has a value that JSON doesn't have: "
-                       f"'{engines.excerpt(text)}'")
+    raise Refused(f"line {node.start_mark.line + 1} of the YAML has a value that JSON doesn't have: "
+                  f"'{engines.excerpt(text)}'")
 
 
 def _value(node: Any, seen: set[int]) -> Any:
     """A node as JSON has it; one that is there twice, by an alias, is refused."""
     if id(node) in seen:
-        raise ResolveError("the YAML has aliases, which may stand for more than a profile can have")
+        raise Refused("the YAML has aliases, which may stand for more than a profile can have")
     seen.add(id(node))
     if node.id == "scalar":
         return _scalar(node)
@@ -72,27 +72,27 @@ def _value(node: Any, seen: set[int]) -> Any:
         return [_value(it, seen) for it in node.value]
     pairs = [(_value(key, seen), _value(value, seen)) for key, value in node.value]
     if not all(isinstance(key, str) for key, _ in pairs):
-        raise ResolveError(f"line {node.start_mark.line + 1} of the YAML has a member whose name isn't a string")
+        raise Refused(f"line {node.start_mark.line + 1} of the YAML has a member whose name isn't a string")
     return engines.members(pairs)
 
 
 def _of_yaml(data: bytes) -> Any:
     if len(data) > LONGEST_YAML:
-        raise ResolveError(f"the YAML has more than {LONGEST_YAML} bytes")
+        raise Refused(f"the YAML has more than {LONGEST_YAML} bytes")
     yaml = _module()
     if yaml is None:
-        raise ResolveError(NO_YAML)
+        raise Refused(NO_YAML)
     try:
         return _value(yaml.compose(data.decode("utf-8"), Loader=yaml.SafeLoader), set())
     except UnicodeDecodeError as error:
-        raise ResolveError("the YAML isn't UTF-8") from error
+        raise Refused("the YAML isn't UTF-8") from error
     except yaml.YAMLError as error:
         mark = getattr(error, "problem_mark", None)
         where = f" at line {mark.line + 1}, column {mark.column + 1}" if mark is not None else ""
         why = getattr(error, "problem", None) or "it has no value"
-        raise ResolveError(f"the YAML is malformed{where}: {why}") from error
+        raise Refused(f"the YAML is malformed{where}: {why}") from error
     except (RecursionError, AttributeError) as error:
-        raise ResolveError("the YAML has no value, or is nested too deep") from error
+        raise Refused("the YAML has no value, or is nested too deep") from error
 
 
 def spec_of(data: bytes) -> bytes | None:
@@ -107,14 +107,14 @@ def spec_of(data: bytes) -> bytes | None:
     if not isinstance(value, dict) or "kind" not in value or "apiVersion" not in value:
         return None
     if value["kind"] != KIND:
-        raise ResolveError(f"it is a Kubernetes object of the kind {engines.excerpt(value['kind'])}, not {KIND}")
+        raise Refused(f"it is a Kubernetes object of the kind {engines.excerpt(value['kind'])}, not {KIND}")
     spec = value.get("spec")
     if not isinstance(spec, dict):
-        raise ResolveError(f"the {KIND} has no spec")
+        raise Refused(f"the {KIND} has no spec")
     if spec.get("baseProfileName"):
-        raise ResolveError(f"the operator adds the syscalls of the profile {engines.excerpt(spec['baseProfileName'])} "
-                           f"(baseProfileName): take the file that it writes on a node, below "
-                           f"/var/lib/kubelet/seccomp/operator")
+        raise Refused(f"the operator adds the syscalls of the profile {engines.excerpt(spec['baseProfileName'])} "
+                      f"(baseProfileName): take the file that it writes on a node, below "
+                      f"/var/lib/kubelet/seccomp/operator")
     if spec.get("disabled") is True:
-        raise ResolveError("the profile is disabled")
+        raise Refused("the profile is disabled")
     return engines.to_bytes(spec)

@@ -36,7 +36,7 @@ class Needless:
 
 
 @dataclass(frozen=True)
-class Undecided:
+class Untold:
     """An undecided name of an entry, and the verdict; None if it wasn't checked."""
 
     place: int
@@ -56,7 +56,7 @@ class Search:
         self.entries = {it.place: it for it in entries}
         self.looks = LOOKS
         self.gone: set[Named] = set()
-        self.untold: list[Undecided] = []
+        self.untold: list[Untold] = []
         self._by_number: dict[int | None, dict[Named, Entry]] = {}
         for entry in entries:
             for name in entry.names:
@@ -99,7 +99,7 @@ class Search:
     def _settle(self, doubtful: Sequence[Named]) -> None:
         """Removes what scf proves to be without effect: all of it, or else the same for its halves."""
         if self.trial.count >= COMPARISONS:
-            self.untold += [Undecided(*it, None) for it in doubtful]
+            self.untold += [Untold(*it, None) for it in doubtful]
             return
         gone = self.gone | set(doubtful)
         verdict = self.trial.verdict([self.filter], profile_of(self.default, self._kept(gone)))
@@ -109,7 +109,7 @@ class Search:
             self._settle(doubtful[:len(doubtful) // 2])
             self._settle(doubtful[len(doubtful) // 2:])
         elif not verdict.fails:
-            self.untold.append(Undecided(*doubtful[0], verdict))
+            self.untold.append(Untold(*doubtful[0], verdict))
 
     def _is_within(self, entry: Entry, names: Sequence[str], others: Sequence[Entry]) -> bool:
         """Whether scf proves that others cover an entry."""

@@ -68,7 +68,7 @@ def plain(data: bytes, name: str) -> bytes:
     _refuse_others(data, label)
     try:
         spec = kubernetes.spec_of(data)
-    except engines.ResolveError as why:
+    except engines.Refused as why:
         raise program.ToolError(f"{label}: {why}", program.NEGATIVE) from why
     if spec is None:
         return data
@@ -90,7 +90,7 @@ def _resolved(data: bytes, name: str, caps: str) -> ProfileInput:
         found = resolver.resolved(engines.read(data))
         resolver.keep_first(found)
         given = ProfileInput(DerivedProfile(engines.to_bytes(found)), resolver.origins)
-    except engines.ResolveError as why:
+    except engines.Refused as why:
         raise program.ToolError(f"{inputs.label(name)}: {why}", program.NEGATIVE) from why
     program.say(f"{inputs.label(name)} is resolved as by resolve-profile --keep-first --caps {caps}, "
                                f"which says what is left out; entries that are left: {len(found['syscalls'])}")

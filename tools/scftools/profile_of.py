@@ -190,7 +190,7 @@ class ProvedProfile:
 
     @property
     def text(self) -> str:
-        return engines.to_text(self.profile)
+        return engines.printed(self.profile)
 
 
 @dataclass(frozen=True)
@@ -207,7 +207,7 @@ class Request:
         found = Comparison(self.filters, engines.to_bytes(profile), self.table, self.limit, OF_FILTERS[relation])
         if self.runtime is None:
             return found, None
-        applied = runtimes.apply(engines.read(found.profile), self.runtime)
+        applied = runtimes.applied(engines.read(found.profile), self.runtime)
         return replace(found, profile=applied.data, origins=applied.origins), applied.stub
 
     def compared(self, profile: dict[str, object], relation: str, scope: str = NATIVE) -> tuple[Report, int | None]:

@@ -18,7 +18,7 @@ import os
 from collections.abc import Callable, Iterator, Sequence
 
 from . import engines, libseccomp, profile_inputs, program, tables
-from .engines import OCI_ARCH, Origin, ResolveError, Setting, excerpt, excerpts
+from .engines import OCI_ARCH, Origin, Refused, Setting, excerpt, excerpts
 from .libseccomp import Library
 from .values import Any, dataclass, field, replace
 
@@ -182,12 +182,12 @@ class _Application:
     has_ignored: bool = False
 
     def refuse(self, why: str) -> None:
-        raise ResolveError(f"{self.runtime.program} refuses the profile: {why}")
+        raise Refused(f"{self.runtime.program} refuses the profile: {why}")
 
     def count_rules(self, more: int) -> None:
         self.count += more
         if self.count > MAX_RULES:
-            raise ResolveError(f"the profile has more than {MAX_RULES} rules (one for each name of an entry)")
+            raise Refused(f"the profile has more than {MAX_RULES} rules (one for each name of an entry)")
 
     def answer_of(self, action: str, number: int | None, where: str) -> Answer:
         """What libseccomp is given for an action and its number."""
@@ -324,7 +324,7 @@ def _is_config(value: Any) -> bool:
 def _seccomp_of(value: Any) -> Any:
     """The seccomp object of a config.json, where runtimes look for it and nowhere else."""
     if value.get("defaultAction") is not None:
-        raise ResolveError("both defaultAction and linux are at the top: is it a profile or a config.json?")
+        raise Refused("both defaultAction and linux are at the top: is it a profile or a config.json?")
     return value
 
 
@@ -335,8 +335,8 @@ def _refuse_engines(value: Any, program: str) -> None:
     found = [name for name in ("archMap", "defaultErrno") if value.get(name)]
     found += [name for name in ("includes", "excludes", "name", "errno") if any(it.get(name) for it in entries)]
     if found:
-        raise ResolveError(f"{program} doesn't read {found[0]}: it is an engine's profile, which --runtime docker and "
-                           f"--runtime podman resolve")
+        raise Refused(f"{program} doesn't read {found[0]}: it is an engine's profile, which --runtime docker and "
+                      f"--runtime podman resolve")
 
 
 def setting_of(runtime: Runtime) -> Setting:
@@ -345,7 +345,7 @@ def setting_of(runtime: Runtime) -> Setting:
                    runtime.engine)
 
 
-def apply(value: Any, name: str, setting: Setting | None = None) -> AppliedProfile:
+def applied(value: Any, name: str, setting: Setting | None = None) -> AppliedProfile:
     """What the runtime of a name makes of a profile, or of a whole config.json, that `engines.read` read. Refused where
     the runtime, or the engine before it, refuses it or reads it otherwise than it is spelled."""
     runtime = RUNTIMES[name]
@@ -374,6 +374,6 @@ def apply(value: Any, name: str, setting: Setting | None = None) -> AppliedProfi
 def read(path: str, name: str, setting: Setting) -> AppliedProfile:
     """What a runtime makes of the profile in a file; ends the tool where it refuses it."""
     try:
-        return apply(engines.read(profile_inputs.read_engines(path)), name, setting)
-    except ResolveError as why:
+        return applied(engines.read(profile_inputs.read_engines(path)), name, setting)
+    except Refused as why:
         raise program.ToolError(f"{path}: {why}", program.NEGATIVE) from why

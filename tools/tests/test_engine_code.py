@@ -193,7 +193,7 @@ class Drawn(Case):
         for text, (made, refused) in zip(texts, answers):
             try:
                 found = as_go_prints(engines.Resolver(setting, lambda _: None).resolved(engines.read(text.encode())))
-            except engines.ResolveError as why:
+            except engines.Refused as why:
                 found = str(why)
             yield text, found, f"refused: {refused}" if refused else as_go_prints(made)
 

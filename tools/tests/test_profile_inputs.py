@@ -91,7 +91,7 @@ class Kubernetes(Case):
         self.file("yaml.py", "")
         kept, kubernetes.FOLDERS = kubernetes.FOLDERS, ("/nonexistent", self.folder)
         self.addCleanup(setattr, kubernetes, "FOLDERS", kept)
-        with self.assertRaises(engines.ResolveError) as caught:
+        with self.assertRaises(engines.Refused) as caught:
             kubernetes.spec_of(YAML.encode())
         self.assertIn("PyYAML isn't installed (Debian's python3-yaml)", str(caught.exception))
 

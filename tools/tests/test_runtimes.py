@@ -106,7 +106,7 @@ class Runtimes(Case):
     def compared(self, runtime, seccomp, applied=None, filters=None):
         """The verdict of a container's own filter beside what the tools say that the runtime makes of the profile, and
         what they say."""
-        found = applied or runtimes.apply(seccomp, runtime)
+        found = applied or runtimes.applied(seccomp, runtime)
         if filters is None:
             filters, why = filters_of(found.runtime.program, seccomp)
             self.assertIsNotNone(filters, why)
@@ -160,8 +160,8 @@ class Runtimes(Case):
             self.assertEqual(verdict, "same")
             self.assertIn("an errno beside an action that takes none is ignored", found.remarks[0])
             self.assertIn("errno value specified", filters_of("crun", given)[1])
-            with self.assertRaisesRegex(engines.ResolveError, "crun refuses the profile: .* has an errno beside"):
-                runtimes.apply(given, "crun")
+            with self.assertRaisesRegex(engines.Refused, "crun refuses the profile: .* has an errno beside"):
+                runtimes.applied(given, "crun")
 
     def test_the_architectures(self):
         for runtime in ("runc", "crun"):
@@ -176,7 +176,7 @@ class Runtimes(Case):
         """Its first number is that behind the greatest that the profile names and libseccomp knows."""
         for names, first in ((["read"], 1), (["write", "lchown", "no_such"], 95), (["pread64", "mkdir"], 84)):
             given = {"defaultAction": TRAP, "architectures": [X86_64], "syscalls": [entry(*names)]}
-            self.assertEqual(runtimes.apply(given, "runc").stub, first if names != ["read"] else None)
+            self.assertEqual(runtimes.applied(given, "runc").stub, first if names != ["read"] else None)
         numbers = {tables.read(None).number_of(it): it for it in NAMES}
         greatest = max(it for it in numbers if it <= 440)
         below = [name for number, name in numbers.items() if number <= greatest]
@@ -193,7 +193,7 @@ class Runtimes(Case):
     def test_a_stub_at_another_number_is_none(self):
         given = {"defaultAction": ERRNO, "architectures": [X86_64], "syscalls": [entry("read", "lchown")]}
         for first in (94, 96):
-            found = runtimes.apply(given, "runc")
+            found = runtimes.applied(given, "runc")
             self.assertEqual(found.stub, 95)
             data = answering_from(compiled(found.data), first, 0x00050026)
             comparison = Comparison([Filter("it", data)], found.data, tables.read(None))
@@ -214,8 +214,8 @@ class Runtimes(Case):
                 ("runc", profile(entry("write", action="SCMP_ACT_NOTIFY"), listenerPath="/x"), "entry 1 has write"),
                 ("runc", profile(entry("mkdir", action="SCMP_ACT_NOTIFY")), "no listenerPath"),
                 ("runc", profile(default="SCMP_ACT_NOTIFY", listenerPath="/x"), "can't be the default action")):
-            with self.assertRaisesRegex(engines.ResolveError, f"{runtime} refuses the profile: .*{says}"):
-                runtimes.apply(given, runtime)
+            with self.assertRaisesRegex(engines.Refused, f"{runtime} refuses the profile: .*{says}"):
+                runtimes.applied(given, runtime)
             self.assertIsNone(filters_of(runtime, given)[0], given)
         self.same("runc", entry("mkdir", action=ERRNO, errno=2**32 + 1), entry("mkdir"))
 
@@ -223,7 +223,7 @@ class Runtimes(Case):
         for name, path in (("docker", MOBY), ("podman", PODMAN)):
             if not os.path.exists(path):
                 continue
-            found = runtimes.apply(engines.read(inputs.read(path, "engine's profile")), name)
+            found = runtimes.applied(engines.read(inputs.read(path, "engine's profile")), name)
             # as the engine itself hands it on, its entries without effect among them
             with open(path, encoding="utf-8") as file:
                 resolver = engines.Resolver(runtimes.setting_of(found.runtime), lambda _: None)
@@ -258,8 +258,8 @@ class Runtimes(Case):
 
     def test_a_call_above_the_stub_that_is_allowed(self):
         """It is the call that is shown, and not one of those that runc answers by ENOSYS."""
-        found = runtimes.apply({"defaultAction": ERRNO, "architectures": [X86_64],
-                                "syscalls": [entry("read", "lchown")]}, "runc")
+        found = runtimes.applied({"defaultAction": ERRNO, "architectures": [X86_64],
+                                  "syscalls": [entry("read", "lchown")]}, "runc")
         stub = answering_from(compiled(found.data), found.stub, 0x00050026)
         for number in (95, 460, 0x3FFFFFFF):
             hole = load(0) + jeq(number, 0, 1) + ret(ALLOWED) + insn(0, 0) + stub
@@ -276,26 +276,26 @@ class Runtimes(Case):
                              (83, None, None))
             self.assertLess(library.number_of("socketcall"), 0)
         with mock.patch("ctypes.CDLL", side_effect=OSError("none")):
-            found = runtimes.apply(profile(entry("mkdir", "no_such")), "runc")
+            found = runtimes.applied(profile(entry("mkdir", "no_such")), "runc")
         self.assertEqual((found.stub, found.remarks), (max(tables.read(None).numbers()) + 1, [
             "there is no libseccomp.so.2 here, so it is unknown which names the runtime's doesn't know"]))
         self.assertEqual(found.profile["syscalls"][1]["names"], ["mkdir"])
 
     def test_what_only_engines_read(self):
         for member, value in (("archMap", [{"architecture": X86_64}]), ("defaultErrno", "EPERM")):
-            with self.assertRaisesRegex(engines.ResolveError, f"runc doesn't read {member}: .* --runtime docker"):
-                runtimes.apply({"defaultAction": ERRNO, member: value}, "runc")
+            with self.assertRaisesRegex(engines.Refused, f"runc doesn't read {member}: .* --runtime docker"):
+                runtimes.applied({"defaultAction": ERRNO, member: value}, "runc")
         for member, value in (("includes", {"caps": ["CAP_X"]}), ("name", "mkdir"), ("errno", "EPERM")):
-            with self.assertRaisesRegex(engines.ResolveError, f"crun doesn't read {member}: .* --runtime docker"):
-                runtimes.apply({"defaultAction": ERRNO, "syscalls": [{**entry("mkdir"), member: value}]}, "crun")
-        with self.assertRaisesRegex(engines.ResolveError, "both defaultAction and linux"):
-            runtimes.apply({"defaultAction": ERRNO, "linux": {"seccomp": profile()}}, "runc")
+            with self.assertRaisesRegex(engines.Refused, f"crun doesn't read {member}: .* --runtime docker"):
+                runtimes.applied({"defaultAction": ERRNO, "syscalls": [{**entry("mkdir"), member: value}]}, "crun")
+        with self.assertRaisesRegex(engines.Refused, "both defaultAction and linux"):
+            runtimes.applied({"defaultAction": ERRNO, "linux": {"seccomp": profile()}}, "runc")
 
     def test_a_whole_config(self):
         """The engine has done its part: what it wouldn't read counts."""
         given = config(profile(entry("mkdir"), defaultErrnoRet=38))
         for runtime in ("runc", "docker"):
-            self.assertEqual(runtimes.apply(given, runtime).profile["defaultErrnoRet"], 38)
+            self.assertEqual(runtimes.applied(given, runtime).profile["defaultErrnoRet"], 38)
 
 
 class VerifyProcess(Case):
@@ -364,7 +364,7 @@ class VerifyProcess(Case):
             raise unittest.SkipTest("needs root")
         table, given = tables.read(None), {"defaultAction": ERRNO, "architectures": [X86_64]}
         given["syscalls"] = [entry(*(it for it in NAMES if table.number_of(it) <= 449))]
-        found = runtimes.apply(given, "runc")
+        found = runtimes.applied(given, "runc")
         stub = answering_from(compiled(found.data), 450, 0x00050026)
         for number, name in ((460, "lsm_set_self_attr"), (0x3FFFFFFF, None)):
             hole = load(0) + jeq(number, 0, 1) + ret(ALLOWED) + insn(0, 0) + stub
