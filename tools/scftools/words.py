@@ -38,13 +38,16 @@ class Formatter(argparse.HelpFormatter):
 
 
 class Parser(argparse.ArgumentParser):
-    """The command line of a tool, whose docstring has what it does, its statuses and its examples. `needs` says what it
-    needs beside its words."""
+    """The command line of a tool, whose docstring has what it does, its usage, its statuses and its examples. `needs`
+    says what it needs beside its words."""
 
     def __init__(self, doc: str, needs: str = ""):
         text, _, examples = doc.partition("\nExamples:\n")
-        statuses = [it for it in text.split("\n\n") if it.startswith(("Exit status:", "The exit status is"))]
-        super().__init__(prog=output.escaped(program.name()), description=doc.split("\n", 1)[0],
+        (summary, usage, *rest), name = text.split("\n\n"), output.escaped(program.name())
+        statuses = [it for it in rest if it.startswith(("Exit status:", "The exit status is"))]
+        # (a percent sign would be argparse's)
+        usage = re.sub("(?m)^   ", " " * len("usage:"), re.sub(r"(?m)^    (?:scf )?[\w/-]+", f"    {name}", usage))
+        super().__init__(prog=name, usage=usage.strip().replace("%", "%%"), description=summary,
                          epilog=" ".join([needs, *statuses]), allow_abbrev=False, formatter_class=Formatter)
         self.examples = re.findall(r"(?m)^    (.*)$", examples)
         self.add_argument("--version", action=Version)

@@ -139,6 +139,15 @@ class Help(Case):
                 if name in TOOLS and name not in ("check", "run", "decide", "compare", "compile", "ask"):
                     self.assertEqual(self.scf(name, "--help")[1], out)
 
+    def test_the_usage_has_each_option(self):
+        """In it `--a0 N .. --a5 N` stands for those between, too."""
+        between = {f"--a{at}" for at in range(1, 5)}
+        for name in sorted(TOOLS - {"bundle"}):
+            usage, _, rest = self.scf("help", name)[1].partition("\n\n")
+            options = set(re.findall(r"(?m)^  (?:-h, )?(--[a-z0-9-]+)", rest)) - {"--help", "--version", "--color"}
+            self.assertEqual(set(re.findall(r"--[a-z0-9-]+", usage)), options - between, name)
+            self.assertLessEqual(max(map(len, usage.split("\n"))), 100, name)
+
     def test_a_wrong_word_names_the_nearest(self):
         for word, near in (("comapre", "compare"), ("compare-profile", "compare-profiles"), ("verify", "verify-process"),
                            ("List", "list"), ("filters_of", "filters-of"), ("surfaces", "surface")):
