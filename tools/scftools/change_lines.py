@@ -70,9 +70,8 @@ def _apart(what: str, of_sides: dict[str, tuple[str, ...]]) -> Iterator[str]:
     for side, other in ((OLD, NEW), (NEW, OLD)):
         others = set(of_sides[other])
         names = [name for name in dict.fromkeys(of_sides[side]) if name not in others]
-        more = f" and {len(names) - MOST_LISTED} more" if len(names) > MOST_LISTED else ""
         if names:
-            yield f"only in the {side} one: {', '.join(names[:MOST_LISTED])}{more}"
+            yield f"only in the {side} one: {output.some(names, MOST_LISTED)}"
 
 
 def lines(changes: Changes) -> Iterator[str]:

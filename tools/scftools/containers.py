@@ -131,7 +131,6 @@ def others_note(kernel: Kernel, container: Container) -> str | None:
     others = container.others()
     if not others:
         return None
-    shown = ", ".join(f"{it} ({output.escaped(kernel.name_of(it))})" for it in others[:MOST_SHOWN])
-    rest = f" and {len(others) - MOST_SHOWN} more" if len(others) > MOST_SHOWN else ""
-    return (f"processes of its PID namespace in other control groups weren't checked: {shown}{rest}; "
-            f"whether they are the container's can't be known")
+    shown = output.some([f"{it} ({output.escaped(kernel.name_of(it))})" for it in others], MOST_SHOWN)
+    return (f"processes of its PID namespace in other control groups weren't checked: {shown}; whether they are the "
+            f"container's can't be known")

@@ -10,7 +10,7 @@ import json
 import re
 from collections.abc import Callable, Iterator, Sequence
 
-from . import profiles
+from . import output, profiles
 from .profiles import NUMBER, SECCOMP, TEXT, VERSION, Origin, where_in
 from .values import Any, dataclass
 
@@ -89,8 +89,7 @@ def excerpt(value: Any) -> str:
 
 
 def excerpts(texts: Sequence[Any]) -> str:
-    more = f" and {len(texts) - MAX_LISTED} more" if len(texts) > MAX_LISTED else ""
-    return ", ".join(excerpt(it) for it in texts[:MAX_LISTED]) + more
+    return output.some([excerpt(it) for it in texts], MAX_LISTED)
 
 
 def members(pairs: list[tuple[str, Any]]) -> dict[str, Any]:

@@ -6,6 +6,7 @@ from __future__ import annotations
 
 import errno
 import os
+from collections.abc import Iterator
 
 from . import output, program
 
@@ -36,17 +37,20 @@ def why(name: str, kind: str, error: OSError) -> str:
 def read(name: str, kind: str, status: int = program.USAGE_ERROR, most: int | None = None) -> bytes:
     """The bytes of an input (`-` is standard input): at most one more than its kind may have, or than `most`. Raises
     ToolError with this status if it can't be read."""
-    room = (LIMITS[kind] if most is None else most) + 1
-    found = []
+    return b"".join(pieces(name, kind, (LIMITS[kind] if most is None else most) + 1, status))
+
+
+def pieces(name: str, kind: str, room: int, status: int = program.USAGE_ERROR) -> Iterator[bytes]:
+    """The first bytes of an input, so many, piece by piece."""
     try:
         file = os.dup(0) if name == "-" else os.open(name, os.O_RDONLY | os.O_CLOEXEC | os.O_NOCTTY)
         try:
             while room:
                 piece = os.read(file, min(room, 1 << 16))
                 if not piece:
-                    break
-                found.append(piece)
+                    return
                 room -= len(piece)
+                yield piece
         finally:
             os.close(file)
     except OSError as error:
@@ -54,7 +58,6 @@ def read(name: str, kind: str, status: int = program.USAGE_ERROR, most: int | No
     except UnicodeEncodeError as error:
         # an unpaired surrogate, which no file name has
         raise program.ToolError(f"there is no file '{output.escaped(name)}'", status) from error
-    return b"".join(found)
 
 
 def is_too_long(data: bytes, kind: str) -> bool:

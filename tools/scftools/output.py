@@ -10,7 +10,7 @@ import errno
 import os
 import re
 import sys
-from collections.abc import Iterable, Iterator
+from collections.abc import Iterable, Iterator, Sequence
 
 # C0, DEL and C1; and the characters that change the direction of text or end a line (Unicode's Bidi_Control, LINE
 # SEPARATOR and PARAGRAPH SEPARATOR), which make text look different than it is.
@@ -36,6 +36,11 @@ def escaped(text: str | bytes) -> str:
     """The text as one line: control characters and bytes that aren't UTF-8 become `\\xNN`."""
     data = text.encode("utf-8", "surrogates") if isinstance(text, str) else text
     return CONTROL.sub(_bytes_of, data.decode("utf-8", "backslashreplace"))
+
+
+def some(texts: Sequence[str], most: int) -> str:
+    """The first texts of a list, so many, and how many more there are."""
+    return ", ".join(texts[:most]) + (f" and {len(texts) - most} more" if len(texts) > most else "")
 
 
 # Verdicts, and how other lines begin that say as much: in green, in red and in yellow (ECMA-48), where there is colour.

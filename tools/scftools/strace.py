@@ -5,7 +5,6 @@ strace prints a string, a structure, another name or nothing at all, the argumen
 """
 from __future__ import annotations
 
-import os
 import re
 from collections.abc import Callable, Iterator
 
@@ -367,22 +366,12 @@ class Log:
 
 
 def _pieces(name: str) -> Iterator[bytes]:
-    room = LIMIT
-    try:
-        file = os.dup(0) if name == "-" else os.open(name, os.O_RDONLY | os.O_CLOEXEC | os.O_NOCTTY)
-        try:
-            while True:
-                piece = os.read(file, 1 << 16)
-                room -= len(piece)
-                if room < 0:
-                    raise program.ToolError(f"the log '{output.escaped(name)}' has more than {LIMIT} bytes")
-                if not piece:
-                    return
-                yield piece
-        finally:
-            os.close(file)
-    except OSError as error:
-        raise program.ToolError(inputs.why(name, "log", error)) from error
+    length = 0
+    for piece in inputs.pieces(name, "log", LIMIT + 1):
+        length += len(piece)
+        if length > LIMIT:
+            raise program.ToolError(f"the log '{output.escaped(name)}' has more than {LIMIT} bytes")
+        yield piece
 
 
 def lines(name: str) -> Iterator[str]:

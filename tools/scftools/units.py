@@ -217,10 +217,8 @@ class Reader:
     def tell_unknown(self) -> None:
         """Reports the names that were left out, since libseccomp doesn't know them."""
         if self.unknown:
-            names = list(self.unknown)
-            more = f" and {len(names) - MOST_TOLD} more" if len(names) > MOST_TOLD else ""
-            self.tell(f"left out, as by systemd, since libseccomp doesn't know them: "
-                      f"{', '.join(names[:MOST_TOLD])}{more}")
+            self.tell("left out, as by systemd, since libseccomp doesn't know them: "
+                      + output.some(list(self.unknown), MOST_TOLD))
 
     def shown(self, text: str) -> CallList | None:
         """The list that `systemctl show` prints, in which groups are resolved; `~` alone is one that isn't set."""

@@ -23,13 +23,6 @@ class Version(argparse.Action):
         program.finish(client.print_version())
 
 
-class Color(argparse.Action):
-    """`--color`."""
-
-    def __call__(self, parser: argparse.ArgumentParser, namespace: Any, values: Any, *_: Any) -> None:
-        output.color = values
-
-
 class Formatter(argparse.HelpFormatter):
     """Help of a fixed width, so that no tool asks the terminal for it at the start."""
 
@@ -51,7 +44,7 @@ class Parser(argparse.ArgumentParser):
                          epilog=" ".join([needs, *statuses]), allow_abbrev=False, formatter_class=Formatter)
         self.examples = re.findall(r"(?m)^    (.*)$", examples)
         self.add_argument("--version", action=Version)
-        self.add_argument("--color", action=Color, choices=("auto", "always", "never"), default=argparse.SUPPRESS,
+        self.add_argument("--color", choices=("auto", "always", "never"), default="auto",
                           help="whether verdicts are coloured [default: auto, at a terminal unless NO_COLOR is set]")
 
     def parse_args(self, *given: Any, **named: Any) -> Any:
@@ -62,7 +55,9 @@ class Parser(argparse.ArgumentParser):
                  "value": None if it.nargs == 0 else it.metavar or "", "choices": it.choices and [*it.choices]}
                 for it in self._actions if it.option_strings]})
             program.finish(program.SUCCESS)
-        return super().parse_args(*given, **named)
+        options = super().parse_args(*given, **named)
+        output.color = options.color
+        return options
 
     def error(self, message: str) -> NoReturn:
         try:
