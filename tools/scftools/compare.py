@@ -92,36 +92,21 @@ def as_undetermined(report: Report) -> Report:
                    verdict=replace(report.verdict, word=UNDETERMINED, profile=None))
 
 
-def undecided_alone(comparison: Comparison, scope: str) -> Iterator[tuple[Filter, int | None]]:
-    """The filters of a stack that are undecided by themselves, and the instruction index.
+def responsible(comparison: Comparison, report: Report, scope: str) -> Iterator[tuple[str, str]]:
+    """The files of the filters in a stack that cause a fault or are undecided by themselves, each with a line.
 
-    The index that scf prints for the stack may belong to another filter, which only the undecided syscalls reach.
+    The index that scf prints for an undecided stack may belong to another filter, which only the undecided syscalls
+    reach.
     """
-    for one in comparison.filters:
-        verdict = comparison.alone(one, scope).verdict
-        if verdict and verdict.word == UNDECIDED:
-            yield one, verdict.at
-
-
-def responsible_files(comparison: Comparison, report: Report, scope: str) -> list[str]:
-    """The files of the filters in a stack that cause a fault or are undecided."""
     if len(comparison.filters) < 2:
-        return []
+        return
     if report.fault:
-        return faulty_filters(comparison.filters, report.fault)
-    if report.verdict is None or report.verdict.word != UNDECIDED:
-        return []
-    return [one.name for one, _ in undecided_alone(comparison, scope)]
-
-
-def responsible_filters(comparison: Comparison, report: Report, scope: str) -> Iterator[str]:
-    """Which filters of a stack cause a fault or are undecided."""
-    if len(comparison.filters) > 1 and report.fault:
-        for name in faulty_filters(comparison.filters, report.fault):
-            yield f"the filter is {name}"
-    elif len(comparison.filters) > 1 and report.verdict and report.verdict.word == UNDECIDED:
-        for one, place in undecided_alone(comparison, scope):
-            yield f"alone, {one.name} is undecided at {place}"
+        yield from ((name, f"the filter is {name}") for name in faulty_filters(comparison.filters, report.fault))
+    elif report.verdict and report.verdict.word == UNDECIDED:
+        for one in comparison.filters:
+            verdict = comparison.alone(one, scope).verdict
+            if verdict and verdict.word == UNDECIDED:
+                yield one.name, f"alone, {one.name} is undecided at {verdict.at}"
 
 
 def count_lines(calls: Sequence[NamedCall], other: str = PROFILE) -> Iterator[str]:
@@ -228,7 +213,7 @@ def notes(comparison: Comparison, report: Report, scope: str) -> Iterator[str]:
         yield from reasons.of_difference(comparison, report.verdict)
         yield from of_left_out(comparison, report)
     yield from behind
-    yield from responsible_filters(comparison, report, scope)
+    yield from (line for _, line in responsible(comparison, report, scope))
 
 
 def compile_profile(profile: bytes, table: Table,
@@ -293,7 +278,7 @@ def as_json(comparison: Comparison, report: Report, scope: str, status: int) -> 
     if scope in LOOKED_AT and report.verdict is not None:
         filters = [one.data for one in comparison.filters]
         found["foreign"] = [one.as_json() for one in other_abis.let_through(filters, comparison.limit)]
-    whose_it_is = list(responsible_files(comparison, report, scope))
-    if whose_it_is:
-        found["files"] = whose_it_is
+    files = [name for name, _ in responsible(comparison, report, scope)]
+    if files:
+        found["files"] = files
     return found

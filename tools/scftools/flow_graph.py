@@ -11,8 +11,8 @@ from collections.abc import Iterator, Sequence
 from . import answers, output
 from .answers import X32
 from .filters import BY_X, JEQ, JGE, JGT, JUMP, RETURN_CONSTANT
-from .listing import (ARCHITECTURE, ARGUMENTS, NUMBER, RETURNS, WORDS, Instruction, Known, instructions, known_facts,
-                      name_of)
+from .listing import (ARCHITECTURE, NUMBER, RETURNS, Instruction, Known, instructions, known_facts, name_of,
+                      word_name)
 from .tables import Table
 from .values import dataclass, field
 
@@ -156,11 +156,6 @@ def _quoted(text: str) -> str:
     return '"' + "".join(f"{line}\\l" for line in lines) + '"'
 
 
-def _word_name(word: int) -> str:
-    at = word - ARGUMENTS
-    return WORDS.get(word) or f"argument {at // 2}, {'high' if at % 2 else 'low'} half"
-
-
 class Drawing:
     """The text of a graph; the instructions that run on a syscall are marked."""
 
@@ -189,7 +184,7 @@ class Drawing:
         before = [self.lines[it] for it in node.places if not self.graph.insns[it].is_test]
         tests = len(node.places) - len(before)
         shown = f"{tests} tests, the last is {max(node.places)}" if tests > 1 else f"{node.places[-1]}"
-        return "\n".join([*before, f"{_word_name(node.word)}? ({shown})"])
+        return "\n".join([*before, f"{word_name(node.word)}? ({shown})"])
 
     def _nodes(self) -> Iterator[str]:
         for place, node in sorted(self.graph.nodes.items()):

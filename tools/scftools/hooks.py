@@ -328,16 +328,6 @@ class Finding:
     value: Callable[[], dict[str, object]]
 
 
-@dataclass
-class Result:
-    """The result: a status, a verdict, lines, and the same as an object."""
-
-    status: int
-    verdict: str | None
-    lines: Sequence[str]
-    value: dict[str, object]
-
-
 def finding_of(found: Inspection, request: verify.Request, members: Members) -> Finding:
     """What is said of each distinct stack, but for the names that were left out, which are counted."""
     blocks, others = verify.blocks(found, request), members.others_note()
@@ -364,10 +354,6 @@ def plain_finding(status: int, verdict: str | None, line: str) -> Finding:
     return Finding(status, verdict, lambda: [line], lambda: value if verdict else {**value, "why": line})
 
 
-def result(finding: Finding) -> Result:
-    return Result(finding.status, finding.verdict, finding.lines(), finding.value())
-
-
 def without_profile(is_allowed: bool) -> Finding:
     """The configuration has no profile."""
     return plain_finding(program.SUCCESS if is_allowed else program.NEGATIVE, "unstated",
@@ -386,21 +372,20 @@ def report(finding: Finding, is_json: bool, send: Callable[[object], None]) -> N
         send(finding.value())
 
 
-def result_of(worker: Worker, seconds: float, is_json: bool, settle: Callable[[int], None]) -> Result:
+def result_of(worker: Worker, seconds: float, is_json: bool, settle: Callable[[int], None]) -> Finding:
     """What a worker finds within this many seconds. `settle` is called as soon as the status is known."""
     known = worker.receive(time.monotonic() + seconds)
     if known is None:
         finding = unknown(worker.status(), seconds)
         settle(finding.status)
-        return result(finding)
+        return finding
     status, verdict = known
     settle(status)
     until = time.monotonic() + EXPLANATION_SECONDS
-    found = result(plain_finding(status, verdict, f"no explanation: it takes longer than {EXPLANATION_SECONDS:g} "
-                                           f"seconds"))
-    found.lines = worker.receive(until) or found.lines
-    found.value = is_json and worker.receive(until) or found.value
-    return found
+    found = plain_finding(status, verdict, f"no explanation: it takes longer than {EXPLANATION_SECONDS:g} seconds")
+    lines = worker.receive(until) or found.lines()
+    value = is_json and worker.receive(until) or found.value()
+    return Finding(status, verdict, lambda: lines, lambda: value)
 
 
 def unknown(status: int | None, seconds: float) -> Finding:
@@ -424,7 +409,7 @@ class Examination:
         self.killed: list[Kill] = []
         self.watchdog: Watchdog | None = None
 
-    def result(self, find: Callable[[], Finding], is_json: bool) -> Result:
+    def result(self, find: Callable[[], Finding], is_json: bool) -> Finding:
         try:
             if self.kills:
                 self.watchdog = Watchdog(self.bark, time.monotonic() + self.seconds + GRACE)
@@ -432,7 +417,7 @@ class Examination:
                             [self.watchdog.end] if self.watchdog else [])
         except OSError as error:
             self.settle(program.IO_ERROR)
-            return result(failure(f"no process can be started: {error.strerror}"))
+            return failure(f"no process can be started: {error.strerror}")
         return result_of(worker, self.seconds, is_json, self.settle)
 
     def settle(self, status: int) -> None:
@@ -461,7 +446,7 @@ def write_log(name: str, status: int, lines: Sequence[str]) -> None:
     syslog.closelog()
 
 
-def verdict_line(container: Container | None, result: Result) -> str:
+def verdict_line(container: Container | None, result: Finding) -> str:
     """A line that says how it came out."""
     who = container.description if container else "a container"
     if result.status == program.SUCCESS:

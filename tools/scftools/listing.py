@@ -100,6 +100,12 @@ def name_of(k: int, architecture: int | None, table: Table) -> str:
     return f"x32 {named}" if named and k >= X32 else named or number_text(k)
 
 
+def word_name(word: int) -> str:
+    """What a word of a record is, by its index."""
+    at = word - ARGUMENTS
+    return WORDS.get(word) or f"argument {at // 2}, {'high' if at % 2 else 'low'} half"
+
+
 def _tested(insn: Instruction, known: Known, table: Table) -> str | None:
     """What a test of the syscall number, or of the architecture, compares with."""
     test = insn.code & 0xF0
@@ -116,8 +122,7 @@ def _tested(insn: Instruction, known: Known, table: Table) -> str | None:
 def _meaning(place: int, insn: Instruction, known: Known, table: Table, count: int) -> str | None:
     """The comment on an instruction, or None."""
     if insn.word is not None:
-        at = insn.word - ARGUMENTS
-        return WORDS.get(insn.word) or f"argument {at // 2}, {'high' if at % 2 else 'low'} half"
+        return word_name(insn.word)
     if insn.code == RETURN_CONSTANT:
         action, data = ACTIONS.get(insn.k >> 16, "an unknown action"), insn.k & 0xFFFF
         return Answer(action, data).named() if data or action == "ERRNO" else action

@@ -99,6 +99,15 @@ class Parser(argparse.ArgumentParser):
         self.add_argument("--verbose", action="store_true",
                           help="list the names in the profile that were skipped, not only their count")
 
+    def scope(self, native: str, of_all: str = "") -> None:
+        """Adds `--native` and `--calls`, on request `--all`, which exclude each other."""
+        group = self.add_mutually_exclusive_group()
+        group.add_argument("--native", dest="scope", action="store_const", const=verdicts.NATIVE, help=native)
+        if of_all:
+            group.add_argument("--all", dest="scope", action="store_const", const=verdicts.ALL, help=of_all)
+        group.add_argument("--calls", dest="scope", action="store_const", const=verdicts.CALLS,
+                           help="each x86-64 syscall in the table by itself, and no other")
+
     def relation(self, with_disposition: bool = False, other: str = "the profile") -> None:
         """Adds `--no-more` and `--no-less`, on request `--disposition`, which exclude each other."""
         group = self.add_mutually_exclusive_group()

@@ -577,9 +577,9 @@ class Inside(Hook):
                             (hold.Waiting("it waits"), "it waits (--force stops it)"),
                             (processes.Unreadable("it can't"), "it can't"),
                             (processes.Interrupted(15), "the check was ended by SIGTERM")):
-            result = hooks.result(hooks.run_safely(mock.Mock(side_effect=error)))
+            result = hooks.run_safely(mock.Mock(side_effect=error))
             status = 125 if says == "no scf" else 3
-            self.assertEqual((result.status, result.lines, result.value["verdict"]), (status, [says], None))
+            self.assertEqual((result.status, result.lines(), result.value()["verdict"]), (status, [says], None))
 
     def test_the_log(self):
         """A line each, escaped; as an error where the process isn't known to be confined."""
