@@ -32,7 +32,7 @@ check:
 	./test
 
 install: $(PROGRAM) uninstall
-	install -d "$(BIN)" "$(LIB)/tools/scftools" "$(LIB)/tables" "$(LIB)/docs" "$(MAN)" "$(DOC)" \
+	install -d "$(BIN)" "$(LIB)/program" "$(LIB)/tools/scftools" "$(LIB)/tables" "$(LIB)/docs" "$(MAN)" "$(DOC)" \
 	    "$(BASH)" "$(ZSH)" "$(FISH)"
 	install $(PROGRAM) "$(LIB)/program"
 	install $(TOOLS:%=tools/%) "$(LIB)/tools"

@@ -11,7 +11,7 @@ from .values import dataclass
 
 # In the sources the command, which builds the program where it never was; the program, as it is installed or was built.
 SCF = os.path.join(program.TOP, "scf")
-PROGRAMS = (os.path.join(program.TOP, "program"), os.path.join(program.TOP, "crates", "scf", "out", "scf"))
+PROGRAMS = (os.path.join(program.TOP, "program", "scf"), os.path.join(program.TOP, "crates", "scf", "out", "scf"))
 # SIGKILL (signal(7)), which ends a process that exceeds its limit of CPU time.
 KILLED = 9
 # The most bytes of address space that the tools give scf. Real inputs take a tenth; 4 MiB of `{"":0}` would take 520
@@ -222,14 +222,14 @@ def compare(words: Sequence[str], bundle: bytes, limit: str | None) -> Run:
     """`scf compare` with this step limit, a text; a tool without one has scf's own while there is time."""
     words = ["compare", *words]
     if limit is not None or not program.is_tool:
-        return run([*words, *(["--limit", limit] if limit is not None else [])], bundle)
+        return run([*words, *([f"--limit={limit}"] if limit is not None else [])], bundle)
     if built() is None:
         # the time to build it doesn't count
         run(["--version"])
-    for steps, until in (([], SECONDS), (["--limit", FEW_STEPS], ALL_SECONDS)):
+    for steps, until in (([], SECONDS), ([f"--limit={FEW_STEPS}"], ALL_SECONDS)):
         left = until - _seconds_taken()
         done = run([*words, *steps], bundle, left) if left > 0 else None
         if done is not None and done.out:
             return done
         _report_spent()
-    return run([*words, "--limit", "0"], bundle)
+    return run([*words, "--limit=0"], bundle)

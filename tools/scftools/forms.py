@@ -23,7 +23,7 @@ DUMP = r"(?:([0-9a-f]{8}): ((?:[0-9a-f]{2,4} ?)+) .*|([0-9a-f]{8})  ((?:[0-9a-f]
 HEXADECIMAL, ARRAY, DECIMALS, ASSEMBLER = ("hexadecimal text", "a C array", "decimals of tcpdump -ddd",
                                            "scf's assembler text")
 # What isn't a filter: how it begins, what it is, and what to do.
-OF_PROFILE = ": a profile stands behind the filters, and `compile` makes its filter"
+OF_PROFILE = ": `scf compare FILTER PROFILE` compares a profile with a filter, `scf compile` makes its filter"
 OTHERS = (
     (rb"\x7fELF", "an ELF file (a program, library or object)", ""),
     (rb"\x1f\x8b", "compressed by gzip", ": unpack it first"),

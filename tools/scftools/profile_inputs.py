@@ -40,7 +40,8 @@ def _refuse_others(data: bytes, label: str) -> None:
     if data.startswith(b"\x7fELF"):
         raise program.ToolError(f"{label} is an ELF file (a program, library or object), not a profile")
     if filters.are_codes(data):
-        raise program.ToolError(f"{label} is a raw filter, not a profile; `surface A --beside B` compares two filters")
+        raise program.ToolError(f"{label} is a raw filter, not a profile: `scf diff` compares two filters, and "
+                                "`scf profile-of` prints the profile of one")
     if not data.lstrip().startswith((b"[", b"{")):
         return
     if OF_CRI in data and b'"defaultAction"' in data:

@@ -235,6 +235,8 @@ def where_json_ends(data: bytes) -> str:
     except UnicodeDecodeError as error:
         before = data[:error.start].decode("utf-8")
         return f"the profile isn't UTF-8 from {json_places.place(before, len(before))} on"
+    if not text.strip():
+        return "the profile is empty"
     try:
         deep = _too_deep(text)
         if deep is not None:

@@ -64,10 +64,12 @@ def start(main: Callable[[], int]) -> NoReturn:
     except MemoryError:
         say("out of memory")
         status = IO_ERROR
+    except output.Failed as error:
+        say(f"the output failed: {error.strerror}")
+        # what can't be written isn't tried again
+        os._exit(IO_ERROR)
     except OSError as error:
-        what = "the output failed: " if isinstance(error, output.Failed) else \
-            "" if error.filename is None else f"'{error.filename}': "
-        say(f"{what}{error.strerror}")
+        say(f"{error.strerror}" if error.filename is None else f"'{error.filename}': {error.strerror}")
         status = IO_ERROR
     finish(status)
 

@@ -77,8 +77,25 @@ class Dispatch(Case):
 
     def test_a_listing_of_a_file(self):
         self.assertEqual(self.scf("dis", "f.bpf"), self.scf("dis", given=filter_of([0])))
+        self.assertEqual(self.scf("dis", "-", given=filter_of([0])), self.scf("dis", "f.bpf"))
         status, out, err = self.scf("dis", "none")
         self.assertEqual((status, out, err), (2, "", "scf dis: there is no file of that name that can be read\n"))
+        self.assertEqual(self.scf("dis", "f.bpf", "p.json"), (2, "", "scf dis: give one file, or standard input\n"))
+
+    def test_no_filter_is_printed_on_a_terminal(self):
+        ours, theirs = pty.openpty()
+        self.addCleanup(os.close, ours)
+        self.file("text", b"ret a\n")
+        bundle = part("profile", profile_of("read")) + self.bundle.partition(profile_of("read"))[2]
+        for words, given in ((["asm"], b"ret a\n"), (["asm", "text"], b""), (["compile"], bundle),
+                             (["compile", "p.json"], b"")):
+            status, _, err = self.scf(*words, given=given, stdout=theirs)
+            self.assertEqual(status, 2, words)
+            self.assertTrue(err.endswith(f"scf {words[0]}: a filter isn't text: redirect the output into a file\n"), err)
+        self.assertEqual(self.scf("compile", given=bundle, stdout=subprocess.DEVNULL)[0], 0)
+        self.assertEqual(self.scf("asm", "--help", stdout=theirs)[0], 0)
+        os.close(theirs)
+        self.assertNotIn(b"\0", os.read(ours, 9999))
 
     def test_at_a_terminal_there_is_no_bundle(self):
         ours, theirs = pty.openpty()

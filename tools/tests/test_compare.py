@@ -160,6 +160,8 @@ class Compare(Case):
         status, out, _ = self.run_tool("compare", "--limit", "0", self.same, self.profile)
         self.assertEqual(status, 4)
         self.assertTrue(out.startswith("unfinished\n# The comparison took as many steps"), out)
+        status, out, err = self.run_tool("compare", "--limit", "-1", self.same, self.profile)
+        self.assertEqual((status, out.split("\n")[0], err), (2, "fault number limit", ""))
         status, out, _ = self.run_tool("compare", "--limit", "x", self.same, self.profile)
         self.assertEqual(status, 2)
         self.assertTrue(out.startswith("fault number limit\n# The option's text isn't a number"), out)
@@ -208,8 +210,7 @@ class Compare(Case):
 
     def test_output_that_fails(self):
         status, _, err = self.closed_output("compare", self.wrong, self.profile)
-        self.assertEqual(status, 3)
-        self.assertIn("the output failed", err)
+        self.assertEqual((status, err), (3, "compare: the output failed: No space left on device\n"))
 
     @needs("--native")
     def test_native(self):
@@ -388,14 +389,14 @@ class WithAnotherScf(Case):
         done, bundle, words = self.run_fake("--native", "--limit", "7", "--table", "t", "a.bpf", "b.bpf", "p.json")
         self.assertEqual(bundle, part("filter", b"AAAA") + part("filter", b"BB") + part("profile", b"{}")
                          + part("table", b"getpid 39\n"))
-        self.assertEqual(words, "compare --native --limit 7\n")
+        self.assertEqual(words, "compare --native --limit=7\n")
         self.assertTrue(done[1].endswith("without a verdict: 1\n# 39 getpid unfinished\n"), done)
         with open(os.path.join(self.folder, "kept.calls"), encoding="ascii") as handed:
-            self.assertEqual(handed.read(), "compare --calls --limit 7\n")
+            self.assertEqual(handed.read(), "compare --calls --limit=7\n")
         with open(os.path.join(self.folder, "kept.relations"), encoding="ascii") as handed:
-            self.assertEqual(handed.read().split("\n"), [f"compare --native --no-{it} --limit 7"
+            self.assertEqual(handed.read().split("\n"), [f"compare --native --no-{it} --limit=7"
                                                          for it in ("more", "less")]
-                             + ["compare --no-more --limit 7"] * 2 + [""])
+                             + ["compare --no-more --limit=7"] * 2 + [""])
         self.assertEqual(self.run_fake("--all", "--table", "t", "a.bpf", "p.json")[2], "compare\n")
 
 

@@ -203,8 +203,8 @@ class Tools(Case):
         bundle = part("filter", FILTER)
         elf = b"\x7fELF\2\1\1\0" + bytes(56)
         for data, says in ((elf, "is an ELF file (a program, library or object), not a filter"),
-                           (profile_of("read"), "is JSON, not a filter: a profile stands behind the filters, and "
-                                                "`compile` makes its filter"),
+                           (profile_of("read"), "is JSON, not a filter: `scf compare FILTER PROFILE` compares a profile "
+                                                "with a filter, `scf compile` makes its filter"),
                            (b"[]", "is JSON"), (b"[{\"Id\": 1}]", "is JSON"),
                            (b"\x1f\x8b\x08\0\0\0\0\0", "compressed by gzip"),
                            (bundle, "is a bundle"), (b"apiVersion: v1\nkind: Pod\n", "is YAML"),

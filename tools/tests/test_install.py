@@ -29,7 +29,7 @@ class Install(Case):
                       for name in names if not name.endswith(".pyc"))
 
     def whole(self, zsh="site-functions"):
-        return sorted(["bin/scf", *(f"bin/scf-{name}" for name in TOOLS), "lib/scf/program",
+        return sorted(["bin/scf", *(f"bin/scf-{name}" for name in TOOLS), "lib/scf/program/scf",
                        "share/bash-completion/completions/scf", "share/fish/vendor_completions.d/scf.fish",
                        f"share/zsh/{zsh}/_scf",
                        *(f"lib/scf/tools/{name}" for name in TOOLS),
@@ -57,6 +57,7 @@ class Install(Case):
             self.assertEqual((status, err), (1, ""))
             self.assertIn("exit_group (231)", out)
         self.assertIn("usage: scf lint ", self.run_installed("scf", "help", "lint")[1])
+        self.assertIn("Usage: scf asm\n", self.run_installed("scf", "help", "asm")[1])
         self.assertEqual(self.run_installed("scf-explain", "run", given=b"x")[0], 3)
 
     def test_each_tool_has_help_a_version_and_a_page_and_names_itself_as_it_was_called(self):
@@ -89,7 +90,7 @@ class Install(Case):
             for name in (*folders, *names):
                 mode = stat.S_IMODE(os.lstat(os.path.join(at, name)).st_mode)
                 place = os.path.relpath(os.path.join(at, name), self.prefix)
-                is_program = place == "lib/scf/program" or os.path.dirname(place) == "lib/scf/tools"
+                is_program = place == "lib/scf/program/scf" or os.path.dirname(place) == "lib/scf/tools"
                 self.assertEqual(mode, 0o755 if name in folders or is_program else 0o644, place)
 
     def test_python_need_not_compile_the_modules_again(self):

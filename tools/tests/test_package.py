@@ -72,7 +72,7 @@ class Package(Case):
             listed = set(re.findall(r"^FileName: \./(.*)$", file.read(), re.M))
         self.assertEqual(listed | {"scf.spdx"}, summed)
         # (it has no dynamic section)
-        self.assertNotIn("NEEDED", self.run_words(["readelf", "-d", os.path.join(folder, "lib", "scf", "program")])[1])
+        self.assertNotIn("NEEDED", self.run_words(["readelf", "-d", os.path.join(folder, "lib", "scf", "program", "scf")])[1])
         self.example(folder)
 
     def test_usage(self):

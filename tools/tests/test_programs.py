@@ -287,7 +287,7 @@ class Json(Case):
     def test_line_and_column(self):
         same = self.file("same.bpf", filter_of([0]))
         for text, says in ((b'{\n  "defaultAction": "SCMP_ACT_ALLOW",\n  "syscalls": [}\n}\n', "line 3, column 16: "),
-                           (b"", "line 1, column 1: "), (b'{"a": "\x01"}', "line 1, column 8: "),
+                           (b" \n", "the profile is empty"), (b'{"a": "\x01"}', "line 1, column 8: "),
                            (b'{"a"\n: tru}', "line 2, column 3: "), (b'{"a": 1,}', "line 1, column "),
                            (b'{}\n {', "line 2, column 2: "),
                            (b'{\n"a": "\xff"}', "the profile isn't UTF-8 from line 2, column 7 on"),
