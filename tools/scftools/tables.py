@@ -97,12 +97,12 @@ class Skipped:
 
 
 def nearest(name: str, table: Table) -> str | None:
-    """The name in the table most similar to this one, or None if none is similar."""
+    """The name in the table most similar to this one in small letters, or None if none is similar."""
     if len(name) > LONGEST:
         return None
     from difflib import get_close_matches  # pylint: disable=import-outside-toplevel
 
-    return next(iter(get_close_matches(name, list(table.names()), n=1, cutoff=NEAR)), None)
+    return next(iter(get_close_matches(name.lower(), list(table.names()), n=1, cutoff=NEAR)), None)
 
 
 def classify(names: Sequence[str], table: Table) -> Skipped:

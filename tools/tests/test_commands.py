@@ -74,6 +74,7 @@ class Dispatch(Case):
         self.assertIn("unrecognized arguments: --no-such", self.scf("compare", "--no-such", "f.bpf", "p.json")[2])
         self.file("1", b"")
         self.assertEqual(self.scf("run", "--nr", "1", given=filter_of([0]))[1], "ERRNO 1 steps 6\n")
+        self.assertIn("the following arguments are required: FILTER", self.scf("decide", "--nr", "0", "--a0", "f.bpf")[2])
 
     def test_a_listing_of_a_file(self):
         self.assertEqual(self.scf("dis", "f.bpf"), self.scf("dis", given=filter_of([0])))

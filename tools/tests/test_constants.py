@@ -290,6 +290,7 @@ class OtherArchitectures(Case):
         for words, says in ((("--arch=i386", "--nr=socketcal"), "i386's table has no syscall 'socketcal'; the nearest "
                                                                 "name is 'socketcall'"),
                             (("--nr=SYS_raed",), "the table has no syscall 'SYS_raed'; the nearest name is 'read'"),
+                            (("--nr=READ",), "the table has no syscall 'READ'; the nearest name is 'read'"),
                             (("--arch=s390x", "--nr=read"), "there is no table of --arch s390x: give the number of "
                                                             "'read'")):
             status, out, err = self.run_tool("decide", *words, asks)
