@@ -30,8 +30,10 @@ ROOTS = ("/run/runc", "/run/crun", "/run/containerd/runc/*", "/run/docker/runtim
 OF_A_USER = re.compile(r"/run/user/([0-9]+)/")
 # The file in such a folder, and which runtime writes it.
 STATES = {"state.json": "runc", "status": "crun"}
-# Bundles of containerd, with a namespace for each client, and of podman's and CRI-O's storage.
-TASK = re.compile(r"/run/containerd/io\.containerd\.runtime\.v2\.task/([^/]+)/[^/]+/?")
+# Bundles of containerd, also one that k3s or Docker starts itself, with a namespace for each client; and of podman's and
+# CRI-O's storage.
+CONTAINERD = ("/run/containerd", "/run/k3s/containerd", "/run/docker/containerd/daemon")
+TASK = re.compile(r"/.*/io\.containerd\.runtime\.v2\.task/([^/]+)/[^/]+/?")
 STORAGE = re.compile(r"(.*-containers)/([0-9a-f]{64})/userdata/?")
 DOCKER = "/var/lib/docker/containers"
 # What engines write about a container into its config.json (annotations).
@@ -165,7 +167,8 @@ def _state_in(kernel: Kernel, folder: str) -> Described | None:
 
 def _bundles_of_engines(kernel: Kernel) -> Iterator[Described]:
     """Containers of which only an engine's own files are known: those of containerd with another runtime."""
-    for folder in sorted(glob.glob("/run/containerd/io.containerd.runtime.v2.task/*/*")):
+    tasks = (glob.glob(f"{it}/io.containerd.runtime.v2.task/*/*") for it in CONTAINERD)
+    for folder in sorted(path for those in tasks for path in those):
         try:
             first = int(read(os.path.join(folder, "init.pid"))[:12])
         except (Unreadable, ValueError):

@@ -304,6 +304,39 @@ class Belonging(Case):
             self.assertIsNone(membership.named_container(process(groups={"": path.encode()})), path)
 
 
+class Files(unittest.TestCase):
+    """What the annotations of engines say of a container (pkg/cri/annotations of containerd, pkg/annotations of CRI-O,
+    libpod/annotations.go of podman), by where these keep their bundles."""
+
+    def of(self, bundle, **annotations):
+        one = container_files.Described(IDENTIFIER, "runc", "runc", 7, f"{bundle}/config.json",
+                                        {"annotations": annotations})
+        found = container_files._with_engine(one, container_files._Names())
+        return found.engine, found.name, found.image, found.pod
+
+    def test_containerd(self):
+        cri = {f"io.kubernetes.cri.{name}": it for name, it in (
+            ("container-type", "container"), ("container-name", "web"), ("image-name", "docker.io/library/nginx:1"),
+            ("sandbox-id", "ab" * 32), ("sandbox-name", "web-1"), ("sandbox-namespace", "default"))}
+        for top in ("/run/containerd", "/run/k3s/containerd"):
+            bundle = f"{top}/io.containerd.runtime.v2.task/k8s.io/{IDENTIFIER}"
+            self.assertEqual(self.of(bundle, **cri), ("containerd", "web", "docker.io/library/nginx:1", "default/web-1"))
+        self.assertEqual(self.of("/run/containerd/io.containerd.runtime.v2.task/default/box"),
+                         ("containerd", None, None, None))
+
+    def test_cri_o(self):
+        found = self.of(f"/run/containers/storage/overlay-containers/{IDENTIFIER}/userdata", **{
+            "io.container.manager": "cri-o", "io.kubernetes.container.name": "web",
+            "io.kubernetes.cri-o.ImageName": "docker.io/library/nginx:1", "io.kubernetes.pod.name": "web-1",
+            "io.kubernetes.pod.namespace": "default", "io.kubernetes.cri-o.SandboxID": "ab" * 32})
+        self.assertEqual(found, ("CRI-O", "web", "docker.io/library/nginx:1", "default/web-1"))
+
+    def test_podman(self):
+        found = self.of(f"/var/lib/containers/storage/overlay-containers/{IDENTIFIER}/userdata", **{
+            "io.container.manager": "libpod", "io.kubernetes.cri-o.SandboxID": "ab" * 32})
+        self.assertEqual(found, ("podman", None, None, "ab" * 32))
+
+
 class Output(Case):
     """What is written of rows whose names are hostile."""
 
