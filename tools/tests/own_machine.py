@@ -5,10 +5,13 @@ import glob
 import json
 import os
 import shutil
+import signal
 import subprocess
+import tempfile
+import time
 import unittest
 
-from common import Case, comes
+from common import PATIENCE, Case, comes
 from confined import here
 
 BUSYBOX = shutil.which("busybox")
@@ -78,41 +81,17 @@ def remove_groups(top):
     return os.path.exists(top)
 
 
-@here
-@ROOT
-class OwnMachine(Case):
-    """Tests on a machine of its own."""
+class Machine(Case):
+    """Tests on a machine on which `on` runs a command."""
 
-    def setUp(self):
-        super().setUp()
-        if not shutil.which("unshare"):
-            self.skipTest("there is no unshare here")
-        self.first = subprocess.Popen(
-            ["unshare", "--pid", "--mount", "--uts", "--fork", "--mount-proc", "--kill-child", "/usr/bin/python3", "-c",
-             FIRST], stdin=subprocess.PIPE, stdout=subprocess.PIPE, stderr=subprocess.PIPE, text=True)
-        self.addCleanup(self.end)
-        if self.first.stdout.readline() != "ready\n":
-            self.skipTest(f"no namespaces can be made here: {self.first.stderr.read()}")
-
-    def end(self):
-        """Ends all of its processes, and removes the control groups that they were in, once they have left them."""
-        self.first.kill()
-        self.first.communicate()
-        comes(lambda: not any(map(remove_groups, [f"/sys/fs/cgroup/{self.group}",
-                                                  *glob.glob(f"/sys/fs/cgroup/*/{self.group}")])))
+    def on(self, *words, given=b"", **env):
+        """Runs a command on the machine: its status, and what it printed."""
+        raise NotImplementedError
 
     @property
     def group(self):
         """The control group of its containers."""
         return f"scf-audit-{os.getpid()}"
-
-    def on(self, *words, given=b"", **env):
-        """Runs a command on the machine: its status, and what it printed."""
-        import base64
-        self.first.stdin.write(json.dumps([words, env, base64.b64encode(given).decode()]) + "\n")
-        self.first.stdin.flush()
-        status, out, err = json.loads(self.first.stdout.readline())
-        return (status, *(base64.b64decode(it).decode("utf-8", "replace") for it in (out, err)))
 
     def crowd(self, *groups):
         """Starts processes, each group with a name, filters, a number of processes and of threads; their numbers."""
@@ -155,3 +134,126 @@ class OwnMachine(Case):
         status, out, err = self.on(*words, "run", "--detach", "--bundle", where, name)
         if status:
             self.skipTest(f"{runtime} starts no container here: {(out + err).strip()}")
+
+
+@here
+@ROOT
+class OwnMachine(Machine):
+    """Tests on a machine of its own."""
+
+    def setUp(self):
+        super().setUp()
+        if not shutil.which("unshare"):
+            self.skipTest("there is no unshare here")
+        self.first = subprocess.Popen(
+            ["unshare", "--pid", "--mount", "--uts", "--fork", "--mount-proc", "--kill-child", "/usr/bin/python3", "-c",
+             FIRST], stdin=subprocess.PIPE, stdout=subprocess.PIPE, stderr=subprocess.PIPE, text=True)
+        self.addCleanup(self.end)
+        if self.first.stdout.readline() != "ready\n":
+            self.skipTest(f"no namespaces can be made here: {self.first.stderr.read()}")
+
+    def end(self):
+        """Ends all of its processes, and removes the control groups that they were in, once they have left them."""
+        self.first.kill()
+        self.first.communicate()
+        comes(lambda: not any(map(remove_groups, [f"/sys/fs/cgroup/{self.group}",
+                                                  *glob.glob(f"/sys/fs/cgroup/*/{self.group}")])))
+
+    def on(self, *words, given=b"", **env):
+        import base64
+        self.first.stdin.write(json.dumps([words, env, base64.b64encode(given).decode()]) + "\n")
+        self.first.stdin.flush()
+        status, out, err = json.loads(self.first.stdout.readline())
+        return (status, *(base64.b64decode(it).decode("utf-8", "replace") for it in (out, err)))
+
+
+SYSTEMD = "/lib/systemd/systemd"
+# Makes systemd the first process of namespaces of its own, which sees one folder of cgroups and our units.
+BOOT = """
+echo $$ >"$1/cgroup.procs" && exec unshare --kill-child -p --fork -m -u -i -n --cgroup --mount-proc sh -c '
+    mount -t tmpfs none /run && mount -t tmpfs none /sys/fs/cgroup && mount -t cgroup2 none /sys/fs/cgroup &&
+    exec env container=scf SYSTEMD_UNIT_PATH="$1": "$2" --system --unit=scf-none.target' boot "$2" "$3"
+"""
+
+
+@unittest.skipUnless(os.geteuid() == 0 and os.path.exists(SYSTEMD), "needs root and systemd")
+class Systemd(Machine):
+    """Tests in namespaces of which a real systemd is the first process."""
+
+    # its unit files
+    UNITS = {}
+
+    def setUp(self):
+        super().setUp()
+        for name, text in {"scf-none.target": "[Unit]\nDefaultDependencies=no\n", **self.UNITS}.items():
+            self.file(f"units/{name}", text)
+        self.cgroup = self.made_cgroup()
+        self.boot = subprocess.Popen(["sh", "-c", BOOT, "boot", self.cgroup, f"{self.folder}/units", SYSTEMD],
+                                     stdin=subprocess.DEVNULL, stdout=subprocess.DEVNULL, stderr=subprocess.DEVNULL)
+        self.addCleanup(self.end)
+        if not self.starts(lambda: self.on("systemctl", "show", "--property=Version")[0] == 0):
+            self.skipTest("systemd can't be the first process of namespaces here")
+
+    def starts(self, holds):
+        """Whether something holds soon, while systemd runs."""
+        until = time.monotonic() + 20
+        while time.monotonic() < until and self.boot.poll() is None:
+            if holds():
+                return True
+            time.sleep(0.05)
+        return False
+
+    def made_cgroup(self):
+        with open("/proc/mounts", encoding="utf-8") as file:
+            found = [line.split()[1] for line in file if line.split()[2] == "cgroup2"]
+        if not found:
+            self.skipTest("there are no cgroups of version 2 here")
+        try:
+            path = tempfile.mkdtemp(prefix="scf-systemd-", dir=found[0])
+        except OSError as error:
+            self.skipTest(f"no cgroup can be made here: {error.strerror}")
+        self.addCleanup(self.remove, path)
+        return path
+
+    def remove(self, path):
+        """Removes a cgroup with all below it, once their processes have ended."""
+        for folder, _, _ in os.walk(path, topdown=False):
+            comes(lambda folder=folder: not self.is_there(folder))
+
+    @staticmethod
+    def is_there(folder):
+        try:
+            os.rmdir(folder)
+        except FileNotFoundError:
+            return False
+        except OSError:
+            pass
+        return os.path.exists(folder)
+
+    def end(self):
+        """Ends systemd, by which all that it has started ends."""
+        first = self.first()
+        if first:
+            os.kill(first, signal.SIGKILL)
+        self.boot.kill()
+        self.boot.wait()
+
+    def first(self):
+        with open(f"/proc/{self.boot.pid}/task/{self.boot.pid}/children", encoding="ascii") as file:
+            return int((file.read().split() or ["0"])[0])
+
+    def on(self, *words, given=b"", **env):
+        first = self.first()
+        if not first:
+            return 1, "", ""
+        words = ["nsenter", "-t", str(first), "-m", "-u", "-i", "-n", "-p", "-C", *words]
+        # (what a command starts and leaves behind would keep a pipe open)
+        with tempfile.TemporaryFile() as out, tempfile.TemporaryFile() as err:
+            done = subprocess.run(words, input=given, stdout=out, stderr=err, env={**os.environ, **env}, check=False,
+                                  timeout=PATIENCE)
+            return (done.returncode, *(self.text_of(it) for it in (out, err)))
+
+    @staticmethod
+    def text_of(file):
+        file.seek(0)
+        return file.read().decode("utf-8", "replace")

@@ -8,7 +8,7 @@ import unittest
 
 from common import ALLOW, EPERM, Case, filter_of, profile_of, ret, tool
 from confined import processes
-from own_machine import OwnMachine
+from own_machine import OwnMachine, Systemd
 from scftools import audit, audit_output, container_files, machine, membership, output, tables
 
 # What is configured for containers, and the same with one call more.
@@ -36,7 +36,9 @@ while True:
 """
 
 
-class Audited(OwnMachine):
+class Audited:
+    """What the tool says of a machine."""
+
     def audit(self, *words, status=None, **env):
         """The object that is printed."""
         found, out, err = self.on(tool("audit"), "--json", *words, **env)
@@ -46,9 +48,9 @@ class Audited(OwnMachine):
         self.assertEqual(value["status"], found)
         return value
 
-    def rows(self, *words, **env):
+    def rows(self, *words, status=None, **env):
         """The rows by their kind and name."""
-        return {(it["kind"], it["name"]): it for it in self.audit(*words, **env)["rows"]}
+        return {(it["kind"], it["name"]): it for it in self.audit(*words, status=status, **env)["rows"]}
 
     def restate(self, name, seccomp):
         """Changes what a container's configuration says, after its start."""
@@ -61,7 +63,7 @@ class Audited(OwnMachine):
         self.file(path, json.dumps(config))
 
 
-class Programs(Audited):
+class Programs(Audited, OwnMachine):
     def test_confined_programs(self):
         """Each executable with a filter has a row, with the processes of each stack; the others are counted."""
         one, two = filter_of([0, 1, 317]), filter_of([0, 1, 2])
@@ -142,7 +144,7 @@ class Programs(Audited):
         self.assertEqual((part["filter"]["action"], part["profile"]["action"]), ("ALLOW", "ERRNO"))
 
 
-class Containers(Audited):
+class Containers(Audited, OwnMachine):
     def test_each_verdict(self):
         """Containers of runc and crun; what their configurations say is changed after their start."""
         self.container("runc", "same", STATED)
@@ -214,7 +216,7 @@ def rootless(config):
     config["mounts"] = [it for it in config["mounts"] if it["destination"] in ("/proc", "/dev", "/dev/shm")]
 
 
-class Units(Audited):
+class Units(Audited, OwnMachine):
     """Units of systemd, whose processes are in groups as systemd names them, and a stand-in for systemctl."""
 
     def unit(self, name, filters):
@@ -258,6 +260,106 @@ class Units(Audited):
         self.assertEqual([name for (_, name), it in rows.items() if it["is_unconfined"]],
                          ["lost.service", "none.service"])
         self.assertIn("no bus", rows["unit", "same.service"]["profile"]["why"])
+
+
+UNIT = """[Unit]
+DefaultDependencies=no
+[Service]
+ExecStart=/bin/sleep 1000
+{}
+"""
+# Folders and locks of podman's own.
+CONTAINERS = """[containers]
+netns = "none"
+default_ulimits = ["nofile=1024:1024", "nproc=1000:1000"]
+pids_limit = 0
+[engine]
+cgroup_manager = "cgroupfs"
+events_logger = "none"
+lock_type = "file"
+tmp_dir = "{0}/tmp"
+static_dir = "{0}/static"
+volume_path = "{0}/volumes"
+"""
+STORAGE = """[storage]
+driver = "vfs"
+graphroot = "{0}/root"
+runroot = "/run/podman-of-tests"
+"""
+
+
+class Node(Audited, Systemd):
+    """A machine with all of it: units of a real systemd, containers of runc, crun, podman and a user, and others."""
+
+    UNITS = {f"scf-{name}.service": UNIT.format(setting) for name, setting in (
+        ("same", "SystemCallFilter=~mount ptrace"), ("more", "SystemCallFilter=~mount"), ("none", ""))}
+
+    def podman(self, *words):
+        settings = {f"CONTAINERS_{name}": self.file(f"podman/{name}", text.format(f"{self.folder}/podman"))
+                    for name, text in (("CONF", CONTAINERS), ("STORAGE_CONF", STORAGE))}
+        return self.on("podman", "--runtime", "runc", *words, **settings)
+
+    def start_units(self):
+        """Starts the units; what one of them states is changed after that."""
+        for name in self.UNITS:
+            self.assertEqual(self.on("systemctl", "start", name)[0], 0, name)
+        self.file("units/scf-more.service", UNIT.format("SystemCallFilter=~mount chroot"))
+        self.assertEqual(self.on("systemctl", "daemon-reload")[0], 0)
+
+    def start_pod(self):
+        """Starts a pod of two in podman, a container with a capability more, and one without a profile."""
+        rootfs = f"{self.bundle('pod', None)}/rootfs"
+        if self.podman("pod", "create", "--infra=false", "--name", "two")[0]:
+            self.skipTest("podman makes no pod here")
+        for name, words in (("front", ["--pod", "two"]), ("back", ["--pod", "two"]),
+                            ("admin", ["--cap-add", "SYS_ADMIN"]), ("free", ["--security-opt", "seccomp=unconfined"])):
+            self.addCleanup(self.podman, "rm", "--force", "--time", "0", name)
+            status, _, err = self.podman("run", "--detach", "--name", name, *words, "--rootfs", rootfs, "sleep", "1000")
+            if status:
+                self.skipTest(f"podman starts no container here: {err}")
+
+    def start_users(self):
+        """Starts a container of a user who isn't root."""
+        where = self.bundle("mine", STATED, change=rootless)
+        os.chmod(self.folder, 0o755)
+        self.on("sh", "-c", f"mkdir -p /run/user && mkdir -m 700 /run/user/12345 && chown 12345:12345 /run/user/12345; "
+                            f"chown -R 12345:12345 {where}")
+        self.container_in(where, ["setpriv", "--reuid=12345", "--regid=12345", "--clear-groups", "crun"], "mine",
+                          XDG_RUNTIME_DIR="/run/user/12345", HOME="/")
+
+    def container_in(self, where, words, name, **env):
+        """Starts a container of crun, without a control group."""
+        status, out, err = self.on(*words, "--cgroup-manager=disabled", "run", "--detach", "--bundle", where, name, **env)
+        if status:
+            self.skipTest(f"crun starts no container here: {(out + err).strip()}")
+
+    def test_each(self):
+        for name in ("runc", "crun", "podman"):
+            self.runtime(name)
+        self.start_units()
+        self.container("runc", "box", STATED)
+        self.container_in(self.bundle("open", None), ["crun"], "open")
+        self.start_users()
+        self.start_pod()
+        numbers = self.crowd(*((f"crowd{it}", [filter_of([0, it])], 10, 1) for it in range(1, 21)))
+        rows = self.rows(status=1)
+        self.assertEqual({name: it["verdict"] for (_, name), it in rows.items()}, {
+            "scf-same.service": "as configured", "scf-more.service": "weaker",
+            "scf-none.service": "unconfined by configuration", "box": "as configured",
+            "open": "unconfined by configuration", "mine": "as configured", "front": "as configured",
+            "back": "as configured", "admin": "as configured", "free": "unconfined by configuration",
+            os.path.realpath("/usr/bin/python3"): "stricter"})
+        self.assertEqual({name: it["engine"] for (kind, name), it in rows.items() if kind == "container"}, {
+            "box": "runc", "open": "crun", "mine": "crun", **dict.fromkeys(("front", "back", "admin", "free"), "podman")})
+        pods = {rows["container", name]["pod"] for name in ("front", "back")}
+        self.assertEqual((len(pods), None in pods, rows["container", "admin"]["pod"]), (1, False, None))
+        self.assertEqual(["CAP_SYS_ADMIN" in rows["container", name]["capabilities"] for name in ("admin", "front")],
+                         [True, False])
+        (call,) = [part["call"] for part in rows["unit", "scf-more.service"]["parts"]]
+        self.assertEqual(call["names"], ["chroot"])
+        (row,) = [row for (kind, _), row in rows.items() if kind == "program"]
+        self.assertEqual((len(row["parts"]), sorted(it["process"] for part in row["parts"] for it in part["processes"])),
+                         (20, sorted(numbers)))
 
 
 IDENTIFIER = "0123456789abcdef" * 4

@@ -4,13 +4,10 @@ import json
 import os
 import re
 import shutil
-import signal
-import subprocess
-import tempfile
-import time
 import unittest
 
-from common import SCF, TABLE, Case, comes, part, tool
+from common import SCF, TABLE, Case, part, tool
+from own_machine import Systemd
 
 ALLOW, ERRNO, KILL, LOG = (f"SCMP_ACT_{name}" for name in ("ALLOW", "ERRNO", "KILL_PROCESS", "LOG"))
 NATIVE, ALL = ["SCMP_ARCH_X86_64"], ["SCMP_ARCH_X86_64", "SCMP_ARCH_X86", "SCMP_ARCH_X32"]
@@ -303,13 +300,6 @@ class UnitProfile(Case):
         self.assertEqual((status, err), (3, "unit-profile: the output failed: No space left on device\n"))
 
 
-SYSTEMD = "/lib/systemd/systemd"
-# Makes systemd the first process of namespaces of its own, which sees one folder of cgroups and our units.
-BOOT = """
-echo $$ >"$1/cgroup.procs" && exec unshare --kill-child -p --fork -m -u -i -n --cgroup --mount-proc sh -c '
-    mount -t tmpfs none /run && mount -t tmpfs none /sys/fs/cgroup && mount -t cgroup2 none /sys/fs/cgroup &&
-    exec env container=scf SYSTEMD_UNIT_PATH="$1": "$2" --system --unit=scf-none.target' boot "$2" "$3"
-"""
 ALLOWING = """[Unit]
 DefaultDependencies=no
 [Service]
@@ -333,77 +323,14 @@ SystemCallArchitectures=native
 """
 
 
-@unittest.skipUnless(os.geteuid() == 0 and os.path.exists(SYSTEMD), "needs root and systemd")
-class RealSystemd(Case):
-    """A real systemd in namespaces of its own: the filters of its units are what unit-profile says."""
+class RealSystemd(Systemd):
+    """The filters of a real systemd's units are what unit-profile says."""
 
-    def setUp(self):
-        super().setUp()
-        for name, text in (("scf-none.target", "[Unit]\nDefaultDependencies=no\n"), ("scf-allow.service", ALLOWING),
-                           ("scf-allow.service.d/a.conf", DROP_IN), ("scf-deny.service", DENYING)):
-            self.file(f"units/{name}", text)
-        self.cgroup = self.made_cgroup()
-        self.boot = subprocess.Popen(["sh", "-c", BOOT, "boot", self.cgroup, f"{self.folder}/units", SYSTEMD],
-                                     stdin=subprocess.DEVNULL, stdout=subprocess.DEVNULL, stderr=subprocess.DEVNULL)
-        self.addCleanup(self.end)
-        if not self.comes(lambda: self.inside("systemctl", "show", "--property=Version")[0] == 0):
-            self.skipTest("systemd can't be the first process of namespaces here")
-
-    def comes(self, holds):
-        until = time.monotonic() + 20
-        while time.monotonic() < until and self.boot.poll() is None:
-            if holds():
-                return True
-            time.sleep(0.05)
-        return False
-
-    def made_cgroup(self):
-        with open("/proc/mounts", encoding="utf-8") as file:
-            found = [line.split()[1] for line in file if line.split()[2] == "cgroup2"]
-        if not found:
-            self.skipTest("there are no cgroups of version 2 here")
-        try:
-            path = tempfile.mkdtemp(prefix="scf-systemd-", dir=found[0])
-        except OSError as error:
-            self.skipTest(f"no cgroup can be made here: {error.strerror}")
-        self.addCleanup(self.remove, path)
-        return path
-
-    def remove(self, path):
-        """Removes a cgroup with all below it, once their processes have ended."""
-        for folder, _, _ in os.walk(path, topdown=False):
-            comes(lambda folder=folder: not self.is_there(folder))
-
-    @staticmethod
-    def is_there(folder):
-        try:
-            os.rmdir(folder)
-        except FileNotFoundError:
-            return False
-        except OSError:
-            pass
-        return os.path.exists(folder)
-
-    def end(self):
-        """Ends systemd, by which all that it has started ends."""
-        first = self.first()
-        if first:
-            os.kill(first, signal.SIGKILL)
-        self.boot.kill()
-        self.boot.wait()
-
-    def first(self):
-        with open(f"/proc/{self.boot.pid}/task/{self.boot.pid}/children", encoding="ascii") as file:
-            return int((file.read().split() or ["0"])[0])
-
-    def inside(self, *words):
-        first = self.first()
-        return self.run_words(["nsenter", "-t", str(first), "-m", "-u", "-i", "-n", "-p", "-C", *words]) if first else (
-            1, "", "")
+    UNITS = {"scf-allow.service": ALLOWING, "scf-allow.service.d/a.conf": DROP_IN, "scf-deny.service": DENYING}
 
     def pid_of(self, unit):
         """The unit's process, seen from outside."""
-        inner = self.inside("systemctl", "show", "--property=MainPID", "--value", unit)[1].strip()
+        inner = self.on("systemctl", "show", "--property=MainPID", "--value", unit)[1].strip()
         for name in filter(str.isdigit, os.listdir("/proc")) if inner not in ("", "0") else ():
             try:
                 with open(f"/proc/{name}/status", encoding="utf-8", errors="replace") as file:
@@ -418,9 +345,9 @@ class RealSystemd(Case):
 
     def test_units(self):
         for unit in ("scf-allow.service", "scf-deny.service"):
-            self.assertEqual(self.inside("systemctl", "start", "--no-block", unit)[0], 0)
-            self.assertTrue(self.comes(lambda unit=unit: self.pid_of(unit)), unit)
-            status, out, err = self.inside(tool("unit-profile"), unit)
+            self.assertEqual(self.on("systemctl", "start", "--no-block", unit)[0], 0)
+            self.assertTrue(self.starts(lambda unit=unit: self.pid_of(unit)), unit)
+            status, out, err = self.on(tool("unit-profile"), unit)
             self.assertEqual(status, 0, err)
             profile = self.file("profile.json", out)
             found = self.run_tool("verify-process", self.pid_of(unit), profile)
@@ -433,6 +360,6 @@ class RealSystemd(Case):
         # a file that changed isn't what systemd has read
         self.file("units/scf-allow.service", ALLOWING + "#\n")
         os.utime(f"{self.folder}/units/scf-allow.service", (2000000000, 2000000000))
-        status, out, err = self.inside(tool("unit-profile"), "scf-allow.service")
+        status, out, err = self.on(tool("unit-profile"), "scf-allow.service")
         self.assertEqual((status, out), (4, ""))
         self.assertIn("run systemctl daemon-reload", err)
