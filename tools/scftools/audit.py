@@ -7,6 +7,7 @@ compared once, by scf.
 """
 from __future__ import annotations
 
+import glob
 import hashlib
 import json
 import os
@@ -14,12 +15,14 @@ import time
 from collections import Counter
 from collections.abc import Callable, Iterable, Sequence
 
-from . import (bundles, client, compare, container_files, hooks, machine, membership, newer, other_abis,
+from . import (bundles, client, compare, container_files, hooks, machine, membership, newer, other_abis, output,
                program, units, verdicts)
 from .compare import Comparison
 from .container_files import Described
+from .filters import Filter
 from .machine import Process, Snapshot
 from .processes import Kernel, Stack
+from .questions import IS_MADE
 from .tables import Table
 from .values import dataclass, field, replace
 from .verdicts import NO_LESS, NO_MORE, SAME, Verdict
@@ -257,6 +260,17 @@ class Options:
     allows_unconfined: bool = False
     roots: tuple[str, ...] = ()
 
+    def check(self) -> None:
+        """Raises a ToolError if scf refuses a profile, the table or the limit. Two entries that conflict, or two
+        conditions on one argument, are left to the runtimes, which accept them."""
+        for name, profile in filter(None, (self.expected, self.baseline, ("", ALLOWS_ALL))):
+            comparison = Comparison([Filter("", IS_MADE.filter)], profile, self.table, self.limit)
+            fault = comparison.run(compare.NATIVE)[1].fault
+            if fault is not None and fault.kind not in ("Conflict", "RepeatedIndex"):
+                why = "".join(f": {it}" for it in [*compare.sentences_of(comparison, fault)][:1])
+                raise program.ToolError((f"'{name}': " if fault.source == "profile" else "") + fault.line + why,
+                                        program.USAGE_ERROR if fault.source == "number" else program.IO_ERROR)
+
 
 class Expectations:
     """The expected profiles of containers and units."""
@@ -410,6 +424,8 @@ def of_machine(options: Options, judge: Judge) -> Audit:
     began, kernel = time.monotonic(), Kernel()
     found = Audit([], machine.read(kernel, options.is_forced), time.time(),
                   allows_unconfined=options.allows_unconfined)
+    found.snapshot.notes += [f"no folder is --runtime-root {output.escaped(it)}" for it in options.roots
+                             if not any(map(os.path.isdir, glob.glob(it)))]
     rows = rows_of(kernel, found.snapshot, options)
     if _look_again(kernel, found.snapshot, rows, options):
         rows = rows_of(kernel, found.snapshot, options)

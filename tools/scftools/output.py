@@ -136,6 +136,8 @@ def replace_file(path: str, text: str) -> None:
             opened.write(text.encode("utf-8", "backslashreplace"))
         os.chmod(name, 0o644)
         os.replace(name, path)
-    except BaseException:
+    except BaseException as error:
         os.unlink(name)
+        if isinstance(error, OSError):
+            raise OSError(error.errno, error.strerror, path) from error
         raise

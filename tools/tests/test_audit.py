@@ -522,6 +522,32 @@ class Words(Case):
             self.assertEqual((status, out), (3, ""), text)
             self.assertIn("a.json' isn't an object that --json printed", err)
 
+    def test_what_scf_refuses(self):
+        """It is said before anything is looked at."""
+        for text, says in (("x", "fault profile Json"), ('{"defaultAction": "SCMP_ACT_FOO"}', "fault profile Action")):
+            name = self.file("p.json", text)
+            for words in (("--expect", name), ("--baseline", f"no-more:{name}")):
+                status, out, err = self.run_tool("audit", *words)
+                self.assertEqual((status, out), (3, ""), words)
+                self.assertIn(f"audit: '{name}': {says}: ", err)
+        status, out, err = self.run_tool("audit", "--limit", "x")
+        self.assertEqual((status, out, err.split(":")[1]), (2, "", " fault number limit"))
+        status, out, err = self.run_tool("audit", "--table", self.file("t", "x y z\n"))
+        self.assertEqual((status, out, err.split(":")[1]), (3, "", " fault table Form line 1"))
+
+    def test_what_runtimes_accept(self):
+        """Two answers to a syscall are no reason to look at nothing."""
+        name = self.file("p.json", json.dumps({"defaultAction": "SCMP_ACT_ALLOW", "syscalls": [
+            {"names": ["mount"], "action": it} for it in ("SCMP_ACT_ERRNO", "SCMP_ACT_LOG")]}))
+        self.assertIn(self.run_tool("audit", "--expect", name)[0], (0, 1, 4))
+
+    def test_places_that_are_not_there(self):
+        status, out, err = self.run_tool("audit", "--html", self.folder)
+        self.assertEqual((status, out, err), (3, "", f"audit: '{self.folder}': Is a directory\n"))
+        self.assertEqual(os.listdir(self.folder), [])
+        out = self.run_tool("audit", "--runtime-root", f"{self.folder}/no*")[1]
+        self.assertTrue(out.endswith(f"# no folder is --runtime-root {self.folder}/no*\n"), out)
+
     def test_usage(self):
         self.says_usage("audit", "--baseline", "profile.json")
         for words in (("--watch", "0"), ("--json", "--json-lines"), ("x",), ("--expect", "none"),
