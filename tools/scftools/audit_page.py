@@ -84,7 +84,10 @@ def _row(row: Row, audit: Audit) -> list[object]:
 def _rows(audit: Audit) -> Iterator[Markup]:
     yield tag("h2", "Containers, units and programs")
     head = ("verdict", "what", "engine, image", "profile", "filters", "capabilities", "NoNewPrivs", "processes")
-    yield table(head, (_row(it, audit) for it in audit.rows), "rows")
+    if audit.rows:
+        yield table(head, (_row(it, audit) for it in audit.rows), "rows")
+    else:
+        yield tag("p", "There is no container, no unit, and no other program with a filter.")
 
 
 def _shown(judgement: Judgement, table_of: Table) -> Iterator[Markup]:
@@ -143,13 +146,22 @@ def _since(audit: Audit, before: dict[tuple[str, str], tuple[str, str]] | None) 
         if found else tag("p", "No row is new, gone or has another verdict.")
 
 
-def page(audit: Audit, table_of: Table, limit: str | None,
-         before: dict[tuple[str, str], tuple[str, str]] | None = None) -> str:
-    """The page, with what changed since an earlier audit; what each stack allows is asked of scf for it."""
+def _stacks(audit: Audit, table_of: Table, limit: str | None) -> Iterator[Markup]:
+    """What each distinct stack allows."""
     groups = Groups()
     found = [Named(f"stack {at}", surface, stack.description, stack_digest(stack)) for at, (stack, surface)
              in enumerate(zip(audit.stacks, _surfaces(audit.stacks, table_of, limit)))]
+    if not found:
+        return
+    yield from surface_page.matrix(found, groups)
+    yield from surface_page.dangerous(found, table_of)
+    yield tag("h2", "Distinct stacks")
+    for one in found:
+        yield from surface_page.stack(one, groups)
+
+
+def page(audit: Audit, table_of: Table, limit: str | None,
+         before: dict[tuple[str, str], tuple[str, str]] | None = None) -> str:
+    """The page, with what changed since an earlier audit; what each stack allows is asked of scf for it."""
     return document(f"seccomp audit of {os.uname().nodename}", *_head(audit), *_since(audit, before), *_rows(audit),
-                    *_findings(audit, table_of), *surface_page.matrix(found, groups),
-                    *surface_page.dangerous(found, table_of), tag("h2", "Distinct stacks"),
-                    *(piece for it in found for piece in surface_page.stack(it, groups)))
+                    *_findings(audit, table_of), *_stacks(audit, table_of, limit))

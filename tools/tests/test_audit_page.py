@@ -91,6 +91,12 @@ class Pages(Case):
                          "(was weaker)", "unconfined"):
             self.assertIn(expected, text)
 
+    def test_nothing_to_show(self):
+        table = tables.read(None)
+        text = Page(audit_page.page(audit.Audit([], machine.Snapshot(), 0.0), table, None), self).check()
+        self.assertIn("There is no container, no unit, and no other program with a filter.", text)
+        self.assertNotIn("Dangerous syscalls", text)
+
     def test_a_surface_and_a_comparison(self):
         one, two = self.file("one.bpf", filter_of([0, 1])), self.file("<two>.bpf", filter_of([0]))
         path = os.path.join(self.folder, "page.html")
