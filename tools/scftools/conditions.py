@@ -10,14 +10,15 @@ from collections.abc import Callable, Iterator, Sequence
 from . import arguments, entries
 from .answers import Answer
 from .calls import Call
-from .entries import Condition, Entry, profile_of, record_of
+from .entries import Condition, Entry, Reading, profile_of, record_of
 from .findings import MOST, Finding, listed
+from .questions import IS_MADE
 from .reasons import Reason
 from .tables import Table
 from .trials import Trial
 
 LOW = (1 << 32) - 1
-DENIES, ALLOWS_ALL = ("SCMP_ACT_ERRNO", 1), b'{"defaultAction": "SCMP_ACT_ALLOW"}'
+DENIES = "SCMP_ACT_ERRNO", 1
 # The most answers to compute in the search for evaded denials.
 LOOKS = 200000
 # A bit of the upper half, as an example for all of them.
@@ -84,14 +85,15 @@ def of_unions(trial: Trial, found: Sequence[Entry]) -> Iterator[Finding]:
     for entry in found:
         for name in entry.names:
             having.setdefault((name, entry.answer), []).append(entry)
-    doubtful = {key: its for key, its in having.items() if len(its) > 1 and all(it.conditions for it in its)}
+    doubtful = {key: its for key, its in having.items() if len(its) > 1 and all(it.conditions for it in its)
+                and record_of([], [it.conditions for it in its]) is None}
     for answer in dict.fromkeys(answer for _, answer in doubtful):
         its = {name: entries_of for (name, one), entries_of in doubtful.items() if one == answer}
         number_of = trial.table.number_of
         calls = "".join(f"{name} {number_of(name)}\n" for name in its).encode()
         allowed = [it.allowing([name]) for name, entries_of in its.items() for it in entries_of]
-        left_out = {it.number for it in trial.report([trial.filter_of(profile_of(DENIES, allowed))], ALLOWS_ALL, calls,
-                                                     "--calls", "--no-less").calls}
+        left_out = {it.number for it in trial.report([IS_MADE.filter], profile_of(DENIES, allowed), calls, "--calls",
+                                                     "--no-more").calls}
         for name, entries_of in its.items():
             if number_of(name) not in left_out:
                 places = [it.place for it in entries_of]
@@ -102,20 +104,13 @@ def of_unions(trial: Trial, found: Sequence[Entry]) -> Iterator[Finding]:
 class Denials:
     """Searches for denials that a bit in the upper half of a register evades."""
 
-    def __init__(self, table: Table, ask: Callable[[Call], Reason], default: tuple[str, int], found: Sequence[Entry]):
-        self.table, self.ask, self.default = table, ask, default
+    def __init__(self, table: Table, ask: Callable[[Call], Reason], reading: Reading):
+        self.table, self.ask, self.reading = table, ask, reading
         self.looks = LOOKS
-        self._of_number: dict[int | None, list[Entry]] = {}
-        for entry in found:
-            for name in entry.names:
-                self._of_number.setdefault(table.number_of(name), []).append(entry)
 
     def _allows(self, number: int, record: dict[int, int]) -> bool:
-        """Whether a syscall is allowed, by the entries as read here; scf has the last word."""
-        having = self._of_number[number]
-        self.looks -= len(having)
-        answer = next((it.answer for it in having if entries.meet(it.conditions, record)), self.default)
-        return answer[0] in ("SCMP_ACT_ALLOW", "SCMP_ACT_LOG")
+        self.looks -= len(self.reading.having(number))
+        return self.reading.allows(number, record)
 
     def _evaded(self, number: int, entry: Entry, one: Condition) -> tuple[dict[int, int], dict[int, int]] | None:
         """Arguments that are denied, and are allowed with a bit in the upper half."""
@@ -138,7 +133,7 @@ class Denials:
             return None
         low, high = (it[one.index] for it in pair)
         where = "by the default" if by is None else f"by entry {by}"
-        asked_of = {it.index for entry in self._of_number[number] for it in entry.conditions}
+        asked_of = {it.index for entry in self.reading.having(number) for it in entry.conditions}
         others = {at: hex(pair[0].get(at, 0)) for at in sorted(asked_of - {one.index})}
         beside = "".join(f", beside {value} as argument {at}" for at, value in others.items())
         return Finding("high-half", f"{name} ({number}) is denied with {low:#x} as argument {one.index}{beside} "

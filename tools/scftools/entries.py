@@ -10,6 +10,7 @@ from collections.abc import Callable, Iterable, Iterator, Sequence
 
 from .profiles import LONGEST_NUMBER
 from .reasons import HOLDS
+from .tables import Table
 from .values import dataclass, replace
 
 TYPE_CHECKING = False
@@ -22,6 +23,7 @@ VALUES, RECORDS = 32, 512
 # The actions with two names, and those with an errno or data (the OCI specification; 1 if none is given).
 TWICE_NAMED = {"SCMP_ACT_KILL": "SCMP_ACT_KILL_THREAD"}
 WITH_ERRNO = ("SCMP_ACT_ERRNO", "SCMP_ACT_TRACE")
+ALLOWING = ("SCMP_ACT_ALLOW", "SCMP_ACT_LOG")
 
 
 @dataclass(frozen=True)
@@ -160,3 +162,31 @@ def record_of(all_of: Sequence[Conditions], none_of: Sequence[Conditions]) -> di
         if not any(meet(conditions, record) for conditions in none_of):
             return record
     return None
+
+
+class Reading:
+    """What a profile answers, by its entries as they are read here; scf has the last word."""
+
+    def __init__(self, table: Table, default: tuple[str, int], found: Iterable[Entry]):
+        self.default = default
+        self._of_number: dict[int | None, list[Entry]] = {}
+        for entry in found:
+            for name in entry.names:
+                self._of_number.setdefault(table.number_of(name), []).append(entry)
+
+    def having(self, number: int | None) -> list[Entry]:
+        """The entries that have a number."""
+        return self._of_number.get(number, [])
+
+    def answer(self, number: int | None, record: dict[int, int]) -> tuple[str, int]:
+        """The answer to a syscall with these arguments."""
+        return next((it.answer for it in self.having(number) if meet(it.conditions, record)), self.default)
+
+    def allows(self, number: int | None, record: dict[int, int]) -> bool:
+        return self.answer(number, record)[0] in ALLOWING
+
+    def always_allows(self, number: int | None) -> bool:
+        """Whether an entry without conditions allows a number, or the default does, and no entry has it."""
+        having = self.having(number)
+        return any(it.answer[0] in ALLOWING and not it.conditions for it in having) or \
+            not having and self.default[0] in ALLOWING

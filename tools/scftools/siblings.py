@@ -4,7 +4,7 @@ from __future__ import annotations
 from collections.abc import Callable, Iterator, Sequence
 
 from .calls import Call
-from .entries import Entry
+from .entries import ALLOWING, Entry
 from .findings import Finding, listed
 from .reasons import Reason
 from .tables import Table
@@ -25,7 +25,8 @@ def of_siblings(table: Table, ask: Callable[[Call], Reason], found: Sequence[Ent
     """Denials by an entry that another syscall makes void. One with ENOSYS isn't meant to keep a program from anything,
     but to lead it to the other one; entries with conditions are left out."""
     conditional = {name for it in found if it.conditions for name in it.names}
-    for name in dict.fromkeys(name for it in found for name in it.names if name in SIBLINGS):
+    denying = (it for it in found if it.answer[0] not in ALLOWING)
+    for name in dict.fromkeys(name for it in denying for name in it.names if name in SIBLINGS):
         denied = _ask(table, ask, name)
         if denied is None or denied.entry is None or name in conditional or denied.answer is None or \
                 not denied.answer.denies or (denied.answer.action, denied.answer.data) == ENOSYS:

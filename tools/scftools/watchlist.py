@@ -1,8 +1,8 @@
 """Syscalls that `lint` looks for in what a profile allows: those that make a sandbox useless (tables/dangerous.calls),
 those that need another one, as sleeps need restart_syscall, and those that libc replaces only if they are ENOSYS.
 
-A profile of them is compiled into a filter that allows nothing else, and which can test a bit of an argument. scf
-compares the stack of that filter and the profile's own, which finds what both allow, over all arguments.
+scf compares the profile's filter with a profile that delegates these syscalls, with the arguments that are meant, and
+allows all else: what is more permissive than that is allowed.
 """
 from __future__ import annotations
 
@@ -13,7 +13,7 @@ from collections.abc import Callable, Iterator, Sequence
 from . import program
 from .answers import Answer
 from .calls import Call
-from .entries import Condition, Entry, profile_of
+from .entries import ALLOWING, Condition, Entry, Reading, profile_of
 from .findings import Finding, listed
 from .reasons import Reason
 from .trials import Trial
@@ -22,9 +22,8 @@ from .verdicts import NamedCall
 
 FILE = os.path.join(program.TOP, "tables", "dangerous.calls")
 LINE = re.compile(r"(\w+) (?:\[(\d) has (0x[0-9a-f]+)\] )?(\S.*)")
-DENIES, ALLOWS = ("SCMP_ACT_ERRNO", 1), ("SCMP_ACT_ALLOW", 0)
-# A profile that delegates everything, and one that allows everything, to compare with.
-DELEGATES, ALLOWS_ALL = b'{"defaultAction": "SCMP_ACT_TRACE"}', b'{"defaultAction": "SCMP_ACT_ALLOW"}'
+DELEGATES, ALLOWS = ("SCMP_ACT_TRACE", 1), ("SCMP_ACT_ALLOW", 0)
+ALLOWS_ALL = b'{"defaultAction": "SCMP_ACT_ALLOW"}'
 
 
 def _has(index: int, mask: int, value: int) -> Condition:
@@ -86,21 +85,27 @@ def dangerous() -> dict[str, Dangerous]:
 class Watch:
     """What a profile allows of the list, with some or with all arguments, by syscall number."""
 
-    def __init__(self, trial: Trial, ask: Callable[[Call], Reason], data: bytes):
-        self.trial, self.ask = trial, ask
+    def __init__(self, trial: Trial, ask: Callable[[Call], Reason], data: bytes, reading: Reading | None):
+        self.trial, self.ask, self.data, self.reading = trial, ask, data, reading
         self.dangerous = dangerous()
         listed_calls = [(name, it.conditions) for name, it in self.dangerous.items()]
         listed_calls += [it for one in NEEDED for it in (*one.users, (one.name, ()))]
-        watched = [Entry(0, (name,), ALLOWS, conditions) for name, conditions in listed_calls]
+        watched = [Entry(0, (name,), DELEGATES, conditions) for name, conditions in listed_calls]
         self.numbers = {name: trial.table.number_of(name) for name, _ in listed_calls}
-        calls = "".join(f"{name} {at}\n" for name, at in self.numbers.items() if at is not None).encode()
-        older = trial.filter_of(profile_of(DENIES, watched))
-        self.allowed = self._compare([older, data], DELEGATES, calls, "--no-more")
-        self.not_always = self._compare([data], ALLOWS_ALL, calls, "--no-less")
+        self.allowed = self._compare(profile_of(ALLOWS, watched), "--no-more")
+        self._not_always: dict[int, NamedCall] | None = None
 
-    def _compare(self, filters: Sequence[bytes], profile: bytes, calls: bytes, relation: str) -> dict[int, NamedCall]:
-        """The syscalls that fail a relation or are undecided, by number."""
-        return {it.number: it for it in self.trial.report(filters, profile, calls, "--calls", relation).calls}
+    def _compare(self, profile: bytes, relation: str) -> dict[int, NamedCall]:
+        """The syscalls of the list that fail a relation to a profile or are undecided, by number."""
+        calls = "".join(f"{name} {at}\n" for name, at in self.numbers.items() if at is not None).encode()
+        return {it.number: it for it in self.trial.report([self.data], profile, calls, "--calls", relation).calls}
+
+    @property
+    def not_always(self) -> dict[int, NamedCall]:
+        """Those that aren't always allowed, or of which that is undecided."""
+        if self._not_always is None:
+            self._not_always = self._compare(ALLOWS_ALL, "--no-less")
+        return self._not_always
 
     def _found(self, name: str) -> NamedCall | None:
         number = self.numbers[name]
@@ -108,7 +113,9 @@ class Watch:
 
     def _is_always(self, name: str) -> bool:
         number = self.numbers[name]
-        return number is not None and number in self.allowed and number not in self.not_always
+        if number is None or number not in self.allowed:
+            return False
+        return self.reading is not None and self.reading.always_allows(number) or number not in self.not_always
 
     def _answer(self, call: Call) -> tuple[Answer | None, str, int | None]:
         """What the profile answers to a record, and which entry or default decides."""
@@ -153,11 +160,19 @@ class Watch:
                              f"{one.name} ({number}) is not: {one.why} is answered {where} {answer.describe()}",
                              {**more, "entry": entry})
 
+    def _may_keep_from(self, newer: int, older: int, first_arguments: Sequence[int]) -> bool:
+        """Whether a syscall may be denied other than with ENOSYS and the older one allowed, as the entries are read."""
+        if self.reading is None:
+            return True
+        answer = self.reading.answer(newer, {})
+        return answer[0] not in ALLOWING and answer != ("SCMP_ACT_ERRNO", ENOSYS) and \
+            any(self.reading.allows(older, {0: it}) for it in first_arguments)
+
     def of_fallbacks(self) -> Iterator[Finding]:
         """A finding if a newer syscall is denied so that libc doesn't call the older one, which is allowed."""
         for newer, older, first_arguments in FALLBACKS:
             numbers = [self.trial.table.number_of(name) for name in (newer, older)]
-            if None in numbers:
+            if None in numbers or not self._may_keep_from(numbers[0], numbers[1], first_arguments):
                 continue
             answer, where, entry = self._answer(Call(numbers[0]))
             instead = [self._answer(Call(numbers[1], arguments=(it, *[0] * 5)))[0] for it in first_arguments]

@@ -673,13 +673,14 @@ class Arguments(Linted):
                         entry("socket", args=[(0, "NE", 40)], action="SCMP_ACT_LOG"))
         self.assertEqual(self.found(mixed, kinds=("always-met",)), [])
 
-    def test_what_lint_makes_itself_is_not_the_profiles_fault(self):
+    def test_entries_that_would_be_too_many(self):
         """Entries as the default need no instruction, and as many that allow need more than a filter has."""
         given = profile(*(entry("socket", args=[(0, "GT", it), (1, "GT", it)], action=ERRNO)
                           for it in range(2**40, 2**40 + 900)))
         report = self.report(given)
         self.assertNotIn("fault", report)
-        self.assertIn("always-met", [it["kind"] for it in report["untold"]])
+        # a socket call with zeros meets none
+        self.assertNotIn("always-met", [it["kind"] for it in (*report["findings"], *report["untold"])])
 
     def test_the_list_beside_the_kernel(self):
         """What this kernel's tracepoints say of its syscalls."""
