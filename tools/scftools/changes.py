@@ -1,4 +1,4 @@
-"""Changes: two profiles compared syscall by syscall, by verdicts of scf on the filter of each and the other."""
+"""Changes: two profiles compared syscall by syscall, by verdicts of scf on the old one's filter and the new one."""
 from __future__ import annotations
 
 import json
@@ -9,7 +9,7 @@ from .answers import DISPOSITIONS, Answer
 from .calls import Call
 from .client import Refusal
 from .compare import CALLS, NATIVE, Comparison
-from .filters import Filter, answering_from
+from .filters import Filter
 from .profiles import STUB, Origin
 from .questions import checked
 from .reasons import Reason
@@ -24,6 +24,8 @@ OTHERWISE = "otherwise"
 KINDS = (MORE, LESS, OTHERWISE, UNDECIDED, UNFINISHED)
 # The word of each relation if it fails.
 FAILED = {SAME: DIFFERS, NO_MORE: MORE, NO_LESS: LESS}
+# The relation that the old profile has to the new one, if the new one has this to the old one.
+TURNED = {NO_MORE: NO_LESS, NO_LESS: NO_MORE}
 
 
 @dataclass(frozen=True)
@@ -70,53 +72,66 @@ class Part:
         return found if found.entry is None else replace(found, entry=list(own)[found.entry])
 
 
-@dataclass(frozen=True)
-class Side:
-    """A profile, whether it is the old or the new one, and its filter."""
-
-    word: str
-    data: bytes
-    filter: Filter
-
-
-def side_of(word: str, data: bytes, table: Table) -> Side:
-    """A side with its filter. Raises Refusal, whose subject is the side."""
+def filter_of(data: bytes, table: Table) -> Filter:
+    """The old profile's filter. Raises Refusal, whose subject is that side."""
     try:
-        return Side(word, data, Filter(word, client.compile_profile(bundles.of_compilation(data, table.data))))
+        return Filter(OLD, client.compile_profile(bundles.of_compilation(data, table.data)))
     except Refusal as why:
-        why.subject = word, data
+        why.subject = OLD, data
         raise
+
+
+def _refuse_new(report: Report, status: int, data: bytes, table: Table) -> None:
+    """Raises the Refusal of the new profile: that of `compile` if it refuses the profile, too."""
+    assert report.fault is not None
+    done = client.run(["compile"], bundles.of_compilation(data, table.data))
+    if done.status != program.SUCCESS and report.fault.source == "profile":
+        raise Refusal(done.line, done.status, (NEW, data))
+    raise Refusal(report.fault.line, status, (NEW, data))
 
 
 @dataclass(frozen=True)
 class Given:
-    """Both profiles, the table, and the most steps, as a text, where they aren't scf's; and the least number from which
-    on runc answers both alike, whatever they say."""
+    """Both profiles, the old one's filter, the table, and the most steps, as a text, where they aren't scf's; and the
+    least number from which on runc answers both alike, whatever they say."""
 
-    old: Side
-    new: Side
+    old: bytes
+    new: bytes
+    filter: Filter
     table: Table
     limit: str | None
     end: int | None = None
     parts: dict[str, Part] = field(default_factory=dict)
 
-    def compared(self, one: Side, other: Side, scope: str, relation: str) -> Report:
-        """scf's report on the filter of one side compared with the profile of the other."""
-        comparison = Comparison([one.filter], other.data, self.table, self.limit, relation)
-        default = newer.default_of(comparison) if self.end is not None else None
-        if self.end is not None and default is not None:
-            alike = answering_from(one.filter.data, self.end, default[1].word)
-            comparison = replace(comparison, filters=[Filter(one.word, alike)])
-        status, report = comparison.run(scope)
+    @property
+    def comparison(self) -> Comparison:
+        return Comparison([self.filter], self.new, self.table, self.limit)
+
+    def _below_end(self) -> Table:
+        """The table without the numbers that are answered alike."""
+        if self.end is None:
+            return self.table
+        lines = (f"{name} {number}\n" for number in self.table.numbers() if number < self.end
+                 for name in self.table.names_of(number))
+        return Table("".join(lines).encode())
+
+    def compared(self, scope: str, relation: str) -> Report:
+        """scf's report on the old profile's filter compared with the new profile."""
+        if scope == CALLS:
+            status, report = replace(self.comparison, table=self._below_end()).run(CALLS, relation)
+        elif self.end is not None:
+            status, report = self.comparison.of_numbers(0, self.end, relation)
+        else:
+            status, report = self.comparison.run(scope, relation)
         if report.fault is not None:
-            raise Refusal(report.fault.line, status, (other.word, other.data))
+            _refuse_new(report, status, self.new, self.table)
         return checked(status, report, scope)
 
     def asked(self, call: Call) -> dict[str, Reason]:
         """What each profile answers to a syscall, and why."""
         if not self.parts:
-            self.parts.update({side.word: Part(side.data, self.table) for side in (self.old, self.new)})
-        return {side.word: self.parts[side.word].reason(call) for side in (self.old, self.new)}
+            self.parts.update({OLD: Part(self.old, self.table), NEW: Part(self.new, self.table)})
+        return {side: self.parts[side].reason(call) for side in (OLD, NEW)}
 
 
 @dataclass
@@ -182,9 +197,9 @@ def _kinds(same: NamedCall | None, more: NamedCall | None, less: NamedCall | Non
 
 def _of_calls(given: Given) -> list[Change]:
     """The syscalls that differ: first more permissive, then stricter, then others."""
-    lists = [{line.number: line for line in given.compared(one, other, CALLS, relation).calls}
-             for one, other, relation in ((given.old, given.new, SAME), (given.new, given.old, NO_MORE),
-                                          (given.old, given.new, NO_MORE))]
+    # the new profile is more permissive where the old one is stricter
+    lists = [{line.number: line for line in given.compared(CALLS, relation).calls}
+             for relation in (SAME, NO_LESS, NO_MORE)]
     found = []
     for number in sorted({number for lines in lists for number in lines}):
         for kind, line in _kinds(*(lines.get(number) for lines in lists)):
@@ -200,11 +215,9 @@ def _kind_of(before: Answer | None, after: Answer | None) -> str:
 
 
 def _of_unnamed(given: Given, end: int) -> Change | None:
-    """Whether the defaults differ, by a table that names nothing, so that both profiles have nothing else."""
+    """Whether the defaults differ, which answer all numbers that the table doesn't name: by the least of them."""
     number = next((first for first, _ in unnamed.gaps(given.table) if first < end), None)
-    nothing = Table(b"")
-    alone = replace(given, old=side_of(OLD, given.old.data, nothing), table=nothing, end=None)
-    verdict = alone.compared(alone.old, alone.new, NATIVE, SAME).verdict
+    verdict = None if number is None else given.comparison.of_numbers(number, number + 1)[1].verdict
     if number is None or verdict is None or verdict.holds:
         return None
     if not verdict.fails:
@@ -213,15 +226,27 @@ def _of_unnamed(given: Given, end: int) -> Change | None:
     return Change(number, (), _kind_of(asked[OLD].answer, asked[NEW].answer), Call(number), asked)
 
 
+def _whole(given: Given, same: Verdict, relation: str) -> Verdict:
+    """The verdict on whether the new profile has a relation to the old one, given that on whether they are the same."""
+    if relation == SAME or same.holds:
+        return Verdict(relation) if same.holds else same
+    found = given.compared(NATIVE, TURNED[relation]).verdict
+    assert found is not None
+    return Verdict(relation) if found.holds else replace(found, word=FAILED[relation]) if found.fails else found
+
+
 def of_profiles(old: Source, new: Source, table: Table, limit: str | None, relation: str) -> Changes:
     """What changes from one profile to another."""
     stubs = [it.stub for it in (old, new) if it.stub is not None]
     end = max(stubs) if len(stubs) == 2 else None
     old, new = old.with_stub(table, end), new.with_stub(table, end)
-    given = Given(side_of(OLD, old.data, table), side_of(NEW, new.data, table), table, limit, end)
-    beside_new = given.compared(given.old, given.new, NATIVE, SAME)
-    beside_old = given.compared(given.new, given.old, NATIVE, relation)
-    assert beside_old.verdict is not None
-    return Changes(relation, beside_old.verdict, _of_calls(given), _of_unnamed(given, min(stubs, default=unnamed.X32)),
+    given = Given(old.data, new.data, filter_of(old.data, table), table, limit, end)
+    beside_new = given.compared(NATIVE, SAME)
+    # without a step the comparison only reports what was left out
+    beside_old = Comparison([given.filter], old.data, table, "0").run(NATIVE)[1]
+    assert beside_new.verdict is not None
+    whole, are_same = _whole(given, beside_new.verdict, relation), beside_new.verdict.holds
+    end = min(stubs, default=unnamed.X32)
+    return Changes(relation, whole, [] if are_same else _of_calls(given), None if are_same else _of_unnamed(given, end),
                    {OLD: old, NEW: new}, {OLD: beside_old.skipped, NEW: beside_new.skipped},
                    {OLD: beside_old.architectures, NEW: beside_new.architectures})

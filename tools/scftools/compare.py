@@ -75,11 +75,11 @@ class Comparison:
                 return ended, others
         return status, report
 
-    def of_numbers(self, first: int, end: int | None = None) -> tuple[int, Report]:
-        """scf's exit status and report on whether the filters are the same as the profile over the x86-64 syscalls with
-        numbers from `first` on, and below `end` if it is given."""
+    def of_numbers(self, first: int, end: int | None = None, relation: str = SAME) -> tuple[int, Report]:
+        """scf's exit status and report for a relation, over the x86-64 syscalls with numbers from `first` on, and below
+        `end` if it is given."""
         numbers = [f"--nr-from={first}", *([f"--nr-to={end - 1}"] if end is not None else [])]
-        return self._run(ALL, [one.data for one in self.filters], SAME, numbers)
+        return self._run(ALL, [one.data for one in self.filters], relation, numbers)
 
     def alone(self, one: Filter, scope: str) -> Report:
         return self._run(scope, [one.data], self.relation)[1]

@@ -86,15 +86,6 @@ def looks_at_pointer(data: bytes) -> bool:
     return any(code == LOAD_WORD and k in POINTER for code, _, _, k in INSTRUCTION.iter_unpack(whole))
 
 
-def answering_from(data: bytes, number: int, answer: int) -> bytes:
-    """A filter that gives this answer from this syscall number on, and otherwise runs these bytes.
-
-    The accumulator is 0 again when they start, as in the kernel.
-    """
-    return (instruction(LOAD_WORD, 0) + instruction(JUMP | JGE, number, 0, 1) + instruction(RETURN_CONSTANT, answer)
-            + instruction(LOAD_CONSTANT, 0) + data)
-
-
 def _tests(number: int, conditions: Sequence[tuple[int, int, int]]) -> bytes:
     """Tests that go on behind them for a syscall of this number whose arguments meet these conditions, each an index, a
     mask and a value, and otherwise skip one more instruction."""

@@ -9,7 +9,6 @@ from __future__ import annotations
 import json
 from collections.abc import Iterator, Sequence
 
-from . import bundles, client, verdicts
 from .answers import Answer
 from .calls import Call
 from .profiles import STUB
@@ -49,23 +48,32 @@ def compared_with_stub(comparison: Comparison, scope: str, first: int | None) ->
     """scf's status and report on filters that may begin with runc's stub, which answers ENOSYS from this number on; and
     whether the stub is there.
 
-    If the filters aren't the same without a stub, they are the same with one if scf proves two things: that the numbers
-    below are answered as the profile says, and that those from there on all get ENOSYS.
+    The filters are the same with the stub if scf proves two things: that the numbers below are answered as the profile
+    says, and that those from there on all get ENOSYS. If not, they may be the same without one.
     """
-    status, report = comparison.run(scope)
-    if first is None or comparison.relation != SAME or report.verdict is None or not report.verdict.fails:
-        return status, report, False
+    if first is None or comparison.relation != SAME:
+        return (*comparison.run(scope), False)
     if scope == CALLS:
-        expected = replace(comparison, profile=with_stub(comparison.profile, comparison.table, first), _facts=[])
-        status, report = expected.run(CALLS)
-        return status, report, report.verdict is not None and report.verdict.holds
+        return _calls_with_stub(comparison, first)
     status, report = comparison.of_numbers(0, first)
     if report.verdict is None or not report.verdict.holds:
         return status, report, False
     beyond_status, beyond = replace(comparison, profile=ENOSYS_PROFILE, _facts=[]).of_numbers(first)
-    if beyond.verdict is None or not beyond.verdict.holds:
-        return beyond_status, beyond, False
-    return status, report, True
+    if beyond.verdict is not None and beyond.verdict.holds:
+        return status, report, True
+    status, report = comparison.run(scope)
+    is_other = report.verdict is not None and report.verdict.fails
+    return (beyond_status, beyond, False) if is_other else (status, report, False)
+
+
+def _calls_with_stub(comparison: Comparison, first: int) -> tuple[int, Report, bool]:
+    """The same for each syscall in the table."""
+    status, report = comparison.run(CALLS)
+    if report.verdict is None or not report.verdict.fails:
+        return status, report, False
+    expected = replace(comparison, profile=with_stub(comparison.profile, comparison.table, first), _facts=[])
+    status, report = expected.run(CALLS)
+    return status, report, report.verdict is not None and report.verdict.holds
 
 
 def _told(calls: str, are_all: bool, first: int, table: Table) -> str:
@@ -94,16 +102,6 @@ class Newer:
     def told(self, are_all: bool, table: Table) -> str:
         return (f"{_told('syscalls', are_all, self.first, table)}, the filter with {self.filters.named()} and the "
                 f"profile with {self.profile.named()}")
-
-
-def default_of(comparison: Comparison) -> tuple[bytes, Answer] | None:
-    """The profile without its entries, and the answer that it gives to every x86-64 syscall."""
-    if comparison.facts is None:
-        return None
-    alone = comparison.facts.default_alone()
-    compiled = client.run(["compile"], bundles.of_compilation(alone, comparison.table.data))
-    answer = verdicts.decision(client.run(["run"], compiled.out).text).answer if compiled.status == 0 else None
-    return None if answer is None else (alone, answer)
 
 
 def calls_of(comparison: Comparison) -> Newer | None:

@@ -52,18 +52,11 @@ class Profile:
     """A profile's default action, and the names of its entries in order, with repetitions."""
 
     default: str
-    # `defaultErrnoRet` as in the file, or None
-    default_errno: str | None
     names: list[str]
 
     @property
     def allows_by_default(self) -> bool:
         return self.default in ALLOWING
-
-    def default_alone(self) -> bytes:
-        """The profile without its entries."""
-        errno = f', "defaultErrnoRet": {self.default_errno}' if self.default_errno is not None else ""
-        return f'{{"defaultAction": {json.dumps(self.default)}{errno}}}'.encode()
 
 
 def _top(data: bytes, parse_int: Callable[[str], object]) -> dict[str, Any]:
@@ -104,8 +97,7 @@ def read(data: bytes) -> Profile | None:
         return None
     if not isinstance(default, str) or not all(isinstance(name, str) for name in names):
         return None
-    errno = top.get("defaultErrnoRet")
-    return Profile(default, errno if isinstance(errno, str) else None, names)
+    return Profile(default, names)
 
 
 @functools.lru_cache(1024)

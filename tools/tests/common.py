@@ -71,6 +71,11 @@ def filter_of(allowed, default=EPERM, foreign=KILL_PROCESS):
             + ret(default) + ret(ALLOW))
 
 
+def stub(number, answer=0x00050026):
+    """What runc puts before a filter: numbers from this one on are answered so, ENOSYS."""
+    return load(0) + jge(number, 0, 1) + ret(answer)
+
+
 def comes(holds):
     """Whether something holds in the end."""
     until = time.monotonic() + PATIENCE

@@ -1,26 +1,14 @@
 """Calls with greater numbers than all that a profile names, which a filter refuses otherwise than its profile, as runc
 makes them; and filters that differ elsewhere, too."""
 import json
-import os
-import sys
 
-from common import ALLOW, EPERM, KILL_PROCESS, TOP, X86_64, Case, filter_of, insn, jeq, jge, load, profile_of, ret
+from common import ALLOW, EPERM, KILL_PROCESS, X86_64, Case, filter_of, jeq, load, profile_of, ret, stub
 
-sys.path.append(os.path.join(TOP, "tools"))
-
-from scftools import filters  # noqa: E402
-
-ENOSYS = 0x00050026
 SAID = "syscalls with numbers above all that the profile names differ, the first is"
 FATES = "it is neither more permissive nor stricter than the profile: only the answers differ"
 BOTH = "; both sides deny them, the filter with ERRNO 38 (ENOSYS) and the profile with ERRNO 1 (EPERM)"
 # The numbers of the table's last calls, and the count of its calls from 450 on.
 CACHESTAT, LAST, COUNT_FROM_450 = 451, 469, 20
-
-
-def stub(number, answer=ENOSYS):
-    """What runc puts before a filter: numbers from this one on are answered so."""
-    return load(0) + jge(number, 0, 1) + ret(answer)
 
 
 class Newer(Case):
@@ -133,19 +121,3 @@ class Newer(Case):
         name = self.file("g.bpf", stub(CACHESTAT) + filter_of([*self.rules, 41]))
         found = json.loads(self.run_tool("compare", "--native", "--json", name, self.profile)[1])
         self.assertFalse(found["newer"]["are_all"])
-
-
-class Before(Case):
-    """The filter that answers so from a number on, and as another one below."""
-
-    def answer(self, code, number):
-        return self.run_tool("run", "--nr", str(number), self.file("f.bpf", code))[1].split(" steps")[0]
-
-    def test_each_number(self):
-        # answers by A as it is at the start, which is 0, and by the number
-        code = jeq(0, 1, 0) + ret(KILL_PROCESS) + load(0) + insn(0x07, 0) + jeq(7, 0, 1) + ret(ENOSYS) + ret(ALLOW)
-        for number in (6, 7, 8):
-            for least in (6, 7, 8, 9):
-                whole = self.answer(code, number)
-                self.assertEqual(self.answer(filters.answering_from(code, least, EPERM), number),
-                                 "ERRNO 1" if number >= least else whole)

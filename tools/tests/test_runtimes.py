@@ -11,7 +11,7 @@ import unittest
 from unittest import mock
 
 from common import ALLOW as ALLOWED
-from common import TABLE, TOP, Case, insn, jeq, load, part, ret
+from common import TABLE, TOP, Case, insn, jeq, load, part, ret, stub
 from confined import ended, started
 
 sys.path.append(os.path.join(TOP, "tools"))
@@ -19,7 +19,7 @@ sys.path.append(os.path.join(TOP, "tools"))
 # pylint: disable=wrong-import-position
 from scftools import client, engines, inputs, libseccomp, newer, processes, runtimes, tables  # noqa: E402
 from scftools.compare import NATIVE, Comparison  # noqa: E402
-from scftools.filters import Filter, answering_from  # noqa: E402
+from scftools.filters import Filter  # noqa: E402
 
 ALLOW, ERRNO, LOG, TRAP = "SCMP_ACT_ALLOW", "SCMP_ACT_ERRNO", "SCMP_ACT_LOG", "SCMP_ACT_TRAP"
 X86_64, X86, X32 = "SCMP_ARCH_X86_64", "SCMP_ARCH_X86", "SCMP_ARCH_X32"
@@ -180,13 +180,13 @@ class Runtimes(Case):
         numbers = {tables.read(None).number_of(it): it for it in NAMES}
         greatest = max(it for it in numbers if it <= 440)
         below = [name for number, name in numbers.items() if number <= greatest]
-        for default, architectures, stub in ((ERRNO, [X86_64], greatest + 1), (ERRNO, [X86_64, X86, X32], greatest + 1),
+        for default, architectures, first in ((ERRNO, [X86_64], greatest + 1), (ERRNO, [X86_64, X86, X32], greatest + 1),
                                              ("SCMP_ACT_KILL", [X86_64], greatest + 1), (TRAP, [X86], None),
                                              (ERRNO, [], None), (LOG, [X86_64], None), (ALLOW, [X86_64], None)):
             given = {"defaultAction": default, "architectures": architectures,
                      "syscalls": [entry(*below), entry("mkdir", action=ERRNO, errno=7)]}
             verdict, has_stub, found = self.compared("runc", given)
-            self.assertEqual((verdict, has_stub, found.stub), ("same", stub is not None, stub), given["defaultAction"])
+            self.assertEqual((verdict, has_stub, found.stub), ("same", first is not None, first), given["defaultAction"])
             verdict, has_stub, found = self.compared("crun", given)
             self.assertEqual((verdict, has_stub, found.stub), ("same", False, None), given["defaultAction"])
 
@@ -195,7 +195,7 @@ class Runtimes(Case):
         for first in (94, 96):
             found = runtimes.applied(given, "runc")
             self.assertEqual(found.stub, 95)
-            data = answering_from(compiled(found.data), first, 0x00050026)
+            data = stub(first) + insn(0, 0) + compiled(found.data)
             comparison = Comparison([Filter("it", data)], found.data, tables.read(None))
             status, report, has_stub = newer.compared_with_stub(comparison, NATIVE, found.stub)
             self.assertEqual((status, report.printed[0], has_stub, report.verdict.call.number),
@@ -260,9 +260,9 @@ class Runtimes(Case):
         """It is the call that is shown, and not one of those that runc answers by ENOSYS."""
         found = runtimes.applied({"defaultAction": ERRNO, "architectures": [X86_64],
                                   "syscalls": [entry("read", "lchown")]}, "runc")
-        stub = answering_from(compiled(found.data), found.stub, 0x00050026)
+        stubbed = stub(found.stub) + insn(0, 0) + compiled(found.data)
         for number in (95, 460, 0x3FFFFFFF):
-            hole = load(0) + jeq(number, 0, 1) + ret(ALLOWED) + insn(0, 0) + stub
+            hole = load(0) + jeq(number, 0, 1) + ret(ALLOWED) + insn(0, 0) + stubbed
             comparison = Comparison([Filter("it", hole)], found.data, tables.read(None))
             status, report, has_stub = newer.compared_with_stub(comparison, NATIVE, found.stub)
             self.assertEqual((status, report.printed[0], has_stub, report.verdict.call.number),
@@ -365,9 +365,9 @@ class VerifyProcess(Case):
         table, given = tables.read(None), {"defaultAction": ERRNO, "architectures": [X86_64]}
         given["syscalls"] = [entry(*(it for it in NAMES if table.number_of(it) <= 449))]
         found = runtimes.applied(given, "runc")
-        stub = answering_from(compiled(found.data), 450, 0x00050026)
+        stubbed = stub(450) + insn(0, 0) + compiled(found.data)
         for number, name in ((460, "lsm_set_self_attr"), (0x3FFFFFFF, None)):
-            hole = load(0) + jeq(number, 0, 1) + ret(ALLOWED) + insn(0, 0) + stub
+            hole = load(0) + jeq(number, 0, 1) + ret(ALLOWED) + insn(0, 0) + stubbed
             child, _ = started([[self.file("f.bpf", hole)]])
             self.addCleanup(ended, child)
             status, out, _ = self.verify(child.pid, given, "--runtime", "runc")
@@ -376,7 +376,7 @@ class VerifyProcess(Case):
             self.assertEqual([line.split()[2] for line in out.splitlines() if " differs " in line], [name] if name else [])
             found = json.loads(self.verify(child.pid, given, "--runtime", "runc", "--json")[1])["stacks"][0]
             self.assertEqual((found["reason"], len(found["calls"]), "newer" in found), ("stub", 1 if name else 0, False))
-            child, _ = started([[self.file("f.bpf", stub)]])
+            child, _ = started([[self.file("f.bpf", stubbed)]])
             self.addCleanup(ended, child)
             self.assertEqual(self.verify(child.pid, given, "--runtime", "runc")[0], 0)
 
