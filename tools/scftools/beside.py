@@ -8,9 +8,11 @@ from . import client, constants, other_abis, unnamed
 from .compare import CALLS
 from .filters import Filter
 from .groups import Groups
+from .questions import Asker
 from .stack_comparison import StackComparison
 from .surface_output import LEAST, details, details_as_c, fitted, grouped, of_whole, row_json, wrapped
 from .surfaces import DEPENDS, Row, Surface, word_of
+from .tables import Table
 from .values import dataclass
 from .verdicts import NamedCall, Verdict
 
@@ -55,10 +57,10 @@ class Beside:
 
     one: Surface
     other: Surface
-    pairs: tuple[Pair, ...]
+    pairs: tuple[Pair, ...] = ()
     # scf's verdicts on the numbers that the table doesn't name, and on the syscalls of other ABIs
-    of_unnamed: tuple[Verdict | None, ...]
-    of_foreign: tuple[Verdict | None, ...]
+    of_unnamed: tuple[Verdict | None, ...] = ()
+    of_foreign: tuple[Verdict | None, ...] = ()
 
     @property
     def foreign_differ(self) -> bool:
@@ -78,25 +80,29 @@ class Beside:
         return client.SUCCESS if are_same and not self.pairs else client.UNKNOWN
 
 
-def _filters(surface: Surface, before: Sequence[bytes] = ()) -> list[Filter]:
-    return [Filter("", data) for data in (*before, *surface.asker.filters)]
+def _comparison(one: Asker, other: Asker, table: Table, before: Sequence[bytes] = ()) -> StackComparison:
+    sides = ([Filter("", data) for data in (*before, *it.filters)] for it in (one, other))
+    return StackComparison(*sides, table, one.limit)
+
+
+def are_same(one: Surface, filters: Sequence[bytes]) -> bool:
+    """Whether scf proves that other filters answer every syscall as those of a surface."""
+    verdict = _comparison(one.asker, Asker(filters), one.table).run()[1].verdict
+    return verdict is not None and verdict.holds
 
 
 def of_surfaces(one: Surface, other: Surface) -> Beside:
     """Compares two surfaces."""
-    limit = one.asker.limit
-    comparison = StackComparison(_filters(one), _filters(other), one.table, limit)
-    status, whole = comparison.run()
-    if whole.fault is not None:
-        raise client.Refusal(whole.lines[0], status)
-    if whole.verdict is not None and whole.verdict.holds:
-        return Beside(one, other, (), (), ())
+    wider = unnamed.with_more_names(one.table)
+    comparison = _comparison(one.asker, other.asker, wider)
     lines = {line.number: line for line in comparison.run(CALLS)[1].calls}
-    pairs = tuple(Pair(*rows, lines[rows[0].number]) for rows in zip(one.rows, other.rows) if rows[0].number in lines)
-    of_unnamed = tuple(comparison.of_numbers(first, end - 1) for first, end in unnamed.gaps(one.table))
-    of_kinds = (StackComparison(_filters(one, [kind.alone]), _filters(other, [kind.alone]), one.table, limit)
-                for kind in other_abis.KINDS)
-    return Beside(one, other, pairs, of_unnamed, tuple(it.run()[1].verdict for it in of_kinds))
+    pairs = tuple(Pair(*rows, lines.pop(rows[0].number)) for rows in zip(one.rows, other.rows)
+                  if rows[0].number in lines)
+    of_unnamed = [line.verdict for line in lines.values()]
+    of_unnamed += [comparison.of_numbers(first, end - 1) for first, end in unnamed.gaps(wider)]
+    # no scope of scf has the syscalls of another ABI alone
+    of_kinds = (_comparison(one.asker, other.asker, wider, [kind.alone]) for kind in other_abis.KINDS)
+    return Beside(one, other, pairs, tuple(of_unnamed), tuple(it.run()[1].verdict for it in of_kinds))
 
 
 def _of_whole(found: Beside) -> Iterator[str]:

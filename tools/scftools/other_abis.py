@@ -2,9 +2,9 @@
 
 A filter that doesn't test the architecture takes the number of an i386 syscall for one of x86-64; and x32 syscalls have
 the architecture of x86-64, with numbers from 0x40000000 on. An x86-64 kernel has no other ABIs. Each profile denies
-foreign syscalls. So scf is asked whether the filters are nowhere more permissive than a profile that allows every
-x86-64 syscall, together with an older filter that denies all but one kind: the result holds for all syscalls of the
-kind. If scf can't decide, some syscalls are tried by `scf decide`, and the result says so.
+foreign syscalls, so one comparison with a profile that allows every x86-64 syscall tells whether all are denied. If not,
+the filters are compared with one that denies a kind and allows all else, for each kind: no scope of scf has these
+syscalls alone. If scf can't decide, some syscalls are tried by `scf decide`, and the result says so.
 """
 from __future__ import annotations
 
@@ -16,7 +16,6 @@ from .calls import NO_CALL, Call, number_text
 from .filters import JEQ, JGE, JSET, JUMP, LOAD_WORD, RETURN_CONSTANT, instruction
 from .tables import Table
 from .values import dataclass
-from .verdicts import MORE, NO_MORE
 
 ALLOWS_NATIVE = b'{"defaultAction": "SCMP_ACT_ALLOW"}'
 ALLOW, KILL = (instruction(RETURN_CONSTANT, Answer(action, 0).word) for action in ("ALLOW", "KILL_PROCESS"))
@@ -46,6 +45,11 @@ class Kind:
         """The filter that allows only these syscalls."""
         return self.tests + ALLOW + KILL
 
+    @property
+    def denial(self) -> bytes:
+        """The filter that denies these syscalls, and allows all else."""
+        return self.tests + KILL + ALLOW
+
     def told(self, number: int) -> str:
         """A syscall's name and number."""
         shown, names = number_text(number, self.architecture), self.names(number)
@@ -73,13 +77,13 @@ KINDS = (
 def denial_filters(profile_names: Iterable[str]) -> list[bytes]:
     """Filters that deny, as a profile does, every syscall of the architectures with these OCI names, and every number
     that no syscall has, and allow all else."""
-    tests = [NUMBER + jump(JSET, NO_CALL, 0, 1)]
+    found = [NUMBER + jump(JSET, NO_CALL, 0, 1) + KILL + ALLOW]
     for name in dict.fromkeys(profile_names):
         if name == architectures.X32:
-            tests += [kind.tests for kind in KINDS if kind.profile_name == name]
+            found += [kind.denial for kind in KINDS if kind.profile_name == name]
         elif name in architectures.NUMBERS:
-            tests.append(ARCHITECTURE + jump(JEQ, architectures.NUMBERS[name], 0, 1))
-    return [one + KILL + ALLOW for one in tests]
+            found.append(ARCHITECTURE + jump(JEQ, architectures.NUMBERS[name], 0, 1) + KILL + ALLOW)
+    return found
 
 
 @dataclass(frozen=True)
@@ -130,14 +134,13 @@ class Tried:
 
 def _proved(filters: Sequence[bytes], kind: Kind, limit: str | None) -> Proved | None:
     """scf's result for all syscalls of a kind, or None if it can't decide."""
-    given = bundles.of_comparison([kind.alone, *filters], ALLOWS_NATIVE, b"")
-    done = client.compare(["--no-more"], given, limit)
+    done = client.compare(["--beside", "--no-more"], bundles.of_stacks(filters, [kind.denial]), limit)
     verdict = verdicts.report(done.text).verdict
     if verdict is None:
         return None
-    if verdict.word == NO_MORE:
+    if verdict.holds:
         return Proved(kind)
-    return Proved(kind, verdict.call, verdict.filters) if verdict.word == MORE and verdict.call else None
+    return Proved(kind, verdict.call, verdict.filters) if verdict.call else None
 
 
 def _tried(filters: Sequence[bytes], kind: Kind) -> Tried | None:
@@ -167,7 +170,21 @@ def told(found: Sequence[Proved | Tried], profile_names: Sequence[str] = ()) -> 
     return [*(one.told() + named.get(one.kind.profile_name, "") for one in found), OTHERS]
 
 
-def let_through(filters: Sequence[bytes], limit: str | None = None) -> list[Proved | Tried]:
+def all_denied() -> list[Proved | Tried]:
+    """What is known if every foreign syscall is denied."""
+    return [Proved(kind) for kind in KINDS]
+
+
+def of_each(filters: Sequence[bytes], limit: str | None = None) -> list[Proved | Tried]:
     """For each kind, whether filters, oldest first, allow any foreign syscall; nothing if scf refuses the filters."""
     found = (_proved(filters, kind, limit) or _tried(filters, kind) for kind in KINDS)
     return [one for one in found if one is not None]
+
+
+def let_through(filters: Sequence[bytes], limit: str | None = None) -> list[Proved | Tried]:
+    """The same, and if all are denied by one comparison."""
+    done = client.compare(["--no-more"], bundles.of_comparison(filters, ALLOWS_NATIVE, b""), limit)
+    verdict = verdicts.report(done.text).verdict
+    if verdict is None:
+        return []
+    return all_denied() if verdict.holds else of_each(filters, limit)

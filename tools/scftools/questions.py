@@ -6,13 +6,14 @@ more means never allowed, and no less never denied. If a relation fails, scf giv
 """
 from __future__ import annotations
 
+import json
 from collections.abc import Sequence
 
 from . import bundles, client, program, verdicts
 from .answers import Answer
 from .calls import Call
 from .compare import CALLS, RELATIONS, SCOPES
-from .filters import RETURN_CONSTANT, instruction
+from .filters import RETURN_CONSTANT, instruction, looks_at_pointer
 from .values import dataclass
 from .verdicts import NO_LESS, NO_MORE, Report, Verdict
 
@@ -59,6 +60,10 @@ class Asker:
             raise client.Refusal(done.line, done.status)
         return checked(done.status, report, CALLS if table is not None else "")
 
+    @property
+    def looks_at_pointer(self) -> bool:
+        return any(map(looks_at_pointer, self.filters))
+
     def of_named(self, question: Question, table: bytes) -> Report:
         """The report on each syscall in a table."""
         return self._compared(question, SCOPES[CALLS], table)
@@ -66,6 +71,13 @@ class Asker:
     def of_numbers(self, question: Question, first: int, last: int) -> Verdict | None:
         """The verdict on all x86-64 syscalls with numbers from `first` to `last`, with a complete record as example."""
         return self._compared(question, [f"--nr-from={first}", f"--nr-to={last}"]).verdict
+
+    def of_rest(self, names: Sequence[str], table: bytes) -> Verdict | None:
+        """The verdict on whether every syscall is denied but those with these names; those of other ABIs, too."""
+        entries = [{"names": names, "action": "SCMP_ACT_ALLOW"}] if names else []
+        profile = json.dumps({"defaultAction": "SCMP_ACT_KILL_PROCESS", "syscalls": entries}).encode()
+        done = client.compare(RELATIONS[NO_MORE], bundles.of_comparison(self.filters, profile, table), self.limit)
+        return verdicts.report(done.text).verdict
 
     def decided(self, call: Call) -> Answer | None:
         """What the filters answer to a record."""

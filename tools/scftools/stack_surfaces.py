@@ -59,7 +59,8 @@ def of_stack(filters: Sequence[Filter], asked: Asked, threads: Stack | None = No
         if not asked.other:
             return Block(program.SUCCESS if one.is_told else program.UNKNOWN, filters, one, threads=threads)
         refused = asked.other
-        both = beside.of_surfaces(one, _surface(asked.other, asked))
+        is_same = beside.are_same(one, [it.data for it in asked.other])
+        both = Beside(one, one) if is_same else beside.of_surfaces(one, _surface(asked.other, asked))
     except Refusal as why:
         return Block(why.status, refused, fault=why.fault, threads=threads)
     return Block(both.status, filters, one, both, threads=threads)

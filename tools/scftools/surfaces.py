@@ -82,6 +82,11 @@ class Row:
         return found
 
     @property
+    def shows_both(self) -> bool:
+        """Whether a syscall is shown that is allowed, and one that is denied."""
+        return MADE in self.failed and REFUSED in self.failed
+
+    @property
     def said(self) -> str:
         """The disposition of all syscalls of the number, or that it depends or is undecided."""
         if self.holds(IS_REFUSED):
@@ -141,10 +146,11 @@ def _asked(asker: Asker, question: Question, rows: Iterable[Row]) -> None:
 
 
 def _shown(asker: Asker, question: Question, line: NamedCall) -> Shown:
-    """The example of a line, which lacks its instruction pointer, or a complete one, if a run confirms it."""
+    """The example of a line, which lacks its instruction pointer. If a filter looks at that, a run confirms it, or a
+    complete one."""
     call, answer = line.verdict.call, line.verdict.filters
     assert call is not None and answer is not None
-    if asker.decided(call) == answer:
+    if not asker.looks_at_pointer or asker.decided(call) == answer:
         return Shown(call, answer, True)
     alone = asker.of_numbers(question, line.number, line.number)
     if alone is not None and alone.call is not None and alone.filters is not None:
@@ -154,21 +160,56 @@ def _shown(asker: Asker, question: Question, line: NamedCall) -> Shown:
 
 
 def rows_of(asker: Asker, table: Table) -> list[Row]:
-    """A row for each number in the table. The last two questions are asked only if they add something."""
+    """A row for each number in the table. The last two questions are asked only if they add something: if the first two
+    don't show a syscall that is allowed and one that is denied."""
     first = asker.of_named(IS_REFUSED, table.data)
     lines = {line.number: line for line in first.calls}
     rows = [Row(number, table.names_of(number), {IS_REFUSED: lines.get(number)}) for number in sorted(table.numbers())]
     _asked(asker, IS_MADE, rows)
     for question in (IS_NEVER_MADE, IS_NEVER_REFUSED):
-        _asked(asker, question, [row for row in rows if not row.holds(IS_REFUSED) and not row.holds(IS_MADE)])
-    for row in rows:
-        if row.said not in (MADE, REFERRED, REFUSED):
-            row.shown = {disposition: _shown(asker, *found) for disposition, found in row.failed.items()}
+        _asked(asker, question, [row for row in rows if not row.holds(IS_REFUSED) and not row.holds(IS_MADE)
+                                 and not row.shows_both])
     return rows
+
+
+def _of_unnamed(rows: Iterable[Row], count: int) -> Unnamed:
+    """What is known of so many numbers without a name, by the rows of some."""
+    found = Unnamed(count)
+    for row in rows:
+        line = row.lines[IS_REFUSED]
+        found.are_made = found.are_made and row.holds(IS_MADE)
+        if line is not None and line.verdict.call is not None:
+            found.shown = found.shown or line.verdict
+        if line is not None and (line.verdict.fails or row.holds(IS_MADE) or row.holds(IS_NEVER_REFUSED)):
+            found.let_through += 1
+        elif line is not None:
+            found.untold += 1
+    return found
+
+
+def _of_rest(asker: Asker, rows: Sequence[Row], table: Table,
+             found: Unnamed) -> list[other_abis.Proved | other_abis.Tried]:
+    """What filters allow of other ABIs; and adds the numbers that no row has. Both are asked at once if the numbers
+    before these are denied."""
+    ranges, denied = list(unnamed.gaps(table)), {row.number for row in rows if row.holds(IS_REFUSED)}
+    is_likely = all(first - 1 in denied for first, _ in ranges)
+    verdict = asker.of_rest([row.names[0] for row in rows], table.data) if is_likely else None
+    if verdict is not None and verdict.holds:
+        found.are_made = found.are_made and not ranges
+        return other_abis.all_denied()
+    unnamed.count(asker, ranges, found)
+    has_example = verdict is not None and verdict.call is not None and not verdict.call.is_native
+    return (other_abis.of_each if has_example else other_abis.let_through)(asker.filters, asker.limit)
 
 
 def of_filters(filters: Sequence[bytes], table: Table, limit: str | None) -> Surface:
     """The surface of filters, oldest first."""
-    asker = Asker(filters, limit)
-    rows = rows_of(asker, table)
-    return Surface(asker, table, rows, other_abis.let_through(filters, limit), unnamed.of_filters(asker, table))
+    asker, wider = Asker(filters, limit), unnamed.with_more_names(table)
+    rows = rows_of(asker, wider)
+    named = [row for row in rows if table.names_of(row.number)]
+    for row in named:
+        if row.said not in (MADE, REFERRED, REFUSED):
+            row.shown = {disposition: _shown(asker, *found) for disposition, found in row.failed.items()}
+    found = _of_unnamed((row for row in rows if not table.names_of(row.number)),
+                        sum(end - first for first, end in unnamed.gaps(table)))
+    return Surface(asker, table, named, _of_rest(asker, rows, wider, found), found)

@@ -12,6 +12,8 @@ from .verdicts import Verdict
 
 # The most ranges of numbers to check.
 MOST = 256
+# The most numbers of a gap that are checked one by one, and of all gaps.
+FEW, ALL_FEW = 256, 4096
 
 
 @dataclass
@@ -22,7 +24,7 @@ class Unnamed:
     let_through: int = 0
     untold: int = 0
     # whether all of them are always allowed
-    are_made: bool = False
+    are_made: bool = True
     # an example that isn't denied
     shown: Verdict | None = None
 
@@ -61,6 +63,18 @@ def gaps(table: Table) -> Iterator[tuple[int, int]]:
         before = number + 1
 
 
+def with_more_names(table: Table) -> Table:
+    """A table that also names numbers without a name, by which they are checked one by one: all of a small gap, and the
+    first of any other."""
+    prefix, numbers = "_", []
+    while any(name.startswith(prefix) for name in table.names()):
+        prefix += "_"
+    for first, end in gaps(table):
+        numbers += range(first, end if end - first <= FEW else first + 1)
+    before = b"" if table.data[-1:] in (b"", b"\n") else b"\n"
+    return Table(table.data + before + "".join(f"{prefix}{it} {it}\n" for it in numbers[:ALL_FEW]).encode())
+
+
 def tested(filters: Sequence[bytes]) -> set[int]:
     """The numbers at which tests of the filters change."""
     found: set[int] = set()
@@ -71,43 +85,31 @@ def tested(filters: Sequence[bytes]) -> set[int]:
     return found
 
 
-class _Counting:
-    """Counts ranges; one that scf proves neither all denied nor never denied is divided."""
-
-    def __init__(self, asker: Asker, found: Unnamed):
-        self.asker, self.found, self.left = asker, found, MOST
-        self.turns = sorted(tested(asker.filters))
-
-    def divided(self, first: int, end: int) -> list[tuple[int, int]]:
-        """A range in pieces, split where the filters' tests change, else in half."""
-        turns = [turn for turn in self.turns if first < turn < end] or [(first + end) // 2]
-        return list(zip([first, *turns], [*turns, end]))
-
-    def count(self, stretches: list[tuple[int, int]]) -> None:
-        while stretches:
-            first, end = stretches.pop()
-            some = self.asker.of_numbers(IS_REFUSED, first, end - 1) if self.left else None
-            self.left -= self.left > 0
-            if some is not None and some.holds:
-                continue
-            if some is not None and some.call is not None:
-                self.found.shown = self.found.shown or some
-            is_some = some is not None and some.fails and end - first == 1
-            every = None if is_some or some is None else self.asker.of_numbers(IS_NEVER_REFUSED, first, end - 1)
-            if is_some or every is not None and every.holds:
-                self.found.let_through += end - first
-            elif some is None or end - first == 1:
-                self.found.untold += end - first
-            else:
-                stretches += self.divided(first, end)[::-1]
+def _divided(first: int, end: int, turns: Sequence[int]) -> list[tuple[int, int]]:
+    """A range in pieces, split where the filters' tests change, else in half."""
+    inner = [turn for turn in turns if first < turn < end] or [(first + end) // 2]
+    return list(zip([first, *inner], [*inner, end]))
 
 
-def of_filters(asker: Asker, table: Table) -> Unnamed:
-    """What filters allow of the numbers that a table doesn't name."""
-    stretches = list(gaps(table))
-    found = Unnamed(sum(end - first for first, end in stretches))
-    _Counting(asker, found).count(stretches[::-1])
-    if found.let_through == found.count:
-        found.are_made = all(it is not None and it.holds for it in (
-            asker.of_numbers(IS_MADE, first, end - 1) for first, end in stretches))
-    return found
+def count(asker: Asker, ranges: Sequence[tuple[int, int]], found: Unnamed) -> None:
+    """Adds ranges of numbers to what is known; one that scf proves neither all denied nor never denied is divided."""
+    left, turns, waiting = MOST, sorted(tested(asker.filters)), [*ranges][::-1]
+    while waiting:
+        first, end = waiting.pop()
+        if found.are_made and asker.of_numbers(IS_MADE, first, end - 1).holds:
+            found.let_through += end - first
+            continue
+        found.are_made = False
+        some = asker.of_numbers(IS_REFUSED, first, end - 1) if left else None
+        left -= left > 0
+        if some is not None and some.holds:
+            continue
+        if some is not None and some.call is not None:
+            found.shown = found.shown or some
+        is_some = some is not None and some.fails and end - first == 1
+        if is_some or some is not None and asker.of_numbers(IS_NEVER_REFUSED, first, end - 1).holds:
+            found.let_through += end - first
+        elif some is None or end - first == 1:
+            found.untold += end - first
+        else:
+            waiting += _divided(first, end, turns)[::-1]
