@@ -17,6 +17,10 @@ from .filters import JEQ, JGE, JSET, JUMP, LOAD_WORD, RETURN_CONSTANT, instructi
 from .tables import Table
 from .values import dataclass
 
+TYPE_CHECKING = False
+if TYPE_CHECKING:
+    from .verdicts import Verdict
+
 ALLOWS_NATIVE = b'{"defaultAction": "SCMP_ACT_ALLOW"}'
 ALLOW, KILL = (instruction(RETURN_CONSTANT, Answer(action, 0).word) for action in ("ALLOW", "KILL_PROCESS"))
 # struct seccomp_data in linux/seccomp.h
@@ -175,9 +179,12 @@ def all_denied() -> list[Proved | Tried]:
     return [Proved(kind) for kind in KINDS]
 
 
-def of_each(filters: Sequence[bytes], limit: str | None = None) -> list[Proved | Tried]:
-    """For each kind, whether filters, oldest first, allow any foreign syscall; nothing if scf refuses the filters."""
-    found = (_proved(filters, kind, limit) or _tried(filters, kind) for kind in KINDS)
+def of_each(filters: Sequence[bytes], limit: str | None, example: Verdict) -> list[Proved | Tried]:
+    """For each kind, whether filters, oldest first, allow any foreign syscall, given one that they allow, if there is
+    one; nothing if scf refuses the filters."""
+    abi = example.call.other_abi if example.call is not None else None
+    found = (Proved(kind, example.call, example.filters) if kind.profile_name == abi else
+             _proved(filters, kind, limit) or _tried(filters, kind) for kind in KINDS)
     return [one for one in found if one is not None]
 
 
@@ -187,4 +194,4 @@ def let_through(filters: Sequence[bytes], limit: str | None = None) -> list[Prov
     verdict = verdicts.report(done.text).verdict
     if verdict is None:
         return []
-    return all_denied() if verdict.holds else of_each(filters, limit)
+    return all_denied() if verdict.holds else of_each(filters, limit, verdict)

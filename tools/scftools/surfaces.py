@@ -198,8 +198,9 @@ def _of_rest(asker: Asker, rows: Sequence[Row], table: Table,
         found.are_made = found.are_made and not ranges
         return other_abis.all_denied()
     unnamed.count(asker, ranges, found)
-    has_example = verdict is not None and verdict.call is not None and not verdict.call.is_native
-    return (other_abis.of_each if has_example else other_abis.let_through)(asker.filters, asker.limit)
+    if verdict is not None and verdict.call is not None and not verdict.call.is_native:
+        return other_abis.of_each(asker.filters, asker.limit, verdict)
+    return other_abis.let_through(asker.filters, asker.limit)
 
 
 def of_filters(filters: Sequence[bytes], table: Table, limit: str | None) -> Surface:

@@ -4,7 +4,7 @@ import os
 import shutil
 import sys
 
-from common import ALLOW, EPERM, TABLE, TOP, Case, filter_of, insn, jeq, load, profile_of, ret, stub
+from common import ALLOW, EPERM, I386, TABLE, TOP, Case, filter_of, insn, jeq, load, profile_of, ret, stub
 from confined import Confined, here
 
 sys.path.append(os.path.join(TOP, "tools"))
@@ -44,6 +44,9 @@ class Starts(Counting):
             jeq(1, 0, 1) + ret(ALLOW) + ret(EPERM)
         for data in (filter_of([0, 1, 41]), by_argument):
             self.assertEqual(self.starts("surface", self.file("f.bpf", data)), 3)
+        # a syscall of i386 that is allowed is an answer, too; x32 and the greater numbers are asked by themselves
+        for_i386 = load(4) + jeq(I386, 0, 1) + ret(ALLOW) + filter_of([0, 1])
+        self.assertEqual(self.starts("surface", self.file("f.bpf", for_i386)), 5)
         # what a list of denied syscalls allows is asked by itself
         denies = filter_of([], default=ALLOW).replace(load(0), load(0) + jeq(101, 0, 1) + ret(EPERM), 1)
         self.assertEqual(self.starts("surface", self.file("f.bpf", denies)), 4)
