@@ -93,7 +93,7 @@ def are_same(one: Surface, filters: Sequence[bytes]) -> bool:
 
 def of_surfaces(one: Surface, other: Surface) -> Beside:
     """Compares two surfaces."""
-    wider = unnamed.with_more_names(one.table)
+    wider = unnamed.with_more_names(one.table, *one.asker.filters, *other.asker.filters)
     comparison = _comparison(one.asker, other.asker, wider)
     lines = {line.number: line for line in comparison.run(CALLS)[1].calls}
     pairs = tuple(Pair(*rows, lines.pop(rows[0].number)) for rows in zip(one.rows, other.rows)

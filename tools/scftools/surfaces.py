@@ -205,7 +205,7 @@ def _of_rest(asker: Asker, rows: Sequence[Row], table: Table,
 
 def of_filters(filters: Sequence[bytes], table: Table, limit: str | None) -> Surface:
     """The surface of filters, oldest first."""
-    asker, wider = Asker(filters, limit), unnamed.with_more_names(table)
+    asker, wider = Asker(filters, limit), unnamed.with_more_names(table, *filters)
     rows = rows_of(asker, wider)
     named = [row for row in rows if table.names_of(row.number)]
     for row in named:

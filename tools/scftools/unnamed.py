@@ -12,7 +12,7 @@ from .verdicts import Verdict
 
 # The most ranges of numbers to check.
 MOST = 256
-# The most numbers of a gap that are checked one by one, and of all gaps.
+# The most numbers of a gap that are all checked one by one, and the most of all gaps.
 FEW, ALL_FEW = 256, 4096
 
 
@@ -63,18 +63,6 @@ def gaps(table: Table) -> Iterator[tuple[int, int]]:
         before = number + 1
 
 
-def with_more_names(table: Table) -> Table:
-    """A table that also names numbers without a name, by which they are checked one by one: all of a small gap, and the
-    first of any other."""
-    prefix, numbers = "_", []
-    while any(name.startswith(prefix) for name in table.names()):
-        prefix += "_"
-    for first, end in gaps(table):
-        numbers += range(first, end if end - first <= FEW else first + 1)
-    before = b"" if table.data[-1:] in (b"", b"\n") else b"\n"
-    return Table(table.data + before + "".join(f"{prefix}{it} {it}\n" for it in numbers[:ALL_FEW]).encode())
-
-
 def tested(filters: Sequence[bytes]) -> set[int]:
     """The numbers at which tests of the filters change."""
     found: set[int] = set()
@@ -85,31 +73,30 @@ def tested(filters: Sequence[bytes]) -> set[int]:
     return found
 
 
-def _divided(first: int, end: int, turns: Sequence[int]) -> list[tuple[int, int]]:
-    """A range in pieces, split where the filters' tests change, else in half."""
-    inner = [turn for turn in turns if first < turn < end] or [(first + end) // 2]
-    return list(zip([first, *inner], [*inner, end]))
+def with_more_names(table: Table, *filters: bytes) -> Table:
+    """A table that also names numbers without a name, by which they are checked one by one: all of a small gap, and of
+    any other the first, and those at which tests of the filters change."""
+    prefix, turns, numbers = "_", sorted(tested(filters)), []
+    while any(name.startswith(prefix) for name in table.names()):
+        prefix += "_"
+    for first, end in gaps(table):
+        few = range(first, end) if end - first <= FEW else [it for it in turns if first < it < end]
+        numbers += dict.fromkeys([first, *few])
+    before = b"" if table.data[-1:] in (b"", b"\n") else b"\n"
+    return Table(table.data + before + "".join(f"{prefix}{it} {it}\n" for it in numbers[:ALL_FEW]).encode())
 
 
 def count(asker: Asker, ranges: Sequence[tuple[int, int]], found: Unnamed) -> None:
-    """Adds ranges of numbers to what is known; one that scf proves neither all denied nor never denied is divided."""
-    left, turns, waiting = MOST, sorted(tested(asker.filters)), [*ranges][::-1]
-    while waiting:
-        first, end = waiting.pop()
+    """Adds ranges of numbers to what is known, if scf proves that they are all denied, or never; the longest first."""
+    for at, (first, end) in enumerate(sorted(ranges, key=lambda it: it[0] - it[1])):
         if found.are_made and asker.of_numbers(IS_MADE, first, end - 1).holds:
             found.let_through += end - first
             continue
         found.are_made = False
-        some = asker.of_numbers(IS_REFUSED, first, end - 1) if left else None
-        left -= left > 0
-        if some is not None and some.holds:
-            continue
+        some = asker.of_numbers(IS_REFUSED, first, end - 1) if at < MOST else None
         if some is not None and some.call is not None:
             found.shown = found.shown or some
-        is_some = some is not None and some.fails and end - first == 1
-        if is_some or some is not None and asker.of_numbers(IS_NEVER_REFUSED, first, end - 1).holds:
-            found.let_through += end - first
-        elif some is None or end - first == 1:
+        if some is None or not some.holds and not asker.of_numbers(IS_NEVER_REFUSED, first, end - 1).holds:
             found.untold += end - first
-        else:
-            waiting += _divided(first, end, turns)[::-1]
+        elif not some.holds:
+            found.let_through += end - first

@@ -133,9 +133,9 @@ def known(name):
     return of(KNOWN[name][0])
 
 
-def allowing(numbers):
+def allowing(numbers, foreign=KILL_PROCESS):
     """Allows any count of numbers."""
-    return gate(b"".join(jeq(number, 0, 1) + ret(ALLOW) for number in numbers) + ret(EPERM))
+    return gate(b"".join(jeq(number, 0, 1) + ret(ALLOW) for number in numbers) + ret(EPERM), foreign)
 
 
 def random_plain(random_of, count):
@@ -290,11 +290,11 @@ class Unnamed(unittest.TestCase):
         self.assertGreater(found.untold, 0)
         self.assertLessEqual(found.let_through + found.untold, OTHERS)
         self.assertRegex(found.describe(), r"[0-9]+ are undecided\Z")
-        found = of([allowing(range(300, 1300, 2))]).unnamed
-        self.assertGreater(found.untold, 0)
-        self.assertLessEqual(found.let_through, 500)
-        self.assertGreaterEqual(found.let_through + found.untold, 500)
-        self.assertRegex(found.describe(), r"\Aat least [0-9]+ of [0-9]+ " + SOME + r" 300: ALLOW; [0-9]+ are undecided\Z")
+        self.assertEqual(self.describe(allowing(range(300, 1300, 2))), f"500 of {OTHERS} {SOME} 300: ALLOW")
+        # before, between and behind these 300 numbers are 301 ranges, those between of two numbers
+        found = of([allowing(range(300, 1500, 4), ALLOW)]).unnamed
+        self.assertEqual((found.let_through, found.untold), (300, 2 * (301 - unnamed.MOST)))
+        self.assertEqual(found.describe(), f"at least 300 of {OTHERS} {SOME} 300: ALLOW; {found.untold} are undecided")
         long = gate(jeq(400, 0, 1) + ret(ALLOW) + jeq(0, 0, 0) * 4087 + ret(EPERM))
         self.assertEqual(StandIn().check(long), "accepted 4096")
         self.assertEqual(self.describe(long), f"1 of {OTHERS} {SOME} 400: ALLOW")
