@@ -93,16 +93,13 @@ def are_same(one: Surface, filters: Sequence[bytes]) -> bool:
 
 def of_surfaces(one: Surface, other: Surface) -> Beside:
     """Compares two surfaces."""
-    wider = unnamed.with_more_names(one.table, *one.asker.filters, *other.asker.filters)
-    comparison = _comparison(one.asker, other.asker, wider)
+    comparison = _comparison(one.asker, other.asker, one.table)
     lines = {line.number: line for line in comparison.run(CALLS)[1].calls}
-    pairs = tuple(Pair(*rows, lines.pop(rows[0].number)) for rows in zip(one.rows, other.rows)
-                  if rows[0].number in lines)
-    of_unnamed = [line.verdict for line in lines.values()]
-    of_unnamed += [comparison.of_numbers(first, end - 1) for first, end in unnamed.gaps(wider)]
+    pairs = tuple(Pair(*rows, lines[rows[0].number]) for rows in zip(one.rows, other.rows) if rows[0].number in lines)
+    of_unnamed = tuple(comparison.of_numbers(first, end - 1) for first, end in unnamed.gaps(one.table))
     # no scope of scf has the syscalls of another ABI alone
-    of_kinds = (_comparison(one.asker, other.asker, wider, [kind.alone]) for kind in other_abis.KINDS)
-    return Beside(one, other, pairs, tuple(of_unnamed), tuple(it.run()[1].verdict for it in of_kinds))
+    of_kinds = (_comparison(one.asker, other.asker, one.table, [kind.alone]) for kind in other_abis.KINDS)
+    return Beside(one, other, pairs, of_unnamed, tuple(it.run()[1].verdict for it in of_kinds))
 
 
 def _of_whole(found: Beside) -> Iterator[str]:
