@@ -1,0 +1,60 @@
+"""i386 syscalls that socketcall and ipc make too, and the rules that libseccomp gives for these beside a profile's own.
+
+For each rule of such a syscall libseccomp adds one of socketcall or ipc (its x86_rule_add): argument 0 is the syscall's
+number there, in place of a condition on argument 0, and the other conditions stay. A rule of socketcall or ipc itself
+without conditions covers them.
+"""
+from __future__ import annotations
+
+from collections.abc import Callable, Iterator
+
+from . import entries
+from .engines import Refused
+from .runtimes import MAX_RULES, PREFIX
+
+TYPE_CHECKING = False
+if TYPE_CHECKING:
+    from typing import Any
+
+I386 = f"{PREFIX}X86"
+# By the multiplexer the number of each syscall: linux/net.h and linux/ipc.h.
+NUMBERS = {
+    "socketcall": {name: number for number, name in enumerate((
+        "socket", "bind", "connect", "listen", "accept", "getsockname", "getpeername", "socketpair", "send", "recv",
+        "sendto", "recvfrom", "shutdown", "setsockopt", "getsockopt", "sendmsg", "recvmsg", "accept4", "recvmmsg",
+        "sendmmsg"), 1)},
+    "ipc": {"semop": 1, "semget": 2, "semctl": 3, "semtimedop": 4, "msgsnd": 11, "msgrcv": 12, "msgget": 13,
+            "msgctl": 14, "shmat": 21, "shmdt": 22, "shmget": 23, "shmctl": 24},
+}
+
+
+def rules_of(entry: dict[str, Any]) -> Iterator[dict[str, Any]]:
+    """The entries of socketcall and ipc that an entry has beside itself."""
+    others = [it for it in entry.get("args", ()) if it.get("index", 0) != 0]
+    for name in dict.fromkeys(entry["names"]):
+        for multiplexer, numbers in NUMBERS.items():
+            if name in numbers:
+                first = {"index": 0, "value": numbers[name], "op": "SCMP_CMP_EQ"}
+                yield {**entry, "names": [multiplexer], "args": [first, *others]}
+
+
+def add(profile: dict[str, Any], note: Callable[[str], None]) -> None:
+    """Adds to a resolved profile the entries that libseccomp makes for i386, each behind its own. Engines pass on no
+    entry whose answer is the default's."""
+    if I386 not in profile.get("architectures", ()):
+        note(f"no rule of socketcall or ipc is added: architectures lacks {I386}")
+        return
+    default = entries.answer_of(profile["defaultAction"], profile.get("defaultErrnoRet"))
+    passed_on = [entries.answer_of(it["action"], it.get("errnoRet")) != default for it in profile["syscalls"]]
+    covered = {name for entry, is_given in zip(profile["syscalls"], passed_on) if is_given and not entry.get("args")
+               for name in entry["names"] if name in NUMBERS}
+    for name in sorted(covered):
+        note(f"no rule of {name} is added: an entry without conditions covers all of its calls")
+    found, count = [], 0
+    for entry, is_given in zip(profile["syscalls"], passed_on):
+        rules = [rule for rule in rules_of(entry) if is_given and rule["names"][0] not in covered]
+        count += sum(len(rule["args"]) for rule in rules)
+        if count > MAX_RULES:
+            raise Refused(f"the rules of socketcall and ipc have more than {MAX_RULES} conditions")
+        found += [entry, *rules]
+    profile["syscalls"] = found

@@ -1,0 +1,219 @@
+"""resolve-profile --multiplexed, beside libseccomp: what its filter answers to i386 calls."""
+import json
+import os
+import random
+import re
+import sys
+import unittest
+
+from common import I386, TOP, Case
+from seccomp_library import NEEDED, Conflict, Library, answer_of
+from stand_in import StandIn, unpacked, words_of
+
+sys.path.append(os.path.join(TOP, "tools"))
+
+import kernel_profiles  # noqa: E402
+from scftools import multiplexed, tables  # noqa: E402
+from scftools.calls import Call  # noqa: E402
+
+ALLOW, ERRNO, X86 = "SCMP_ACT_ALLOW", "SCMP_ACT_ERRNO", "SCMP_ARCH_X86"
+ARCHITECTURES = ["SCMP_ARCH_X86_64", X86, "SCMP_ARCH_X32"]
+HEADERS = {"socketcall": ("/usr/include/linux/net.h", r"^#define SYS_(\w+)\s+(\d+)"),
+           "ipc": ("/usr/include/linux/ipc.h", r"^#define ((?:SEM|MSG|SHM)\w+)\s+(\d+)")}
+MULTIPLEXERS = {"socketcall": 102, "ipc": 117}
+SMALL = (0, 1, 2, 3, 5, 8, 16, 21, 0x80000000, 0xFFFFFFFF)
+
+
+def condition(index, op, value, two=0):
+    return {"index": index, "op": f"SCMP_CMP_{op}", "value": value, "valueTwo": two}
+
+
+def entry(*names, action=ALLOW, args=(), **members):
+    return {"names": list(names), "action": action, **({"args": list(args)} if args else {}), **members}
+
+
+def profile(*entries, **members):
+    return {"defaultAction": ERRNO, "architectures": ARCHITECTURES, **members, "syscalls": list(entries)}
+
+
+def answer_to(resolved, call):
+    """What the entries say of an i386 call, whose arguments are low halves; those that answer as the default does are
+    none."""
+    low = [it % (1 << 32) for it in call.arguments]
+    named = tables.of_architecture(X86).names_of(call.number)
+    default = answer_of(resolved["defaultAction"], resolved.get("defaultErrnoRet"))
+    answers = [answer_of(it["action"], it.get("errnoRet")) for it in resolved["syscalls"] if set(named) & set(it["names"])
+               and all(kernel_profiles.holds(one, low) for one in it.get("args", ()))]
+    found = set(answers) - {default}
+    assert len(found) < 2, (call, answers)
+    return found.pop() if found else default
+
+
+class Multiplexed(Case):
+    def resolved(self, given, *words):
+        """The profile with the rules that are added, and what is said."""
+        status, out, err = self.run_tool("resolve-profile", "--multiplexed", *words, "-",
+                                         given=json.dumps(given).encode())
+        self.assertEqual(status, 0, err)
+        return json.loads(out), err
+
+    def added(self, given, *words):
+        """The entries that are added."""
+        return [it for it in self.resolved(given, *words)[0]["syscalls"] if it not in given["syscalls"]]
+
+    def test_a_rule_of_each(self):
+        first, second = condition(0, "NE", 40), condition(2, "LE", 7)
+        given = profile(entry("socket", "read", "shmat", args=[first, second]), entry("accept", errnoRet=5, action=ERRNO))
+        self.assertEqual(self.resolved(given), ({**given, "syscalls": [
+            given["syscalls"][0],
+            entry("socketcall", args=[{"index": 0, "value": 1, "op": "SCMP_CMP_EQ"}, second]),
+            entry("ipc", args=[{"index": 0, "value": 21, "op": "SCMP_CMP_EQ"}, second]),
+            given["syscalls"][1],
+            entry("socketcall", args=[{"index": 0, "value": 5, "op": "SCMP_CMP_EQ"}], errnoRet=5, action=ERRNO)]}, ""))
+
+    def test_what_covers_them(self):
+        given = profile(entry("socket"), entry("semop"), entry("socketcall"))
+        found, said = self.resolved(given)
+        self.assertEqual(found["syscalls"], [*given["syscalls"][:2], entry(
+            "ipc", args=[{"index": 0, "value": 1, "op": "SCMP_CMP_EQ"}]), given["syscalls"][2]])
+        self.assertEqual(said, "resolve-profile: no rule of socketcall is added: an entry without conditions covers all "
+                               "of its calls\n")
+        # engines pass on none that answers as the default does
+        for same in ({}, {"errnoRet": 1}):
+            given = profile(entry("socket"), entry("socketcall", action=ERRNO, **same), entry("bind", action=ERRNO))
+            self.assertEqual(len(self.added(given)), 1)
+        given = profile(entry("socket"), entry("socketcall", action=ERRNO, errnoRet=2), entry("bind", action=ERRNO))
+        self.assertEqual(self.added(given), [])
+
+    def test_only_for_i386(self):
+        for architectures in ([], ARCHITECTURES[:1], ["SCMP_ARCH_X86_64", "SCMP_ARCH_X32"]):
+            given = profile(entry("socket"), architectures=architectures)
+            found, said = self.resolved(given)
+            self.assertEqual(found["syscalls"], given["syscalls"])
+            self.assertEqual(said, "resolve-profile: no rule of socketcall or ipc is added: architectures lacks "
+                                   "SCMP_ARCH_X86\n")
+
+    def test_with_a_runtime(self):
+        """Of two conditions on an argument each is an entry of its own there."""
+        given = profile(entry("bind", args=[condition(0, "EQ", 1), condition(1, "EQ", 2), condition(1, "EQ", 3)]),
+                        entry("shmdt", action=ERRNO))
+        found = self.resolved(given, "--runtime", "crun")[0]["syscalls"]
+        of_i386 = [it["args"] for it in found if it["names"] == ["socketcall"]]
+        number = {"index": 0, "value": 2, "op": "SCMP_CMP_EQ"}
+        self.assertEqual(of_i386, [[number], [number, condition(1, "EQ", 2)], [number, condition(1, "EQ", 3)]])
+        self.assertEqual(len(found), 6)
+
+    def test_too_many(self):
+        given = profile(entry(*multiplexed.NUMBERS["socketcall"], args=[condition(1, "NE", it) for it in range(4000)]))
+        status, out, err = self.run_tool("resolve-profile", "--multiplexed", "-", given=json.dumps(given).encode())
+        self.assertEqual((status, out), (1, ""))
+        self.assertIn("the rules of socketcall and ipc have more than 65536 conditions", err)
+
+
+class Numbers(unittest.TestCase):
+    @unittest.skipUnless(all(os.path.exists(path) for path, _ in HEADERS.values()), "there are no kernel headers here")
+    def test_they_are_those_of_the_headers(self):
+        for name, (path, pattern) in HEADERS.items():
+            with open(path, encoding="ascii") as file:
+                found = {it.lower(): int(number) for it, number in re.findall(pattern, file.read(), re.M)}
+            self.assertEqual(multiplexed.NUMBERS[name], found)
+
+
+class Drawn:
+    """Random profiles of multiplexed syscalls and of others, in which no two entries conflict."""
+
+    def __init__(self, random_of):
+        self.random = random_of
+
+    def conditions(self, least=0):
+        indices = self.random.sample(range(4), self.random.randint(least, 3))
+        return [condition(index, self.random.choice(("NE", "LT", "LE", "EQ", "GE", "GT", "MASKED_EQ")),
+                          self.random.choice(SMALL[1:]), self.random.choice(SMALL)) for index in sorted(indices)]
+
+    def profile(self):
+        names = [name for numbers in multiplexed.NUMBERS.values() for name in numbers]
+        chosen = self.random.sample(names, self.random.randint(1, 12)) + ["getpid", "personality"]
+        entries = [self.entry([name], self.conditions()) for name in chosen]
+        for name in MULTIPLEXERS:
+            if self.random.random() < 0.3:
+                entries.append(self.entry([name], []))
+        self.random.shuffle(entries)
+        return profile(*entries, defaultErrnoRet=99)
+
+    def entry(self, names, args):
+        action = self.random.choice((ALLOW, ALLOW, "SCMP_ACT_LOG", "SCMP_ACT_TRAP", ERRNO, "SCMP_ACT_TRACE"))
+        number = {"errnoRet": self.random.choice((1, 38, 99))} if action in (ERRNO, "SCMP_ACT_TRACE") else {}
+        return entry(*names, action=action, args=args, **number)
+
+    def calls(self, resolved):
+        """i386 calls of its names, about the values of its conditions, some with an upper half."""
+        table = tables.of_architecture(X86)
+        for it in resolved["syscalls"]:
+            numbers = filter(None, map(table.number_of, it["names"]))
+            for number in numbers:
+                arguments = [self.random.choice(SMALL) for _ in range(6)]
+                for one in it.get("args", ()):
+                    arguments[one["index"]] = (one["value"] + self.random.choice((0, 0, 0, 1, -1))) % (1 << 32)
+                if number in MULTIPLEXERS.values() and self.random.random() < 0.5:
+                    arguments[0] = self.random.randint(0, 25)
+                arguments[self.random.randrange(6)] |= self.random.choice((0, 0, 1 << 32, 1 << 63))
+                yield Call(number, I386, arguments=tuple(arguments))
+
+
+def resolved_here(given):
+    found = json.loads(json.dumps(given))
+    multiplexed.add(found, lambda _: None)
+    return found
+
+
+def answered_otherwise(resolved, data, calls):
+    """The calls that a filter answers otherwise than the entries say."""
+    machine, program = StandIn(), unpacked(data)
+    return [call for call in calls if machine.answer(program, words_of(call)) != answer_to(resolved, call)]
+
+
+@NEEDED
+class BesideLibseccomp(unittest.TestCase):
+    def test_drawn_profiles(self):
+        library, count, of_multiplexers = Library(), 0, 0
+        for seed in range(400):
+            drawn = Drawn(random.Random(f"multiplexed {seed}"))
+            given = drawn.profile()
+            # read is without conditions, so that the number is loaded (see test_lost_load)
+            given["syscalls"].append(entry("read"))
+            resolved = resolved_here(given)
+            calls = [it for _ in range(3) for it in drawn.calls(resolved)]
+            self.assertEqual(answered_otherwise(resolved, library.filter_of(given), calls), [], json.dumps(given))
+            count += len(calls)
+            of_multiplexers += sum(it.number in MULTIPLEXERS.values() for it in calls)
+        self.assertGreater(count, 5000)
+        self.assertGreater(of_multiplexers, 2000)
+
+    def test_each_name_has_its_number_there(self):
+        """i386's filter answers socketcall or ipc with one number alone, and nothing else does."""
+        library, machine, table = Library(), StandIn(), tables.of_architecture(X86)
+        every = [name for numbers in multiplexed.NUMBERS.values() for name in numbers]
+        others = [name for name in table.names() if name not in (*every, *MULTIPLEXERS)]
+        for name in (*every, *others):
+            if library.number_of(name) == -1:
+                continue
+            given = profile(entry(name), *([] if name == "read" else [entry("read", action="SCMP_ACT_LOG")]))
+            program, allowed = unpacked(library.filter_of(given)), answer_of(ALLOW, None)
+            found = [(it, number) for it, at in MULTIPLEXERS.items() for number in range(30)
+                     if machine.answer(program, words_of(Call(at, I386, arguments=(number, *[0] * 5)))) == allowed]
+            self.assertEqual(found, [(it, numbers[name]) for it, numbers in multiplexed.NUMBERS.items()
+                                     if name in numbers], name)
+
+    def test_what_it_refuses_is_a_conflict(self):
+        """Two answers that differ by argument 0 alone are two of one call there."""
+        given = profile(entry("socket", args=[condition(0, "EQ", 2)]),
+                        entry("socket", action=ERRNO, errnoRet=5, args=[condition(0, "EQ", 16)]))
+        with self.assertRaises(Conflict):
+            Library().filter_of(given)
+        first, second = [it for it in resolved_here(given)["syscalls"] if it["names"] == ["socketcall"]]
+        self.assertEqual((first["names"], first["args"]), (second["names"], second["args"]))
+        self.assertNotEqual(first["action"], second["action"])
+
+
+if __name__ == "__main__":
+    unittest.main()
