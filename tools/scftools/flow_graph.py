@@ -128,7 +128,8 @@ class Graph:
 
 def _value_text(value: int, node: Node, table: Table) -> str:
     if node.word == NUMBER:
-        return "x32" if value == X32 else name_of(value, node.known.architecture, table)
+        its = node.known.architectures
+        return "x32" if value == X32 and its.has(answers.X86_64) else name_of(value, its, table)
     if node.word == ARCHITECTURE:
         return answers.ARCHITECTURES.get(value, hex(value))
     return hex(value)

@@ -13,6 +13,8 @@ from .values import dataclass, replace
 NUMBER, ARCHITECTURE, ARGUMENTS, END = 0, 1, 4, 16
 WORDS = {NUMBER: "the syscall number", ARCHITECTURE: "the architecture", 2: "the instruction pointer, low half",
          3: "the instruction pointer, high half"}
+# The most architectures whose names of one number are listed.
+MOST_NAMED = 3
 # linux/bpf_common.h: instruction classes, and the one BPF_MISC code that changes the accumulator.
 LOADS, ALU, JUMPS, RETURNS, TXA = 0, 4, 5, 6, 0x87
 
@@ -59,27 +61,57 @@ def instructions(data: bytes) -> list[Instruction]:
 
 
 @dataclass(frozen=True)
+class Architectures:
+    """The architectures that a record may have: these, or all but these."""
+
+    numbers: frozenset[int] = frozenset()
+    are_all_but: bool = True
+
+    def has(self, number: int) -> bool:
+        return (number in self.numbers) != self.are_all_but
+
+    @property
+    def is_empty(self) -> bool:
+        return not self.numbers and not self.are_all_but
+
+    def only(self, number: int) -> Architectures:
+        return Architectures(frozenset([number] if self.has(number) else []), False)
+
+    def without(self, number: int) -> Architectures:
+        numbers = self.numbers | {number} if self.are_all_but else self.numbers - {number}
+        return Architectures(numbers, self.are_all_but)
+
+    def beside(self, other: Architectures) -> Architectures:
+        """Those of both."""
+        if self.are_all_but == other.are_all_but:
+            both = self.numbers & other.numbers if self.are_all_but else self.numbers | other.numbers
+            return Architectures(both, self.are_all_but)
+        most, few = (self, other) if self.are_all_but else (other, self)
+        return Architectures(most.numbers - few.numbers)
+
+
+@dataclass(frozen=True)
 class Known:
-    """What holds at an instruction on every path to it: the word in A, and the record's architecture."""
+    """What holds at an instruction on every path to it: the word in A, and which architectures the record may have."""
 
     word: int | None = None
-    architecture: int | None = None
+    architectures: Architectures = Architectures()
 
     def beside(self, other: Known) -> Known:
         """What holds where two paths meet."""
-        return Known(self.word if self.word == other.word else None,
-                     self.architecture if self.architecture == other.architecture else None)
+        return Known(self.word if self.word == other.word else None, self.architectures.beside(other.architectures))
 
 
 def _after(insn: Instruction, known: Known) -> Iterator[Known]:
     """What holds after an instruction, for each of its targets."""
     if insn.changes_a:
         yield replace(known, word=insn.word)
-        return
-    # a test whose targets are the same tells neither side anything
-    is_test = insn.code == JUMP | JEQ and known.word == ARCHITECTURE and insn.if_true != insn.if_false
-    yield replace(known, architecture=insn.k) if is_test else known
-    yield known
+    elif insn.code == JUMP | JEQ and known.word == ARCHITECTURE:
+        yield replace(known, architectures=known.architectures.only(insn.k))
+        yield replace(known, architectures=known.architectures.without(insn.k))
+    else:
+        yield known
+        yield known
 
 
 def known_facts(insns: Sequence[Instruction]) -> list[Known]:
@@ -88,16 +120,27 @@ def known_facts(insns: Sequence[Instruction]) -> list[Known]:
     for place, insn in enumerate(insns):
         if place in found:
             for target, after in zip(insn.targets(place), _after(insn, found[place])):
-                found[target] = found[target].beside(after) if target in found else after
+                if not after.architectures.is_empty:
+                    found[target] = found[target].beside(after) if target in found else after
     return [found.get(place, Known()) for place in range(len(insns))]
 
 
-def name_of(k: int, architecture: int | None, table: Table) -> str:
-    """The name of a syscall number that a filter tests."""
-    named = " or ".join(Call(k, architecture or X86_64).names(table))
-    if architecture not in (None, X86_64):
+def _name_on(k: int, architecture: int, table: Table) -> str:
+    """The name of a syscall number on an architecture."""
+    named = " or ".join(Call(k, architecture).names(table))
+    if architecture != X86_64:
         return f"{named or f'number {k}'} of {ARCHITECTURES.get(architecture, hex(architecture))}"
     return f"x32 {named}" if named and k >= X32 else named or number_text(k)
+
+
+def name_of(k: int, its: Architectures, table: Table) -> str:
+    """The names of a syscall number that a filter tests: x86-64's, unless other architectures alone come there or come
+    there, too."""
+    if its.are_all_but:
+        return _name_on(k, X86_64, table) if its.has(X86_64) else f"number {k} of other architectures"
+    if len(its.numbers) > MOST_NAMED:
+        return f"number {k} of several architectures"
+    return " or ".join(_name_on(k, it, table) for it in sorted(its.numbers, key=lambda it: (it != X86_64, it)))
 
 
 def word_name(word: int) -> str:
@@ -113,9 +156,9 @@ def _tested(insn: Instruction, known: Known, table: Table) -> str | None:
         return None
     if known.word == ARCHITECTURE:
         return ARCHITECTURES.get(insn.k) if test == JEQ else None
-    if insn.k == X32 and test in (JGE, JSET):
+    if insn.k == X32 and test in (JGE, JSET) and known.architectures.has(X86_64):
         return "x32"
-    name = name_of(insn.k, known.architecture, table)
+    name = name_of(insn.k, known.architectures, table)
     return {JEQ: name, JGT: f"above {name}", JGE: f"from {name} on"}.get(test)
 
 

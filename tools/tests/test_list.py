@@ -9,6 +9,8 @@ from common import ALLOW, EPERM, I386, KILL_PROCESS, SCF, X86_64, Case, filter_o
 from scftools import flow_graph, paths, tables
 from scftools.calls import Call
 
+# linux/audit.h
+AARCH64, ARM = 0xC00000B7, 0x40000028
 GATE = load(4) + jeq(X86_64, 1, 0) + ret(KILL_PROCESS) + load(0) + jge(0x40000000, 0, 1) + ret(EPERM) + jeq(231, 0,
     1) + ret(ALLOW) + ret(0x00050026)
 EVERY_CODE = (0x20, 0x80, 0x81, 0x00, 0x01, 0x60, 0x61, 0x02, 0x03, 0x04, 0x0C, 0x14, 0x1C, 0x24, 0x2C, 0x34, 0x3C,
@@ -91,6 +93,50 @@ class List(Case):
         self.assertEqual(self.meanings(data), ["the architecture", "i386: to 2, else 4", "the syscall number",
                                                "exit of i386: to 4, else 4", "the syscall number",
                                                "write: to 6, else 6", "KILL_THREAD"])
+
+    def test_calls_of_each_architecture_behind_its_test(self):
+        """Their numbers are those of asm/unistd*.h."""
+        data = (load(4) + jeq(X86_64, 4, 0) + jeq(I386, 6, 0) + jeq(AARCH64, 8, 0) + jeq(ARM, 10, 0) + ret(0)
+                + load(0) + jeq(0x40000009, 0, 0) + ret(0) + load(0) + jeq(4, 0, 0) + ret(0)
+                + load(0) + jeq(56, 0, 0) + ret(0) + load(0) + jeq(0xF0005, 0, 0) + ret(0))
+        self.assertEqual(self.meanings(data)[1:5], ["x86-64: to 6, else 2", "i386: to 9, else 3", "aarch64: to 12, else 4",
+                                                    "arm: to 15, else 5"])
+        self.assertEqual(self.meanings(data)[7::3], ["x32 mmap: to 8, else 8", "write of i386: to 11, else 11",
+                                                     "openat of aarch64: to 14, else 14", "set_tls of arm: to 17, else 17"])
+
+    def test_several_architectures_at_one_test(self):
+        """Each that comes there is named; where more come, or those that no test has told apart, none is."""
+        def at_the_end(*architectures):
+            tests = b"".join(jeq(it, len(architectures) - at, 0) for at, it in enumerate(architectures))
+            data = load(4) + tests + ret(0) + load(0) + jeq(1, 0, 0) + ret(0)
+            return self.meanings(data)[-2].removesuffix(f": to {len(data) // 8 - 1}, else {len(data) // 8 - 1}")
+
+        self.assertEqual(at_the_end(I386), "exit of i386")
+        self.assertEqual(at_the_end(I386, X86_64), "write or exit of i386")
+        self.assertEqual(at_the_end(ARM, I386, AARCH64), "exit of i386 or exit of arm or io_destroy of aarch64")
+        self.assertEqual(at_the_end(ARM, I386, AARCH64, X86_64), "number 1 of several architectures")
+        other = load(4) + jeq(X86_64, 0, 1) + ret(0) + load(0) + jeq(1, 0, 0) + ret(0)
+        self.assertEqual(self.meanings(other)[4], "number 1 of other architectures: to 5, else 5")
+        # what no record can have isn't counted: i386's is tested twice
+        twice = load(4) + jeq(X86_64, 2, 0) + jeq(I386, 1, 0) + ret(0) + jeq(ARM, 1, 0) + load(0) + jeq(1, 0, 0) + ret(0)
+        self.assertEqual(self.meanings(twice)[6], "write or exit of i386: to 7, else 7")
+
+    def test_where_any_architecture_comes(self):
+        """By a test whose targets are one, and by two paths of which each leaves one out."""
+        one = load(4) + jeq(X86_64, 0, 0) + load(0) + jeq(1, 0, 0) + ret(0)
+        two = (load(4) + insn(0x45, 1, 0, 2) + jeq(X86_64, 2, 1) + ret(0) + jeq(I386, 0, 1) + ret(0) + load(0)
+               + jeq(1, 0, 0) + ret(0))
+        for data in (one, two):
+            self.assertEqual(self.meanings(data)[-2].split(":")[0], "write")
+
+    def test_x32_is_of_x86_64_alone(self):
+        for architecture, says, on_edge in (
+                (X86_64, "x32", "from x32 on"),
+                (I386, "from number 1073741824 of i386 on", "from number 1073741824 of i386 on")):
+            data = load(4) + jeq(architecture, 0, 2) + load(0) + jge(0x40000000, 0, 1) + ret(0) + ret(1)
+            self.assertEqual(self.meanings(data)[3], f"{says}: to 4, else 5")
+            out = self.run_tool("list", "--dot", self.file("f.bpf", data))[1]
+            self.assertIn(f'n2 -> r0 [label="{on_edge}\\l"]', out)
 
     def test_words_of_a_call(self):
         names = self.meanings(b"".join(load(4 * at) for at in range(16)) + load(64) + load(2))
