@@ -109,8 +109,13 @@ class Words(Case):
                 self.assertEqual((status, out), (2, ""), words)
                 self.assertIn(f"there is no table of --arch {word}: give the number of 'socket'", err)
         for word, number in (("i386", 359), ("0x40000003", 359), ("x32", X32 + 41), ("aarch64", 198), ("arm", 281)):
-            found = json.loads(self.run_tool("decide", "--json", "--nr=socket", "--arch", word, self.i386)[1])
-            self.assertEqual(found["calls"][0]["call"]["number"], number, word)
+            for words in (("decide", "--nr=socket", self.i386), ("run", "--nr=socket", self.i386),
+                          ("ask", "--nr=socket", self.profile), ("decide", "--calls-from", calls, self.i386)):
+                found = json.loads(self.run_tool(words[0], "--json", "--arch", word, *words[1:])[1])
+                self.assertEqual(found["calls"][0]["call"]["number"], number, (word, words))
+            shown = "0x40000000 + 41" if word == "x32" else f"{number}"
+            self.assertIn(f"# the syscall is socket ({shown})",
+                          self.run_tool("list", "--nr=socket", "--arch", word, self.i386)[1])
         for word in ("x86_64", "SCMP_ARCH_X86_64", "0xc000003e", "3221225534", "c000003e"):
             self.assertEqual(self.answer("--nr=socket", "--arch", word, self.i386), "ALLOW 0", word)
 
