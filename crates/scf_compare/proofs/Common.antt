@@ -69,7 +69,7 @@ pub use Rattle.scf_compare.specs.declared.step.Step.TheVariants.{Branch}
 pub use Rattle.scf_compare.specs.declared.value.Decision.{Decision}
 pub use Rattle.scf_compare.specs.declared.verdict.Verdict.{Verdict}
 pub use Rattle.scf_compare.specs.internal.Asking.{AsksOfWords, KeepsEither, StaysExact, atoms_answer}
-pub use Rattle.scf_compare.specs.internal.Leaves.{AreWordsIn, IsFirstUndecided, IsSideLeaf, KnowsBoth, Tells, WereAllSeen, WereSeen, side_leaves}
+pub use Rattle.scf_compare.specs.internal.Leaves.{AreWordsIn, IsFirstUndecided, IsSideLeaf, KnowsBoth, Tells, WereSeen, side_leaves}
 pub use Rattle.scf_compare.specs.internal.Filters.{ComesTo, EndsWith, IsFilterEnd, IsStepOf, filter_size, filter_tree}
 pub use Rattle.scf_compare.specs.internal.ControlFlow.{IsInside, UsesScratch, control_flow_at, size_of_flow}
 pub use Rattle.scf_compare.specs.internal.Frontier.{AreExact, GivesLearned, IsAhead, IsOpenBranch, IsExact, IsFrontier, IsInBranch, LearnsExactly, open_size}

@@ -17,7 +17,7 @@ use Rattle.scf_compare.specs.declared.verdict.Verdict.{Verdict}
 use Rattle.scf_compare.specs.declared.verdict.Verdict.TheVariants.{Same, Differs, Undecided, Unfinished}
 use Rattle.scf_profile.specs.Relation.{IsRelated}
 use Rattle.scf_profile.specs.Scope.{AllAreRelated, IsInScope}
-use Rattle.scf_compare.specs.Findings.{IsFindingDecided, IsFindingWithin, LeavesFindingSteps}
+use Rattle.scf_compare.specs.Findings.{IsFindingDecided, IsFindingWithin}
 use Rattle.scf_compare.specs.Sides.{IsEndPlace, IsStackEndPlace}
 
 -- What a verdict on a filter and a profile claims: that the relation holds of the answers to every call record of the
@@ -57,10 +57,6 @@ finding_of Unfinished = findings.Unfinished
 -- unfinished only where the limit is below the effort.
 abbrev pub IsWithin : ℕ → ℕ → Verdict → Type 0
 IsWithin limit effort verdict = IsFindingWithin limit effort (finding_of verdict)
-
--- what is left of a number of steps once those of a comparison are taken from it
-abbrev pub LeavesSteps : ℕ → ℕ → ℕ → Verdict → ℕ → Type 0
-LeavesSteps limit effort old verdict new = LeavesFindingSteps limit effort old (finding_of verdict) new
 
 -- A verdict decides whether a claim holds, which is that of Same, unless the limit is below the effort.
 abbrev pub IsDecided : Type 0 → ℕ → ℕ → Verdict → Type 0

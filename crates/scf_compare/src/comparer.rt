@@ -24,7 +24,6 @@ ghost use Rattle.scf_compare.specs.Verdicts.{
   IsTrueOfStack,
   IsTrueOfStackBy,
   IsWithin,
-  LeavesSteps,
 };
 ghost use Rattle.scf_compare.specs.internal.Comparers.{IsComparison};
 
@@ -252,37 +251,6 @@ pub fn compare_by<F: WordFacts>(
         limit (effort_of_stack stack.now profile.now)) }
 {
     compare_filters::<F>(alloc, stack.filters(), profile, scope, relation, limit)
-}
-
-/// Compares as `compare_by` does, in at most `limit` steps and at most the `left` ones that several comparisons share.
-/// The steps taken are subtracted from `left`; if an allocation fails, it doesn't change.
-///
-/// With no steps left the verdict is `Unfinished`.
-pub fn compare_within<F: WordFacts>(
-    alloc: Global,
-    stack: &FilterStack,
-    profile: &Profile,
-    scope: Scope,
-    relation: Relation,
-    limit: u64,
-    left: &mut u64,
-) -> Result<Verdict, Memory>
-    ensures holds { IfOk result (IsTrueOfStackBy relation stack.now profile.now scope) }
-    ensures within { IfOk result (IsWithin (min limit left.old) (effort_of_stack stack.now profile.now)) }
-    ensures decided { IsTrue F.starts_exact → All IsPlainProgram stack.now → IsPlainProfile profile.now
-        → IfOk result (IsDecided
-        (RelatedAnswersIn relation scope (StackAnswers stack.now) profile.now)
-        (min limit left.old) (effort_of_stack stack.now profile.now)) }
-    ensures left { IfOk result (λ verdict.
-        LeavesSteps (min limit left.old) (effort_of_stack stack.now profile.now) left.old verdict left.new) }
-    ensures err { OnErr result (left.new ≡ left.old) }
-{
-    let filters = Side::Stack(stack.filters());
-    let profile = Side::Profile(profile);
-    let finding = compare_sides_within::<F>(
-        alloc, &filters, &profile, scope, relation, limit, left,
-    )?;
-    Ok(finding.verdict())
 }
 
 /// Compares filters, the oldest first, with a profile over the records of a scope by a relation.

@@ -3,7 +3,7 @@
 ghost use Rattle.std.specs.Prelude.{◌≡◌, ◌↔◌, ℕ, List, IsTrue, false, IfOk, IfSome, IfNone, IsSome};
 ghost use Rattle.scf_compare.specs.Findings.{AllRelated, AreSteps, IsFindingDecided, IsFindingWithin, IsTrueFinding, WordsRelated};
 ghost use Rattle.scf_compare.specs.internal.Leaves.{AreWordsIn, IsFirstUndecided, IsLeaf, IsUndecidedLeaf};
-ghost use Rattle.scf_compare.specs.internal.Leaves.{KnowsBoth, Tells, WereAllSeen, WereSeen};
+ghost use Rattle.scf_compare.specs.internal.Leaves.{KnowsBoth, Tells, WereSeen};
 ghost use Rattle.scf_compare.specs.internal.Frontier.{IsFrontier, IsExact};
 ghost use Rattle.scf_compare.specs.internal.Stages.{IsFound, IsStageAfter, finding_of_all};
 
@@ -157,7 +157,6 @@ pub(crate) fn explore<C: Comparison, F: WordFacts>(
     ensures within { IfOk result (IsFindingWithin limit ((C.tree comparison.now start).size root)) }
     ensures taken { IfOk result (λ finding.
         AreSteps limit ((C.tree comparison.now start).size root) finding taken.new) }
-    ensures seen { IfOk result (WereAllSeen (C.compared comparison.now)) }
     ensures decided { let tree = C.tree comparison.now start in
         IsTrue (F.is_exact facts 0) → tree.is_plain root
         → IfOk result (IsFindingDecided (AllRelated (C.compared comparison.now)) limit (tree.size root)) }

@@ -59,9 +59,7 @@ mod tree_sizes;
 mod value;
 mod verdict;
 
-pub use comparer::{
-    compare, compare_by, compare_sides, compare_sides_within, compare_stack, compare_within,
-};
+pub use comparer::{compare, compare_by, compare_sides, compare_sides_within, compare_stack};
 pub use finding::{Finding, Which};
 pub use laws::{
     both_ways_is_one_disposition, headline, holds_through, holds_turned,

@@ -6,7 +6,7 @@
 
 use crate::lines::{Lines, tell_twice, twice};
 use crate::{facts, rows};
-use scf_compare::{Relation, Scope, Verdict, compare, compare_stack, compare_within};
+use scf_compare::{Relation, Scope, Side, Verdict, compare, compare_sides_within, compare_stack};
 use scf_compile::compile;
 use scf_facts::WordSets;
 use scf_insn::{Answer, CallRecord, Counted, Insn, Memory, read_input, read_program};
@@ -167,11 +167,11 @@ fn compare_filters<R: Print>(lines: &mut Lines<R>, alloc: Global, profile: &Prof
         let mut left = LIMIT;
         tell_twice!(
             lines,
-            "compare_within",
-            compare_within::<WordSets>(
+            "compare_sides_within",
+            compare_sides_within::<WordSets>(
                 alloc,
-                &stack,
-                profile,
+                &Side::Stack(stack.filters()),
+                &Side::Profile(profile),
                 Scope::All,
                 Relation::Same,
                 LIMIT,

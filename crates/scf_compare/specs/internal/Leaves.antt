@@ -62,24 +62,9 @@ abbrev pub IsUndecidedLeaf : Compared → PairLeaf → Type 0
 IsUndecidedLeaf compared leaf =
     IfSome leaf.left.answer (λ left. IfSome leaf.right.answer (λ right. compared.related left.0 right.0 → ⊥))
 
--- The words come to an undecided leaf.
-pub record ComesToUndecidedLeaf (compared : Compared) (words : List ℕ) : Type 0 where
-  pub leaf : PairLeaf
-  pub is_leaf : IsLeaf compared leaf
-  pub is_undecided : IsUndecidedLeaf compared leaf
-  pub tells : Tells compared leaf words
-
--- Words that were seen: their answers are related, or they come to an undecided leaf, and one was found.
+-- Words that were seen: their answers are related, or an undecided leaf was found.
 abbrev pub WereSeen : Compared → Option (Which × ℕ) → List ℕ → Type 0
-WereSeen compared found words = WordsRelated compared words ⊎ (IsSome found × ComesToUndecidedLeaf compared words)
-
--- With Undecided all words of the scope were seen.
-abbrev pub WereAllSeen : Compared → Finding → Type 0
-WereAllSeen compared (Holds steps) = Unit {0}
-WereAllSeen compared (Fails call left right) = Unit {0}
-WereAllSeen compared (Undecided side at) =
-    (words : List ℕ) → AreWordsIn compared words → WereSeen compared (Some (side, at)) words
-WereAllSeen compared Unfinished = Unit {0}
+WereSeen compared found words = WordsRelated compared words ⊎ IsSome found
 
 -- a finding that can be a verdict on a filter, which is the left side, and a profile
 abbrev pub IsOnTheLeft : Finding → Type 0

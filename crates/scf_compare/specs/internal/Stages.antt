@@ -10,7 +10,7 @@ use Rattle.scf_compare.specs.declared.finding.Finding.{Finding}
 use Rattle.scf_compare.specs.declared.finding.Finding.TheVariants.{Holds, Undecided}
 use Rattle.scf_compare.specs.declared.finding.Which.{Which}
 use Rattle.scf_compare.specs.Findings.{AllRelated, Compared, IsFindingDecided, IsFindingWithin, IsStepCount, IsTrueFinding}
-use Rattle.scf_compare.specs.internal.Leaves.{AreWordsIn, Tells, KnowsBoth, WereSeen, WereAllSeen}
+use Rattle.scf_compare.specs.internal.Leaves.{AreWordsIn, Tells, KnowsBoth, WereSeen}
 use Rattle.scf_compare.specs.internal.Frontier.{IsInBranch, IsAhead, IsFrontier, AreExact, IsExact, open_size}
 use Rattle.scf_compare.specs.internal.Trees.{Tree, GoesOn, StaysPlain, step_size}
 
@@ -19,7 +19,6 @@ pub record IsFound (compared : Compared) (finding : Finding) : Type 0 where
   pub holds : IsTrueFinding compared finding
   pub within : (limit effort : ℕ) → IsFindingWithin limit effort finding
   pub decided : (limit effort : ℕ) → IsFindingDecided (AllRelated compared) limit effort finding
-  pub seen : WereAllSeen compared finding
   pub counted : (limit taken : ℕ) → 0 < taken → IsStepCount limit finding taken
 
 -- the finding once all was seen, in so many steps

@@ -1,5 +1,5 @@
 use Rattle.std.specs.Prelude.{sum_by}
-use Rattle.scf_compare.proofs.Common.{ap, length, open_size, sym, ◌≡◌, ◌+◌, ◌<◌, ◌≤◌, ◌⊎◌, ◌∙◌, ℕ, List, inl, inr, arith, refl, Option, None, Some, IfSome, IsSome, IsWords-words_of, call_of-words_of, words_of, Compared, AllRelated, IsFindingDecided, IsTrueFinding, Which, AreWordsIn, IsFirstUndecided, WereSeen, WereAllSeen, finding_of_all}
+use Rattle.scf_compare.proofs.Common.{ap, length, open_size, sym, ◌≡◌, ◌+◌, ◌<◌, ◌≤◌, ◌⊎◌, ◌∙◌, ℕ, List, inl, inr, arith, refl, Option, None, Some, IfSome, IsSome, IsWords-words_of, call_of-words_of, words_of, Compared, AllRelated, IsFindingDecided, IsTrueFinding, Which, AreWordsIn, IsFirstUndecided, WereSeen, finding_of_all}
 use Rattle.scf_compare.specs.Findings.{AreSteps, IsStepCount, IsFindingWithin}
 use Rattle.scf_compare.proofs.explore.explore.Goals as goal
 
@@ -8,7 +8,7 @@ still_seen : (compared : Compared) (old new : Option (Which × ℕ)) (words : Li
     → WereSeen compared old words → WereSeen compared new words
 still_seen compared old new words first seen = elim seen [
   | inl related ↦ inl related
-  | inr open_end ↦ inr (rw (first open_end.0) open_end.0, open_end.1)
+  | inr undecided ↦ inr (rw (first undecided) undecided)
 ]
 
 -- words that were seen before, or are seen now, were seen
@@ -19,13 +19,13 @@ all_seen compared old new words ahead first seen now = elim seen [
   | inr ahead ↦ now ahead
 ]
 
--- so the finding is true, all was seen, and it decides where nothing is left open
+-- so the finding is true, and it decides where nothing is left open
 of_all : (compared : Compared) (steps limit effort : ℕ) (first_undecided : Option (Which × ℕ))
     → IfSome first_undecided (IsFirstUndecided compared)
     → ((words : List ℕ) → AreWordsIn compared words → WereSeen compared first_undecided words)
     → (0 < limit) × (steps ≤ limit) × (steps ≤ effort)
     → let finding = finding_of_all steps first_undecided in
-    IsTrueFinding compared finding × WereAllSeen compared finding × IsFindingWithin limit effort finding
+    IsTrueFinding compared finding × IsFindingWithin limit effort finding
     × (first_undecided ≡ None → IsFindingDecided (AllRelated compared) limit effort finding)
 of_all compared steps limit effort None place seen bounds =
     let all : AllRelated compared = λ call is_record in_scope.
@@ -33,10 +33,10 @@ of_all compared steps limit effort None place seen bounds =
     (IsWords-words_of call is_record, rw (call_of-words_of call is_record) in_scope) in
     elim (seen (words_of call) within) [
       | inl related ↦ related
-      | inr undecided ↦ absurd (let none = undecided.0 in cc)
+      | inr undecided ↦ absurd (let none = undecided in cc)
     ] in
-    (all, tt, (bounds.1, bounds.2), λ _. all)
-of_all compared steps limit effort (Some first) place seen bounds = (place, seen, bounds.0, λ e. absurd (cc))
+    (all, (bounds.1, bounds.2), λ _. all)
+of_all compared steps limit effort (Some first) place seen bounds = (place, bounds.0, λ e. absurd (cc))
 
 -- as many steps as were taken, which is one or more
 counts_all : (steps limit : ℕ) (first_undecided : Option (Which × ℕ)) → 0 < steps
@@ -89,15 +89,14 @@ returns-in-AllSeen g c =
     (omega arith, omega arith, omega (arith, c.loop-steps.invariant.size, counts)) in
     rw c.seen_in.ensures (record {
       holds = all.0;
-      within = all.2;
+      within = all.1;
       taken = record {
         within_limit = omega arith;
         within_effort = omega (arith, c.loop-steps.invariant.size, counts);
         of_finding = counts_all (c.loop-steps.steps + 1) c.args.limit c.advance.new.first_undecided (omega arith);
       };
-      seen = all.1;
       decided = λ exact plain.
-          let before = c.loop-steps.invariant.exact exact plain in all.3 (after.exact before.1 ∙ before.0);
+          let before = c.loop-steps.invariant.exact exact plain in all.2 (after.exact before.1 ∙ before.0);
     })
 
 pub returns-in-Found : goal.returns-in-Found
@@ -112,7 +111,6 @@ returns-in-Found g c =
         within_effort = omega (arith, c.loop-steps.invariant.size, counts);
         of_finding = found.counted _ (c.loop-steps.steps + 1) (omega arith);
       };
-      seen = found.seen;
       decided = λ _ _. found.decided _ _;
     }
 
