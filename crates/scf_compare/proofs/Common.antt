@@ -44,7 +44,7 @@ unfoldable pub use Rattle.scf_compare.specs.Paths.{tree_sizes}
 pub use Rattle.scf_profile.specs.Relation.{IsRelated}
 pub use Rattle.scf_profile.specs.Scope.{IsInScope, RelatedAnswersIn, SameAnswersIn}
 pub use Rattle.scf_compare.specs.Findings.{AllRelated, Compared, IsFindingDecided, IsTrueFinding, WordsRelated, compared_in, compared_sides}
-pub use Rattle.scf_compare.specs.Sides.{Behavior, IsEndPlace, IsStackEndPlace, behavior_of, profile_behavior, stack_behavior}
+pub use Rattle.scf_compare.specs.Sides.{Behavior, CanEndAt, StackCanEndAt, behavior_of, profile_behavior, stack_behavior}
 pub use Rattle.scf_compare.specs.Verdicts.{IsDecided, IsTrueBy, IsTrueOf, IsTrueOfStackBy, finding_of}
 pub use Rattle.scf_compare.specs.declared.asking.Atoms.{Atoms}
 pub use Rattle.scf_compare.specs.declared.comparison.PairLeaf.{PairLeaf}
@@ -55,7 +55,7 @@ pub use Rattle.scf_compare.specs.declared.control_flow.ControlFlow.{ControlFlow}
 pub use Rattle.scf_compare.specs.declared.control_flow.ControlFlow.TheVariants.{ConditionalJump, DivideByIndex, Jump, FallThrough, ReturnAccumulator, ReturnConstant}
 pub use Rattle.scf_compare.specs.declared.frontier.Frontier.{Frontier}
 pub use Rattle.scf_compare.specs.declared.bit_slice.BitSlice.{BitSlice}
-pub use Rattle.scf_compare.specs.declared.profile.ConditionPlace.{ConditionPlace}
+pub use Rattle.scf_compare.specs.declared.profile.ConditionPosition.{ConditionPosition}
 pub use Rattle.scf_compare.specs.declared.registers.KnownRegisters.{KnownRegisters}
 pub use Rattle.scf_profile.specs.declared.relation.Relation.{Relation}
 pub use Rattle.scf_profile.specs.declared.relation.Relation.TheVariants.{NoLess, NoMore, Same}

@@ -2,18 +2,18 @@
 use Rattle.scf_compare.proofs.Common.{All-contains, IsSimpleMask, Constant, CommonBit, IsPlainProgram, IsPlainInsn, ◌≡◌, ℕ, zero, suc, ◌+◌, ◌-◌, ◌<◌, ◌/◌, ◌==◌, List, [], ◌∷◌, Option, None, Some, length, drop, slice_index_or, if◌then◌else◌, refl, sym, ap, subst, ◌∙◌, arith, zero-add, slice_get, slice_get_within, eq-or-lt_of_le, Insn, A, Operation, LoadWord, operation_of, bpf_memwords, State, Outcome, Goes, Ends, sets, jumps_to, holds, operand_of, effect, Stands, IsFine, IsValidList, IsReturn, fine_of, same_insn, ControlFlow, FallThrough, Jump, ConditionalJump, DivideByIndex, ReturnConstant, ReturnAccumulator, size_of_insn, tree_sizes, tree_size, control_flow_at, UsesScratch, IsInside, size_of_flow, slice_get-get_or}
 use Rattle.scf_compare.proofs.Rules.{contains_here}
 
--- ---- places inside the program
+-- ---- indices inside the program
 
-module _ (insns : List Insn) (place : ℕ) (i : Insn) (operation : Operation) (valid : IsValidList insns)
-    (stands : Stands insns place i operation) where
+module _ (insns : List Insn) (index : ℕ) (i : Insn) (operation : Operation) (valid : IsValidList insns)
+    (stands : Stands insns index i operation) where
   -- an instruction that isn't a return isn't the last one
-  not_last : (IsReturn operation → ⊥) → place + 1 < length insns
+  not_last : (IsReturn operation → ⊥) → index + 1 < length insns
   not_last goes_on = grind (arith, eq-or-lt_of_le, slice_get_within)
 
-  fine_at : IsFine (length insns) place i operation
+  fine_at : IsFine (length insns) index i operation
   fine_at = grind (arith, fine_of, slice_get_within)
 
-  pub inside_at : IsInside (length insns) (control_flow_at operation i place)
+  pub inside_at : IsInside (length insns) (control_flow_at operation i index)
   inside_at = grind (arith, fine_at, not_last)
 
   pub load_fits : operation ≡ LoadWord → i.k < 64
@@ -23,66 +23,66 @@ module _ (insns : List Insn) (place : ℕ) (i : Insn) (operation : Operation) (v
   scratch_fits uses = grind (arith, fine_at)
 
 -- the code of each instruction is known
-pub has_operation : (insns : List Insn) (place : ℕ) (i : Insn) → IsValidList insns → slice_get insns place ≡ Some i
+pub has_operation : (insns : List Insn) (index : ℕ) (i : Insn) → IsValidList insns → slice_get insns index ≡ Some i
     → operation_of i.code ≡ None → ⊥
-has_operation insns place i valid here none =
-    let at = valid.each place (slice_get_within insns place i here) in
-    grind (arith, same_insn insns place at.insn i at.stands.here here, at.stands.known)
+has_operation insns index i valid here none =
+    let at = valid.each index (slice_get_within insns index i here) in
+    grind (arith, same_insn insns index at.insn i at.stands.here here, at.stands.known)
 
 -- what an instruction that goes on so does to a state
 abbrev pub Does : ControlFlow → Insn → State → Outcome → Type 0
-Does (FallThrough next) i s o = ((n : ℕ) → o ≡ Ends n → ⊥) × ((t : State) → o ≡ Goes t → t.place ≡ next)
+Does (FallThrough next) i s o = ((n : ℕ) → o ≡ Ends n → ⊥) × ((t : State) → o ≡ Goes t → t.pc ≡ next)
 Does (Jump target) i s o = o ≡ Goes (jumps_to s target)
 Does (ConditionalJump test operand if_true if_false) i s o =
     o ≡ Goes (jumps_to s (if holds test s.a (operand_of operand i s) then if_true else if_false))
 Does (DivideByIndex next) i s o =
-    (s.place + 1 ≡ next) × (o ≡ (if s.x == 0 then Ends 0 else Goes (sets A s (s.a / s.x))))
+    (s.pc + 1 ≡ next) × (o ≡ (if s.x == 0 then Ends 0 else Goes (sets A s (s.a / s.x))))
 Does ReturnConstant i s o = o ≡ Ends i.k
 Does ReturnAccumulator i s o = o ≡ Ends s.a
 
 pub does : (operation : Operation) (i : Insn) (words : List ℕ) (s : State)
-    → Does (control_flow_at operation i s.place) i s (effect operation i words s)
+    → Does (control_flow_at operation i s.pc) i s (effect operation i words s)
 does operation i words s = grind arith
 
 -- ---- sizes
 
-size_here : (insns : List Insn) (place : ℕ) (i : Insn) → slice_get insns place ≡ Some i
-    → tree_size insns place ≡ size_of_insn (operation_of i.code) i (tree_sizes (drop (suc place) insns))
+size_here : (insns : List Insn) (index : ℕ) (i : Insn) → slice_get insns index ≡ Some i
+    → tree_size insns index ≡ size_of_insn (operation_of i.code) i (tree_sizes (drop (suc index) insns))
 unfolding tree_sizes
-size_here [] place i e = absurd (cc)
+size_here [] index i e = absurd (cc)
 size_here (y ∷ insns) zero i e = grind arith
-size_here (y ∷ insns) (suc place) i e = size_here insns place i e
+size_here (y ∷ insns) (suc index) i e = size_here insns index i e
 
-size_later : (insns : List Insn) (place k : ℕ)
-    → slice_index_or (tree_sizes (drop place insns)) k 1 ≡ tree_size insns (place + k)
+size_later : (insns : List Insn) (index k : ℕ)
+    → slice_index_or (tree_sizes (drop index insns)) k 1 ≡ tree_size insns (index + k)
 unfolding tree_sizes
 size_later insns zero k = ap (tree_size insns) (sym (zero-add k))
-size_later [] (suc place) k = refl
-size_later (y ∷ insns) (suc place) k =
-    let more : suc (place + k) ≡ suc place + k = omega arith in
-    size_later insns place k ∙ ap (tree_size (y ∷ insns)) more
+size_later [] (suc index) k = refl
+size_later (y ∷ insns) (suc index) k =
+    let more : suc (index + k) ≡ suc index + k = omega arith in
+    size_later insns index k ∙ ap (tree_size (y ∷ insns)) more
 
-size_in_flow : (insns : List Insn) (place : ℕ) (i : Insn) (operation : Operation)
-    → size_of_insn (Some operation) i (tree_sizes (drop (suc place) insns))
-    ≡ size_of_flow (control_flow_at operation i place) (tree_size insns)
-size_in_flow insns place i operation = grind (arith, size_later insns (suc place))
+size_in_flow : (insns : List Insn) (index : ℕ) (i : Insn) (operation : Operation)
+    → size_of_insn (Some operation) i (tree_sizes (drop (suc index) insns))
+    ≡ size_of_flow (control_flow_at operation i index) (tree_size insns)
+size_in_flow insns index i operation = grind (arith, size_later insns (suc index))
 
--- the places that an instruction goes on to are further on
+-- the indices that an instruction goes on to are further on
 abbrev pub IsForward : ℕ → ControlFlow → Type 0
-IsForward place (FallThrough next) = place < next
-IsForward place (Jump target) = place < target
-IsForward place (ConditionalJump test operand if_true if_false) = (place < if_true) × (place < if_false)
-IsForward place (DivideByIndex next) = place < next
-IsForward place ReturnConstant = Unit {0}
-IsForward place ReturnAccumulator = Unit {0}
+IsForward index (FallThrough next) = index < next
+IsForward index (Jump target) = index < target
+IsForward index (ConditionalJump test operand if_true if_false) = (index < if_true) × (index < if_false)
+IsForward index (DivideByIndex next) = index < next
+IsForward index ReturnConstant = Unit {0}
+IsForward index ReturnAccumulator = Unit {0}
 
--- the size at a place, by how its instruction goes on
-pub size_by_flow : {insns : List Insn} {place : ℕ} {i : Insn} {operation : Operation}
-    → Stands insns place i operation
-    → (tree_size insns place ≡ size_of_flow (control_flow_at operation i place) (tree_size insns))
-    × IsForward place (control_flow_at operation i place)
-size_by_flow {insns = insns} {place = place} {i = i} {operation = operation} stands =
-    (rw (size_here insns place i stands.here, stands.known) (size_in_flow insns place i operation), grind arith)
+-- the size at an index, by how its instruction goes on
+pub size_by_flow : {insns : List Insn} {index : ℕ} {i : Insn} {operation : Operation}
+    → Stands insns index i operation
+    → (tree_size insns index ≡ size_of_flow (control_flow_at operation i index) (tree_size insns))
+    × IsForward index (control_flow_at operation i index)
+size_by_flow {insns = insns} {index = index} {i = i} {operation = operation} stands =
+    (rw (size_here insns index i stands.here, stands.known) (size_in_flow insns index i operation), grind arith)
 
 -- ---- plain programs
 
@@ -97,10 +97,10 @@ IsPlainFlow operation i ReturnAccumulator = ⊥
 IsPlainFlow operation i control_flow = Unit {0}
 
 -- so an instruction of a plain program goes on
-pub plain_flow : (insns : List Insn) (place : ℕ) (i : Insn) (operation : Operation) → IsPlainProgram insns
-    → Stands insns place i operation → IsPlainFlow operation i (control_flow_at operation i place)
-plain_flow insns place i operation plain stands =
-    let insn = All-contains IsPlainInsn insns i plain (contains_here insns place i stands.here) in grind arith
+pub plain_flow : (insns : List Insn) (index : ℕ) (i : Insn) (operation : Operation) → IsPlainProgram insns
+    → Stands insns index i operation → IsPlainFlow operation i (control_flow_at operation i index)
+plain_flow insns index i operation plain stands =
+    let insn = All-contains IsPlainInsn insns i plain (contains_here insns index i stands.here) in grind arith
 
 -- the instruction that is read has an operation
 pub ruleset operations = (has_operation, slice_get-get_or)

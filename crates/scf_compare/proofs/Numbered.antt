@@ -1,28 +1,28 @@
 -- A profile's numbers: which rules a call can still meet, and how many steps the numbers take.
-use Rattle.scf_compare.proofs.Common.{drop-drop, ◌-◌, ◌≡◌, ◌≢◌, ℕ, ◌+◌, ◌<◌, ◌≤◌, false, true, eqb, List, [], Some, length, map, drop, get_or, sym, ap, arith, inl, inr, slice_get, slice_get-get_or, slice_get-map, slice_get_within, get_or_from_slice_get, get_or-take, length-take, take_all, eqb-true, All, All-contains, All-contains_itself, All-filter, filter_passes, contains_filtered, Contains, CallRecord, Condition, NotEqual, NumberRules, Rule, IsNative, ProfileAnswers, by_rule, by_default, meets, rules_of, AreNumbersOf, number_among, numbers_rise, sum_of_own, sum_by-drop_more, sum_by-take-drop, conditions_size, rules_size, numbers_size, own_conditions, own_rules, size_behind, IsAtCondition, IsAtRule, IsFrom, ConditionPlace, IsNumbered, NumberedProfile}
+use Rattle.scf_compare.proofs.Common.{drop-drop, ◌-◌, ◌≡◌, ◌≢◌, ℕ, ◌+◌, ◌<◌, ◌≤◌, false, true, eqb, List, [], Some, length, map, drop, get_or, sym, ap, arith, inl, inr, slice_get, slice_get-get_or, slice_get-map, slice_get_within, get_or_from_slice_get, get_or-take, length-take, take_all, eqb-true, All, All-contains, All-contains_itself, All-filter, filter_passes, contains_filtered, Contains, CallRecord, Condition, NotEqual, NumberRules, Rule, IsNative, ProfileAnswers, by_rule, by_default, meets, rules_of, AreNumbersOf, number_among, numbers_rise, sum_of_own, sum_by-drop_more, sum_by-take-drop, conditions_size, rules_size, numbers_size, own_conditions, own_rules, size_behind, IsAtCondition, IsAtRule, IsFrom, ConditionPosition, IsNumbered, NumberedProfile}
 use Rattle.scf_compare.specs.Effort.{spread}
 use Rattle.scf_compare.proofs.Rules.{contains_here, met_by, rules_more, unmet_apart}
 
 -- ---- what is read
 
 -- what is mapped of an element that stands there
-mapped_here : {X Y : Type 0} (f : X → Y) (xs : List X) (place : ℕ) (x : X) (none : Y) → slice_get xs place ≡ Some x
-    → get_or (map f xs) place none ≡ f x
-mapped_here f xs place x none here = get_or_from_slice_get _ place (f x) none (rw (slice_get-map, here))
+mapped_here : {X Y : Type 0} (f : X → Y) (xs : List X) (index : ℕ) (x : X) (none : Y) → slice_get xs index ≡ Some x
+    → get_or (map f xs) index none ≡ f x
+mapped_here f xs index x none here = get_or_from_slice_get _ index (f x) none (rw (slice_get-map, here))
 
-pub own_read : (numbers : List NumberRules) (place : ℕ) (own : NumberRules) → slice_get numbers place ≡ Some own
-    → own_rules numbers place ≡ own.rules.items
-own_read numbers place own here = mapped_here (λ (o : NumberRules). o.rules.items) numbers place own [] here
+pub own_read : (numbers : List NumberRules) (index : ℕ) (own : NumberRules) → slice_get numbers index ≡ Some own
+    → own_rules numbers index ≡ own.rules.items
+own_read numbers index own here = mapped_here (λ (o : NumberRules). o.rules.items) numbers index own [] here
 
-pub conditions_read : (numbers : List NumberRules) (at : ConditionPlace) (rule : Rule)
+pub conditions_read : (numbers : List NumberRules) (at : ConditionPosition) (rule : Rule)
     → slice_get (own_rules numbers at.number) at.rule ≡ Some rule → own_conditions numbers at ≡ rule.conditions
 conditions_read numbers at rule here =
     mapped_here (λ (r : Rule). r.conditions) (own_rules numbers at.number) at.rule rule [] here
 
 -- what holds of each element holds of one that stands there
-pub at_place : {X : Type 0} (P : X → Type 0) (xs : List X) (place : ℕ) (x : X) → All P xs → slice_get xs place ≡ Some x
+pub at_index : {X : Type 0} (P : X → Type 0) (xs : List X) (index : ℕ) (x : X) → All P xs → slice_get xs index ≡ Some x
     → P x
-at_place P xs place x all here = All-contains P xs x all (contains_here xs place x here)
+at_index P xs index x all here = All-contains P xs x all (contains_here xs index x here)
 
 -- some rule, and the condition that a read past the end of conditions gives
 abbrev pub no_rule : Rule
@@ -34,11 +34,11 @@ no_condition = record { index = 0; op = NotEqual; value = 0; value_two = 0 }
 -- ---- what a profile answers
 
 -- the rules of a number that stands there are those of it
-pub own_kept : (s : NumberedProfile) → IsNumbered s → (place : ℕ) (own : NumberRules)
-    → slice_get s.numbers place ≡ Some own → own_rules s.numbers place ≡ rules_of own.number s.profile.rules
-own_kept s numbered place own here =
-    rw (own_read s.numbers place own here)
-    (at_place (λ (o : NumberRules). o.rules.items ≡ rules_of o.number s.profile.rules) s.numbers place own
+pub own_kept : (s : NumberedProfile) → IsNumbered s → (index : ℕ) (own : NumberRules)
+    → slice_get s.numbers index ≡ Some own → own_rules s.numbers index ≡ rules_of own.number s.profile.rules
+own_kept s numbered index own here =
+    rw (own_read s.numbers index own here)
+    (at_index (λ (o : NumberRules). o.rules.items ≡ rules_of o.number s.profile.rules) s.numbers index own
     numbered.numbers.own here)
 
 -- the rules of a number are rules, and have it
@@ -53,7 +53,7 @@ own_rule nr rules r has = (
 
 module _ (s : NumberedProfile) (call : CallRecord) where
   -- a rule that the call is at, all of whose conditions hold of it
-  pub by_own_rule : (at : ConditionPlace) (r : Rule) → IsAtCondition s at call
+  pub by_own_rule : (at : ConditionPosition) (r : Rule) → IsAtCondition s at call
       → slice_get (own_rules s.numbers at.number) at.rule ≡ Some r → length r.conditions ≤ at.condition
       → ProfileAnswers s.profile call r.answer.0
   by_own_rule at r is here all =
@@ -86,21 +86,21 @@ module _ (s : NumberedProfile) (call : CallRecord) where
 -- ---- which numbers a call can still have
 
 module _ (numbers : List NumberRules) (rules : List Rule) (are : AreNumbersOf numbers rules) (call : CallRecord)
-    (place : ℕ) (own : NumberRules) (here : slice_get numbers place ≡ Some own) where
+    (index : ℕ) (own : NumberRules) (here : slice_get numbers index ≡ Some own) where
   -- a number that isn't below one has none of those before it
-  pub from_number : own.number ≤ call.nr → IsFrom place numbers call
+  pub from_number : own.number ≤ call.nr → IsFrom index numbers call
   from_number least k d lt =
-      let within = slice_get_within numbers place own here in
-      let before : k < place = omega (arith, length-take place numbers) in
-      let rise = numbers_rise numbers rules are k place d before within in
-      rw (get_or-take place numbers k d before) (grind (arith, rise, get_or_from_slice_get numbers place own d here))
+      let within = slice_get_within numbers index own here in
+      let before : k < index = omega (arith, length-take index numbers) in
+      let rise = numbers_rise numbers rules are k index d before within in
+      rw (get_or-take index numbers k d before) (grind (arith, rise, get_or_from_slice_get numbers index own d here))
 
   -- one that has none before a number, and is below that one, has none
-  pub from_above : IsFrom place numbers call → call.nr < own.number → All (λ o. call.nr ≢ o.number) numbers
+  pub from_above : IsFrom index numbers call → call.nr < own.number → All (λ o. call.nr ≢ o.number) numbers
   from_above from above k d lt =
       let before = from k d in
-      let rise = numbers_rise numbers rules are place k d in
-      let same = get_or_from_slice_get numbers place own d here in
+      let rise = numbers_rise numbers rules are index k d in
+      let same = get_or_from_slice_get numbers index own d here in
       grind (arith, before, rise, same, get_or-take, length-take)
 
 -- ---- how many steps the numbers take
@@ -112,25 +112,25 @@ numbers_spread numbers rules are =
     ap (λ n. 8 + n) (sum_of_own numbers rules are (λ (own : List Rule). 1 + rules_size own))
 
 -- the rules of a number from one on
-pub rule_size : (numbers : List NumberRules) (at : ConditionPlace) → at.rule < length (own_rules numbers at.number)
+pub rule_size : (numbers : List NumberRules) (at : ConditionPosition) → at.rule < length (own_rules numbers at.number)
     → conditions_size (own_conditions numbers at) (size_behind numbers at)
     ≡ rules_size (drop at.rule (own_rules numbers at.number))
 rule_size numbers at inside =
     let here = slice_get-get_or (own_rules numbers at.number) at.rule no_rule inside in
     grind (arith, conditions_read numbers at _ here, rules_more (own_rules numbers at.number) at.rule _ here)
 
-sizes_fewer : (numbers : List NumberRules) (place from : ℕ) → place ≤ from
-    → numbers_size (drop from numbers) ≤ numbers_size (drop place numbers)
-sizes_fewer numbers place from le =
+sizes_fewer : (numbers : List NumberRules) (index from : ℕ) → index ≤ from
+    → numbers_size (drop from numbers) ≤ numbers_size (drop index numbers)
+sizes_fewer numbers index from le =
     let size = λ (own : NumberRules). 1 + rules_size own.rules.items in
-    grind (arith, sum_by-take-drop size (drop place numbers) (from - place), drop-drop (from - place) place numbers)
+    grind (arith, sum_by-take-drop size (drop index numbers) (from - index), drop-drop (from - index) index numbers)
 
--- the rules of a number, and what is behind it, of the numbers from a place on
-pub sizes_from : (numbers : List NumberRules) (place from : ℕ) (own : NumberRules) → place ≤ from
+-- the rules of a number, and what is behind it, of the numbers from an index on
+pub sizes_from : (numbers : List NumberRules) (index from : ℕ) (own : NumberRules) → index ≤ from
     → slice_get numbers from ≡ Some own
     → 1 + rules_size (own_rules numbers from) + numbers_size (drop (from + 1) numbers)
-    ≤ numbers_size (drop place numbers)
-sizes_from numbers place from own le here =
+    ≤ numbers_size (drop index numbers)
+sizes_from numbers index from own le here =
     let f = λ (o : NumberRules). 1 + rules_size o.rules.items in
     let more = sum_by-drop_more f numbers from own (slice_get_within numbers from own here) in
-    grind (arith, own_read, get_or_from_slice_get numbers from own own here, sizes_fewer numbers place from le, more)
+    grind (arith, own_read, get_or_from_slice_get numbers from own own here, sizes_fewer numbers index from le, more)

@@ -29,7 +29,7 @@ fails_by call [] i c here h = absurd (cc)
 fails_by call (x ∷ conditions) zero c here h = grind arith
 fails_by call (x ∷ conditions) (suc i) c here h = grind (arith, fails_by call conditions i c here)
 
--- ---- places in lists
+-- ---- indices in lists
 
 pub drop_here : {X : Type 0} (xs : List X) (i : ℕ) (x : X) → slice_get xs i ≡ Some x → drop i xs ≡ x ∷ drop (suc i) xs
 drop_here xs i x here = rw (drop-cons xs i x (slice_get_within xs i x here), get_or_from_slice_get xs i x x here)
@@ -40,11 +40,11 @@ take_here xs i x here = rw (take-suc xs i x (slice_get_within xs i x here), get_
 pub contains_here : {X : Type 0} (xs : List X) (i : ℕ) (x : X) → slice_get xs i ≡ Some x → Contains xs x
 contains_here xs i x here = (i, slice_get_within xs i x here, get_or_from_slice_get xs i x x here)
 
--- what holds before a place and there holds before the next one
-pub all_more : {X : Type 0} (P : X → Type 0) (xs : List X) (place : ℕ) (x : X) → slice_get xs place ≡ Some x
-    → All P (take place xs) → P x → All P (take (place + 1) xs)
-all_more P xs place x here before holds =
-    rw (add-one, take_here xs place x here) (All-push P (take place xs) x before holds)
+-- what holds before an index and there holds before the next one
+pub all_more : {X : Type 0} (P : X → Type 0) (xs : List X) (index : ℕ) (x : X) → slice_get xs index ≡ Some x
+    → All P (take index xs) → P x → All P (take (index + 1) xs)
+all_more P xs index x here before holds =
+    rw (add-one, take_here xs index x here) (All-push P (take index xs) x before holds)
 
 -- ---- sizes
 
@@ -55,18 +55,18 @@ pub conditions_more : (conditions : List Condition) (index : ℕ) (c : Condition
 conditions_more conditions index c fails here = grind (arith, drop_here)
 
 -- the rules from one on
-pub rules_more : (rules : List Rule) (place : ℕ) (r : Rule) → slice_get rules place ≡ Some r
-    → rules_size (drop place rules) ≡ conditions_size r.conditions (rules_size (drop (place + 1) rules))
-rules_more rules place r here = grind (arith, drop_here)
+pub rules_more : (rules : List Rule) (index : ℕ) (r : Rule) → slice_get rules index ≡ Some r
+    → rules_size (drop index rules) ≡ conditions_size r.conditions (rules_size (drop (index + 1) rules))
+rules_more rules index r here = grind (arith, drop_here)
 
 -- ---- what the code reads
 
 -- what is read of a list stands there
-pub read_at : {X : Type 0} (read xs : List X) (place : ℕ) (x : X) → read ≡ xs → place < length read
-    → x ≡ get_or read place x → slice_get xs place ≡ Some x
-read_at read xs place x same inside is =
-    slice_get_read xs (length read) place x (ap length same) inside
-    (is ∙ ap (λ (l : List _). get_or l place x) same)
+pub read_at : {X : Type 0} (read xs : List X) (index : ℕ) (x : X) → read ≡ xs → index < length read
+    → x ≡ get_or read index x → slice_get xs index ≡ Some x
+read_at read xs index x same inside is =
+    slice_get_read xs (length read) index x (ap length same) inside
+    (is ∙ ap (λ (l : List _). get_or l index x) same)
 
 pub some_of : (n : ℕ) (b : Bool) → b ≡ eqb n 0 → b ≡ false → 0 < n
 some_of n b e f = grind arith

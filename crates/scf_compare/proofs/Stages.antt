@@ -5,7 +5,7 @@ use Rattle.scf_compare.proofs.Branches.{HasOpened, still_in_branch, in_opened, f
 
 module _ {F K N : Type 0} (store : Store F) (compared : Compared) (tree : K → Tree N) (old new : Frontier F K N)
     (f : IsFrontier store tree (AreWordsIn compared) old) where
-  -- One way on from atoms is gone, and a branch stands open for the other: those that are left of them were learned.
+  -- One successor of atoms is taken, and a branch stands open for the other: those that are left of them were learned.
   pub asked : (known : K) (whole remaining : Atoms) (if_true if_false : N)
       → AsksOfWords whole × (tree known).is_node if_true × (tree known).is_node if_false
       → AsksOfWords remaining
@@ -41,7 +41,7 @@ module _ {F K N : Type 0} (store : Store F) (compared : Compared) (tree : K → 
         };
       }
 
-  -- one way on is gone that no atom decides, and a branch stands open for the other
+  -- one successor is taken that no atom decides, and a branch stands open for the other
   pub forked : (known : K) (if_true if_false : N)
       → Unit {0} × (tree known).is_node if_true × (tree known).is_node if_false
       → HasOpened store old new (record { known = known; node = if_false; learned = None })
@@ -61,7 +61,7 @@ module _ {F K N : Type 0} (store : Store F) (compared : Compared) (tree : K → 
         exact = λ all. absurd all.plain.0;
       }
 
-  -- where a turn of a node leads
+  -- where a step from a node leads
   pub led : (here : Tree N) (from : N) (there : Tree N) (step : Step N PairLeaf) (next : N)
       → ((words : List ℕ) → store.allows old.facts (store.level old.facts) words → here.reaches from words
       → GoesOn there (Tells compared) step words)

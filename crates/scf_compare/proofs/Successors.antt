@@ -3,12 +3,12 @@ use Rattle.scf_compare.proofs.Common.{◌≡◌, ℕ, ◌+◌, ◌==◌, Bool, t
 use Rattle.scf_compare.proofs.ControlFlows.{Does, does}
 
 -- A run over the words comes to an instruction, whose values are known.
-module _ {insns : List Insn} {words : List ℕ} {place : ℕ} {i : Insn} {operation : Operation} {registers : KnownRegisters}
-    (stands : Stands insns place i operation) (c : ComesTo insns place registers words) where
+module _ {insns : List Insn} {words : List ℕ} {index : ℕ} {i : Insn} {operation : Operation} {registers : KnownRegisters}
+    (stands : Stands insns index i operation) (c : ComesTo insns index registers words) where
   step_here : step insns words c.state ≡ effect operation i words c.state
   step_here = grind arith
 
-  comes_on : (t : State) (next : ℕ) (after : KnownRegisters) → effect operation i words c.state ≡ Goes t → t.place ≡ next
+  comes_on : (t : State) (next : ℕ) (after : KnownRegisters) → effect operation i words c.state ≡ Goes t → t.pc ≡ next
       → Describes after words t → ComesTo insns next after words
   comes_on t next after e at d =
       record { state = t; earlier = c.state ∷ c.earlier; chain = (step_here ∙ e, c.chain); there = at; describes = d }
@@ -63,7 +63,7 @@ module _ {insns : List Insn} {words : List ℕ} {place : ℕ} {i : Insn} {operat
   leads_by safe ReturnConstant e = answers i.k e
   leads_by safe ReturnAccumulator e = answers c.state.a e
 
-  pub leads : RunsSafely insns words → (control_flow : ControlFlow) → control_flow_at operation i place ≡ control_flow → Leads control_flow
+  pub leads : RunsSafely insns words → (control_flow : ControlFlow) → control_flow_at operation i index ≡ control_flow → Leads control_flow
   leads safe control_flow f =
       leads_by safe control_flow
       (subst (λ (g : ControlFlow). Does g i c.state (effect operation i words c.state)) f

@@ -1,5 +1,5 @@
 -- A finding on filters and a profile is a verdict on them.
-use Rattle.scf_compare.proofs.Common.{Finding, SideLeaf, ◌≡◌, ◌⊎◌, ℕ, zero, suc, List, Contains, sym, arith, Option, Answer, [], ◌∷◌, Insn, Operation, words_of, call_of-words_of, words_of-call_of, IsWords-words_of, IsRecord-call_of, Profile, SameAnswers, RunAnswers, StackAnswers, one_answers, Relation, Scope, Verdict, IsRelated, IsInScope, RelatedAnswersIn, SameAnswersIn, IsEndPlace, IsStackEndPlace, IsTrueBy, IsTrueOf, IsTrueOfStackBy, IsDecided, AllRelated, IsTrueFinding, EndsWith, IsFilterEnd, control_flow_at, compared_in, finding_of, profile_behavior, stack_behavior, IsStackLeaf}
+use Rattle.scf_compare.proofs.Common.{Finding, SideLeaf, ◌≡◌, ◌⊎◌, ℕ, zero, suc, List, Contains, sym, arith, Option, Answer, [], ◌∷◌, Insn, Operation, words_of, call_of-words_of, words_of-call_of, IsWords-words_of, IsRecord-call_of, Profile, SameAnswers, RunAnswers, StackAnswers, one_answers, Relation, Scope, Verdict, IsRelated, IsInScope, RelatedAnswersIn, SameAnswersIn, CanEndAt, StackCanEndAt, IsTrueBy, IsTrueOf, IsTrueOfStackBy, IsDecided, AllRelated, IsTrueFinding, EndsWith, IsFilterEnd, control_flow_at, compared_in, finding_of, profile_behavior, stack_behavior, IsStackLeaf}
 use Rattle.scf_compare.specs.internal.Leaves.{IsOnTheLeft}
 use Rattle.scf_insn.specs.declared.operation.Arithmetic.TheVariants.{Div}
 use Rattle.scf_insn.specs.declared.operation.Operand.TheVariants.{Index}
@@ -49,7 +49,7 @@ module _ (relation : Relation) (scope : Scope) (filters : List (List Insn)) (p :
 
 only : (insns one : List Insn) → Contains (insns ∷ []) one → one ≡ insns
 only insns one (zero, inside, is) = sym is
-only insns one (suc place, inside, is) = absurd (omega (arith, inside))
+only insns one (suc index, inside, is) = absurd (omega (arith, inside))
 
 -- a filter alone answers as the stack of it does
 module _ (insns : List Insn) (p : Profile) where
@@ -69,9 +69,9 @@ ending : (operation : Operation) (i : Insn) (at : ℕ) (answer : Option Answer)
 ending operation i at answer ends = grind arith
 
 -- an end of a filter is an instruction where a run can end
-end_place : (insns : List Insn) (leaf : SideLeaf) → IsFilterEnd insns leaf → IsEndPlace insns leaf.at
-end_place insns leaf is = grind (arith, ending)
+end_index : (insns : List Insn) (leaf : SideLeaf) → IsFilterEnd insns leaf → CanEndAt insns leaf.at
+end_index insns leaf is = grind (arith, ending)
 
-pub stack_end_place : (filters : List (List Insn)) (leaf : SideLeaf) → IsStackLeaf filters leaf
-    → IsStackEndPlace filters leaf.at
-stack_end_place filters leaf is = grind (arith, end_place)
+pub stack_end_index : (filters : List (List Insn)) (leaf : SideLeaf) → IsStackLeaf filters leaf
+    → StackCanEndAt filters leaf.at
+stack_end_index filters leaf is = grind (arith, end_index)

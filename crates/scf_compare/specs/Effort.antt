@@ -21,7 +21,7 @@ rules_size (r ∷ rest) = conditions_size r.conditions (rules_size rest)
 abbrev pub spread : List Rule → ℕ
 spread rules = 8 + sum_by (λ number. 1 + rules_size (rules_of number rules)) (numbers_of rules)
 
--- the effort: the size of the filter's tree of paths from its first place on, times the spread
+-- the effort: the size of the filter's tree of paths from its first index on, times the spread
 abbrev pub effort_of : List Insn → Profile → ℕ
 effort_of insns p = tree_size insns 0 * spread p.rules
 

@@ -17,16 +17,16 @@ use Rattle.scf_compare.specs.declared.side.Side.TheVariants.{Stack, Profile as O
 use Rattle.scf_compare.specs.Effort.{spread, stack_paths}
 
 -- A run of the program can end at this instruction: a return, or a division by the index register, which may be 0.
-pub record IsEndPlace (insns : List Insn) (at : ℕ) : Type 0 where
+pub record CanEndAt (insns : List Insn) (at : ℕ) : Type 0 where
   pub insn : Insn
   pub operation : Operation
   pub stands : Stands insns at insn operation
   pub ends : (operation ≡ ReturnConstant) ⊎ (operation ≡ ReturnAccumulator) ⊎ (operation ≡ Compute Div Index)
 
 -- a run of one of the filters can end at this instruction, which is 0 where there is no filter
-abbrev pub IsStackEndPlace : List (List Insn) → ℕ → Type 0
-IsStackEndPlace [] at = at ≡ 0
-IsStackEndPlace (filter ∷ filters) at = (one : List Insn) × Contains (filter ∷ filters) one × IsEndPlace one at
+abbrev pub StackCanEndAt : List (List Insn) → ℕ → Type 0
+StackCanEndAt [] at = at ≡ 0
+StackCanEndAt (filter ∷ filters) at = (one : List Insn) × Contains (filter ∷ filters) one × CanEndAt one at
 
 -- What a side is to a comparison: what it answers to the words of a call, at which instructions it ends, and at which
 -- of them its answer may be unknown, how many steps its whole tree takes, and whether a complete store decides it.
@@ -41,8 +41,8 @@ pub record Behavior : Type 1 where
 abbrev pub stack_behavior : List (List Insn) → Behavior
 stack_behavior filters = record {
   answers = StackAnswers filters;
-  ends_at = IsStackEndPlace filters;
-  is_open_at = IsStackEndPlace filters;
+  ends_at = StackCanEndAt filters;
+  is_open_at = StackCanEndAt filters;
   size = stack_paths filters;
   is_plain = All IsPlainProgram filters;
 }

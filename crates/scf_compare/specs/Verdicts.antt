@@ -18,33 +18,33 @@ use Rattle.scf_compare.specs.declared.verdict.Verdict.TheVariants.{Same, Differs
 use Rattle.scf_profile.specs.Relation.{IsRelated}
 use Rattle.scf_profile.specs.Scope.{AllAreRelated, IsInScope}
 use Rattle.scf_compare.specs.Findings.{IsFindingDecided, IsFindingWithin}
-use Rattle.scf_compare.specs.Sides.{IsEndPlace, IsStackEndPlace}
+use Rattle.scf_compare.specs.Sides.{CanEndAt, StackCanEndAt}
 
 -- What a verdict on a filter and a profile claims: that the relation holds of the answers to every call record of the
 -- scope; that this record is of the scope, and that they answer it so and so, of which the relation doesn't hold; and
 -- that a run of the filter can end at this instruction.
 abbrev pub IsTrueBy : (ℕ → ℕ → Type 0) → (CallRecord → Type 0) → (ℕ → Type 0) → (List ℕ → ℕ → Type 0) → Profile
     → Verdict → Type 0
-IsTrueBy related in_scope is_place answers p (Same steps) = AllAreRelated related in_scope answers p
-IsTrueBy related in_scope is_place answers p (Differs call filter profile) =
+IsTrueBy related in_scope is_index answers p (Same steps) = AllAreRelated related in_scope answers p
+IsTrueBy related in_scope is_index answers p (Differs call filter profile) =
     IsRecord call × in_scope call × answers (words_of call) filter.0 × ProfileAnswers p call profile.0
     × (related filter.0 profile.0 → ⊥)
-IsTrueBy related in_scope is_place answers p (Undecided at) = is_place at
-IsTrueBy related in_scope is_place answers p Unfinished = Unit {0}
+IsTrueBy related in_scope is_index answers p (Undecided at) = is_index at
+IsTrueBy related in_scope is_index answers p Unfinished = Unit {0}
 
 -- on a program and a profile, of all call records and the same answers
 abbrev pub IsTrueOf : List Insn → Profile → Verdict → Type 0
-IsTrueOf insns p verdict = IsTrueBy AreSame (λ call. Unit {0}) (IsEndPlace insns) (RunAnswers insns) p verdict
+IsTrueOf insns p verdict = IsTrueBy AreSame (λ call. Unit {0}) (CanEndAt insns) (RunAnswers insns) p verdict
 
 -- on a stack and a profile
 abbrev pub IsTrueOfStackBy : Relation → List (List Insn) → Profile → Scope → Verdict → Type 0
 IsTrueOfStackBy relation filters p scope verdict =
-    IsTrueBy (IsRelated relation) (IsInScope scope) (IsStackEndPlace filters) (StackAnswers filters) p verdict
+    IsTrueBy (IsRelated relation) (IsInScope scope) (StackCanEndAt filters) (StackAnswers filters) p verdict
 
 -- of the same answers
 abbrev pub IsTrueOfStack : List (List Insn) → Profile → Scope → Verdict → Type 0
 IsTrueOfStack filters p scope verdict =
-    IsTrueBy AreSame (IsInScope scope) (IsStackEndPlace filters) (StackAnswers filters) p verdict
+    IsTrueBy AreSame (IsInScope scope) (StackCanEndAt filters) (StackAnswers filters) p verdict
 
 -- the finding that is a verdict, with the filter on the left
 abbrev pub finding_of : Verdict → Finding

@@ -57,8 +57,8 @@ impl Atoms {
     pub(crate) fn learn<F: WordFacts>(self, facts: &mut F, answer: bool) -> Result<(), Memory>
         requires { AsksOfWords self }
         ensures marks { F.level facts.new ≡ F.level facts.old }
-        ensures at_marks { (place : ℕ) → place < F.level facts.old
-            → IsSameLevel F.allows F.is_exact facts.old place facts.new place }
+        ensures at_marks { (index : ℕ) → index < F.level facts.old
+            → IsSameLevel F.allows F.is_exact facts.old index facts.new index }
         ensures learned { OnOk result ((words : List ℕ) → F.allows facts.new (F.level facts.old) words
             ↔ (F.allows facts.old (F.level facts.old) words × (atoms_answer self words ≡ answer))) }
         ensures exact { OnOk result (StaysExact self answer

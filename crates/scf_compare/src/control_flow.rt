@@ -24,28 +24,28 @@ pub(crate) enum ControlFlow {
 }
 
 impl ControlFlow {
-    /// Where the instruction at index `place`, with this operation, leads.
-    pub(crate) fn of(insns: &[Insn], place: usize, insn: Insn, operation: Operation) -> ControlFlow
+    /// Where the instruction with this index and this operation leads.
+    pub(crate) fn of(insns: &[Insn], index: usize, insn: Insn, operation: Operation) -> ControlFlow
         requires valid { IsValidList insns.now }
-        requires stands { Stands insns.now place insn operation }
-        ensures control_flow { result ≡ control_flow_at operation insn place }
+        requires stands { Stands insns.now index insn operation }
+        ensures control_flow { result ≡ control_flow_at operation insn index }
         ensures inside { IsInside (length insns.now) result }
     {
         let _ = insns;
         match operation {
-            Operation::Jump => ControlFlow::Jump(place + 1 + insn.k as usize),
+            Operation::Jump => ControlFlow::Jump(index + 1 + insn.k as usize),
             Operation::JumpIf(test, operand) => ControlFlow::ConditionalJump(
                 test,
                 operand,
-                place + 1 + usize::from(insn.jt),
-                place + 1 + usize::from(insn.jf),
+                index + 1 + usize::from(insn.jt),
+                index + 1 + usize::from(insn.jf),
             ),
             Operation::ReturnConstant => ControlFlow::ReturnConstant,
             Operation::ReturnAccumulator => ControlFlow::ReturnAccumulator,
             Operation::Compute(Arithmetic::Div, Operand::Index) => ControlFlow::DivideByIndex(
-                place + 1,
+                index + 1,
             ),
-            _ => ControlFlow::FallThrough(place + 1),
+            _ => ControlFlow::FallThrough(index + 1),
         }
     }
 }

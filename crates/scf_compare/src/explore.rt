@@ -63,12 +63,12 @@ fn judge<C: Comparison, F: WordFacts>(
     requires leaf { IsLeaf (C.compared comparison.now) leaf }
     requires scope { (words : List ℕ) → F.allows facts.now (F.level facts.now) words
         → AreWordsIn (C.compared comparison.now) words }
-    requires place { IfSome first_undecided.old (IsFirstUndecided (C.compared comparison.now)) }
+    requires index { IfSome first_undecided.old (IsFirstUndecided (C.compared comparison.now)) }
     ensures seen { IfNone result ((words : List ℕ) → F.allows facts.now (F.level facts.now) words
         → Tells (C.compared comparison.now) leaf words
         → WereSeen (C.compared comparison.now) first_undecided.new words) }
     ensures found { IfSome result (IsFound (C.compared comparison.now)) }
-    ensures place { IfSome first_undecided.new (IsFirstUndecided (C.compared comparison.now)) }
+    ensures index { IfSome first_undecided.new (IsFirstUndecided (C.compared comparison.now)) }
     ensures first { IsSome first_undecided.old → first_undecided.new ≡ first_undecided.old }
     ensures exact { IsTrue (F.is_exact facts.now (F.level facts.now)) → KnowsBoth leaf
         → ((words : List ℕ) → F.allows facts.now (F.level facts.now) words
@@ -103,12 +103,12 @@ fn advance<C: Comparison, F: WordFacts>(
     requires frontier { IsFrontier F.WordFacts (C.tree comparison.now)
         (AreWordsIn (C.compared comparison.now)) frontier.old }
     requires node { (C.tree comparison.now known.old).is_node node }
-    requires place { IfSome first_undecided.old (IsFirstUndecided (C.compared comparison.now)) }
+    requires index { IfSome first_undecided.old (IsFirstUndecided (C.compared comparison.now)) }
     ensures stage { IfOk result (
         IsStageAfter F.WordFacts (C.compared comparison.now) (C.tree comparison.now)
         frontier.old frontier.new (C.tree comparison.now known.old) node (C.tree comparison.now known.new)
         first_undecided.new) }
-    ensures place { IfSome first_undecided.new (IsFirstUndecided (C.compared comparison.now)) }
+    ensures index { IfSome first_undecided.new (IsFirstUndecided (C.compared comparison.now)) }
     ensures first { IsSome first_undecided.old → first_undecided.new ≡ first_undecided.old }
     ensures exact { let here = C.tree comparison.now known.old in
         IsExact F.WordFacts (C.tree comparison.now) frontier.old (here.is_plain node) (here.reaches node)

@@ -48,7 +48,7 @@ pub(crate) fn step_in_filter(
         (filter_tree program.now registers.old) node (filter_tree program.now registers.new) result }
 {
     match node {
-        FilterNode::At(place) => step_at(program.insns(), place, registers),
+        FilterNode::At(index) => step_at(program.insns(), index, registers),
         FilterNode::Stopped(answer, at) => Step::Leaf(SideLeaf {
             answer: Some(answer),
             at,
@@ -60,19 +60,19 @@ pub(crate) fn step_in_filter(
 #[tactic(auto, using(crate::proofs::ControlFlows::operations))]
 fn step_at(
     insns: &[Insn],
-    place: usize,
+    index: usize,
     registers: &mut KnownRegisters,
 ) -> Step<FilterNode, SideLeaf>
-    requires place { place < length insns.now }
+    requires index { index < length insns.now }
     requires valid { IsValidList insns.now }
     requires safe { (words : List ℕ) → RunsSafely insns.now words }
     requires values { AreValues registers.old }
     ensures { IsStep (leaves_of_filter insns.now) IsWords (filter_tree insns.now registers.old)
-        (FilterNode.At place) (filter_tree insns.now registers.new) result }
+        (FilterNode.At index) (filter_tree insns.now registers.new) result }
 {
-    let insn = insns[place];
+    let insn = insns[index];
     match insn.operation() {
-        Some(operation) => step_of(insns, place, insn, operation, registers),
+        Some(operation) => step_of(insns, index, insn, operation, registers),
         None => unreachable!(),
     }
 }
@@ -81,19 +81,19 @@ fn step_at(
 #[tactic(auto, using(crate::proofs::ControlFlows::load_fits, crate::proofs::ControlFlows::scratch_fits))]
 fn step_of(
     insns: &[Insn],
-    place: usize,
+    index: usize,
     insn: Insn,
     operation: Operation,
     registers: &mut KnownRegisters,
 ) -> Step<FilterNode, SideLeaf>
-    requires stands { Stands insns.now place insn operation }
+    requires stands { Stands insns.now index insn operation }
     requires valid { IsValidList insns.now }
     requires safe { (words : List ℕ) → RunsSafely insns.now words }
     requires values { AreValues registers.old }
     ensures { IsStep (leaves_of_filter insns.now) IsWords (filter_tree insns.now registers.old)
-        (FilterNode.At place) (filter_tree insns.now registers.new) result }
+        (FilterNode.At index) (filter_tree insns.now registers.new) result }
 {
-    match ControlFlow::of(insns, place, insn, operation) {
+    match ControlFlow::of(insns, index, insn, operation) {
         ControlFlow::FallThrough(next) => {
             registers.apply(insn, operation);
             Step::Next(FilterNode::At(next))
@@ -108,17 +108,17 @@ fn step_of(
         }
         ControlFlow::DivideByIndex(next) => {
             let decision = registers.x.decide(Test::Equal, Value::Known(0));
-            let stopped = FilterNode::Stopped(Answer(0), place);
+            let stopped = FilterNode::Stopped(Answer(0), index);
             registers.apply(insn, operation);
             step_by(decision, stopped, FilterNode::At(next))
         }
         ControlFlow::ReturnConstant => Step::Leaf(SideLeaf {
             answer: Some(Answer(insn.k)),
-            at: place,
+            at: index,
         }),
         ControlFlow::ReturnAccumulator => Step::Leaf(SideLeaf {
             answer: registers.a.answer(),
-            at: place,
+            at: index,
         }),
     }
 }

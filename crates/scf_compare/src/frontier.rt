@@ -57,8 +57,8 @@ impl<F: WordFacts, K: Copy, N: Drop> Frontier<F, K, N> {
         ensures known { OnOk result (
             IsSameLevel F.allows F.is_exact
             self.old.facts (F.level self.old.facts) self.new.facts (F.level self.old.facts + 1)) }
-        ensures at_marks { OnOk result ((place : ℕ) → place ≤ F.level self.old.facts
-            → IsSameLevel F.allows F.is_exact self.old.facts place self.new.facts place) }
+        ensures at_marks { OnOk result ((index : ℕ) → index ≤ F.level self.old.facts
+            → IsSameLevel F.allows F.is_exact self.old.facts index self.new.facts index) }
     {
         self.facts.mark()?;
         self.branches.push(OpenBranch {
@@ -74,8 +74,8 @@ impl<F: WordFacts, K: Copy, N: Drop> Frontier<F, K, N> {
 fn learn_answer<F: WordFacts>(facts: &mut F, learned: Option<(Atoms, bool)>) -> Result<(), Memory>
     requires { LearnsOfWords learned }
     ensures marks { F.level facts.new ≡ F.level facts.old }
-    ensures at_marks { (place : ℕ) → place < F.level facts.old
-        → IsSameLevel F.allows F.is_exact facts.old place facts.new place }
+    ensures at_marks { (index : ℕ) → index < F.level facts.old
+        → IsSameLevel F.allows F.is_exact facts.old index facts.new index }
     ensures learned { OnOk result ((words : List ℕ) → F.allows facts.new (F.level facts.old) words
         ↔ (F.allows facts.old (F.level facts.old) words × GivesLearned learned words)) }
     ensures exact { OnOk result (LearnsExactly learned

@@ -55,8 +55,8 @@ impl<L: SideTree, R: SideTree> Comparison for Pair<L, R> {
         match *node {
             PairNode::AtLeft(node) => match self.left.step(facts, &mut known.left, node) {
                 Step::Next(next) => Step::Next(PairNode::AtLeft(next)),
-                Step::Branch(asked, if_true, if_false) => Step::Branch(
-                    asked,
+                Step::Branch(atoms, if_true, if_false) => Step::Branch(
+                    atoms,
                     PairNode::AtLeft(if_true),
                     PairNode::AtLeft(if_false),
                 ),
@@ -104,8 +104,8 @@ impl<L: SideTree, R: SideTree> Pair<L, R> {
     {
         match decided_step(&self.right, facts, known, node) {
             Step::Next(next) => Step::Next(PairNode::AtRight(leaf, next)),
-            Step::Branch(asked, if_true, if_false) => Step::Branch(
-                asked,
+            Step::Branch(atoms, if_true, if_false) => Step::Branch(
+                atoms,
                 PairNode::AtRight(leaf, if_true),
                 PairNode::AtRight(leaf, if_false),
             ),

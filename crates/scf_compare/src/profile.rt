@@ -26,7 +26,7 @@ use scf_profile::{FOREIGN_ANSWER, Rule};
 
 /// Where a condition stands, by indices.
 #[derive(Clone, Copy)]
-pub(crate) struct ConditionPlace {
+pub(crate) struct ConditionPosition {
     /// Index of its rule's syscall number among the numbers.
     number: usize,
     /// Index of its rule among those of the number.
@@ -45,7 +45,7 @@ pub(crate) enum ProfileNode {
     /// Is the syscall number the one at this index, or one behind it?
     Number(usize),
     /// Does this part of a condition hold?
-    Condition(ConditionPlace, ConditionPart),
+    Condition(ConditionPosition, ConditionPart),
     /// The profile's answer.
     Answer(Answer),
 }
@@ -112,7 +112,7 @@ impl ByNumber<'_> {
                 ProfileNode::Answer(FOREIGN_ANSWER),
                 ProfileNode::Number(0),
             ),
-            ProfileNode::Number(place) => self.ask_number(facts, place),
+            ProfileNode::Number(index) => self.ask_number(facts, index),
             ProfileNode::Condition(at, part) => self.ask_condition(at, part),
             ProfileNode::Answer(answer) => Step::Leaf(SideLeaf::of_profile(answer)),
         }
@@ -122,14 +122,14 @@ impl ByNumber<'_> {
     ///
     /// Numbers that the store knows to be too low or too high aren't asked. If it knows the number, that one is asked
     /// at once.
-    fn ask_number<F: WordFacts>(&self, facts: &F, place: usize) -> Step<ProfileNode, SideLeaf>
+    fn ask_number<F: WordFacts>(&self, facts: &F, index: usize) -> Step<ProfileNode, SideLeaf>
         ensures { IsStep (side_leaves (profile_behavior self.now.profile))
             (λ words. IsWords words × F.allows facts.now (F.level facts.now) words)
-            (profile_tree self.now) (ProfileNode.Number place) (profile_tree self.now) result }
+            (profile_tree self.now) (ProfileNode.Number index) (profile_tree self.now) result }
     {
         let default_answer = self.profile().default_answer();
         let numbers = self.numbers();
-        let from = self.first_possible(facts, place);
+        let from = self.first_possible(facts, index);
         if from >= numbers.len() {
             return Step::Leaf(SideLeaf::of_profile(default_answer));
         }
@@ -145,15 +145,15 @@ impl ByNumber<'_> {
     }
 
     /// Index of the first syscall number that the record may still have, given that none before `index` is its number.
-    fn first_possible<F: WordFacts>(&self, facts: &F, place: usize) -> usize
-        ensures later { place ≤ result }
-        ensures told { (words : List ℕ) → IsWords words
+    fn first_possible<F: WordFacts>(&self, facts: &F, index: usize) -> usize
+        ensures later { index ≤ result }
+        ensures possible { (words : List ℕ) → IsWords words
             → F.allows facts.now (F.level facts.now) words
-            → IsFrom place self.now.numbers (call_of words)
+            → IsFrom index self.now.numbers (call_of words)
             → IsFrom result self.now.numbers (call_of words) }
     {
-        if place > 0 {
-            return place;
+        if index > 0 {
+            return index;
         }
         self.least_known(facts)
     }
@@ -207,7 +207,7 @@ impl ByNumber<'_> {
         ensures size { profile_size self.now result ≤ rules_size (drop rule (own_rules self.now.numbers number)) }
     {
         if rule < self.rules_at(number).len() {
-            self.next_condition(ConditionPlace {
+            self.next_condition(ConditionPosition {
                 number,
                 rule,
                 condition: 0,
@@ -219,7 +219,7 @@ impl ByNumber<'_> {
 
     /// The node for a rule's conditions from an index on, given that all before it hold: that condition, or the rule's
     /// answer behind the last.
-    fn next_condition(&self, at: ConditionPlace) -> ProfileNode
+    fn next_condition(&self, at: ConditionPosition) -> ProfileNode
         requires number { at.number < length self.now.numbers }
         requires rule { at.rule < length (own_rules self.now.numbers at.number) }
         ensures node { profile_is_node self.now result }
@@ -238,7 +238,11 @@ impl ByNumber<'_> {
     }
 
     /// The step from a condition.
-    fn ask_condition(&self, at: ConditionPlace, part: ConditionPart) -> Step<ProfileNode, SideLeaf>
+    fn ask_condition(
+        &self,
+        at: ConditionPosition,
+        part: ConditionPart,
+    ) -> Step<ProfileNode, SideLeaf>
         requires { StandsAt self.now.numbers at }
         ensures { IsStep (side_leaves (profile_behavior self.now.profile)) IsWords
             (profile_tree self.now) (ProfileNode.Condition at part) (profile_tree self.now) result }
@@ -254,7 +258,7 @@ impl ByNumber<'_> {
     }
 
     /// The node to which a successor of a condition leads.
-    fn follow(&self, at: ConditionPlace, successor: Successor) -> ProfileNode
+    fn follow(&self, at: ConditionPosition, successor: Successor) -> ProfileNode
         requires stands { StandsAt self.now.numbers at }
         requires rule { at.rule < usize.MAX }
         requires condition { at.condition < usize.MAX }
@@ -268,7 +272,7 @@ impl ByNumber<'_> {
             ≤ successor_size successor (size_of_rest self.now.numbers at) (size_behind self.now.numbers at) }
     {
         match successor {
-            Successor::Holds => self.next_condition(ConditionPlace {
+            Successor::Holds => self.next_condition(ConditionPosition {
                 condition: at.condition + 1,
                 ..at
             }),

@@ -140,14 +140,14 @@ pub(crate) fn question_of(condition: Condition, part: ConditionPart) -> Question
     ensures keeps { IsPlainCondition condition → KeepsEither (One result.atom) }
 {
     let (test, expected) = condition.test();
-    let asked = ask_test(test, part, 2 * condition.index + 4);
+    let question = ask_test(test, part, 2 * condition.index + 4);
     if expected {
-        asked
+        question
     } else {
         ask(
-            asked.atom,
-            asked.if_true.opposite(),
-            asked.if_false.opposite(),
+            question.atom,
+            question.if_true.opposite(),
+            question.if_false.opposite(),
         )
     }
 }

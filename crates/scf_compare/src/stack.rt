@@ -102,29 +102,29 @@ fn step_in_stack(
             answer: Some(Answer::new(Action::Allow, 0)),
             at: 0,
         }),
-        At(place, older, node) => step_from(filters, registers, place, older, node),
+        At(index, older, node) => step_from(filters, registers, index, older, node),
     }
 }
 
 /// The filter at an index.
-fn filter_of(filters: &[Program], place: usize) -> &Program
-    requires { place < length filters.now }
-    ensures { result.now ≡ filter_at filters.now place }
+fn filter_of(filters: &[Program], index: usize) -> &Program
+    requires { index < length filters.now }
+    ensures { result.now ≡ filter_at filters.now index }
 {
-    &filters[place]
+    &filters[index]
 }
 
 /// The leaf of filters with one more, the newest: the first whose answer isn't known, else the one whose answer takes
 /// precedence.
 #[tactic(auto, using(crate::proofs::Stacks::first_decides))]
 fn decided_at(older: Option<SideLeaf>, newest: SideLeaf) -> SideLeaf
-    ensures leaf { (filters : List (List Insn)) (place : ℕ) → IsOlder filters place older → IsStackLeaf filters newest
+    ensures leaf { (filters : List (List Insn)) (index : ℕ) → IsOlder filters index older → IsStackLeaf filters newest
         → IsStackLeaf filters result }
     ensures known { IfSome older KnowsAnswer → KnowsAnswer newest → KnowsAnswer result }
-    ensures decides { (filters : List (List Insn)) (place : ℕ) (words : List ℕ) → place < length filters
-        → IsOlder filters place older → OlderTells filters place older words
-        → SideTells (RunAnswers (filter_at filters place)) newest words
-        → SideTells (StackAnswers (take (place + 1) filters)) result words }
+    ensures decides { (filters : List (List Insn)) (index : ℕ) (words : List ℕ) → index < length filters
+        → IsOlder filters index older → OlderTells filters index older words
+        → SideTells (RunAnswers (filter_at filters index)) newest words
+        → SideTells (StackAnswers (take (index + 1) filters)) result words }
 {
     let Some(older) = older else {
         return newest;
@@ -156,23 +156,23 @@ fn step_from(
     ensures { IsStep (leaves_of_stack filters.now) IsWords (stack_tree filters.now registers.old)
         (StackNode.At first decided begun) (stack_tree filters.now registers.new) result }
 {
-    let mut place = first;
+    let mut index = first;
     let mut older = decided;
     let mut node = begun;
     loop {
-        match step_in_filter(filter_of(filters, place), registers, node) {
-            Step::Next(next) => return Step::Next(At(place, older, next)),
-            Step::Branch(asked, if_true, if_false) => {
-                return Step::Branch(asked, At(place, older, if_true), At(place, older, if_false));
+        match step_in_filter(filter_of(filters, index), registers, node) {
+            Step::Next(next) => return Step::Next(At(index, older, next)),
+            Step::Branch(atoms, if_true, if_false) => {
+                return Step::Branch(atoms, At(index, older, if_true), At(index, older, if_false));
             }
             Step::Leaf(leaf) => {
                 let decided = decided_at(older, leaf);
-                place += 1;
-                if place == filters.len() {
+                index += 1;
+                if index == filters.len() {
                     return Step::Leaf(decided);
                 }
                 older = Some(decided);
-                let (known, start) = start_in_filter(filter_of(filters, place));
+                let (known, start) = start_in_filter(filter_of(filters, index));
                 *registers = known;
                 node = start;
             }

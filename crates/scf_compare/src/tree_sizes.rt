@@ -60,8 +60,8 @@ fn paths_of_all(filters: &[Program]) -> u64
     ensures { result ≡ saturated (stack_paths filters.now) }
 {
     let mut product: u64 = 1;
-    for place in (0..filters.len()).rev() {
-        let paths = paths_of(filters[place].insns());
+    for index in (0..filters.len()).rev() {
+        let paths = paths_of(filters[index].insns());
         product = paths.saturating_mul(product);
     }
     product
@@ -81,44 +81,44 @@ fn paths_of(insns: &[Insn]) -> u64
 fn fill_sizes(insns: &[Insn], sizes: &mut [u64])
     requires valid { IsValidList insns.now }
     requires room { length insns.now ≤ length sizes.old }
-    ensures { (place : ℕ) → place < length insns.now
-        → slice_index sizes.new place ≡ saturated (tree_size insns.now place) }
+    ensures { (index : ℕ) → index < length insns.now
+        → slice_index sizes.new index ≡ saturated (tree_size insns.now index) }
 {
-    for place in (0..insns.len()).rev() {
-        let size = size_at(insns, place, sizes);
-        sizes[place] = size;
+    for index in (0..insns.len()).rev() {
+        let size = size_at(insns, index, sizes);
+        sizes[index] = size;
     }
 }
 
 /// The size of the tree of paths from an index, given those from all later ones.
 #[tactic(auto, using(crate::proofs::ControlFlows::operations))]
-fn size_at(insns: &[Insn], place: usize, sizes: &[u64]) -> u64
+fn size_at(insns: &[Insn], index: usize, sizes: &[u64]) -> u64
     requires valid { IsValidList insns.now }
-    requires place { place < length insns.now }
+    requires index { index < length insns.now }
     requires room { length insns.now ≤ length sizes.now }
-    requires later { (at : ℕ) → place < at
+    requires later { (at : ℕ) → index < at
         → at < length insns.now
         → slice_index sizes.now at ≡ saturated (tree_size insns.now at) }
-    ensures { result ≡ saturated (tree_size insns.now place) }
+    ensures { result ≡ saturated (tree_size insns.now index) }
 {
-    let insn = insns[place];
+    let insn = insns[index];
     match insn.operation() {
-        Some(operation) => size_of(insns, place, insn, operation, sizes),
+        Some(operation) => size_of(insns, index, insn, operation, sizes),
         None => unreachable!(),
     }
 }
 
 /// The size of the tree of paths from an instruction with this operation.
-fn size_of(insns: &[Insn], place: usize, insn: Insn, operation: Operation, sizes: &[u64]) -> u64
+fn size_of(insns: &[Insn], index: usize, insn: Insn, operation: Operation, sizes: &[u64]) -> u64
     requires valid { IsValidList insns.now }
-    requires stands { Stands insns.now place insn operation }
+    requires stands { Stands insns.now index insn operation }
     requires room { length insns.now ≤ length sizes.now }
-    requires later { (at : ℕ) → place < at
+    requires later { (at : ℕ) → index < at
         → at < length insns.now
         → slice_index sizes.now at ≡ saturated (tree_size insns.now at) }
-    ensures { result ≡ saturated (tree_size insns.now place) }
+    ensures { result ≡ saturated (tree_size insns.now index) }
 {
-    match ControlFlow::of(insns, place, insn, operation) {
+    match ControlFlow::of(insns, index, insn, operation) {
         ControlFlow::FallThrough(next) => sizes[next].saturating_add(1),
         ControlFlow::Jump(target) => sizes[target].saturating_add(1),
         ControlFlow::ConditionalJump(_, _, if_true, if_false) => sizes[if_true]
@@ -150,8 +150,8 @@ fn size_of_rules(rules: &[Rule]) -> u64
     ensures { result ≡ saturated (rules_size rules.now) }
 {
     let mut size = 1;
-    for place in (0..rules.len()).rev() {
-        size = size_of_conditions(rules[place].conditions.as_slice(), size);
+    for index in (0..rules.len()).rev() {
+        size = size_of_conditions(rules[index].conditions.as_slice(), size);
     }
     size
 }
@@ -163,7 +163,7 @@ fn size_of_conditions(conditions: &[Condition], fails: u64) -> u64
 {
     let twice_fails = fails.saturating_add(fails);
     let mut size: u64 = 1;
-    for _place in (0..conditions.len()).rev() {
+    for _index in (0..conditions.len()).rev() {
         size = size
             .saturating_add(size)
             .saturating_add(twice_fails)

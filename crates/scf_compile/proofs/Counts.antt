@@ -59,8 +59,8 @@ module _ (p : Profile) (valid : IsProfile p) (ss : List NrRange)
   )
 
   -- The search of the ranges is that of the profile.
-  pub search_of_profile : {code : List Insn} {place : Position} → IsSearchPut p.default_answer ss [] code place
-      → IsSearchOf p code place
+  pub search_of_profile : {code : List Insn} {index : Position} → IsSearchPut p.default_answer ss [] code index
+      → IsSearchOf p code index
   search_of_profile found = record {
     some = found.put.some;
     near = found.put.near;

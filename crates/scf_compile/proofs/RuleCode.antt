@@ -67,30 +67,30 @@ rules_answer default (r ∷ rs) fine =
 
 -- ---- what is put before some code
 
--- what stands from a place on stays where more is put before it
-from_behind : (front code : List Insn) (place : Position) → place.0 ≤ length code
-    → code_from place (front ++ code) ≡ code_from place code
-from_behind front code place le =
-    let passed : length (front ++ code) - place.0 ≡ length front + (length code - place.0) =
+-- what stands from an index on stays where more is put before it
+from_behind : (front code : List Insn) (index : Position) → index.0 ≤ length code
+    → code_from index (front ++ code) ≡ code_from index code
+from_behind front code index le =
+    let passed : length (front ++ code) - index.0 ≡ length front + (length code - index.0) =
     omega (arith, length-append front code) in
-    ap (λ (n : ℕ). drop n (front ++ code)) passed ∙ drop-append-add front code (length code - place.0)
+    ap (λ (n : ℕ). drop n (front ++ code)) passed ∙ drop-append-add front code (length code - index.0)
 
--- the first place of some code
-pub from_first : (code : List Insn) (place : Position) → place.0 ≡ length code → code_from place code ≡ code
-from_first code place is =
-    let passed : length code - place.0 ≡ 0 = omega arith in
+-- the first index of some code
+pub from_first : (code : List Insn) (index : Position) → index.0 ≡ length code → code_from index code ≡ code
+from_first code index is =
+    let passed : length code - index.0 ≡ 0 = omega arith in
     ap (λ (n : ℕ). drop n code) passed
 
 -- code that answers is put before some code, or stands there
-pub answers_put : {block before after : List Insn} {place : Position} {most : ℕ} {p : Type 0} {f : CallRecord → ℕ}
-    (plain : Type 0) → Answers block most p f → (plain → p) → IsPut block before after place
-    → ArePut plain before after place
-answers_put {block} {before} {after} {place} plain is simple put =
+pub answers_put : {block before after : List Insn} {index : Position} {most : ℕ} {p : Type 0} {f : CallRecord → ℕ}
+    (plain : Type 0) → Answers block most p f → (plain → p) → IsPut block before after index
+    → ArePut plain before after index
+answers_put {block} {before} {after} {index} plain is simple put =
     let there = ap (λ (l : List Insn). length l) put.there ∙ length-append block put.behind in
     record {
       longer = omega (arith, ap (λ (l : List Insn). length l) put.whole, length-append put.front before);
       stays = λ p le. ap (code_from p) put.whole ∙ from_behind put.front before p le;
-      some = omega (arith, is.some, put.near.stands, there, length-drop (length after - place.0) after);
+      some = omega (arith, is.some, put.near.stands, there, length-drop (length after - index.0) after);
       near = put.near;
       sound = λ asked e s. rw put.whole (elim put.put [
         | inl none ↦ rw none s
@@ -98,17 +98,17 @@ answers_put {block} {before} {after} {place} plain is simple put =
       ]);
     }
 
-pub answers_there : {block before after : List Insn} {place : Position} {most : ℕ} {p : Type 0} {f : CallRecord → ℕ}
-    → Answers block most p f → IsPut block before after place → (call : CallRecord) → IsRecord call → (a : ℕ)
-    → EndsWithin (words_of call) (code_from place after) a (f call) most
+pub answers_there : {block before after : List Insn} {index : Position} {most : ℕ} {p : Type 0} {f : CallRecord → ℕ}
+    → Answers block most p f → IsPut block before after index → (call : CallRecord) → IsRecord call → (a : ℕ)
+    → EndsWithin (words_of call) (code_from index after) a (f call) most
 answers_there is put call fits a = rw put.there (is.ends call fits put.behind a)
 
 -- ---- a branch that is put before some code
 
-module _ (test : Test) (constant : ℕ) (hit miss : Position) {before after : List Insn} {place : Position}
+module _ (test : Test) (constant : ℕ) (hit miss : Position) {before after : List Insn} {index : Position}
     (put : IsFirst (branch_code test constant (length before - hit.0) (length before - miss.0)) before after
-    place) where
-  -- it goes to both places in as many steps as it has instructions, at most
+    index) where
+  -- it goes to both indices in as many steps as it has instructions, at most
   pub branch_ends : {words : List ℕ} {answer most : ℕ} (a n : ℕ) → length after ≤ n + length before
       → (test_holds test a constant ≡ true → EndsWithin words (code_from hit before) a answer most)
       → (test_holds test a constant ≡ false → EndsWithin words (code_from miss before) a answer most)

@@ -5,12 +5,12 @@ pub more : {words : List ℕ} {code : List Insn} {a answer m most : ℕ} → End
     → EndsWithin words code a answer most
 more e le = record { steps = e.steps; run = e.run; few = omega (arith, e.few) }
 
--- what is behind an instruction, from some place on, is a part of the whole
+-- what is behind an instruction, from some index on, is a part of the whole
 behind_is_part : (i : Insn) (behind : List Insn) (count : ℕ) → IsPart (drop count behind) (1 + count) (i ∷ behind)
-behind_is_part i behind count place insn here =
-    let inside = slice_get_within (drop count behind) place insn here in
-    let same : insn ≡ get_or (i ∷ behind) (1 + count + place) insn = grind (arith, common_steps, gets) in
-    slice_get_read (i ∷ behind) (length (i ∷ behind)) (1 + count + place) insn refl
+behind_is_part i behind count index insn here =
+    let inside = slice_get_within (drop count behind) index insn here in
+    let same : insn ≡ get_or (i ∷ behind) (1 + count + index) insn = grind (arith, common_steps, gets) in
+    slice_get_read (i ∷ behind) (length (i ∷ behind)) (1 + count + index) insn refl
     (omega (arith, length-drop count behind)) same
 
 module _ {words : List ℕ} {behind : List Insn} {answer most : ℕ} where
@@ -42,8 +42,8 @@ module _ {words : List ℕ} {behind : List Insn} {answer most : ℕ} where
   loads {n} word a lt is e =
       let small : ltb (4 * word) 64 ≡ true = lt-ltb (4 * word) 64 (omega arith) in
       let aligned : (4 * word) % 4 ≡ 0 = omega arith in
-      let place : (4 * word) / 4 ≡ word = omega arith in
-      continues (load_word word) 0 a n (rw (asks_for LoadWord) (rw (small, aligned, place, is) refl)) e
+      let index : (4 * word) / 4 ≡ word = omega arith in
+      continues (load_word word) 0 a n (rw (asks_for LoadWord) (rw (small, aligned, index, is) refl)) e
 
   pub masks : (mask a : ℕ) → EndsWithin words behind (bit_and a mask) answer most
       → EndsWithin words (and_with mask ∷ behind) a answer (suc most)

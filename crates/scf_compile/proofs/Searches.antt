@@ -21,10 +21,10 @@ all_parts P low high all = (
 
 module _ (default : Answer) (lower upper : List NrRange) (s : NrRange) (some : 0 < length lower)
     (halves : (length lower ≤ length upper) × (length upper ≤ length lower + 1)) (is : s ≡ get_or upper 0 s)
-    {before mid both after : List Insn} {to_miss to_hit place : Position}
+    {before mid both after : List Insn} {to_miss to_hit index : Position}
     (under : IsSearchPut default lower before mid to_miss) (over : IsSearchPut default upper mid both to_hit)
     (first : IsFirst (branch_code GreaterOrEqual s.first (length both - to_hit.0) (length both - to_miss.0)) both after
-    place) where
+    index) where
   -- a number is looked for in the upper ranges, or in the lower ones
   search_ends : (call : CallRecord) (wanted : ℕ → List Rule) (low high halvings : ℕ) → IsRecord call
       → AreServed default wanted low (lower ++ upper) high → low ≤ call.nr → call.nr < high
@@ -41,7 +41,7 @@ module _ (default : Answer) (lower upper : List NrRange) (s : NrRange) (some : 0
       (under.ends call wanted low parts.0 n fits parts.1 from (grind (arith, nat_tests, e, middle)) (omega arith))))
       (omega arith)
 
-  pub search_branch : IsSearchPut default (lower ++ upper) before after place
+  pub search_branch : IsSearchPut default (lower ++ upper) before after index
   search_branch =
       let branch = branch_stays GreaterOrEqual s.first to_hit to_miss first in
       let hit = over.put in
@@ -60,7 +60,7 @@ module _ (default : Answer) (lower upper : List NrRange) (s : NrRange) (some : 0
               (miss.sound asked (λ e. (all_parts IsPlainRule lower upper (is e)).0) sound));
         };
         ends = λ call wanted low high halvings fits served from below few.
-            rw (from_first after place first.first) (search_ends call wanted low high halvings fits served from below
+            rw (from_first after index first.first) (search_ends call wanted low high halvings fits served from below
             (omega (arith, length-append lower upper)));
       }
 
@@ -69,10 +69,10 @@ one_is [] s some one is = absurd (omega arith)
 one_is (t ∷ []) s some one is = ap (λ (u : NrRange). u ∷ []) (sym is)
 one_is (t ∷ u ∷ ss) s some one is = absurd (omega arith)
 
-pub search_one : (default : Answer) (s : NrRange) (before after : List Insn) (place : Position)
-    → AllRules IsRule (s ∷ []) → IsPut (rules_code default s.rules.now) before after place
-    → IsSearchPut default (s ∷ []) before after place
-search_one default s before after place fine put =
+pub search_one : (default : Answer) (s : NrRange) (before after : List Insn) (index : Position)
+    → AllRules IsRule (s ∷ []) → IsPut (rules_code default s.rules.now) before after index
+    → IsSearchPut default (s ∷ []) before after index
+search_one default s before after index fine put =
     let rs = s.rules.now in
     let own = recursion_from_All IsRule rs (fine 0 s (omega arith)) in
     let bounded = rules_bounded rs in

@@ -3,34 +3,34 @@ use Rattle.scf_compile.proofs.Common.{◌≡◌, ℕ, zero, suc, ◌+◌, ◌-�
 
 -- ---- the rules of the checker
 
-fine_of : (operation : Operation) (i : Insn) (len place behind : ℕ) → place + 1 + behind ≡ len
-    → Keeps operation i behind → IsFine len place i operation
-fine_of operation i len place behind e h = grind arith
+fine_of : (operation : Operation) (i : Insn) (len index behind : ℕ) → index + 1 + behind ≡ len
+    → Keeps operation i behind → IsFine len index i operation
+fine_of operation i len index behind e h = grind arith
 
--- what stands at a place is sound, with so many instructions behind it
-sound_at : {plain : Bool} (is : List Insn) (place : ℕ) (i : Insn) → AreSound plain is → slice_get is place ≡ Some i
-    → (behind : ℕ) × (place + 1 + behind ≡ length is) × IsSound plain i behind
-sound_at [] place i sound here = absurd (cc)
+-- what stands at an index is sound, with so many instructions behind it
+sound_at : {plain : Bool} (is : List Insn) (index : ℕ) (i : Insn) → AreSound plain is → slice_get is index ≡ Some i
+    → (behind : ℕ) × (index + 1 + behind ≡ length is) × IsSound plain i behind
+sound_at [] index i sound here = absurd (cc)
 sound_at (x ∷ xs) zero i sound here = (length xs, omega arith, rw (same_Some x i here) at sound.0)
-sound_at (x ∷ xs) (suc place) i sound here =
-    let rest = sound_at xs place i sound.1 here in (rest.0, omega (arith, rest.1), rest.2)
+sound_at (x ∷ xs) (suc index) i sound here =
+    let rest = sound_at xs index i sound.1 here in (rest.0, omega (arith, rest.1), rest.2)
 
 -- what its operation keeps there
-kept_at : (is : List Insn) (place : ℕ) (i : Insn) (operation : Operation) → AreSound false is
-    → Stands is place i operation → (behind : ℕ) × (place + 1 + behind ≡ length is) × Keeps operation i behind
-kept_at is place i operation sound stands =
-    let there = sound_at is place i sound stands.here in
+kept_at : (is : List Insn) (index : ℕ) (i : Insn) (operation : Operation) → AreSound false is
+    → Stands is index i operation → (behind : ℕ) × (index + 1 + behind ≡ length is) × Keeps operation i behind
+kept_at is index i operation sound stands =
+    let there = sound_at is index i sound stands.here in
     (there.0, there.1, rw (same_Some _ _ (sym there.2.known ∙ stands.known)) at there.2.keeps)
 
-fine_at : (is : List Insn) (place : ℕ) → AreSound false is → place < length is → IsFineAt is place
-fine_at is place sound lt =
-    let here = slice_get-get_or is place (return_with 0) lt in
-    let there = sound_at is place _ sound here in
+fine_at : (is : List Insn) (index : ℕ) → AreSound false is → index < length is → IsFineAt is index
+fine_at is index sound lt =
+    let here = slice_get-get_or is index (return_with 0) lt in
+    let there = sound_at is index _ sound here in
     record {
-      insn = get_or is place (return_with 0);
+      insn = get_or is index (return_with 0);
       operation = there.2.operation;
       stands = record { here = here; known = there.2.known };
-      fine = fine_of there.2.operation _ (length is) place there.0 there.1 there.2.keeps;
+      fine = fine_of there.2.operation _ (length is) index there.0 there.1 there.2.keeps;
     }
 
 -- nothing stands behind the last instruction, so that it can only answer
@@ -43,12 +43,12 @@ module _ {p : Profile} {code : List Insn} (filter : IsFilterOf p code) where
   unasked : AreSound false code
   unasked = filter.sound false (λ e. absurd (cc))
 
-  -- Code that isn't too long keeps the rules on its places, and of any length the rule on scratch words.
+  -- Code that isn't too long keeps the rules at each index, and of any length the rule on scratch words.
   pub sound_is_valid : length code ≤ bpf_maxinsns → IsValidList code
   sound_is_valid few = record {
     some = filter.some;
     few = few;
-    each = λ place lt. fine_at code place unasked lt;
+    each = λ index lt. fine_at code index unasked lt;
     last = λ i operation stands.
         let kept = kept_at code (length code - 1) i operation unasked stands in
         let last : kept.0 ≡ 0 = omega (arith, kept.1, filter.some) in
@@ -57,8 +57,8 @@ module _ {p : Profile} {code : List Insn} (filter : IsFilterOf p code) where
 
   -- no instruction loads a scratch word
   pub keeps_scratch_rule : KeepsScratchRule code
-  keeps_scratch_rule place n earlier loads path =
-      absurd (kept_at code place loads.insn (LoadScratch loads.register) unasked loads.stands).2
+  keeps_scratch_rule index n earlier loads path =
+      absurd (kept_at code index loads.insn (LoadScratch loads.register) unasked loads.stands).2
 
   pub is_plain : IsPlainProfile p → IsPlainProgram code
   is_plain plain k d lt =

@@ -29,8 +29,8 @@ fn search_of(alloc: Global, profile: &Profile) -> Result<(VecDeque<Insn>, Positi
     let default = profile.default_answer();
     let ranges = ranges_of(alloc, profile.numbers(), default)?;
     let mut code = VecDeque::new(alloc);
-    let place = put_search(alloc, &mut code, &ranges, default)?;
-    Ok((code, place))
+    let index = put_search(alloc, &mut code, &ranges, default)?;
+    Ok((code, index))
 }
 
 /// The instructions of a profile's filter, however many there are.

@@ -40,8 +40,8 @@ pub(crate) fn put_block(code: &mut VecDeque<Insn>, block: &[Insn]) -> Result<Pos
     ensures { IfOk result (IsPut block.now code.old.items code.new.items) }
 {
     if block.len() == 1 {
-        if let Some(place) = find(code, block[0]) {
-            return Ok(place);
+        if let Some(index) = find(code, block[0]) {
+            return Ok(index);
         }
     }
     put_front(code, block)?;

@@ -26,26 +26,26 @@ allows_pushed facts x marks words =
     ) (grind (arith, All-pop P (facts ++ x ∷ []) facts (Some x) refl, All-push P facts x))
 
 -- one fact more leaves the open marks
-pub learned_pushed : (facts : List Fact) (x : Fact) (marks : List ℕ) (place : ℕ) → AreRising marks (length facts)
-    → place < length marks → learned_at (facts ++ x ∷ []) marks place ≡ learned_at facts marks place
-learned_pushed facts x marks place rising lt =
-    ap (λ n. take n (facts ++ x ∷ [])) (get_or_default marks place (length (facts ++ x ∷ [])) (length facts) lt)
-    ∙ take-append-le (count_at marks (length facts) place) facts (x ∷ [])
-    (count_within marks (length facts) place rising)
+pub learned_pushed : (facts : List Fact) (x : Fact) (marks : List ℕ) (index : ℕ) → AreRising marks (length facts)
+    → index < length marks → learned_at (facts ++ x ∷ []) marks index ≡ learned_at facts marks index
+learned_pushed facts x marks index rising lt =
+    ap (λ n. take n (facts ++ x ∷ [])) (get_or_default marks index (length (facts ++ x ∷ [])) (length facts) lt)
+    ∙ take-append-le (count_at marks (length facts) index) facts (x ∷ [])
+    (count_within marks (length facts) index rising)
 
 -- a mark that is opened leaves the levels up to it
-pub learned_opened : (facts : List Fact) (marks : List ℕ) (count place : ℕ) → count ≡ length facts
-    → learned_at facts (marks ++ count ∷ []) place ≡ learned_at facts marks place
-learned_opened facts marks count place e = rw (e, count_opened marks (length facts) place)
+pub learned_opened : (facts : List Fact) (marks : List ℕ) (count index : ℕ) → count ≡ length facts
+    → learned_at facts (marks ++ count ∷ []) index ≡ learned_at facts marks index
+learned_opened facts marks count index e = rw (e, count_opened marks (length facts) index)
 
 -- the newest mark is closed, and what was learned after it forgotten
-pub learned_closed : (facts cut : List Fact) (marks rest : List ℕ) (count place : ℕ) → cut ≡ take count facts
-    → marks ≡ rest ++ count ∷ [] → AreRising marks (length facts) → place < length marks
-    → learned_at cut rest place ≡ learned_at facts marks place
-learned_closed facts cut marks rest count place e same rising lt =
+pub learned_closed : (facts cut : List Fact) (marks rest : List ℕ) (count index : ℕ) → cut ≡ take count facts
+    → marks ≡ rest ++ count ∷ [] → AreRising marks (length facts) → index < length marks
+    → learned_at cut rest index ≡ learned_at facts marks index
+learned_closed facts cut marks rest count index e same rising lt =
     let older = rw same at rising in
-    let le : place ≤ length rest = omega (arith, ap length same, length-append rest (count ∷ [])) in
+    let le : index ≤ length rest = omega (arith, ap length same, length-append rest (count ∷ [])) in
     rw (e, same, length-take-le count facts (count_newest rest count (length facts) older))
-    (take-take (count_at rest count place) count facts
-    (count_within rest count place (rising_closed rest count (length facts) older))
-    ∙ ap (λ n. take n facts) (count_closed rest count (length facts) place le))
+    (take-take (count_at rest count index) count facts
+    (count_within rest count index (rising_closed rest count (length facts) older))
+    ∙ ap (λ n. take n facts) (count_closed rest count (length facts) index le))

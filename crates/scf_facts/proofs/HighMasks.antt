@@ -17,8 +17,8 @@ of_multiple x m k within mask h = ap (bit_and x) mask ∙ and_high_mask 32 k (om
 
 pub beyond_mask : (m k : ℕ) → k < 32 → m ≡ 2 ^ 32 - 2 ^ k → 2 ^ 32 - 1 - m ≡ 2 ^ k - 1
 beyond_mask m k within mask =
-    let places : k ≤ 32 = omega arith in
-    let most : 2 ^ k ≤ 2 ^ 32 = pow_mono places in
+    let indices : k ≤ 32 = omega arith in
+    let most : 2 ^ k ≤ 2 ^ 32 = pow_mono indices in
     omega (arith, pow_pos k)
 
 -- a number has bits under such a mask where it lies in the range that begins at them

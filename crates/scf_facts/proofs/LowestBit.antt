@@ -21,7 +21,7 @@ lowest_part m x some fits = sym (and_assoc _ x m ∙ ap (bit_and x) (lowest_amon
 
 pub high_mask : (m : ℕ) → 0 < m → m < 2 ^ 32 → m ≡ (2 ^ 32 - 1) * 2 ^ count_trailing_zeros 32 m % 2 ^ 32 → IsHighMask m
 high_mask m some fits e =
-    let place = (bit_at-trailing_zeros w32 m some fits).0 in
-    (count_trailing_zeros 32 m, place, e ∙ ones_shl 32 _ (omega arith))
+    let index = (bit_at-trailing_zeros w32 m some fits).0 in
+    (count_trailing_zeros 32 m, index, e ∙ ones_shl 32 _ (omega arith))
 
 pub ruleset lowest = (lowest_power, lowest_some, lowest_among, lowest_part, and_twice)

@@ -16,73 +16,73 @@ allows_all n words = (
   },
 )
 
-module _ (sets : List NumberFacts) (place : ℕ) (old : NumberFacts)
-    (lt : place < length sets) (read : old ≡ get_or sets place old) where
+module _ (sets : List NumberFacts) (index : ℕ) (old : NumberFacts)
+    (lt : index < length sets) (read : old ≡ get_or sets index old) where
   -- other facts of one word
   pub allows_set : (new : NumberFacts) (P : ℕ → Type 0)
       → ((x : ℕ) → x < 2 ^ 32 → AllowsNumber new x ↔ (AllowsNumber old x × P x)) → (words : List ℕ)
-      → AllowsWords (slice_set sets place new) words ↔ (AllowsWords sets words × P (slice_index words place))
+      → AllowsWords (slice_set sets index new) words ↔ (AllowsWords sets words × P (slice_index words index))
   allows_set new P same words = (
-    λ h. let this = rw (get_or-set_same sets place new old lt) at
-        (h.each place old (omega (arith, lt, length-set sets place new))) in
-        let r = (same (slice_index words place) (word_below words h.sixteen place)).0 this in (
+    λ h. let this = rw (get_or-set_same sets index new old lt) at
+        (h.each index old (omega (arith, lt, length-set sets index new))) in
+        let r = (same (slice_index words index) (word_below words h.sixteen index)).0 this in (
           record {
             sixteen = h.sixteen;
             each = λ k d l.
-                grind (arith, common_steps, cases_eq k place, h.each k d, r.0, get_or_read sets place old lt read d);
+                grind (arith, common_steps, cases_eq k index, h.each k d, r.0, get_or_read sets index old lt read d);
           },
           r.1,
         ),
-    λ h. let this = subst (λ s. AllowsNumber s (slice_index words place)) (sym read) (h.0.each place old lt) in
-        let r = (same (slice_index words place) (word_below words h.0.sixteen place)).1 (this, h.1) in
+    λ h. let this = subst (λ s. AllowsNumber s (slice_index words index)) (sym read) (h.0.each index old lt) in
+        let r = (same (slice_index words index) (word_below words h.0.sixteen index)).1 (this, h.1) in
         record {
           sixteen = h.0.sixteen;
-          each = λ k d l. grind (arith, common_steps, cases_eq k place, h.0.each k d, r);
+          each = λ k d l. grind (arith, common_steps, cases_eq k index, h.0.each k d, r);
         },
   )
 
   pub exact_word : IsTrue (list_all is_exact_set sets) → IsTrue (is_exact_set old)
   exact_word all =
-      subst (λ s. IsTrue (is_exact_set s)) (sym read) (AllPass-from_list_all is_exact_set sets all place old lt)
+      subst (λ s. IsTrue (is_exact_set s)) (sym read) (AllPass-from_list_all is_exact_set sets all index old lt)
 
   pub exact_set : (new : NumberFacts) → (IsTrue (is_exact_set old) → IsTrue (is_exact_set new))
-      → IsTrue (list_all is_exact_set sets) → IsTrue (list_all is_exact_set (slice_set sets place new))
-  exact_set new exact all = list_all-from_AllPass is_exact_set (slice_set sets place new)
-      (All-set (λ s. IsTrue (is_exact_set s)) sets place new (exact (exact_word all))
+      → IsTrue (list_all is_exact_set sets) → IsTrue (list_all is_exact_set (slice_set sets index new))
+  exact_set new exact all = list_all-from_AllPass is_exact_set (slice_set sets index new)
+      (All-set (λ s. IsTrue (is_exact_set s)) sets index new (exact (exact_word all))
       (AllPass-from_list_all is_exact_set sets all))
 
   -- what each number of the word has, its number has in each list
   pub each_word : (P : ℕ → Type 0) → EachNumber old P → (words : List ℕ)
-      → AllowsWords sets words → P (slice_index words place)
+      → AllowsWords sets words → P (slice_index words index)
   each_word P each words h =
-      grind (arith, word_below words h.sixteen place, each (slice_index words place), h.each place old lt)
+      grind (arith, word_below words h.sixteen index, each (slice_index words index), h.each index old lt)
 
   -- another number of the word, where other words up to some have theirs
-  pub number_set : (words : List ℕ) (x n : ℕ) → place < length words → AllowsNumber old x
-      → ((k : ℕ) (d : NumberFacts) → k < n → k ≢ place → AllowsNumber (get_or sets k d) (slice_index words k))
-      → (k : ℕ) (d : NumberFacts) → k < n → AllowsNumber (get_or sets k d) (slice_index (slice_set words place x) k)
+  pub number_set : (words : List ℕ) (x n : ℕ) → index < length words → AllowsNumber old x
+      → ((k : ℕ) (d : NumberFacts) → k < n → k ≢ index → AllowsNumber (get_or sets k d) (slice_index words k))
+      → (k : ℕ) (d : NumberFacts) → k < n → AllowsNumber (get_or sets k d) (slice_index (slice_set words index x) k)
   number_set words x n room allowed others k d l =
-      grind (arith, common_steps, cases_eq k place, others k d l, get_or_read sets place old lt read d)
+      grind (arith, common_steps, cases_eq k index, others k d l, get_or_read sets index old lt read d)
 
-  pub allows_other : (some : List ℕ) (x : ℕ) → place < 16
-      → AllowsWords sets some → x < 2 ^ 32 → AllowsNumber old x → AllowsWords sets (slice_set some place x)
+  pub allows_other : (some : List ℕ) (x : ℕ) → index < 16
+      → AllowsWords sets some → x < 2 ^ 32 → AllowsNumber old x → AllowsWords sets (slice_set some index x)
   allows_other some x below h fits allowed = record {
     sixteen = record {
-      count = length-set some place x ∙ h.sixteen.count;
+      count = length-set some index x ∙ h.sixteen.count;
       each = recursion_from_All _ _
-          (All-set (λ word. word < 2 ^ 32) some place x fits (All-from_recursion _ some h.sixteen.each));
+          (All-set (λ word. word < 2 ^ 32) some index x fits (All-from_recursion _ some h.sixteen.each));
     };
     each = number_set some x (length sets) (omega (arith, h.sixteen.count)) allowed (λ k d l _. h.each k d l);
   }
 
   -- so an answer of some number of the word is that of some list
-  pub other_answer : (atom : Atom) (answer : Bool) → place ≡ word_of atom → place < 16 → (some : List ℕ)
+  pub other_answer : (atom : Atom) (answer : Bool) → index ≡ word_of atom → index < 16 → (some : List ℕ)
       → AllowsWords sets some → SomeNumber old (λ x. answer_at atom x ≡ answer)
       → (words : List ℕ) × AllowsWords sets words × (atom_answer atom words ≡ answer)
   other_answer atom answer asked below some h (x, fits, allowed, e) = (
-    slice_set some place x,
+    slice_set some index x,
     allows_other some x below h fits allowed,
-    rw (← asked, get_or-set_same some place x 0 (omega (arith, h.sixteen.count))) e,
+    rw (← asked, get_or-set_same some index x 0 (omega (arith, h.sixteen.count))) e,
   )
 
 -- ---- some list

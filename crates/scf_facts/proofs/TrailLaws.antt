@@ -54,28 +54,28 @@ module _ (known : AllFacts) (trail : List Change) (marks : List ℕ) where
   known_now = known_past (length marks) (omega arith)
 
   -- a mark that is opened leaves the levels up to it
-  pub known_opened : (count place : ℕ) → count ≡ length trail
-      → known_at known trail (marks ++ count ∷ []) place ≡ known_at known trail marks place
-  known_opened count place e = rw (e, count_opened marks (length trail) place)
+  pub known_opened : (count index : ℕ) → count ≡ length trail
+      → known_at known trail (marks ++ count ∷ []) index ≡ known_at known trail marks index
+  known_opened count index e = rw (e, count_opened marks (length trail) index)
 
-  module _ (change : Change) (place : ℕ) (rising : AreRising marks (length trail)) (lt : place < length marks) where
+  module _ (change : Change) (index : ℕ) (rising : AreRising marks (length trail)) (lt : index < length marks) where
     -- a change that is put on the trail leaves the open marks
     pub known_pushed : (new : List Change) → new ≡ trail ++ change ∷ []
-        → known_at known new marks place ≡ known_at (known_before change known) trail marks place
+        → known_at known new marks index ≡ known_at (known_before change known) trail marks index
     known_pushed new e =
-        rw (e, get_or_default marks place (length (trail ++ change ∷ [])) (length trail) lt)
-        (sym (taken_before known (trail ++ change ∷ []) trail change (count_at marks (length trail) place) refl
-        (count_within marks (length trail) place rising)))
+        rw (e, get_or_default marks index (length (trail ++ change ∷ [])) (length trail) lt)
+        (sym (taken_before known (trail ++ change ∷ []) trail change (count_at marks (length trail) index) refl
+        (count_within marks (length trail) index rising)))
 
     -- so does one that the last change past the newest mark covers
     pub known_covered : (rest : List Change) (last : Change) (count : ℕ) → trail ≡ rest ++ last ∷ []
         → count ≤ length rest → count ≡ slice_index marks (length marks - 1) → Covers last change
         → length known.sets ≡ 16
-        → known_at known trail marks place ≡ known_at (known_before change known) trail marks place
+        → known_at known trail marks index ≡ known_at (known_before change known) trail marks index
     known_covered rest last count e past newest covered sixteen =
-        let n = count_at marks (length trail) place in
+        let n = count_at marks (length trail) index in
         let early : n ≤ length rest =
-        omega (arith, rising place (length marks - 1), get_or_default marks (length marks - 1) (length trail) 0) in
+        omega (arith, rising index (length marks - 1), get_or_default marks (length marks - 1) (length trail) 0) in
         sym (taken_before known trail rest last n e early)
         ∙ ap (λ (k : AllFacts). restored k (drop n rest)) (sym (covered known sixteen))
         ∙ taken_before (known_before change known) trail rest last n e early
@@ -85,35 +85,35 @@ pub ruleset opened_laws = (known_past, known_opened)
 -- so a change of a word that is noted leaves them
 pub noted : (sets : List NumberFacts) (clauses : List BinaryClause) (change : WordChange) (old new : NumberFacts)
     (trail room more : List Change) (marks slice : List ℕ) → slice ≡ marks → room ≡ trail
-    → ((known : AllFacts) → length known.sets ≡ 16 → (place : ℕ) → place < length slice
-    → known_at known more slice place ≡ known_at (known_before (OfWord change) known) room slice place)
+    → ((known : AllFacts) → length known.sets ≡ 16 → (index : ℕ) → index < length slice
+    → known_at known more slice index ≡ known_at (known_before (OfWord change) known) room slice index)
     → length sets ≡ 16 → old ≡ slice_index_or sets change.word old → facts_before change.former new ≡ old
-    → (place : ℕ) → place < length marks → IsSameKnown (known_at (known_of sets clauses) trail marks place)
-    (known_at (known_of (slice_set sets change.word new) clauses) more marks place)
-noted sets clauses change old new trail room more marks slice e f marked sixteen read same place lt =
+    → (index : ℕ) → index < length marks → IsSameKnown (known_at (known_of sets clauses) trail marks index)
+    (known_at (known_of (slice_set sets change.word new) clauses) more marks index)
+noted sets clauses change old new trail room more marks slice e f marked sixteen read same index lt =
     let after = known_of (slice_set sets change.word new) clauses in
     let within : change.word < length sets = omega (arith, sixteen, change.about_word) in
     let left = rw (e, f) at marked in
-    same_known _ _ (left after (length-set sets change.word new ∙ sixteen) place lt
-    ∙ ap (λ (k : AllFacts). known_at k trail marks place) (before_changed sets clauses change old new within read same))
+    same_known _ _ (left after (length-set sets change.word new ∙ sixteen) index lt
+    ∙ ap (λ (k : AllFacts). known_at k trail marks index) (before_changed sets clauses change old new within read same))
 
 -- the newest mark is closed, and what was changed after it put back
-pub known_closed : (known back : AllFacts) (trail cut : List Change) (marks rest : List ℕ) (count place : ℕ)
+pub known_closed : (known back : AllFacts) (trail cut : List Change) (marks rest : List ℕ) (count index : ℕ)
     → back ≡ restored known (drop count trail) → cut ≡ take count trail → marks ≡ rest ++ count ∷ []
-    → AreRising marks (length trail) → place < length marks
-    → known_at back cut rest place ≡ known_at known trail marks place
-known_closed known back trail cut marks rest count place b e same rising lt =
+    → AreRising marks (length trail) → index < length marks
+    → known_at back cut rest index ≡ known_at known trail marks index
+known_closed known back trail cut marks rest count index b e same rising lt =
     let older = rw same at rising in
     let left : length (take count trail) ≡ count =
     length-take-le count trail (count_newest rest count (length trail) older) in
-    let n = count_at rest count place in
+    let n = count_at rest count index in
     let early : n ≤ length (take count trail) =
-    omega (arith, left, count_within rest count place (rising_closed rest count (length trail) older)) in
-    let le : place ≤ length rest = omega (arith, ap length same, length-append rest (count ∷ [])) in
+    omega (arith, left, count_within rest count index (rising_closed rest count (length trail) older)) in
+    let le : index ≤ length rest = omega (arith, ap length same, length-append rest (count ∷ [])) in
     rw (b, e, same, left) (sym (restored_append known (drop n (take count trail)) (drop count trail))
     ∙ ap (restored known) (sym (drop-append-le n (take count trail) (drop count trail) early)
     ∙ ap (drop n) (take-append-drop count trail))
-    ∙ ap (λ k. restored known (drop k trail)) (count_closed rest count (length trail) place le))
+    ∙ ap (λ k. restored known (drop k trail)) (count_closed rest count (length trail) index le))
 
 -- ---- what is learned
 

@@ -1,4 +1,4 @@
-pub mod Asked
+pub mod Query
 pub mod AtomPairs
 pub mod Bits
 pub mod Counts

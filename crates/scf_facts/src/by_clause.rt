@@ -38,7 +38,7 @@ pub(crate) fn tell_known(sets: &[WordSet], clauses: &[BinaryClause], atom: Atom)
 {
     match tell_by_word(sets, atom) {
         Tell::Maybe => tell_by_clauses(sets, clauses, atom),
-        told => told,
+        tell => tell,
     }
 }
 

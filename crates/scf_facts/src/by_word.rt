@@ -44,8 +44,8 @@ pub(crate) fn pick_by_word(sets: &[WordSet]) -> Option<[u32; 16]>
         → (words : List ℕ) → AllowsWords sets.now words → IsSome result }
 {
     let mut words = [0; 16];
-    for (place, set) in sets.iter().enumerate() {
-        words[place] = set.pick()?;
+    for (index, set) in sets.iter().enumerate() {
+        words[index] = set.pick()?;
     }
     Some(words)
 }

@@ -17,7 +17,7 @@ pub(crate) struct Learned {
 impl Learned {
     /// The word that this fixes, and its only value.
     pub(crate) fn fixes(&self) -> Option<(u8, u32)>
-        ensures place { IfSome result (λ fixed. fixed.0 ≡ word_of self.now.atom) }
+        ensures index { IfSome result (λ fixed. fixed.0 ≡ word_of self.now.atom) }
         ensures value { IfSome result (λ fixed.
             (number : ℕ) → number < 2 ^ 32
             → answer_at self.now.atom number ≡ self.now.holds → number ≡ fixed.1) }

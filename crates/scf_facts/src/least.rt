@@ -13,7 +13,7 @@ use crate::intervals::first_reaching;
 #[tactic(auto, using(crate::proofs::LeastNumber::highest))]
 fn highest_bit(n: u32) -> Option<u32>
     ensures none { IfNone result (n ≡ 0) }
-    ensures some { IfSome result (λ place. (place < 32) × (bit_at n place ≡ 1)) }
+    ensures some { IfSome result (λ index. (index < 32) × (bit_at n index ≡ 1)) }
 {
     if n == 0 {
         return None;
@@ -21,13 +21,13 @@ fn highest_bit(n: u32) -> Option<u32>
     Some(31 - n.leading_zeros())
 }
 
-/// The next multiple of `1 << place`: the least value past all those that share the bits of `x` from `place` on.
-fn past(x: u32, place: u32) -> u64
-    requires { place < 32 }
+/// The next multiple of `1 << index`: the least value past all those that share the bits of `x` from `index` on.
+fn past(x: u32, index: u32) -> u64
+    requires { index < 32 }
     ensures above { x < result }
-    ensures same { (y : ℕ) → x ≤ y → y < result → y / 2 ^ place ≡ x / 2 ^ place }
+    ensures same { (y : ℕ) → x ≤ y → y < result → y / 2 ^ index ≡ x / 2 ^ index }
 {
-    let power = 1u64 << place;
+    let power = 1u64 << index;
     (u64::from(x) / power + 1) * power
 }
 
@@ -38,8 +38,8 @@ fn least_from(low: u32, bits: Bits) -> Option<u32>
     ensures none { IfNone result ((y : ℕ) → low ≤ y → y < 2 ^ 32 → LacksBits bits y) }
 {
     let mut x = low;
-    while let Some(place) = highest_bit((x & bits.mask) ^ bits.value) {
-        let next = past(x, place);
+    while let Some(index) = highest_bit((x & bits.mask) ^ bits.value) {
+        let next = past(x, index);
         if next > u64::from(u32::MAX) {
             return None;
         }

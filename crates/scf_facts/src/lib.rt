@@ -1,7 +1,6 @@
 //! What is known of the sixteen words of a call record.
 #![tactic(auto)]
 
-mod asked;
 mod atom;
 mod atom_list;
 mod binary_clause;
@@ -16,6 +15,7 @@ mod intervals;
 mod laws;
 mod learned;
 mod least;
+mod query;
 mod trail;
 mod undo;
 mod word_facts;

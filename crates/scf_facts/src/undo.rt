@@ -91,9 +91,9 @@ pub(crate) fn note(trail: &mut Vec<Change>, marks: &[usize], change: Change) -> 
     requires { AreRising marks.now (length trail.old.items) }
     ensures room { (0 < length marks.now → vec_len trail.old < vec_capacity trail.old) → IsOk result }
     ensures rising { AreRising marks.now (length trail.new.items) }
-    ensures marked { OnOk result ((known : AllFacts) → length known.sets ≡ 16 → (place : ℕ) → place < length marks.now
-        → known_at known trail.new.items marks.now place
-        ≡ known_at (known_before change known) trail.old.items marks.now place) }
+    ensures marked { OnOk result ((known : AllFacts) → length known.sets ≡ 16 → (index : ℕ) → index < length marks.now
+        → known_at known trail.new.items marks.now index
+        ≡ known_at (known_before change known) trail.old.items marks.now index) }
 {
     if let Some(newest) = marks.last() {
         if !is_covered(trail, *newest, &change) {

@@ -42,8 +42,8 @@ pub trait WordFacts: Sized + Drop {
     fn learn(&mut self, atom: Atom, holds: bool) -> Result<(), Memory>
         requires word { word_of atom < 16 }
         ensures marks { level self.new ≡ level self.old }
-        ensures at_marks { (place : ℕ) → place < level self.old
-            → IsSameLevel allows is_exact self.old place self.new place }
+        ensures at_marks { (index : ℕ) → index < level self.old
+            → IsSameLevel allows is_exact self.old index self.new index }
         ensures law_learn { OnOk result ((words : List ℕ) → allows self.new (level self.old) words
             ↔ (allows self.old (level self.old) words × (atom_answer atom words ≡ holds))) }
         ensures exact { OnOk result (KeepsExact atom holds
@@ -57,8 +57,8 @@ pub trait WordFacts: Sized + Drop {
         requires first_word { word_of first < 16 }
         requires second_word { word_of second < 16 }
         ensures marks { level self.new ≡ level self.old }
-        ensures at_marks { (place : ℕ) → place < level self.old
-            → IsSameLevel allows is_exact self.old place self.new place }
+        ensures at_marks { (index : ℕ) → index < level self.old
+            → IsSameLevel allows is_exact self.old index self.new index }
         ensures law_clause { OnOk result ((words : List ℕ) → allows self.new (level self.old) words
             ↔ (allows self.old (level self.old) words
             × (atom_answer first words ≡ true → atom_answer second words ≡ false))) }
@@ -71,15 +71,15 @@ pub trait WordFacts: Sized + Drop {
         ensures known { OnOk result (
             IsSameLevel allows is_exact self.old (level self.old) self.new (level self.old + 1)) }
         ensures refused { OnErr result (level self.new ≡ level self.old) }
-        ensures at_marks { (place : ℕ) → place ≤ level self.old
-            → IsSameLevel allows is_exact self.old place self.new place };
+        ensures at_marks { (index : ℕ) → index ≤ level self.old
+            → IsSameLevel allows is_exact self.old index self.new index };
 
     /// Returns to what was known at the newest open mark, and closes it. Older marks stay. Never allocates.
     fn undo(&mut self)
         requires marked { 0 < level self.old }
         ensures closed { level self.new + 1 ≡ level self.old }
-        ensures law_undo { (place : ℕ) → place < level self.old
-            → IsSameLevel allows is_exact self.old place self.new place };
+        ensures law_undo { (index : ℕ) → index < level self.old
+            → IsSameLevel allows is_exact self.old index self.new index };
 
     /// The count of open marks.
     fn open_marks(&self) -> usize

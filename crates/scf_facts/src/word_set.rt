@@ -10,13 +10,13 @@ ghost use Rattle.scf_facts.specs.internal.Intervals.{LiesIn, LiesOutside, LiesIn
 ghost use Rattle.scf_facts.specs.internal.Trail.{facts_before};
 ghost use Rattle.scf_facts.specs.internal.WordSets.{AllowsNumber, EachNumber, SomeNumber, is_exact_set, no_facts};
 
-use crate::asked::Asked;
 use crate::atom::{Atom, Tell};
 use crate::bits::Bits;
 use crate::free_number::{Searched, free_number, refutes};
 use crate::interval::Interval;
 use crate::intervals::{Intervals, lies_in_one};
 use crate::least::first_number;
+use crate::query::Query;
 use crate::trail::SavedValue;
 use scf_insn::Memory;
 use std::alloc::Global;
@@ -71,11 +71,11 @@ impl WordSet {
         ensures exact { OnOk result (KeepsExact atom holds
             → IsTrue (is_exact_set self.old) → IsTrue (is_exact_set self.new)) }
     {
-        match Asked::of(atom) {
-            Asked::Within { range, answer } if answer == holds => self.keep_range(alloc, range),
-            Asked::Within { range, .. } => self.drop_range(alloc, range),
-            Asked::Masked(bits) if holds => Ok(self.keep_bits(alloc, bits)),
-            Asked::Masked(bits) => self.drop_bits(alloc, bits),
+        match Query::of(atom) {
+            Query::Within { range, answer } if answer == holds => self.keep_range(alloc, range),
+            Query::Within { range, .. } => self.drop_range(alloc, range),
+            Query::Masked(bits) if holds => Ok(self.keep_bits(alloc, bits)),
+            Query::Masked(bits) => self.drop_bits(alloc, bits),
         }
     }
 
@@ -167,14 +167,14 @@ impl WordSet {
         ensures both { result ≡ Tell.Maybe → IsTrue (is_exact_set self.now)
             → SomeNumber self.now (λ x. answer_at atom x ≡ true) × SomeNumber self.now (λ x. answer_at atom x ≡ false) }
     {
-        let told = match Asked::of(atom) {
-            Asked::Within { range, answer } => match self.lies_within(range) {
+        let decided = match Query::of(atom) {
+            Query::Within { range, answer } => match self.lies_within(range) {
                 Some(within) => Some(within == answer),
                 None => None,
             },
-            Asked::Masked(bits) => self.has_bits(bits),
+            Query::Masked(bits) => self.has_bits(bits),
         };
-        match told {
+        match decided {
             Some(answer) => Tell::of(answer),
             None => Tell::Maybe,
         }
@@ -316,10 +316,10 @@ impl WordSet {
         ensures allowed { IfSome result (λ x. AllowsNumber self.now x) }
         ensures refuted { IfSome result (λ x. answer_at atom x ≡ false) }
     {
-        let number = match Asked::of(atom) {
-            Asked::Within { range, answer } if answer => self.first_outside(range),
-            Asked::Within { range, .. } => self.first_in(range, self.known),
-            Asked::Masked(bits) => self.first_without(bits),
+        let number = match Query::of(atom) {
+            Query::Within { range, answer } if answer => self.first_outside(range),
+            Query::Within { range, .. } => self.first_in(range, self.known),
+            Query::Masked(bits) => self.first_without(bits),
         }?;
         (self.allows(number) && !atom.answer(number)).then_some(number)
     }
@@ -380,14 +380,14 @@ impl WordSet {
     fn pick_by_bits(&self) -> Option<u32>
         ensures allowed { IfSome result (λ x. AllowsNumber self.now x) }
         ensures none { IfNone result (AllowsNumber self.now self.now.known.value → ⊥) }
-        ensures none_of_bits { IfNone result ((place : ℕ) → place < 32
-            → AllowsNumber self.now (bit_or self.now.known.value (2 ^ place)) → ⊥) }
+        ensures none_of_bits { IfNone result ((index : ℕ) → index < 32
+            → AllowsNumber self.now (bit_or self.now.known.value (2 ^ index)) → ⊥) }
     {
         if self.allows(self.known.value) {
             return Some(self.known.value);
         }
-        for place in 0..u32::BITS {
-            let x = self.known.value | 1 << place;
+        for index in 0..u32::BITS {
+            let x = self.known.value | 1 << index;
             if self.allows(x) {
                 return Some(x);
             }

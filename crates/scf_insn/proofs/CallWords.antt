@@ -62,13 +62,13 @@ length-halves : (args : List ℕ) → length (flat_map halves args) ≡ length a
 length-halves [] = refl
 length-halves (n ∷ args) = let more = length-halves args in omega arith
 
-each_from_places : (bound : ℕ) (xs : List ℕ) → ((i : ℕ) → slice_index xs i < bound) → AllByRecursion (λ n. n < bound) xs
-each_from_places bound [] h = tt
-each_from_places bound (x ∷ xs) h = (h 0, each_from_places bound xs (λ i. h (suc i)))
+each_from_indices : (bound : ℕ) (xs : List ℕ) → ((i : ℕ) → slice_index xs i < bound) → AllByRecursion (λ n. n < bound) xs
+each_from_indices bound [] h = tt
+each_from_indices bound (x ∷ xs) h = (h 0, each_from_indices bound xs (λ i. h (suc i)))
 
--- sixteen numbers, each below 2^32 at its place
-pub words_by_place : (words : List ℕ) → length words ≡ 16 → ((i : ℕ) → slice_index words i < 2 ^ 32) → IsWords words
-words_by_place words count below = record { count = count; each = each_from_places (2 ^ 32) words below }
+-- sixteen numbers, each below 2^32 at its index
+pub words_by_index : (words : List ℕ) → length words ≡ 16 → ((i : ℕ) → slice_index words i < 2 ^ 32) → IsWords words
+words_by_index words count below = record { count = count; each = each_from_indices (2 ^ 32) words below }
 
 pub length-words_of : (call : CallRecord) → length call.args ≡ seccomp_data_args → length (words_of call) ≡ 16
 length-words_of call six = let more = length-halves call.args in omega arith
@@ -78,22 +78,22 @@ pub IsWords-words_of : (call : CallRecord) → IsRecord call → IsWords (words_
 IsWords-words_of call h = record {
   count = length-words_of call h.count;
   each = let ip = h.ip in
-      (h.nr, (h.arch, (omega arith, (omega arith, each_half call.args (each_from_places (2 ^ 64) call.args h.args)))));
+      (h.nr, (h.arch, (omega arith, (omega arith, each_half call.args (each_from_indices (2 ^ 64) call.args h.args)))));
 }
 
-place_below : (bound : ℕ) → 0 < bound → (xs : List ℕ) → AllByRecursion (λ n. n < bound) xs → (i : ℕ)
+index_below : (bound : ℕ) → 0 < bound → (xs : List ℕ) → AllByRecursion (λ n. n < bound) xs → (i : ℕ)
     → slice_index xs i < bound
-place_below bound some [] h i = some
-place_below bound some (x ∷ xs) h zero = h.0
-place_below bound some (x ∷ xs) h (suc i) = place_below bound some xs h.1 i
+index_below bound some [] h i = some
+index_below bound some (x ∷ xs) h zero = h.0
+index_below bound some (x ∷ xs) h (suc i) = index_below bound some xs h.1 i
 
--- each word of sixteen is below 2^32, and a place past them reads 0
+-- each word of sixteen is below 2^32, and an index past them reads 0
 pub word_below : (words : List ℕ) → IsWords words → (i : ℕ) → slice_index words i < 2 ^ 32
-word_below words h = place_below (2 ^ 32) (lit< tt) words h.each
+word_below words h = index_below (2 ^ 32) (lit< tt) words h.each
 
 number_below : (words : List ℕ) → IsWords words → (i : ℕ) → number_at words i < 2 ^ 64
 number_below words h i = let first = word_below words h i in let second = word_below words h (i + 1) in omega arith
 
 -- the record of sixteen words has fields within their widths
 pub IsRecord-call_of : (words : List ℕ) → IsWords words → IsRecord (call_of words)
-IsRecord-call_of words h1 = grind (arith, number_below, place_below, word_below)
+IsRecord-call_of words h1 = grind (arith, number_below, index_below, word_below)

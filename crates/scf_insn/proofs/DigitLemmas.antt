@@ -2,7 +2,7 @@
 use Rattle.scf_insn.proofs.Common.{◌≡◌, ℕ, suc, ◌+◌, ◌-◌, ◌/◌, ◌%◌, ◌^◌, ◌<◌, ◌≤◌, false, cond, eqb, List, [], ◌∷◌, refl, arith, digits_onto, digit_glyph, ne_eqb, mul-le-mul_left, div-lt_iff_lt-mul, pow-suc}
 use Rattle.std.specs.Fmt.{digits}
 
--- what is still written of a number in front of these digits, at the place in the bytes
+-- what is still written of a number in front of these digits, at the index in the bytes
 unfoldable pub with_front : ℕ → ℕ → ℕ → List ℕ → List ℕ
 with_front base start left acc = cond (eqb left 0) acc (digits_onto (44 + start) base false left acc)
 
@@ -30,5 +30,5 @@ fewer base start left h1 h2 h3 = grind (arith, fewer_below)
 pub fewer_than_twenty : (base n : ℕ) → 10 ≤ base → n < 2 ^ 64 → n / base < 10 ^ 19
 fewer_than_twenty base n low few = fewer base 20 n low (omega arith) (omega arith)
 
-pub has_place : (start left : ℕ) → 0 < left → left < 10 ^ start → 0 < start
-has_place start left h1 h2 = grind arith
+pub has_index : (start left : ℕ) → 0 < left → left < 10 ^ start → 0 < start
+has_index start left h1 h2 = grind arith

@@ -40,8 +40,8 @@ by_tests mask none all one h1 h2 h3 = grind (arith, eqb-false, eqb-true, one_bit
 pub is_of_kind : (mask : ℕ) → IsOfKind (mask_kind mask) mask
 is_of_kind mask = by_tests mask _ _ _ refl refl refl
 
-place_below : (k : ℕ) → 2 ^ k < 2 ^ 32 → k < 32
-place_below k lt = elim (cases_lt 32 k) [
+index_below : (k : ℕ) → 2 ^ k < 2 ^ 32 → k < 32
+index_below k lt = elim (cases_lt 32 k) [
   | inl past ↦ absurd (omega (arith, pow_below 32 k past))
   | inr le ↦ elim (cases_eq k 32) [
     | inl e ↦ absurd (omega (arith, ap (λ n. 2 ^ n) e))
@@ -57,7 +57,7 @@ pub is_simple : (kind : MaskKind) (mask : ℕ) → mask < 2 ^ 32 → kind ≡ ma
     ⊎ (kind ≡ OneBit) ⊎ (kind ≡ Full) → IsSimpleMask mask
 is_simple kind mask lt e (inl none) = inl (rw none at (kind_said kind mask e))
 is_simple kind mask lt e (inr (inl one)) = let power = rw one at (kind_said kind mask e) in
-    inr (inl (power.0, place_below power.0 (omega (arith, power.1)), power.1))
+    inr (inl (power.0, index_below power.0 (omega (arith, power.1)), power.1))
 is_simple kind mask lt e (inr (inr all)) = inr (inr (rw all at (kind_said kind mask e)))
 
 -- a mask with several bits isn't

@@ -21,7 +21,7 @@ IsInput view limit bytes (Err PastLimit) = limit < length bytes
 IsInput view limit bytes (Err CantRead) = Unit {0}
 IsInput view limit bytes (Err NoMemory) = Unit {0}
 
--- What a filter file of these bytes may be read as: the list that has the bytes; a cut instruction, by the place of
+-- What a filter file of these bytes may be read as: the list that has the bytes; a cut instruction, by the index of
 -- its first byte; more bytes than those of the most instructions. A failure of the reader and running out of memory may stand
 -- in place of these.
 abbrev pub IsReading : {V : Type 0} → (V → List Insn) → List ℕ → Result V ReadFault → Type 0

@@ -41,7 +41,7 @@ pub record IsWords (words : List ℕ) : Type 0 where
   pub count : length words ≡ 16
   pub each : AllByRecursion (λ word. word < 2 ^ 32) words
 
--- the 64-bit number of the two words from a place on
+-- the 64-bit number of the two words from an index on
 abbrev pub number_at : List ℕ → ℕ → ℕ
 number_at words i = slice_index words i + 2 ^ 32 * slice_index words (i + 1)
 

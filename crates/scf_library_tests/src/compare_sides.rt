@@ -113,8 +113,8 @@ fn is_wanted(finding: Finding, left: Side<'_>, right: Side<'_>, outcome: Outcome
                 && answer_of(left, &call) == first
                 && answer_of(right, &call) == second
         }
-        (Finding::Undecided { side, at }, Outcome::Undecided(which, place)) => {
-            side == which && at == place
+        (Finding::Undecided { side, at }, Outcome::Undecided(which, index)) => {
+            side == which && at == index
         }
         _ => false,
     }

@@ -84,8 +84,8 @@ pub(crate) type Numbers = (u32, u32, u32);
 
 /// Writes the table of numbers: the name of each is `c` and the number.
 fn write_table<W: fmt::Write>(f: &mut W, (first, apart, count): Numbers) -> fmt::Result {
-    for place in 0..count {
-        let number = first.wrapping_add(place.wrapping_mul(apart));
+    for index in 0..count {
+        let number = first.wrapping_add(index.wrapping_mul(apart));
         writeln!(f, "c{number} {number}")?;
     }
     Ok(())
@@ -94,8 +94,8 @@ fn write_table<W: fmt::Write>(f: &mut W, (first, apart, count): Numbers) -> fmt:
 /// Writes the names of these numbers, with commas between them.
 fn write_names<W: fmt::Write>(f: &mut W, (first, apart, count): Numbers) -> fmt::Result {
     let mut comma = "";
-    for place in 0..count {
-        let number = first.wrapping_add(place.wrapping_mul(apart));
+    for index in 0..count {
+        let number = first.wrapping_add(index.wrapping_mul(apart));
         write!(f, r#"{comma}"c{number}""#)?;
         comma = ",";
     }

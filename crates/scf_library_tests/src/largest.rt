@@ -19,10 +19,10 @@ use std::alloc::{AllocError, Global};
 use std::fmt;
 use std::process::Abort;
 
-/// An instruction of any code for each place, and its bytes (filter.h: code, jt, jf, k, little-endian).
-fn at_place(place: u32) -> (Insn, [u8; 8]) {
-    let [low, high, ..] = place.to_le_bytes();
-    let k = place.wrapping_mul(0x9e37_79b1);
+/// An instruction of any code for each index, and its bytes (filter.h: code, jt, jf, k, little-endian).
+fn at_index(index: u32) -> (Insn, [u8; 8]) {
+    let [low, high, ..] = index.to_le_bytes();
+    let k = index.wrapping_mul(0x9e37_79b1);
     let [k0, k1, k2, k3] = k.to_le_bytes();
     let code = u16::from_le_bytes([low, high]);
     (
@@ -32,11 +32,11 @@ fn at_place(place: u32) -> (Insn, [u8; 8]) {
 }
 
 /// So many of these instructions, and their bytes.
-fn places(alloc: Global, count: u32) -> Result<(Vec<Insn>, Vec<u8>), AllocError> {
+fn indices(alloc: Global, count: u32) -> Result<(Vec<Insn>, Vec<u8>), AllocError> {
     let mut insns = Vec::new(alloc);
     let mut bytes = Vec::new(alloc);
-    for place in 0..count {
-        let (one, its_bytes) = at_place(place);
+    for index in 0..count {
+        let (one, its_bytes) = at_index(index);
         insns.push(one)?;
         bytes.extend_from_slice(&its_bytes)?;
     }
@@ -52,7 +52,7 @@ fn are_read(rt: &impl Abort, alloc: Global, insns: &[Insn], bytes: &[u8]) -> boo
 
 /// Whether the bytes of one instruction more are refused.
 fn are_too_long(rt: &impl Abort, alloc: Global) -> bool {
-    let (_insns, bytes) = places(alloc, 4097).expect(rt, "no fault");
+    let (_insns, bytes) = indices(alloc, 4097).expect(rt, "no fault");
     let mut source = Reader::new(&bytes, 1, Failing::Never);
     let refused = read_program(alloc, &mut source).err();
     refused == Some(ReadFault::TooLong) && source.asks() == 32769
@@ -60,7 +60,7 @@ fn are_too_long(rt: &impl Abort, alloc: Global) -> bool {
 
 #[test]
 fn filters_read_byte_by_byte(rt: HostRuntime) {
-    let (insns, bytes) = places(rt.alloc(), 4096).expect(&rt, "no fault");
+    let (insns, bytes) = indices(rt.alloc(), 4096).expect(&rt, "no fault");
     assert!(rt; bytes.len() == 32768);
     assert!(rt; are_read(&rt, rt.alloc(), &insns, &bytes));
     assert!(rt; are_too_long(&rt, rt.alloc()));
@@ -68,7 +68,7 @@ fn filters_read_byte_by_byte(rt: HostRuntime) {
 
 #[test]
 fn filters_written_byte_by_byte(rt: HostRuntime) {
-    let (insns, bytes) = places(rt.alloc(), 4096).expect(&rt, "no fault");
+    let (insns, bytes) = indices(rt.alloc(), 4096).expect(&rt, "no fault");
     let mut sink = Writer::new(rt.alloc(), 1, Failing::Never);
     write_program(&insns, &mut sink).expect(&rt, "no fault");
     assert!(rt; sink.taken() == bytes.as_slice() && sink.asks() == 32768);
@@ -90,7 +90,7 @@ fn is_past_limit(alloc: Global, bytes: &[u8]) -> bool {
 
 #[test]
 fn inputs_byte_by_byte(rt: HostRuntime) {
-    let (_insns, bytes) = places(rt.alloc(), 4096).expect(&rt, "no fault");
+    let (_insns, bytes) = indices(rt.alloc(), 4096).expect(&rt, "no fault");
     assert!(rt; is_input(&rt, rt.alloc(), &bytes));
     assert!(rt; is_past_limit(rt.alloc(), &bytes));
 }
@@ -142,26 +142,26 @@ fn text_of_4096_lines_of_200_tokens(rt: HostRuntime) {
     assert!(rt; count_of_tokens(&rt, rt.alloc(), text.as_str()) == 4096 * 200);
 }
 
-/// A longest filter: loads and jumps to the next place by turns, and a return.
+/// A longest filter: loads and jumps to the next index by turns, and a return.
 fn longest_filter(rt: &impl Abort, alloc: Global) -> Program {
     let pairs = "ld #9; ja 0;".repeat(alloc, 2047).expect(rt, "no fault");
     assembled(rt, alloc, pairs.as_str(), "ld #9; ret #0x7fff0000")
 }
 
-/// Whether these are the places from 0 on.
-fn are_in_order(places: &[usize]) -> bool {
+/// Whether these are the indices from 0 on.
+fn are_in_order(indices: &[usize]) -> bool {
     let mut are_so = true;
-    for (steps, place) in places.iter().enumerate() {
-        are_so &= *place == steps;
+    for (steps, index) in indices.iter().enumerate() {
+        are_so &= *index == steps;
     }
     are_so
 }
 
-/// A call goes through each place of a longest filter, which allows it.
+/// A call goes through each index of a longest filter, which allows it.
 fn goes_through(rt: &impl Abort, alloc: Global, program: &Program, call: &CallRecord) {
     let path = trace(alloc, program, call).expect(rt, "no fault");
-    assert!(rt; path.answer == Answer(ALLOW) && path.places.len() == 4096);
-    assert!(rt; are_in_order(&path.places));
+    assert!(rt; path.answer == Answer(ALLOW) && path.indices.len() == 4096);
+    assert!(rt; are_in_order(&path.indices));
 }
 
 #[test]
@@ -231,8 +231,8 @@ fn full_stacks_beside_a_profile(rt: HostRuntime) {
 /// What the names of a number begin with. With the number behind each, they are in the order of their bytes.
 const BEGINS: &[&'static str] = &["B", "Z", "_", "a", "a_", "az", "z", "zz"];
 
-fn begin_at(place: usize) -> Option<&'static str> {
-    BEGINS.get(place).copied()
+fn begin_at(index: usize) -> Option<&'static str> {
+    BEGINS.get(index).copied()
 }
 
 /// Writes a name of each of 5,000 numbers, three times those below that.
@@ -264,20 +264,20 @@ fn is_name(table: &CallTable, name: &str, begin: Option<&str>, number: u32) -> b
 /// Whether these are the names that the table has this number under.
 fn are_names(table: &CallTable, names: &[&str], number: u32) -> bool {
     let mut are_names = names.len() == 8;
-    for (place, name) in names.iter().enumerate() {
-        are_names &= is_name(table, name, begin_at(place), number);
+    for (index, name) in names.iter().enumerate() {
+        are_names &= is_name(table, name, begin_at(index), number);
     }
     are_names
 }
 
 /// That each call has its number and the eight names of it, under which the table has it, too.
 fn have_their_names(rt: &impl Abort, table: &CallTable, calls: &[NamedCall<'_>]) {
-    for (place, call) in calls.iter().enumerate() {
-        let is_number = call.number as usize == 3 * place;
+    for (index, call) in calls.iter().enumerate() {
+        let is_number = call.number as usize == 3 * index;
         holds_at(
             rt,
             is_number && are_names(table, &call.names, call.number),
-            place,
+            index,
         );
     }
 }
@@ -299,9 +299,9 @@ fn table_of_5000_numbers_of_8_names(rt: HostRuntime) {
 /// That these are 4096 numbers from 7 on, with a rule each.
 fn have_a_rule_each(rt: &impl Abort, numbers: &[NumberRules]) {
     assert!(rt; numbers.len() == 4096);
-    for (place, own) in numbers.iter().enumerate() {
-        let is_so = own.number as usize == place + 7 && own.rules.len() == 1;
-        holds_at(rt, is_so, place);
+    for (index, own) in numbers.iter().enumerate() {
+        let is_so = own.number as usize == index + 7 && own.rules.len() == 1;
+        holds_at(rt, is_so, index);
     }
 }
 

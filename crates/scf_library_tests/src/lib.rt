@@ -4,7 +4,7 @@
 //! A large table stands behind a call here: a proof looks into a constant, and not into what a call gives. What is
 //! equal is asserted by `assert!`, and a result taken by `expect`: `assert_eq!` and `?` take twice the proof, the one
 //! for what it prints, the other since what is owned is dropped on one way more. The body of a loop is a function, and
-//! a list beside another is gone through by places: a zip or a closure takes several times the proof.
+//! a list beside another is gone through by indices: a zip or a closure takes several times the proof.
 #![tactic(auto)]
 
 #[cfg(test)]

@@ -168,11 +168,11 @@ fn decided(answers: &[u32]) -> Answer {
     decided
 }
 
-/// That the filters of a stack give these answers, each at its place.
+/// That the filters of a stack give these answers, each at its index.
 fn give(rt: &impl Abort, stack: &FilterStack, call: &CallRecord, answers: &[u32]) {
-    for (place, answer) in answers.iter().enumerate() {
-        let filter = stack.get(place).expect(rt, "a filter");
-        holds_at(rt, run(filter, call).answer == Answer(*answer), place);
+    for (index, answer) in answers.iter().enumerate() {
+        let filter = stack.get(index).expect(rt, "a filter");
+        holds_at(rt, run(filter, call).answer == Answer(*answer), index);
     }
 }
 

@@ -103,8 +103,8 @@ fn is_rule(rule: &Rule, wanted: Option<&(u32, u32)>) -> bool {
 /// Whether these are rules of these numbers and entries.
 fn are_rules(rules: &[Rule], wanted: &[(u32, u32)]) -> bool {
     let mut are_so = rules.len() == wanted.len();
-    for (place, rule) in rules.iter().enumerate() {
-        are_so &= is_rule(rule, wanted.get(place));
+    for (index, rule) in rules.iter().enumerate() {
+        are_so &= is_rule(rule, wanted.get(index));
     }
     are_so
 }

@@ -19,8 +19,8 @@ fn is_token(token: &Token<'_>, wanted: Option<&(usize, &[u8])>) -> bool {
 /// Whether tokens are these, with their starts.
 fn are(found: &[Token<'_>], wanted: &[(usize, &[u8])]) -> bool {
     let mut are_so = found.len() == wanted.len();
-    for (place, token) in found.iter().enumerate() {
-        are_so &= is_token(token, wanted.get(place));
+    for (index, token) in found.iter().enumerate() {
+        are_so &= is_token(token, wanted.get(index));
     }
     are_so
 }

@@ -26,7 +26,7 @@ run_behind insns words s t xs answer steps a r = record {
 step_moves : (whole part : List Insn) (n : ℕ) (words : List ℕ) (s : State) (o : Outcome)
     → IsPart part n whole → step part words s ≡ o → ((fault : Fault) → o ≡ Faults fault → ⊥)
     → step whole words (moved n s) ≡ moved_outcome n o
-step_moves whole part n words s o is e fine = grind (arith, effect_moves, is s.place)
+step_moves whole part n words s o is e fine = grind (arith, effect_moves, is s.pc)
 
 pub answer_of_part : (whole part : List Insn) (n : ℕ) (words : List ℕ) (s : State) (answer : ℕ)
     → IsPart part n whole → step part words s ≡ Ends answer → step whole words (moved n s) ≡ Ends answer

@@ -21,7 +21,7 @@ pub use Rattle.scf_insn.specs.declared.operation.Register.TheVariants.{A}
 pub use Rattle.scf_machine.specs.Checks.{IsFineBelow, IsFirstFault, IsFirstWrong}
 pub use Rattle.scf_machine.specs.Machine.{Ends, Fault, Faults, Goes, IsChain, IsRun, IsRunFrom, Outcome, RunAnswers, RunsSafely, State, computation, effect, holds, jumps_to, loads, operand_of, sets, start, step, holds as test_holds, unless, value_computed, word_at}
 pub use Rattle.scf_machine.specs.Parts.{IsPart, moved}
-pub use Rattle.scf_machine.specs.Path.{places_of}
+pub use Rattle.scf_machine.specs.Path.{indices_of}
 pub use Rattle.scf_machine.specs.Plain.{IsPlainInsn, IsPlainOperation, IsPlainProgram}
 pub use Rattle.scf_machine.specs.Precedence.{AreAnswers, IsDecision, IsFirstLeast, StackAnswers, with_newest}
 pub use Rattle.scf_machine.specs.Rules.{Edge, GoesTo, IsFilter, IsFine, IsFineAt, IsPath, IsReturn, IsUnsetAt, IsValidList, KeepsScratchRule, Stands, stores_word}

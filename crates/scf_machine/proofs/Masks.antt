@@ -11,7 +11,7 @@ joined_bit : (masks : List ℕ) (target mask p n : ℕ) → target < length mask
     ≡ cond (nat_eq p target) (min (bit_at (get_or masks p 0) n) (bit_at mask n)) (bit_at (get_or masks p 0) n)
 joined_bit masks target mask p n inside = grind (arith, nat_tests, common_steps, bit_at_and)
 
--- a mask that loses bits at one place
+-- a mask that loses bits at one index
 pub joins_set : (masks : List ℕ) (target mask : ℕ) → target < length masks
     → Joins masks (set masks target (bit_and (get_or masks target 0) mask)) (λ p. p ≡ target) mask
 joins_set masks target mask inside = grind (arith, nat_tests, joined_bit, length-set {A = ℕ})
@@ -24,12 +24,12 @@ bit_set mask k n inside inside_n =
     grind (arith, nat_tests, bit_at_set_same w16 mask k fits, bit_at_set_other w16 mask k fits n)
 
 -- ---- the invariant
-below_more : (bound more : ℕ) (places : List ℕ)
-    → bound ≤ more → AllByRecursion (λ q. q < bound) places → AllByRecursion (λ q. q < more) places
+below_more : (bound more : ℕ) (indices : List ℕ)
+    → bound ≤ more → AllByRecursion (λ q. q < bound) indices → AllByRecursion (λ q. q < more) indices
 below_more bound more [] le h = tt
-below_more bound more (p ∷ places) le h = let here = h.0 in (omega arith, below_more bound more places le h.1)
+below_more bound more (p ∷ indices) le h = let here = h.0 in (omega arith, below_more bound more indices le h.1)
 
--- each place before a place on a path is below it
+-- each index before an index on a path is below it
 pub path_below : (insns : List Insn) (p : ℕ) (earlier : List ℕ)
     → IsPath insns p earlier → AllByRecursion (λ q. q < p) earlier
 path_below insns p [] path = tt
@@ -61,13 +61,13 @@ weaker insns bound p n h = grind (arith, below_more)
 cleared_parts : (b : Bool) (m : ℕ) → cond b 1 m ≡ 0 → (b ≡ false) × (m ≡ 0)
 cleared_parts b m h = grind arith
 
--- what is stored at a place, by its instruction
+-- what is stored at an index, by its instruction
 pub stores_is : (insns : List Insn) (p n : ℕ) (i : Insn) (operation : Operation)
     → Stands insns p i operation → stores_at insns n p ≡ stores_word operation i.k n
 unfolding stores_at
 stores_is insns p n i operation stands = grind arith
 
--- the instruction of a place is one, with its operation
+-- the instruction of an index is one, with its operation
 stands_once : (insns : List Insn) (p : ℕ) (i j : Insn) (a b : Operation)
     → Stands insns p i a → Stands insns p j b → (i ≡ j) × (a ≡ b)
 stands_once insns p i j a b first second = grind arith
@@ -135,7 +135,7 @@ none_here insns masks at i operation valid old inside stands set_bit n u =
     record { earlier = u.earlier; path = u.path; below = path_below insns at u.earlier u.path; unset = u.unset } in
     grind (arith, stands_once, fine_of, valid.each at inside, old.found at n inside, set_bit)
 
--- the places that were passed load no word that a path may leave unstored
+-- the indices that were passed load no word that a path may leave unstored
 abbrev pub NoneBelow : List Insn → ℕ → Type 0
 NoneBelow insns at = (p n : ℕ) → p < at → IsUnsetAt insns p n → ⊥
 
@@ -144,11 +144,11 @@ pub none_more : (insns : List Insn) (at : ℕ)
 none_more insns at before here p n below u = grind (arith, cases_eq p at, here n, before p n)
 
 pub keeps_rule : (insns : List Insn) → NoneBelow insns (length insns) → KeepsScratchRule insns
-keeps_rule insns none place n earlier loads path =
-    true_from_ne_false _ (λ unset. none place n (slice_get_within insns place loads.insn loads.stands.here)
+keeps_rule insns none pc n earlier loads path =
+    true_from_ne_false _ (λ unset. none pc n (slice_get_within insns pc loads.insn loads.stands.here)
     (record { loads = loads; earlier = earlier; path = path; unset = unset }))
 
--- at first each mask is full, and that of place 0 is empty
+-- at first each mask is full, and that of index 0 is empty
 pub masks_made : (insns : List Insn) (masks : List ℕ)
     → 0 < length insns → masks ≡ set (replicate (length insns) 65535) 0 0 → MasksAt insns masks 0
 masks_made insns masks some made = masks_start insns masks

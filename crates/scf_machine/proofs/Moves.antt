@@ -14,7 +14,7 @@ effect_continues operation i words s t e return = grind arith
 
 -- the next state is at the end of an edge
 pub effect_goes : (operation : Operation) (i : Insn) (words : List ℕ) (s t : State)
-    → effect operation i words s ≡ Goes t → GoesTo (Some operation) i s.place t.place
+    → effect operation i words s ≡ Goes t → GoesTo (Some operation) i s.pc t.pc
 effect_goes operation i words s t e = grind arith
 
 -- the next state has the words that were stored and the one that the operation stores
@@ -23,7 +23,7 @@ pub effect_stores : (operation : Operation) (i : Insn) (words : List ℕ) (s t :
 effect_stores operation i words s t n e stored = grind arith
 
 pub effect_passes : (len : ℕ) (operation : Operation) (i : Insn) (words : List ℕ) (s : State) (fault : Fault)
-    → IsFine len s.place i operation → ((r : Register) → operation ≡ LoadScratch r → IsStored s i.k)
+    → IsFine len s.pc i operation → ((r : Register) → operation ≡ LoadScratch r → IsStored s i.k)
     → effect operation i words s ≡ Faults fault → ⊥
 effect_passes len operation i words s fault fine stored e = grind (arith, nat_tests)
 
@@ -43,7 +43,7 @@ effect_moves n operation i words s = grind arith
 pub record StepFacts (insns : List Insn) (words : List ℕ) (s t : State) : Type 0 where
   pub insn : Insn
   pub operation : Operation
-  pub stands : Stands insns s.place insn operation
+  pub stands : Stands insns s.pc insn operation
   pub goes : effect operation insn words s ≡ Goes t
 
 pub step_facts : (insns : List Insn) (words : List ℕ) (s t : State)
@@ -51,6 +51,6 @@ pub step_facts : (insns : List Insn) (words : List ℕ) (s t : State)
 step_facts insns words s t e = grind arith
 
 pub step_stores : (insns : List Insn) (words : List ℕ) (s t : State) (n : ℕ) → step insns words s ≡ Goes t
-    → (stores_at insns n s.place ≡ true) ⊎ IsStored s n → IsStored t n
+    → (stores_at insns n s.pc ≡ true) ⊎ IsStored s n → IsStored t n
 unfolding stores_at
 step_stores insns words s t n e stored = grind (arith, effect_stores)

@@ -3,7 +3,7 @@ use Rattle.scf_machine.proofs.Common.{sym, ◌∙◌, ◌≢◌, ◌-◌, List, 
 use Rattle.scf_machine.proofs.Runs.{fine_of}
 
 wrong_none : (insns : List Insn) (fault : CheckFault) → IsValidList insns → IsFirstWrong insns fault → ⊥
-wrong_none insns fault v w = grind (arith, fine_of, v.each w.place, slice_get_within insns w.place w.insn w.here)
+wrong_none insns fault v w = grind (arith, fine_of, v.each w.pc, slice_get_within insns w.pc w.insn w.here)
 
 pub only_where : (insns : List Insn) (e : CheckFault)
     → IsFirstFault insns e → e ≢ Memory → IsValidList insns → KeepsScratchRule insns → ⊥

@@ -1,12 +1,12 @@
 -- Chains of steps are paths, and end.
-use Rattle.scf_machine.proofs.Common.{◌≡◌, ℕ, zero, suc, ◌+◌, ◌<◌, ◌≤◌, true, List, [], ◌∷◌, Some, refl, arith, length, slice_get, list_any, Insn, Operation, State, Outcome, Goes, Ends, Faults, Fault, effect, step, IsChain, RunAnswers, RunsSafely, start, places_of, IsFine, IsFineAt, IsValidList, GoesTo, Edge, Stands, stores_at, IsPath, KeepsScratchRule}
+use Rattle.scf_machine.proofs.Common.{◌≡◌, ℕ, zero, suc, ◌+◌, ◌<◌, ◌≤◌, true, List, [], ◌∷◌, Some, refl, arith, length, slice_get, list_any, Insn, Operation, State, Outcome, Goes, Ends, Faults, Fault, effect, step, IsChain, RunAnswers, RunsSafely, start, indices_of, IsFine, IsFineAt, IsValidList, GoesTo, Edge, Stands, stores_at, IsPath, KeepsScratchRule}
 use Rattle.scf_machine.proofs.Moves.{IsStored, step_facts, effect_continues, effect_goes, effect_passes, step_stores}
 
 pub step_is : (insns : List Insn) (words : List ℕ) (s : State) (i : Insn) (operation : Operation)
-    → Stands insns s.place i operation → step insns words s ≡ effect operation i words s
+    → Stands insns s.pc i operation → step insns words s ≡ effect operation i words s
 step_is insns words s i operation stands = grind arith
 
--- the instruction of a place is one
+-- the instruction of an index is one
 pub same_insn : (insns : List Insn) (p : ℕ) (i j : Insn)
     → slice_get insns p ≡ Some i → slice_get insns p ≡ Some j → i ≡ j
 same_insn insns p i j a b = cc
@@ -17,7 +17,7 @@ fine_of insns p i operation fine stands = grind arith
 
 -- ---- edges go forward, and stay inside
 pub step_edge : (insns : List Insn) (words : List ℕ) (s t : State)
-    → step insns words s ≡ Goes t → Edge insns s.place t.place
+    → step insns words s ≡ Goes t → Edge insns s.pc t.pc
 step_edge insns words s t e = grind (arith, effect_goes)
 
 pub edge_forward : (insns : List Insn) (p t : ℕ) → Edge insns p t → p < t
@@ -28,7 +28,7 @@ goes_inside : (len : ℕ) (operation : Operation) (i : Insn) (p t : ℕ)
 goes_inside len operation i p t fine goes next = grind arith
 
 step_inside : (insns : List Insn) (words : List ℕ) (s t : State)
-    → IsValidList insns → s.place < length insns → step insns words s ≡ Goes t → t.place < length insns
+    → IsValidList insns → s.pc < length insns → step insns words s ≡ Goes t → t.pc < length insns
 step_inside insns words s t valid inside e =
     let facts = step_facts insns words s t e in
     grind (
@@ -37,16 +37,16 @@ step_inside insns words s t valid inside e =
       effect_continues,
       effect_goes,
       fine_of,
-      valid.each s.place inside,
+      valid.each s.pc inside,
       valid.last facts.insn facts.operation,
     )
 
 -- ---- what is known of a state that a chain from the start comes to
 pub record Reached (insns : List Insn) (s : State) (earlier : List State) : Type 0 where
-  pub inside : s.place < length insns
-  pub slow : length earlier ≤ s.place
-  pub path : IsPath insns s.place (places_of earlier)
-  pub stored : (n : ℕ) → list_any (stores_at insns n) (places_of earlier) ≡ true → IsStored s n
+  pub inside : s.pc < length insns
+  pub slow : length earlier ≤ s.pc
+  pub path : IsPath insns s.pc (indices_of earlier)
+  pub stored : (n : ℕ) → list_any (stores_at insns n) (indices_of earlier) ≡ true → IsStored s n
 
 reached_next : (insns : List Insn) (words : List ℕ) (s t : State) (earlier : List State)
     → IsValidList insns → Reached insns s earlier → step insns words s ≡ Goes t → Reached insns t (s ∷ earlier)
@@ -66,7 +66,7 @@ pub never_faults : (insns : List Insn) (words : List ℕ) → IsValidList insns 
     → step insns words s ≡ Faults fault → ⊥
 never_faults insns words valid rule s earlier fault chain e =
     let at = reached insns words s earlier valid chain in
-    grind (arith, effect_passes, valid.each s.place at.inside, rule s.place)
+    grind (arith, effect_passes, valid.each s.pc at.inside, rule s.pc)
 
 pub run_length : (insns : List Insn) (words : List ℕ) → IsValidList insns
     → (s : State) (earlier : List State) → IsChain insns words start s earlier → length earlier + 1 ≤ length insns

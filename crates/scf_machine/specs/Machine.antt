@@ -21,15 +21,16 @@ use Rattle.scf_insn.specs.declared.operation.Operation.TheVariants.{CopyToAccumu
 use Rattle.scf_insn.specs.Codes.{operation_of}
 use Rattle.scf_insn.specs.Kernel.{bpf_memwords, seccomp_data_len}
 
--- A state: next place, accumulator, index register, and the scratch words that were stored, by index, the newest first.
+-- A state: the index of the next instruction, the accumulator, the index register, and the scratch words that were
+-- stored, by their index, the newest first.
 pub record State : Type 0 where
-  pub place : ℕ
+  pub pc : ℕ
   pub a : ℕ
   pub x : ℕ
   pub scratch : List (ℕ × ℕ)
 
 abbrev pub start : State
-start = record { place = 0; a = 0; x = 0; scratch = [] }
+start = record { pc = 0; a = 0; x = 0; scratch = [] }
 
 -- Why a machine can't go on.
 pub data Fault : Type 0 where
@@ -51,16 +52,16 @@ value_of X s = s.x
 
 -- the next state, at the next instruction, with a register set
 abbrev pub sets : Register → State → ℕ → State
-sets A s n = record s { place = s.place + 1; a = n }
-sets X s n = record s { place = s.place + 1; x = n }
+sets A s n = record s { pc = s.pc + 1; a = n }
+sets X s n = record s { pc = s.pc + 1; x = n }
 
 -- the next state, at the next instruction, with a scratch word stored
 abbrev pub stores : State → ℕ → ℕ → State
-stores s n value = record s { place = s.place + 1; scratch = (n, value) ∷ s.scratch }
+stores s n value = record s { pc = s.pc + 1; scratch = (n, value) ∷ s.scratch }
 
 -- the state at the target of a jump
 abbrev pub jumps_to : State → ℕ → State
-jumps_to s target = record s { place = target }
+jumps_to s target = record s { pc = target }
 
 -- the second operand of a test: the constant k, or the index register
 abbrev pub operand_of : Operand → Insn → State → ℕ
@@ -122,9 +123,9 @@ effect (StoreScratch r) i words s =
     unless (nat_lt i.k bpf_memwords) NoSuchScratchWord (Goes (stores s i.k (value_of r s)))
 effect (Compute arithmetic operand) i words s = computation arithmetic operand i s
 effect Negate i words s = Goes (sets A s ((2 ^ 32 - s.a) % 2 ^ 32))
-effect Jump i words s = Goes (jumps_to s (s.place + 1 + i.k))
+effect Jump i words s = Goes (jumps_to s (s.pc + 1 + i.k))
 effect (JumpIf test operand) i words s =
-    Goes (jumps_to s (s.place + 1 + (if holds test s.a (operand_of operand i s) then i.jt else i.jf)))
+    Goes (jumps_to s (s.pc + 1 + (if holds test s.a (operand_of operand i s) then i.jt else i.jf)))
 effect ReturnConstant i words s = Ends i.k
 effect ReturnAccumulator i words s = Ends s.a
 effect CopyToIndex i words s = Goes (sets X s s.a)
@@ -133,7 +134,7 @@ effect CopyToAccumulator i words s = Goes (sets A s s.x)
 -- one step of a list of instructions, accepted or not: a next state, an answer or a fault
 abbrev pub step : List Insn → List ℕ → State → Outcome
 step insns words s = option_map_or (λ i. option_map_or (λ operation. effect operation i words s)
-    (operation_of i.code) (Faults UnknownCode)) (slice_get insns s.place) (Faults NoInstruction)
+    (operation_of i.code) (Faults UnknownCode)) (slice_get insns s.pc) (Faults NoInstruction)
 
 -- A chain of steps from a state: it comes to another through earlier ones, the latest first.
 abbrev pub IsChain : List Insn → List ℕ → State → State → List State → Type 0

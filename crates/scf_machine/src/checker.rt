@@ -101,7 +101,7 @@ fn fault_of(operation: Operation, at: usize) -> CheckFault
     }
 }
 
-fn check_place(insns: &[Insn], at: usize) -> Result<(), CheckFault>
+fn check_pc(insns: &[Insn], at: usize) -> Result<(), CheckFault>
     requires inside { at < length insns.now }
     requires before { IsFineBelow insns.now at }
     ensures ok { OnOk result (IsFineAt insns.now at) }
@@ -118,14 +118,14 @@ fn check_place(insns: &[Insn], at: usize) -> Result<(), CheckFault>
     }
 }
 
-fn check_places(insns: &[Insn]) -> Result<(), CheckFault>
+fn check_insns(insns: &[Insn]) -> Result<(), CheckFault>
     requires some { 0 < length insns.now }
     requires few { length insns.now ≤ bpf_maxinsns }
     ensures ok { OnOk result (IsFineBelow insns.now (length insns.now)) }
     ensures err { IfErr result (IsFirstFault insns.now) }
 {
     for at in 0..insns.len() {
-        check_place(insns, at)?;
+        check_pc(insns, at)?;
     }
     Ok(())
 }
@@ -266,7 +266,7 @@ fn find_fault(alloc: Global, insns: &[Insn]) -> Result<(), CheckFault>
     if insns.len() > BPF_MAXINSNS {
         return Err(CheckFault::TooLong);
     }
-    check_places(insns)?;
+    check_insns(insns)?;
     check_last(insns)?;
     check_scratch(alloc, insns)
 }

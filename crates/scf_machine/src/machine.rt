@@ -29,7 +29,7 @@ const RECORD_LEN: u32 = SECCOMP_DATA_LEN as u32;
 /// The registers and scratch words of the machine.
 #[derive(Clone, Copy)]
 struct Registers {
-    place: usize,
+    pc: usize,
     a: u32,
     x: u32,
     scratch: [u32; BPF_MEMWORDS],
@@ -76,7 +76,7 @@ impl Registers {
         ensures { StandFor result start }
     {
         Registers {
-            place: 0,
+            pc: 0,
             a: 0,
             x: 0,
             scratch: [0; BPF_MEMWORDS],
@@ -85,39 +85,39 @@ impl Registers {
 
     /// Sets a register and goes to the next instruction.
     fn set(&mut self, register: Register, value: u32)
-        requires { self.old.place < bpf_maxinsns }
+        requires { self.old.pc < bpf_maxinsns }
         ensures { (s : State) (v : ℕ) → StandFor self.old s → v ≡ value → StandFor self.new (sets register s v) }
     {
         match register {
             Register::A => self.a = value,
             Register::X => self.x = value,
         }
-        self.place += 1;
+        self.pc += 1;
     }
 
     /// Stores a scratch word and goes to the next instruction.
     fn store(&mut self, index: u8, value: u32)
-        requires place { self.old.place < bpf_maxinsns }
+        requires pc { self.old.pc < bpf_maxinsns }
         requires index { index < bpf_memwords }
         ensures { (s : State) (v : ℕ) → StandFor self.old s → v ≡ value → StandFor self.new (stores s index v) }
     {
         self.scratch[index as usize] = value;
-        self.place += 1;
+        self.pc += 1;
     }
 
     /// Skips `count` instructions behind the next.
     #[inline(always)]
     fn jump(&mut self, offset: u8)
-        requires { self.old.place < bpf_maxinsns }
-        ensures { (s : State) → StandFor self.old s → StandFor self.new (jumps_to s (s.place + 1 + offset)) }
+        requires { self.old.pc < bpf_maxinsns }
+        ensures { (s : State) → StandFor self.old s → StandFor self.new (jumps_to s (s.pc + 1 + offset)) }
     {
-        self.place += 1 + offset as usize;
+        self.pc += 1 + offset as usize;
     }
 
     /// Computes on the accumulator and goes to the next instruction.
     #[inline(always)]
     fn compute(&mut self, arithmetic: Arithmetic, value: u32)
-        requires place { self.old.place < bpf_maxinsns }
+        requires pc { self.old.pc < bpf_maxinsns }
         requires divisor { arithmetic ≡ Arithmetic.Div → value ≢ 0 }
         requires left { arithmetic ≡ Arithmetic.Lsh → value < 32 }
         requires right { arithmetic ≡ Arithmetic.Rsh → value < 32 }
@@ -131,7 +131,7 @@ impl Registers {
     #[inline(always)]
     #[tactic(auto, using(crate::proofs::Steps::computes_by_index))]
     fn compute_by_index(&mut self, arithmetic: Arithmetic) -> Option<Answer>
-        requires { self.old.place < bpf_maxinsns }
+        requires { self.old.pc < bpf_maxinsns }
         ensures { (i : Insn) (s : State) → StandFor self.old s
             → Agrees (computation arithmetic Operand.Index i s) result self.new }
     {
@@ -152,9 +152,9 @@ impl Registers {
     /// Goes where a test of the accumulator leads.
     #[inline(always)]
     fn branch(&mut self, test: Test, value: u32, insn: &Insn)
-        requires { self.old.place < bpf_maxinsns }
+        requires { self.old.pc < bpf_maxinsns }
         ensures { (s : State) (v : ℕ) → StandFor self.old s → v ≡ value → StandFor self.new
-            (jumps_to s (s.place + 1 + (if holds test s.a v then insn.now.jt else insn.now.jf))) }
+            (jumps_to s (s.pc + 1 + (if holds test s.a v then insn.now.jt else insn.now.jf))) }
     {
         if holds_of(test, self.a, value) {
             self.jump(insn.jt);
@@ -167,8 +167,8 @@ impl Registers {
     /// runs.
     #[inline(always)]
     fn step(&mut self, insn: &Insn, operation: Operation, words: &[u32; 16]) -> Option<Answer>
-        requires place { self.old.place < bpf_maxinsns }
-        requires fine { IsFine bpf_maxinsns self.old.place insn.now operation }
+        requires pc { self.old.pc < bpf_maxinsns }
+        requires fine { IsFine bpf_maxinsns self.old.pc insn.now operation }
         ensures { (s : State) → StandFor self.old s
             → Agrees (effect operation insn.now words.now s) result self.new }
     {
@@ -186,7 +186,7 @@ impl Registers {
                 return self.compute_by_index(arithmetic);
             }
             Operation::Negate => self.set(Register::A, 0u32.wrapping_sub(self.a)),
-            Operation::Jump => self.place += 1 + insn.k as usize,
+            Operation::Jump => self.pc += 1 + insn.k as usize,
             Operation::JumpIf(test, Operand::Constant) => self.branch(test, insn.k, insn),
             Operation::JumpIf(test, Operand::Index) => self.branch(test, self.x, insn),
             Operation::ReturnConstant => return Some(Answer(insn.k)),
@@ -205,7 +205,7 @@ impl Registers {
         ensures follows { (earlier : List State) (at : IsAt program.now words.now self.old earlier)
             → Follows program.now words.now at.state result self.new }
     {
-        let insn = &program.list[self.place];
+        let insn = &program.list[self.pc];
         let Some(operation) = insn.operation() else {
             unreachable!();
         };
@@ -239,20 +239,20 @@ pub fn run(program: &Program, call: &CallRecord) -> Ran
 /// `Err`: an allocation failed.
 pub fn trace(alloc: Global, program: &Program, call: &CallRecord) -> Result<Trace, Memory>
     ensures path { IfOk result (λ t.
-        IsPathOf program.now (words_of call.now) t.answer.0 t.places.items) }
+        IsPathOf program.now (words_of call.now) t.answer.0 t.indices.items) }
     // The path is as long as the run, and the answer is the run's.
     ensures run { IfOk result (λ t.
-        IsRun program.now (words_of call.now) t.answer.0 (length t.places.items)) }
-    ensures bound { IfOk result (λ t. length t.places.items ≤ length program.now) }
+        IsRun program.now (words_of call.now) t.answer.0 (length t.indices.items)) }
+    ensures bound { IfOk result (λ t. length t.indices.items ≤ length program.now) }
 {
     let words = call.words();
     let mut registers = Registers::new();
-    let mut places = Vec::new(alloc);
+    let mut indices = Vec::new(alloc);
     loop {
-        places.push(registers.place)?;
+        indices.push(registers.pc)?;
         let answered = registers.advance(program, &words);
         if let Some(answer) = answered {
-            return Ok(Trace { answer, places });
+            return Ok(Trace { answer, indices });
         }
     }
 }

@@ -7,5 +7,5 @@ use scf_insn::Answer;
 #[derive(Debug, Drop)]
 pub struct Trace {
     pub answer: Answer,
-    pub places: Vec<usize>,
+    pub indices: Vec<usize>,
 }

@@ -1,7 +1,7 @@
 -- The first line of a text, and the first field of a line.
 use Rattle.scf_profile.proofs.Common.{◌≡◌, ℕ, ◌+◌, ◌<◌, Bool, true, false, cond, eqb, ltb, List, [], ◌∷◌, ◌++◌, length, get_or, take, drop, All, refl, sym, ap, ◌∙◌, arith, add-one, zero, suc, slice_split, filter, lines, lines_of_parts, strip_carriage_return, drop-cons, lt-ltb, ne_eqb, both_ways, take-append-drop, length-take, slice_split_at, slice_split_none, slice_split-cons_yes, length-slice_split, is_separator, fields}
 
--- a list from a place on
+-- a list from an index on
 from_at : (xs : List ℕ) (i : ℕ) → i < length xs → drop i xs ≡ get_or xs i 0 ∷ drop (i + 1) xs
 from_at xs i lt = rw (add-one, drop-cons xs i 0)
 

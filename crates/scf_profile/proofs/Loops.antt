@@ -1,7 +1,7 @@
 -- Loops over the items of an array.
 use Rattle.scf_profile.proofs.Common.{common_steps, ◌≡◌, ℕ, suc, ◌+◌, ◌<◌, ◌≤◌, List, [], ◌∷◌, length, get_or, drop, refl, sym, ap, ◌∙◌, add-one, String, Global, Bool, map, ◌||◌, drop-cons, list_any, drop_all, Value, item, no_items, view, items_view, members_view, items_len, members_len}
 
--- the items from a place on, in the words that a search finds
+-- the items from an index on, in the words that a search finds
 pub items_at : (vs : List Value) (i : ℕ) (d : Value) → i < length vs
     → (get_or vs i d ≡ get_or vs i d)
     × (items_view (drop i vs) ≡ item (view (get_or vs i d)) (items_view (drop (i + 1) vs)))

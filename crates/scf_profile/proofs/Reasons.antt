@@ -42,10 +42,10 @@ pub answer_of_reason : (p : Profile) (call : CallRecord) (reason : Reason) (answ
 answer_of_reason p call Foreign answer none fits reason (foreign h) = refl
 answer_of_reason p call Foreign answer none fits reason (by_rule s native has met) = absurd (reason native)
 answer_of_reason p call Foreign answer none fits reason (by_default native no_rule) = absurd (reason native)
-answer_of_reason p call (Entry place) answer none fits reason (foreign h) = absurd (h reason.0)
-answer_of_reason p call (Entry place) answer none fits reason (by_rule s native has_too met_too) =
+answer_of_reason p call (Entry index) answer none fits reason (foreign h) = absurd (h reason.0)
+answer_of_reason p call (Entry index) answer none fits reason (by_rule s native has_too met_too) =
     λ r has stated met. same_answer s r call (none s r has_too has) fits met_too met
-answer_of_reason p call (Entry place) answer none fits reason (by_default native no_rule) =
+answer_of_reason p call (Entry index) answer none fits reason (by_default native no_rule) =
     λ r has stated met. absurd (both_ways _ (no_rule r has) met)
 answer_of_reason p call Default answer none fits reason (foreign h) = absurd (h reason.0)
 answer_of_reason p call Default answer none fits reason (by_rule s native has met) =

@@ -4,48 +4,48 @@ use Rattle.scf_profile.specs.declared.entry.Entry.{Entry}
 use Rattle.scf_profile.specs.Loading.{IsClash}
 use Rattle.scf_profile.proofs.Answering.{conflicts_both_ways}
 
--- the rule that an entry at a place states for a number
+-- the rule that an entry at an index states for a number
 abbrev rule_for : ℕ → Entry → ℕ → Rule
-rule_for place e number = record { number = number; conditions = e.conditions; answer = e.answer; entry = place }
+rule_for index e number = record { number = number; conditions = e.conditions; answer = e.answer; entry = index }
 
 -- what holds of the rule for each number that a name has
-module _ (P : Rule → Type 0) (table : Names) (place : ℕ) (e : Entry)
-    (each : (name : List ℕ) (number : ℕ) → get table name ≡ Some number → P (rule_for place e number)) where
-  all_named : (names : List (List ℕ)) → All P (rules_named table place e names)
+module _ (P : Rule → Type 0) (table : Names) (index : ℕ) (e : Entry)
+    (each : (name : List ℕ) (number : ℕ) → get table name ≡ Some number → P (rule_for index e number)) where
+  all_named : (names : List (List ℕ)) → All P (rules_named table index e names)
   all_named [] = All-nil P
   all_named (name ∷ names) = by_number (get table name) refl (all_named names) where
-    by_number : (o : Option ℕ) → get table name ≡ o → All P (rules_named table place e names)
-        → All P (cons_option (option_map (rule_for place e) o) (rules_named table place e names))
+    by_number : (o : Option ℕ) → get table name ≡ o → All P (rules_named table index e names)
+        → All P (cons_option (option_map (rule_for index e) o) (rules_named table index e names))
     by_number None is rest = rest
-    by_number (Some number) is rest = All-cons P (rule_for place e number) _ (each name number is) rest
+    by_number (Some number) is rest = All-cons P (rule_for index e number) _ (each name number is) rest
 
--- a rule is within its ranges, and has the answer of the entry at its place, where these are those from a place on
+-- a rule is within its ranges, and has the answer of the entry at its index, where these are those from an index on
 abbrev IsStated : ℕ → List Answer → Rule → Type 0
-IsStated place answers r =
-    (k : ℕ) × IsRule r × (r.entry ≡ place + k) × (r.answer ≡ get_or answers k (record { 0 = 0 }))
+IsStated index answers r =
+    (k : ℕ) × IsRule r × (r.entry ≡ index + k) × (r.answer ≡ get_or answers k (record { 0 = 0 }))
 
-all_stated : (table : Names) → AreCallNumbers table → (place : ℕ) (es : List Entry) → All IsEntry es
-    → All (IsStated place (map (λ e. e.answer) es)) (rules_from table place es)
-all_stated table below place [] h = All-nil (IsStated place [])
-all_stated table below place (e ∷ es) h =
+all_stated : (table : Names) → AreCallNumbers table → (index : ℕ) (es : List Entry) → All IsEntry es
+    → All (IsStated index (map (λ e. e.answer) es)) (rules_from table index es)
+all_stated table below index [] h = All-nil (IsStated index [])
+all_stated table below index (e ∷ es) h =
     let here : IsEntry e = All-head IsEntry e es h in
     let answers = map (λ (x : Entry). x.answer) es in
-    let P = IsStated place (e.answer ∷ answers) in
-    All-append P (rules_named table place e e.names) (rules_from table (place + 1) es)
-    (all_named P table place e (λ name number is.
-    let fine : IsRule (rule_for place e number) =
+    let P = IsStated index (e.answer ∷ answers) in
+    All-append P (rules_named table index e e.names) (rules_from table (index + 1) es)
+    (all_named P table index e (λ name number is.
+    let fine : IsRule (rule_for index e number) =
     record { number = below name number is; answer = here.answer; conditions = here.conditions } in
     (0, fine, omega arith, refl)) e.names)
-    (All-weaker (IsStated (place + 1) answers) P (λ r h. (suc h.0, h.1, omega (arith, h.2), h.3))
-    (rules_from table (place + 1) es) (all_stated table below (place + 1) es (All-tail IsEntry e es h)))
+    (All-weaker (IsStated (index + 1) answers) P (λ r h. (suc h.0, h.1, omega (arith, h.2), h.3))
+    (rules_from table (index + 1) es) (all_stated table below (index + 1) es (All-tail IsEntry e es h)))
 
 -- ---- one name after another
 
-pub rules_first : (table : Names) (place : ℕ) (e : Entry) (name : List ℕ) (names : List (List ℕ))
-    → rules_named table place e (name ∷ names)
-    ≡ rules_named table place e (name ∷ []) ++ rules_named table place e names
-rules_first table place e name names =
-    filter_map-append (λ n. option_map (rule_for place e) (get table n)) (name ∷ []) names
+pub rules_first : (table : Names) (index : ℕ) (e : Entry) (name : List ℕ) (names : List (List ℕ))
+    → rules_named table index e (name ∷ names)
+    ≡ rules_named table index e (name ∷ []) ++ rules_named table index e names
+rules_first table index e name names =
+    filter_map-append (λ n. option_map (rule_for index e) (get table n)) (name ∷ []) names
 
 pub skipped_first : (lacks : List ℕ → Bool) (name : List ℕ) (names : List (List ℕ))
     → filter lacks (name ∷ names) ≡ filter lacks (name ∷ []) ++ filter lacks names

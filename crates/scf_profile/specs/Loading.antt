@@ -18,7 +18,7 @@ pub record IsText (text : List ℕ) (d : Data) : Type 0 where
   pub utf8 : IsUtf8 text
   pub value : read text ≡ Some d
 
--- A rule and one of a later entry conflict: the places of their entries, and the number of the calls on which they do.
+-- A rule and one of a later entry conflict: the indices of their entries, and the number of the calls on which they do.
 pub record IsClash (rule later : Rule) (first second number : ℕ) : Type 0 where
   pub entry : rule.entry ≡ first
   pub later_entry : later.entry ≡ second

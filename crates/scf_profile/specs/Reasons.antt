@@ -10,19 +10,19 @@ use Rattle.scf_profile.specs.declared.rule.Rule.{Rule}
 use Rattle.scf_profile.specs.Rule.{meets}
 use Rattle.scf_profile.specs.Profile.{Profile, IsNative}
 
--- the places of the entries that state the rules which the call meets
+-- the indices of the entries that state the rules which the call meets
 abbrev pub entries_met : List Rule → CallRecord → List ℕ
 entries_met rules call = map (λ r. r.entry) (filter (λ r. meets r call) rules)
 
 abbrev pub IsReason : Profile → CallRecord → Reason → Type 0
 IsReason p call Foreign = IsNative call → ⊥
-IsReason p call (Entry place) =
-    IsNative call × Contains (entries_met p.rules call) place × All (λ other. place ≤ other) (entries_met p.rules call)
+IsReason p call (Entry index) =
+    IsNative call × Contains (entries_met p.rules call) index × All (λ other. index ≤ other) (entries_met p.rules call)
 IsReason p call Default = IsNative call × (entries_met p.rules call ≡ [])
 
 -- the answer that a reason stands for: an entry's is that of its rules which the call meets
 abbrev pub IsAnswerOf : Profile → CallRecord → Reason → ℕ → Type 0
 IsAnswerOf p call Foreign answer = answer ≡ seccomp_ret_kill_process
-IsAnswerOf p call (Entry place) answer =
-    (r : Rule) → Contains p.rules r → r.entry ≡ place → meets r call ≡ true → answer ≡ r.answer.0
+IsAnswerOf p call (Entry index) answer =
+    (r : Rule) → Contains p.rules r → r.entry ≡ index → meets r call ≡ true → answer ≡ r.answer.0
 IsAnswerOf p call Default answer = answer ≡ p.default_answer.0

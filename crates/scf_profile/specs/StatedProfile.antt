@@ -1,5 +1,5 @@
 -- What a JSON value and a call table state as a profile (OCI runtime specification, config-linux.md, seccomp): the
--- tests in their order, each a function to what is stated or to its fault. A fault carries the place of the entry of
+-- tests in their order, each a function to what is stated or to its fault. A fault carries the index of the entry of
 -- `syscalls` in which it stands, and none where it stands outside of them.
 use Rattle.std.specs.Prelude.{ℕ, ◌+◌, Bool, true, false, not, ◌&&◌, ◌==◌, List, [], ◌∷◌, ◌++◌, codes, length}
 use Rattle.std.specs.Prelude.{◌||◌, Option, Some, None, ok_or, Result, Ok, nat_lt, if◌then◌else◌, is_none, is_some, option_map, ⊤}
@@ -135,15 +135,15 @@ seccomp_of root =
 
 -- ---- with the call table
 
--- the rules that an entry at a place states: one for each occurrence of a name that the table has
+-- the rules that an entry at an index states: one for each occurrence of a name that the table has
 abbrev pub rules_named : Names → ℕ → Entry → List (List ℕ) → List Rule
-rules_named table place e names = filter_map (λ name. option_map (λ number.
-    record { number = number; conditions = e.conditions; answer = e.answer; entry = place }) (get table name)) names
+rules_named table index e names = filter_map (λ name. option_map (λ number.
+    record { number = number; conditions = e.conditions; answer = e.answer; entry = index }) (get table name)) names
 
--- those of the entries from this place on
+-- those of the entries from this index on
 abbrev pub rules_from : Names → ℕ → List Entry → List Rule
-rules_from table place [] = []
-rules_from table place (e ∷ es) = rules_named table place e e.names ++ rules_from table (place + 1) es
+rules_from table index [] = []
+rules_from table index (e ∷ es) = rules_named table index e e.names ++ rules_from table (index + 1) es
 
 -- each occurrence of a name that the table lacks
 abbrev pub skipped_names : Names → List Entry → List (List ℕ)
@@ -153,7 +153,7 @@ abbrev pub x86_64 : List ℕ
 x86_64 = codes "SCMP_ARCH_X86_64"
 
 -- What the root states, but for conflicts among its rules. x86-64 has to be among the architectures, unless there are
--- none. Each entry is at its place, which is how many stand before it.
+-- none. Each entry is at its index, which is how many stand before it.
 unfoldable pub profile_of : Names → Data → Result Loaded LoadFault
 profile_of table root = do
   d ← seccomp_of root

@@ -29,11 +29,11 @@ impl<'v> Entry<'v> {
 
     /// Parses the entry at an index.
     #[tactic(auto, using(std::proofs::lemmas::Grind::common_steps), unfolding(crate::specs::StatedProfile::entry_of))]
-    pub(crate) fn read(alloc: Global, place: u32, object: &'v Value) -> Result<Entry<'v>, LoadFault>
-        ensures value { Gives Memory result (entry_stated (Some place) (view object.now)) }
+    pub(crate) fn read(alloc: Global, index: u32, object: &'v Value) -> Result<Entry<'v>, LoadFault>
+        ensures value { Gives Memory result (entry_stated (Some index) (view object.now)) }
         ensures range { IfOk result IsEntry }
     {
-        let entry = Some(place);
+        let entry = Some(index);
         if !object.is_object() {
             return Err(LoadFault::Kind { entry });
         }

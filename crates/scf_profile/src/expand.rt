@@ -31,18 +31,18 @@ impl Expanded {
         &mut self,
         alloc: Global,
         table: &CallTable,
-        place: u32,
+        index: u32,
         entry: &Entry,
         name: &str,
     ) -> Result<(), LoadFault>
         requires { vec_len self.old.rules ≤ max_rules }
         ensures rules { OnOk result (self.new.rules.items
-            ≡ self.old.rules.items ++ rules_named table.now place entry.now (name.now ∷ [])) }
+            ≡ self.old.rules.items ++ rules_named table.now index entry.now (name.now ∷ [])) }
         ensures skipped { OnOk result (self.new.skipped
             ≡ self.old.skipped ++ filter (λ n. is_none (get table.now n)) (name.now ∷ [])) }
         ensures few { OnOk result (vec_len self.new.rules ≤ max_rules) }
         ensures err { IfErr result (TellsTooMany
-            (self.old.rules.items ++ rules_named table.now place entry.now (name.now ∷ []))) }
+            (self.old.rules.items ++ rules_named table.now index entry.now (name.now ∷ []))) }
     {
         let Some(number) = table.number_of(name) else {
             self.skipped.push(alloc, name)?;
@@ -56,7 +56,7 @@ impl Expanded {
             number,
             conditions,
             answer: entry.answer,
-            entry: place,
+            entry: index,
         })?;
         Ok(())
     }
@@ -67,20 +67,20 @@ impl Expanded {
         &mut self,
         alloc: Global,
         table: &CallTable,
-        place: u32,
+        index: u32,
         entry: &Entry,
     ) -> Result<(), LoadFault>
         requires { vec_len self.old.rules ≤ max_rules }
         ensures rules { OnOk result (self.new.rules.items
-            ≡ self.old.rules.items ++ rules_named table.now place entry.now entry.now.names) }
+            ≡ self.old.rules.items ++ rules_named table.now index entry.now entry.now.names) }
         ensures skipped { OnOk result (self.new.skipped
             ≡ self.old.skipped ++ filter (λ n. is_none (get table.now n)) entry.now.names) }
         ensures few { OnOk result (vec_len self.new.rules ≤ max_rules) }
         ensures err { IfErr result (TellsTooMany
-            (self.old.rules.items ++ rules_named table.now place entry.now entry.now.names)) }
+            (self.old.rules.items ++ rules_named table.now index entry.now entry.now.names)) }
     {
         for name in entry.names.as_slice() {
-            self.add_name(alloc, table, place, entry, name)?;
+            self.add_name(alloc, table, index, entry, name)?;
         }
         Ok(())
     }

@@ -102,10 +102,10 @@ fn entries_of<'v>(alloc: Global, items: &'v [Value]) -> Result<Vec<Entry<'v>>, L
     let mut entries = Vec::new(alloc);
     for item in items {
         // A text of `MAX_TEXT_LEN` bytes has fewer entries than `u32` has values.
-        let Ok(place) = u32::try_from(entries.len()) else {
+        let Ok(index) = u32::try_from(entries.len()) else {
             return Err(LoadFault::Memory);
         };
-        let entry = Entry::read(alloc, place, item)?;
+        let entry = Entry::read(alloc, index, item)?;
         entries.push(entry)?;
     }
     Ok(entries)

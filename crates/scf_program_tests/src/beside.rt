@@ -258,31 +258,31 @@ fn found(
     )
 }
 
-/// The readers of both stacks fail at a place after so many bytes: those before it were read to their ends, and none
+/// The readers of both stacks fail at an index after so many bytes: those before it were read to their ends, and none
 /// behind it is asked.
-fn fail_reader(rt: &impl Abort, alloc: Global, filter: &[u8], place: usize, share: usize) {
+fn fail_reader(rt: &impl Abort, alloc: Global, filter: &[u8], index: usize, share: usize) {
     let mut failing = [Failing::Never; 4];
-    *failing.get_mut(place).expect(rt, "a reader") = Failing::After(share);
+    *failing.get_mut(index).expect(rt, "a reader") = Failing::After(share);
     let (found, asks) = found(alloc, filter, &failing);
     let fault = VerifyFault::FilterRead(ReadFault::Read);
-    let wanted = if place < 2 {
+    let wanted = if index < 2 {
         BesideFault::Verify(fault)
     } else {
         BesideFault::Beside(fault)
     };
-    assert!(rt; found == Err(wanted), "{place} after {share}");
+    assert!(rt; found == Err(wanted), "{index} after {share}");
     for (at, count) in asks.iter().enumerate() {
-        let is_so = (*count > 0) == (at <= place);
-        assert!(rt; is_so, "{place} after {share}: {asks:?}");
+        let is_so = (*count > 0) == (at <= index);
+        assert!(rt; is_so, "{index} after {share}: {asks:?}");
     }
 }
 
 #[test]
 fn failing_readers_of_both_stacks(rt: HostRuntime) {
     let filter = filter_of(&rt, rt.alloc(), "ret a");
-    for place in 0..4 {
+    for index in 0..4 {
         for share in 0..=filter.len() {
-            fail_reader(&rt, rt.alloc(), &filter, place, share);
+            fail_reader(&rt, rt.alloc(), &filter, index, share);
         }
     }
 }

@@ -20,11 +20,11 @@ fn of_64_parts(rt: &impl Abort, alloc: Global) -> Vec<u8> {
     bundle
 }
 
-/// The part that stands at a place of them.
-fn part_at(place: usize) -> Part {
-    match place {
+/// The part that stands at an index of them.
+fn part_at(index: usize) -> Part {
+    match index {
         // A header of 9 bytes, and one instruction.
-        0..62 => part(PartKind::Filter, 17 * place + 9, 8),
+        0..62 => part(PartKind::Filter, 17 * index + 9, 8),
         // Headers of 11 bytes and of 8 behind 62 times 17 bytes.
         62 => part(PartKind::Profile, 1065, 34),
         _ => part(PartKind::Table, 1107, 0),
@@ -40,9 +40,9 @@ fn part(kind: PartKind, start: usize, length: usize) -> Part {
 }
 
 /// Whether each part stands where it is to.
-fn are_in_place(parts: &[Part]) -> bool {
-    for (place, part) in parts.iter().enumerate() {
-        if *part != part_at(place) {
+fn are_in_index(parts: &[Part]) -> bool {
+    for (index, part) in parts.iter().enumerate() {
+        if *part != part_at(index) {
             return false;
         }
     }
@@ -51,7 +51,7 @@ fn are_in_place(parts: &[Part]) -> bool {
 
 fn are_split(rt: &impl Abort, alloc: Global, bundle: &[u8]) {
     let parts = split(alloc, bundle).expect(rt, "parts");
-    let are_wanted = parts.len() == 64 && are_in_place(parts.as_slice());
+    let are_wanted = parts.len() == 64 && are_in_index(parts.as_slice());
     assert!(rt; are_wanted, "{parts:?}");
 }
 

@@ -21,7 +21,7 @@ enum Wanted {
     Same,
     /// A record of the call, which the stack and the profile answer so.
     Differs(u32, u32),
-    /// A place of one of the filters.
+    /// An index of one of the filters.
     Undecided(&'static [usize]),
     Unfinished,
 }
@@ -35,7 +35,7 @@ fn is_wanted(told: &CallFinding, wanted: Wanted) -> bool {
                 && left == Answer(of_stack)
                 && right == Answer(of_profile)
         }
-        (Finding::Undecided { at, .. }, Wanted::Undecided(places)) => places.contains(&at),
+        (Finding::Undecided { at, .. }, Wanted::Undecided(indices)) => indices.contains(&at),
         (Finding::Unfinished, Wanted::Unfinished) => true,
         _ => false,
     }
@@ -128,17 +128,17 @@ fn is_told(told: &CallFinding, call: &Call, is_ample: bool) -> bool {
     told.number == *number && are(told.names.as_slice(), names) && is_wanted(told, wanted)
 }
 
-/// That the verdict at a place is that on a call.
-fn tells(rt: &impl Abort, told: &[CallFinding], place: usize, call: &Call, is_ample: bool) {
-    let told = told.get(place).expect(rt, "a verdict");
+/// That the verdict at an index is that on a call.
+fn tells(rt: &impl Abort, told: &[CallFinding], index: usize, call: &Call, is_ample: bool) {
+    let told = told.get(index).expect(rt, "a verdict");
     let is_so = is_told(told, call, is_ample);
     assert!(rt; is_so, "{told:?}, {is_ample}");
 }
 
 /// That these are the verdicts on the calls of the table.
 fn tells_of_each(rt: &impl Abort, told: &[CallFinding], is_ample: bool) {
-    for (place, call) in calls().iter().enumerate() {
-        tells(rt, told, place, call, is_ample);
+    for (index, call) in calls().iter().enumerate() {
+        tells(rt, told, index, call, is_ample);
     }
 }
 
@@ -366,13 +366,13 @@ fn full_stack(rt: HostRuntime) {
     assert!(rt; unread_of(filters.as_slice()) == 1);
 }
 
-/// How often the reader at a place of four is asked, of so many bytes, where one fails after a share of its own. That
+/// How often the reader at an index of four is asked, of so many bytes, where one fails after a share of its own. That
 /// isn't asked again then, those before it were read to their ends, and none behind it is asked.
-fn asks_at(place: usize, length: usize, failing: usize, share: usize) -> u64 {
-    if place > failing {
+fn asks_at(index: usize, length: usize, failing: usize, share: usize) -> u64 {
+    if index > failing {
         return 0;
     }
-    let bytes = if place < failing { length } else { share };
+    let bytes = if index < failing { length } else { share };
     (bytes as u64).saturating_add(1)
 }
 
@@ -387,30 +387,30 @@ fn wanted_asks(given: &[&[u8]; 4], failing: usize, share: usize) -> [u64; 4] {
     ]
 }
 
-/// The reader at a place fails after so many bytes.
+/// The reader at an index fails after so many bytes.
 fn fail_read(
     rt: &impl Abort,
     alloc: Global,
     given: &[&[u8]; 4],
-    (place, share): (usize, usize),
+    (index, share): (usize, usize),
     wanted: VerifyFault,
 ) {
-    let asks = is_fault(rt, alloc, given, &failing_at(place, share), wanted);
-    let is_so = asks == wanted_asks(given, place, share);
+    let asks = is_fault(rt, alloc, given, &failing_at(index, share), wanted);
+    let is_so = asks == wanted_asks(given, index, share);
     assert!(rt; is_so, "{wanted:?} after {share}: {asks:?}");
 }
 
-/// The reader at a place fails after each count of its bytes.
+/// The reader at an index fails after each count of its bytes.
 fn fail_each_read(
     rt: &impl Abort,
     alloc: Global,
     given: &[&[u8]; 4],
-    place: usize,
+    index: usize,
     wanted: VerifyFault,
 ) {
-    let bytes = given.get(place).expect(rt, "a reader");
+    let bytes = given.get(index).expect(rt, "a reader");
     for share in 0..=bytes.len() {
-        fail_read(rt, alloc, given, (place, share), wanted);
+        fail_read(rt, alloc, given, (index, share), wanted);
     }
 }
 
@@ -427,8 +427,8 @@ fn read_faults() -> &'static [VerifyFault; 4] {
 }
 
 fn fail_each_reader(rt: &impl Abort, alloc: Global, given: &[&[u8]; 4]) {
-    for (place, wanted) in read_faults().iter().enumerate() {
-        fail_each_read(rt, alloc, given, place, *wanted);
+    for (index, wanted) in read_faults().iter().enumerate() {
+        fail_each_read(rt, alloc, given, index, *wanted);
     }
 }
 

@@ -78,17 +78,17 @@ fn with_code(rt: &impl Abort, alloc: Global, code: u8) -> (String, u8) {
     filter_fault(rt, alloc, fault_of_code(code))
 }
 
-/// What `decide` prints of the bundle in which the byte at this place is now this one, and its status.
+/// What `decide` prints of the bundle in which the byte at this index is now this one, and its status.
 fn wanted(
     rt: &impl Abort,
     alloc: Global,
     bundle: &[u8; 34],
-    place: usize,
+    index: usize,
     byte: u8,
 ) -> (String, u8) {
     let (oldest, newest) = bundle.split_at(PART);
-    let start = if place < PART { 0 } else { PART };
-    match (place - start, byte) {
+    let start = if index < PART { 0 } else { PART };
+    match (index - start, byte) {
         // The digit of a header, and the rest of it.
         (7, b'0'..=b'9') => with_count(rt, alloc, start, byte - b'0'),
         (0..HEADER, _) => bundle_fault(rt, alloc, "Header", start),
@@ -103,23 +103,23 @@ fn wanted(
     }
 }
 
-/// What is decided of the bundle in which the byte at this place is now this one.
-fn is_decided(rt: &impl Abort, alloc: Global, bundle: &[u8; 34], place: usize, byte: u8) {
-    let (text, status) = wanted(rt, alloc, bundle, place, byte);
+/// What is decided of the bundle in which the byte at this index is now this one.
+fn is_decided(rt: &impl Abort, alloc: Global, bundle: &[u8; 34], index: usize, byte: u8) {
+    let (text, status) = wanted(rt, alloc, bundle, index, byte);
     let ended = run(alloc, &["scf", "decide"], bundle, usize::MAX);
     let is_wanted = ended.is(text.as_bytes(), status, 0);
-    assert!(rt; is_wanted, "{byte} at {place}: {ended:?}");
+    assert!(rt; is_wanted, "{byte} at {index}: {ended:?}");
 }
 
 /// Each byte is changed to each other byte.
 #[test]
 fn changed_bytes(rt: HostRuntime) {
-    for place in 0..TWO_FILTERS.len() {
+    for index in 0..TWO_FILTERS.len() {
         for byte in 0..=u8::MAX {
             let mut bundle = TWO_FILTERS;
-            if bundle[place] != byte {
-                bundle[place] = byte;
-                is_decided(&rt, rt.alloc(), &bundle, place, byte);
+            if bundle[index] != byte {
+                bundle[index] = byte;
+                is_decided(&rt, rt.alloc(), &bundle, index, byte);
             }
         }
     }

@@ -11,11 +11,11 @@ use scf_tool::{VerifyFault, verify};
 use std::alloc::Global;
 use std::process::Abort;
 
-/// That of some readers which stands at a place fails after so many bytes.
-pub(crate) fn failing_at<const READERS: usize>(place: usize, share: usize) -> [Failing; READERS] {
+/// That of some readers which stands at an index fails after so many bytes.
+pub(crate) fn failing_at<const READERS: usize>(index: usize, share: usize) -> [Failing; READERS] {
     let mut failing = [Failing::Never; READERS];
-    if let Some(at_place) = failing.get_mut(place) {
-        *at_place = Failing::After(share);
+    if let Some(at_index) = failing.get_mut(index) {
+        *at_index = Failing::After(share);
     }
     failing
 }
@@ -118,23 +118,23 @@ fn read_faults() -> &'static [VerifyFault; 3] {
     READ_FAULTS
 }
 
-/// The reader at a place fails after each count of its bytes.
+/// The reader at an index fails after each count of its bytes.
 fn fail_each_read(
     rt: &impl Abort,
     alloc: Global,
     given: &[&[u8]; 3],
-    place: usize,
+    index: usize,
     wanted: VerifyFault,
 ) {
-    let bytes = given.get(place).expect(rt, "a reader");
+    let bytes = given.get(index).expect(rt, "a reader");
     for share in 0..=bytes.len() {
-        is_fault(rt, alloc, given, &failing_at(place, share), wanted);
+        is_fault(rt, alloc, given, &failing_at(index, share), wanted);
     }
 }
 
 fn fail_each_reader(rt: &impl Abort, alloc: Global, given: &[&[u8]; 3]) {
-    for (place, wanted) in read_faults().iter().enumerate() {
-        fail_each_read(rt, alloc, given, place, *wanted);
+    for (index, wanted) in read_faults().iter().enumerate() {
+        fail_each_read(rt, alloc, given, index, *wanted);
     }
 }
 

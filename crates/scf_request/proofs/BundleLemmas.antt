@@ -62,17 +62,17 @@ module _ (kinds : List PartKind) where
   pub one_more : (o : ℕ) (bs own : List ℕ) (ps : List Part) (p : Part) → SpellsParts kinds o bs ps
       → IsBundlePart kinds (o + length bs) p own → SpellsParts kinds o (bs ++ own) (ps ++ p ∷ [])
   one_more o bs own [] p h part =
-      let place : o + length bs ≡ o = rw h (omega arith) in
-      let here : IsBundlePart kinds o p own = rw place at part in
+      let index : o + length bs ≡ o = rw h (omega arith) in
+      let here : IsBundlePart kinds o p own = rw index at part in
       (own, [], rw h (sym (append-nil own)), here, refl)
   one_more o bs own (q ∷ ps) p h part =
-      let place : o + length bs ≡ (o + length h.0) + length h.1 = rw (h.2, length-append h.0 h.1) (omega arith) in (
+      let index : o + length bs ≡ (o + length h.0) + length h.1 = rw (h.2, length-append h.0 h.1) (omega arith) in (
         h.0,
         h.1 ++ own,
         rw h.2 (append_assoc h.0 h.1 own),
         h.3,
         one_more (o + length h.0) h.1 own ps p h.4
-            (rw (← place) part),
+            (rw (← index) part),
       )
 
   -- what stands behind whole parts is spelled too, where all is
@@ -80,8 +80,8 @@ module _ (kinds : List PartKind) where
       → SpellsParts kinds o (bs ++ rest) qs → (rs : List Part) × SpellsParts kinds (o + length bs) rest rs
   rest_is_spelled o bs rest [] qs h g =
       let all : SpellsParts kinds o rest qs = rw h at g in
-      let place : o + length bs ≡ o = rw h (omega arith) in
-      (qs, rw place all)
+      let index : o + length bs ≡ o = rw h (omega arith) in
+      (qs, rw index all)
   rest_is_spelled o bs rest (p ∷ ps) [] h g =
       absurd (nothing_more o p h.0 (h.1 ++ rest) h.3
       (sym (append_assoc h.0 h.1 rest) ∙ ap (λ (xs : List ℕ). xs ++ rest) (sym h.2) ∙ g))
@@ -91,8 +91,8 @@ module _ (kinds : List PartKind) where
       let same = same_part o p q h.0 g.0 (h.1 ++ rest) g.1 h.3 g.3 whole in
       let others : SpellsParts kinds (o + length h.0) (h.1 ++ rest) qs = rw (same.bytes, same.rest) g.4 in
       let found = rest_is_spelled (o + length h.0) h.1 rest ps qs h.4 others in
-      let place : o + length bs ≡ (o + length h.0) + length h.1 = rw (h.2, length-append h.0 h.1) (omega arith) in
-      (found.0, rw place found.1)
+      let index : o + length bs ≡ (o + length h.0) + length h.1 = rw (h.2, length-append h.0 h.1) (omega arith) in
+      (found.0, rw index found.1)
 
   -- ---- faults
 
@@ -177,11 +177,11 @@ module _ (kinds : List PartKind) where
       → IsBundlePart kinds o p (take (n - o) (drop o bs)) → SpellsParts kinds 0 (take n bs) (ps ++ p ∷ [])
   next_part bs o n ps p inside further before part =
       let long : length (take o bs) ≡ o = length-take-le o bs inside in
-      let place : 0 + length (take o bs) ≡ o = omega (arith, long) in
+      let index : 0 + length (take o bs) ≡ o = omega (arith, long) in
       let sum : n ≡ o + (n - o) = omega arith in
       let whole : take n bs ≡ take o bs ++ take (n - o) (drop o bs) =
       ap (λ (m : ℕ). take m bs) sum ∙ take-add o (n - o) bs in
-      rw whole (one_more 0 (take o bs) (take (n - o) (drop o bs)) ps p before (rw place part))
+      rw whole (one_more 0 (take o bs) (take (n - o) (drop o bs)) ps p before (rw index part))
 
   -- each part lies within the bytes
   pub part_inside : (o : ℕ) (bs : List ℕ) (ps : List Part) (i : ℕ) (d : Part) → SpellsParts kinds o bs ps

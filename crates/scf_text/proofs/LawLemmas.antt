@@ -43,18 +43,18 @@ new_to earlier at line (Some name) ls h = (rw h.0 refl, h.1)
 abbrev names : Labels → List (List ℕ)
 names ls = map (λ (l : List ℕ × ℕ). l.0) ls
 
--- labels whose names have no place among these
+-- labels whose names have no index among these
 abbrev AreBesides : Labels → Labels → Type 0
 AreBesides earlier ls = AllByRecursion (λ (l : List ℕ × ℕ). index_of earlier l.0 ≡ None) ls
 
 abbrev AreOthers : List ℕ → Labels → Type 0
 AreOthers name ls = AllByRecursion (λ other. bytes_eq name other ≡ false) (names ls)
 
-other_name : (b : Bool) (o : Option ℕ) (place : ℕ) → option_or o (cond b (Some place) None) ≡ None
+other_name : (b : Bool) (o : Option ℕ) (index : ℕ) → option_or o (cond b (Some index) None) ≡ None
     → (o ≡ None) × (b ≡ false)
-other_name true None place h = absurd cc
-other_name false None place h = (refl, refl)
-other_name b (Some x) place h = absurd cc
+other_name true None index h = absurd cc
+other_name false None index h = (refl, refl)
+other_name b (Some x) index h = absurd cc
 
 besides_more : (earlier : Labels) (l : List ℕ × ℕ) (ls : Labels) → AreBesides (earlier ++ l ∷ []) ls
     → AreBesides earlier ls × AreOthers l.0 ls

@@ -3,7 +3,7 @@ pub mod FormLemmas
 pub mod LawLemmas
 pub mod ListingLemmas
 pub mod LookupLemmas
-pub mod PlaceLemmas
+pub mod IndexLemmas
 pub mod ReadLemmas
 pub mod RepeatLemmas
 pub mod RoundTrip

@@ -64,10 +64,10 @@ moved_same es fs q None None moved apart also e f = refl
 moved_same es fs q None (Some v) moved apart also e f =
     let g = moved_found fs es q v (IsPermutation-sym es fs moved) apart f in cc
 
-pub places_moved : (text begins xs ys : List ℕ) → IsPermutation xs ys
+pub indices_moved : (text begins xs ys : List ℕ) → IsPermutation xs ys
     → IsDistinct bytes_eq (map (name_at text) ys)
     → index_of (labels_at text begins ys) ≡ index_of (labels_at text begins xs)
-places_moved text begins xs ys moved apart = fun_ext λ q.
+indices_moved text begins xs ys moved apart = fun_ext λ q.
     let es = labels_at text begins xs in
     let fs = labels_at text begins ys in
     let p = IsPermutation-map (λ s. (name_at text s, prefix_len (λ b. ltb b s) begins)) xs ys moved in
@@ -101,33 +101,33 @@ drafts_follow parsed_insns following i j d le lt =
     let second = get_or-map (λ (d : NumberedInsn). d.start) parsed_insns j d 0 lt in
     omega (arith, first, second, following i j 0 le (omega (arith, length-map parsed_insns (λ d. d.start))))
 
-pub begun_before : (parsed_insns : List NumberedInsn) (label place : ℕ) → place ≤ length parsed_insns
-    → IsPartitionPoint (λ d. ltb d.start label ≡ true) (λ d. ltb d.start label ≡ false) parsed_insns place
-    → prefix_len (λ b. ltb b label) (begins_of parsed_insns) ≡ place
-begun_before [] label place le point = omega arith
-begun_before (d ∷ ds) label place le point =
+pub begun_before : (parsed_insns : List NumberedInsn) (label index : ℕ) → index ≤ length parsed_insns
+    → IsPartitionPoint (λ d. ltb d.start label ≡ true) (λ d. ltb d.start label ≡ false) parsed_insns index
+    → prefix_len (λ b. ltb b label) (begins_of parsed_insns) ≡ index
+begun_before [] label index le point = omega arith
+begun_before (d ∷ ds) label index le point =
     let parsed_insns = d ∷ ds in
     let test : ℕ → Bool = λ b. ltb b label in
     let len = length-map parsed_insns (λ d. d.start) in
-    prefix_len_is test (begins_of parsed_insns) place 0 (omega (arith, len))
+    prefix_len_is test (begins_of parsed_insns) index 0 (omega (arith, len))
     (λ k lt. ap test (get_or-map (λ (d : NumberedInsn). d.start) parsed_insns k d 0 (omega arith))
     ∙ point.0 k d (omega arith) lt)
-    (λ lt. ap test (get_or-map (λ (d : NumberedInsn). d.start) parsed_insns place d 0 (omega (arith, len)))
-    ∙ point.1 place d (omega arith) (omega (arith, len)))
+    (λ lt. ap test (get_or-map (λ (d : NumberedInsn). d.start) parsed_insns index d 0 (omega (arith, len)))
+    ∙ point.1 index d (omega arith) (omega (arith, len)))
 
-pub found_place : (text labels name begins : List ℕ) (i place : ℕ) → i < length labels
+pub found_index : (text labels name begins : List ℕ) (i index : ℕ) → i < length labels
     → IsDistinct bytes_eq (map (name_at text) labels)
     → slice_cmp nat_cmp (name_at text (get_or labels i 0)) name ≡ Equal
-    → prefix_len (λ b. ltb b (get_or labels i 0)) begins ≡ place
-    → Some place ≡ index_of (labels_at text begins labels) name
-found_place text labels name begins i place within apart equal count =
+    → prefix_len (λ b. ltb b (get_or labels i 0)) begins ≡ index
+    → Some index ≡ index_of (labels_at text begins labels) name
+found_index text labels name begins i index within apart equal count =
     let es = labels_at text begins labels in
     let same = same_text (name_at text (get_or labels i 0)) name
     (sym (is_eq-slice_cmp (name_at text (get_or labels i 0)) name) ∙ ap is_eq equal) in
     let entry : ℕ → List ℕ × ℕ = λ s. (name_at text s, prefix_len (λ b. ltb b s) begins) in
     let inside : i < length es = omega (arith, length-map labels entry) in
-    let at = get_or-map entry labels i 0 (name, place) within in
-    sym (lookup-from_Contains nat_list_eq_equiv name place es (rw names_of apart)
+    let at = get_or-map entry labels i 0 (name, index) within in
+    sym (lookup-from_Contains nat_list_eq_equiv name index es (rw names_of apart)
     (i, inside, at ∙ rw (same, count) refl))
 
 none_there : (text labels begins name : List ℕ)
@@ -141,11 +141,11 @@ none_there text (l ∷ labels) begins name others =
     rw here (none_there text labels begins name
     (All-tail (λ l. is_eq (slice_cmp nat_cmp (name_at text l) name) ≡ false) l labels others))
 
-pub no_place : (text labels begins name : List ℕ) (i : ℕ)
+pub no_index : (text labels begins name : List ℕ) (i : ℕ)
     → IsPartitionPoint (λ l. slice_cmp nat_cmp (name_at text l) name ≡ Less)
     (λ l. slice_cmp nat_cmp (name_at text l) name ≡ Greater) labels i
     → index_of (labels_at text begins labels) name ≡ None
-no_place text labels begins name i h =
+no_index text labels begins name i h =
     none_there text labels begins name λ k d lt.
     elim (cases_lt k i) [
       | inl below ↦ ap is_eq (h.0 k d (omega arith) below)

@@ -2,7 +2,7 @@
 use Rattle.scf_text.proofs.Common.{◌≡◌, ◌≢◌, ℕ, ◌+◌, ◌-◌, ◌<◌, ◌≤◌, Bool, List, [], ◌∷◌, ◌++◌, length, map, Option, Some, None, Result, Ok, Err, refl, sym, ap, subst, ◌∙◌, append_assoc, append-nil, arith, inl, inr, zero-add, ltb, flat_map, lookup, is_some, option_or, option_to_list, unwrap_or, IsSome, IfOk, option_map, bytes_eq, OnErr, cond, true, false, prefix_len, nat_eq, nat_eq_equiv, length-append, length-map, map-append, All, All-append, All-contains, All-head, All-map, All-nil, All-push, All-tail, all_pairs_push, Contains-append_cases, Contains-append_left, Contains-append_right, Contains-push, Contains-push_cases, IsDistinct, IsDistinct-IsPermutation, IsDistinct-from_apart, IsNonDecreasing, IsPermutation, IsPermutation-append_left, IsPermutation-refl, IsPermutation-trans, IsSomeAnd, MatchOption, cases_Bool, same_from_decides, nat_tests, bytes_eq-Decides, flat_map-append, TextFault, before_comment, lines_of, Statement, NumberedInsn, index_of, label_in, instruction_in, parsed_insns_in, label_at, labels_from, statements_from, IsFault, label_fault, instruction_fault, statements_fault, IsFirstRepeat, Labels, labels_at, repeat_fault, IsLinePart, line_at, name_at, AreKept, IsEnded, IsLeft, Leaves, HaveTokens, begins_of, part_statements, AddsInstruction, AddsLabel}
 use Rattle.scf_text.specs.declared.fault.TextFault.TheVariants as fault
 use Rattle.std.proofs.lemmas.List.Sorted.{IsNonDecreasingBy-push}
-use Rattle.scf_text.proofs.PlaceLemmas.{line_of_part, name_of_part}
+use Rattle.scf_text.proofs.IndexLemmas.{line_of_part, name_of_part}
 use Rattle.scf_text.proofs.RepeatLemmas.{IsKnown, first_more, least_last}
 use Rattle.scf_text.proofs.TokenLemmas.{statements_are}
 
@@ -148,41 +148,41 @@ module _ (text : List ℕ) where
         fault = k.fault ∙ label_faults line s k.repeat is_given i later numbered;
       }
 
-more_following : {X : Type 0} (bs : List ℕ) (place : ℕ) (xs : List X) → IsNonDecreasing bs → All (λ b. b ≤ place) bs
-    → IsNonDecreasing (bs ++ map (λ _. place) xs)
-more_following bs place [] following below = rw append-nil following
-more_following bs place (x ∷ xs) following below =
-    rw (← append_assoc bs (place ∷ []) (map (λ _. place) xs))
-    (more_following (bs ++ place ∷ []) place xs
-    (IsNonDecreasingBy-push (λ b. b) bs place following (λ d some. below (length bs - 1) d (omega arith)))
-    (All-push (λ b. b ≤ place) bs place below (omega arith)))
+more_following : {X : Type 0} (bs : List ℕ) (index : ℕ) (xs : List X) → IsNonDecreasing bs → All (λ b. b ≤ index) bs
+    → IsNonDecreasing (bs ++ map (λ _. index) xs)
+more_following bs index [] following below = rw append-nil following
+more_following bs index (x ∷ xs) following below =
+    rw (← append_assoc bs (index ∷ []) (map (λ _. index) xs))
+    (more_following (bs ++ index ∷ []) index xs
+    (IsNonDecreasingBy-push (λ b. b) bs index following (λ d some. below (length bs - 1) d (omega arith)))
+    (All-push (λ b. b ≤ index) bs index below (omega arith)))
 
 pub more_kept : {text : List ℕ} {end : ℕ} {given : Labels} {all : List Statement} {later : Option TextFault}
-    {begins old : List ℕ} (place : ℕ) (here new : List ℕ) → AreKept text end given all later begins old
-    → All (λ z. end ≤ z + 1) here → All (λ z. z < place) here → IsNonDecreasing (begins ++ here) → end ≤ place
-    → IsPermutation old new → AreKept text place given all later (begins ++ here) new
-more_kept {text} {end} {given} {all} {later} {begins} {old} place here new k behind below following le moved = record {
+    {begins old : List ℕ} (index : ℕ) (here new : List ℕ) → AreKept text end given all later begins old
+    → All (λ z. end ≤ z + 1) here → All (λ z. z < index) here → IsNonDecreasing (begins ++ here) → end ≤ index
+    → IsPermutation old new → AreKept text index given all later (begins ++ here) new
+more_kept {text} {end} {given} {all} {later} {begins} {old} index here new k behind below following le moved = record {
   labels = k.labels;
   moved = IsPermutation-trans k.labels old new k.moved moved;
   named = labels_kept text begins here k.labels end k.before behind ∙ k.named;
   rising = k.rising;
   before = λ j d lt. omega (arith, k.before j d lt);
-  begun = All-append (λ b. b < place) begins here (λ j d lt. omega (arith, k.begun j d lt)) below;
+  begun = All-append (λ b. b < index) begins here (λ j d lt. omega (arith, k.begun j d lt)) below;
   following = following;
   repeat = k.repeat;
   first = k.first;
   fault = k.fault;
 }
 
--- up to a later place, in another order
-pub place_kept : {text : List ℕ} {end : ℕ} {given : Labels} {all : List Statement} {later : Option TextFault}
-    {begins old : List ℕ} (place : ℕ) (new : List ℕ) → AreKept text end given all later begins old → end ≤ place
-    → IsPermutation old new → AreKept text place given all later begins new
-place_kept {text} {end} place new k le moved =
-    rw append-nil at (more_kept place [] new k (All-nil (λ z. end ≤ z + 1)) (All-nil (λ z. z < place))
+-- up to a later index, in another order
+pub index_kept : {text : List ℕ} {end : ℕ} {given : Labels} {all : List Statement} {later : Option TextFault}
+    {begins old : List ℕ} (index : ℕ) (new : List ℕ) → AreKept text end given all later begins old → end ≤ index
+    → IsPermutation old new → AreKept text index given all later begins new
+index_kept {text} {end} index new k le moved =
+    rw append-nil at (more_kept index [] new k (All-nil (λ z. end ≤ z + 1)) (All-nil (λ z. z < index))
     (rw append-nil k.following) le moved)
 
--- No two labels begin at one place.
+-- No two labels begin at one index.
 pub apart : {text : List ℕ} {end : ℕ} {given : Labels} {all : List Statement} {later : Option TextFault}
     {begins kept : List ℕ} → AreKept text end given all later begins kept → IsDistinct nat_eq kept
 apart {kept = kept} k =
@@ -200,7 +200,7 @@ label_step : {text bytes : List ℕ} {start line : ℕ} {name : Option (List ℕ
     → AreKept text (start + unwrap_or label 0 + 1) (given ++ label_at (length begins) name) all (option_or i later)
     begins new
 label_step {text} {bytes} {start} {line} {name} {given} {all} {begins} {old} {new} None i later k part e le moved =
-    rw (← e, append-nil) (place_kept (start + 0 + 1) new (rw (← e) at k) (omega arith) (rw append-nil at moved))
+    rw (← e, append-nil) (index_kept (start + 0 + 1) new (rw (← e) at k) (omega arith) (rw append-nil at moved))
 label_step {text} {bytes} {start} {line} {name} {given} {all} {begins} {old} {new} (Some l) i later k part e le moved =
     let same : Some (name_at text (start + l)) ≡ name = ap Some (name_of_part text bytes line start l part le) ∙ e in
     subst (λ (n : Option (List ℕ)). AreKept text (start + l + 1) (given ++ label_at (length begins) n) all
@@ -216,8 +216,8 @@ module _ {text bytes : List ℕ} {start : ℕ} {all rest : List Statement} {old 
     (part : IsLinePart text s.line start bytes) (named : option_map (name_at bytes) label ≡ label_in s.tokens)
     (within : unwrap_or label 0 ≤ length bytes) where
   -- where the statement begins, with its label if it has one
-  abbrev place : ℕ
-  place = start + unwrap_or label 0
+  abbrev index : ℕ
+  index = start + unwrap_or label 0
 
   abbrev own_fault : Option TextFault
   own_fault = instruction_fault (length ds) s.line (instruction_in s.tokens)
@@ -228,8 +228,8 @@ module _ {text bytes : List ℕ} {start : ℕ} {all rest : List Statement} {old 
   abbrev given : Labels
   given = labels_from 0 (left.before ++ s ∷ [])
 
-  statement_label : IsPermutation (old ++ option_to_list (option_map (λ _. place) label)) new
-      → AreKept text (place + 1) given all (option_or own_fault later_fault) (begins_of ds) new
+  statement_label : IsPermutation (old ++ option_to_list (option_map (λ _. index) label)) new
+      → AreKept text (index + 1) given all (option_or own_fault later_fault) (begins_of ds) new
   statement_label moved =
       let count : length (flat_map parsed_insns_in left.before) ≡ length ds =
       ap length (sym left.parsed_insns) ∙ length-map ds _ in
@@ -238,8 +238,8 @@ module _ {text bytes : List ℕ} {start : ℕ} {all rest : List Statement} {old 
       let more : labels_from 0 left.before ++ label_at (length (begins_of ds)) (label_in s.tokens) ≡ given =
       ap (λ n. labels_from 0 left.before ++ label_at n (label_in s.tokens)) begun ∙ sym (labels_more 0 left.before s) in
       let fault : ℕ → Option TextFault = λ n. instruction_fault n s.line (instruction_in s.tokens) in
-      subst (λ (ls : Labels). AreKept text (place + 1) ls all (option_or own_fault later_fault) (begins_of ds) new) more
-      (subst (λ n. AreKept text (place + 1)
+      subst (λ (ls : Labels). AreKept text (index + 1) ls all (option_or own_fault later_fault) (begins_of ds) new) more
+      (subst (λ n. AreKept text (index + 1)
       (labels_from 0 left.before ++ label_at (length (begins_of ds)) (label_in s.tokens)) all
       (option_or (fault n) later_fault) (begins_of ds) new) count
       (label_step label (fault (length (flat_map parsed_insns_in left.before))) later_fault left.labels part named within
@@ -252,8 +252,8 @@ module _ {text bytes : List ℕ} {start : ℕ} {all rest : List Statement} {old 
       (flat_map (λ (t : Statement). t.tokens) rest) some)
 
   pub statement_leaves : {T : Type 0} (r : Result T TextFault) (end : T → ℕ) (es : List NumberedInsn)
-      → IsPermutation (old ++ option_to_list (option_map (λ _. place) label)) new
-      → AddsInstruction ds place s.line (instruction_in s.tokens) r es → IfOk r (λ x. place + 1 ≤ end x)
+      → IsPermutation (old ++ option_to_list (option_map (λ _. index) label)) new
+      → AddsInstruction ds index s.line (instruction_in s.tokens) r es → IfOk r (λ x. index + 1 ≤ end x)
       → OnErr r (s.tokens ≢ []) → Leaves text r all rest end new es
   statement_leaves (Ok x) end es moved h behind some = record {
     before = left.before ++ s ∷ [];
@@ -262,15 +262,15 @@ module _ {text bytes : List ℕ} {start : ℕ} {all rest : List Statement} {old 
     labels =
         let k = statement_label moved in
         subst (λ (bs : List ℕ). AreKept text (end x) given all later_fault bs new) (sym h.2)
-        (more_kept (end x) (map (λ _. place) (parsed_insns_in s)) new
-        (subst (λ (f : Option TextFault). AreKept text (place + 1) given all (option_or f later_fault) (begins_of ds)
-        new) h.0 k) (All-map (λ z. place + 1 ≤ z + 1) (λ _. place) (parsed_insns_in s) (λ k d lt. omega arith))
-        (All-map (λ z. z < end x) (λ _. place) (parsed_insns_in s) (λ k d lt. omega arith))
-        (more_following (begins_of ds) place (parsed_insns_in s) k.following (λ j d lt. omega (arith, k.begun j d lt)))
+        (more_kept (end x) (map (λ _. index) (parsed_insns_in s)) new
+        (subst (λ (f : Option TextFault). AreKept text (index + 1) given all (option_or f later_fault) (begins_of ds)
+        new) h.0 k) (All-map (λ z. index + 1 ≤ z + 1) (λ _. index) (parsed_insns_in s) (λ k d lt. omega arith))
+        (All-map (λ z. z < end x) (λ _. index) (parsed_insns_in s) (λ k d lt. omega arith))
+        (more_following (begins_of ds) index (parsed_insns_in s) k.following (λ j d lt. omega (arith, k.begun j d lt)))
         behind (IsPermutation-refl new));
   }
   statement_leaves (Err e) end es moved h behind some = record {
-    end = place + 1;
+    end = index + 1;
     given = given;
     later = option_or own_fault later_fault;
     begins = begins_of ds;
@@ -286,10 +286,10 @@ module _ {text bytes : List ℕ} {start : ℕ} {all rest : List Statement} {old 
   label_tokens b (Some l) named some = λ none. let e = rw none at named in cc
 
   pub label_refused : (e : TextFault)
-      → AddsLabel {T = Unit {0}} text old (option_map (λ _. place) label) (Err e) new
-      → IsSome (option_map (λ _. place) label) → IsEnded text all new e
+      → AddsLabel {T = Unit {0}} text old (option_map (λ _. index) label) (Err e) new
+      → IsSome (option_map (λ _. index) label) → IsEnded text all new e
   label_refused e h some =
-      let tokens = have_tokens (label_tokens place label named some) in
+      let tokens = have_tokens (label_tokens index label named some) in
       elim h [
         | inl none ↦ record {
           end = start;
@@ -304,7 +304,7 @@ module _ {text bytes : List ℕ} {start : ℕ} {all rest : List Statement} {old 
             let labels = statement_label told.0 in
             let first = told.1 (apart labels) in
             record {
-              end = place + 1;
+              end = index + 1;
               given = given;
               later = option_or own_fault later_fault;
               begins = begins_of ds;
@@ -314,14 +314,14 @@ module _ {text bytes : List ℕ} {start : ℕ} {all rest : List Statement} {old 
             }
       ]
 
-pub place_left : {text : List ℕ} {end : ℕ} {all rest : List Statement} {labels : List ℕ} {ds : List NumberedInsn}
-    (place : ℕ) (sorted : List ℕ) → IsLeft text end all rest labels ds → end ≤ place → IsPermutation labels sorted
-    → IsLeft text place all rest sorted ds
-place_left place sorted left le moved = record {
+pub index_left : {text : List ℕ} {end : ℕ} {all rest : List Statement} {labels : List ℕ} {ds : List NumberedInsn}
+    (index : ℕ) (sorted : List ℕ) → IsLeft text end all rest labels ds → end ≤ index → IsPermutation labels sorted
+    → IsLeft text index all rest sorted ds
+index_left index sorted left le moved = record {
   before = left.before;
   whole = left.whole;
   parsed_insns = left.parsed_insns;
-  labels = place_kept place sorted left.labels le moved;
+  labels = index_kept index sorted left.labels le moved;
 }
 
 pub is_fault : (e : TextFault) (o : Option TextFault) → o ≡ Some e → IsFault e o

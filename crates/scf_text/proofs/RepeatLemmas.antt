@@ -240,7 +240,7 @@ drop_same p xs ys i lt below same passes =
     sym ((λ j. slice_cmp nat_cmp (take_while p (left j)) (take_while p (right j)))
     ∙ same_front p x (drop (i + 1) xs) (drop (i + 1) ys) passes)
 
--- nor does one at one place of both behind alike ones
+-- nor does one at one index of both behind alike ones
 pub word_order-drop_more : (xs ys : List ℕ) (i : ℕ) → i < length xs → i < length ys → get_or xs i 0 ≡ get_or ys i 0
     → is_word_byte (get_or xs i 0) ≡ true
     → word_order (drop (i + 1) xs) (drop (i + 1) ys) ≡ word_order (drop i xs) (drop i ys)

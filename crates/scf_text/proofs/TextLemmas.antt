@@ -2,9 +2,9 @@
 use Rattle.scf_text.proofs.Common.{◌≡◌, ◌≢◌, ℕ, ◌<◌, List, [], map, Option, Some, None, Result, Ok, Err, refl, sym, ap, subst, ◌∙◌, arith, append-nil, flat_map, option_or, option_map, IfOk, IfErr, Vec, nat_eq, bytes_eq, Contains, All-nil, Contains-permutation, IsDistinct, IsPermutation, IsPermutation-refl, IsPermutation-sym, IsSortedBy, is_before, Insn, TextFault, Statement, labels_from, SymbolTable, index_of, symbols_in, statements_of, parsed_insns_in, parsed_insns_of, Spells, ascii_fault, statements_fault, targets_fault, fault_of, IsFault, NumberedInsn, TellsInsns, TellsText, fault_in, Labels, labels_at, repeat_fault, IsFirstRepeat, TellsRepeat, name_at, parsed_insns_view, begins_of, AreKept, IsEnded, IsLeft, IsRead, Leaves, HaveTokens}
 use Rattle.scf_text.specs.declared.fault.TextFault.TheVariants as fault
 use Rattle.scf_text.specs.ParsedInsns as parsed_insns
-use Rattle.scf_text.proofs.ReadLemmas.{apart, fault_first, fault_then, is_fault, place_kept, place_left}
+use Rattle.scf_text.proofs.ReadLemmas.{apart, fault_first, fault_then, is_fault, index_kept, index_left}
 use Rattle.scf_text.proofs.RepeatLemmas.{moved, one_first}
-use Rattle.scf_text.proofs.LookupLemmas.{names_apart, places_moved}
+use Rattle.scf_text.proofs.LookupLemmas.{names_apart, indices_moved}
 use Rattle.scf_text.proofs.WantedLemmas.{no_labels, none_mapped}
 use Rattle.scf_text.proofs.LawLemmas.{no_fault, spelled}
 
@@ -60,13 +60,13 @@ none_first text xs ys p none = λ b repeat. none b (moved p repeat)
 pub sorted_leaves : {T : Type 0} (r : Result T TextFault) (text : List ℕ) (end : ℕ) (all : List Statement)
     (kept sorted : List ℕ) (ds : List NumberedInsn) → Leaves text r all [] (λ _. end) kept ds
     → IsPermutation kept sorted → Leaves text r all [] (λ _. end) sorted ds
-sorted_leaves (Ok x) text end all kept sorted ds left p = place_left end sorted left (omega arith) p
+sorted_leaves (Ok x) text end all kept sorted ds left p = index_left end sorted left (omega arith) p
 sorted_leaves (Err e) text end all kept sorted ds ended p = record {
   end = ended.end;
   given = ended.given;
   later = ended.later;
   begins = ended.begins;
-  labels = place_kept ended.end sorted ended.labels (omega arith) p;
+  labels = index_kept ended.end sorted ended.labels (omega arith) p;
   fault = λ none. ended.fault (none_first text kept sorted p none);
   some = ended.some;
 }
@@ -133,7 +133,7 @@ is_read text {sorted = sorted} {ds} left ordered tells =
       following = k.following;
       faultless = first_fault None k (tells (apart k));
       written = drafts_read left;
-      symbols = places_moved text (begins_of ds) k.labels sorted k.moved distinct ∙ ap index_of k.named
+      symbols = indices_moved text (begins_of ds) k.labels sorted k.moved distinct ∙ ap index_of k.named
           ∙ ap symbols_in (all_read left);
     }
 

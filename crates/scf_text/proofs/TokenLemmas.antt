@@ -65,22 +65,22 @@ no_comment_here xs i lt h =
     ∙ rw (let k : begins_comment (get_or xs i 0 ∷ drop (i + 1) xs) ≡ false =
     subst (λ (ys : List ℕ). begins_comment ys ≡ false) e h in k) refl
 
-place_of_end : (text : List ℕ)
+index_of_end : (text : List ℕ)
     → prefix_len (λ b. not (eqb b 10)) text ≡ position_or_len (λ b. eqb b 10) text
-place_of_end [] = refl
-place_of_end (b ∷ bs) =
+index_of_end [] = refl
+index_of_end (b ∷ bs) =
     elim (cases_Bool (eqb b 10)) [
       | inl here ↦ rw here refl
-      | inr other ↦ rw other (omega (arith, place_of_end bs))
+      | inr other ↦ rw other (omega (arith, index_of_end bs))
     ]
 
 -- a line that ends
 pub line_ends : (text : List ℕ) (n : ℕ) → n ≡ prefix_len (λ b. not (eqb b 10)) text → n < length text
     → lines_of text ≡ take n text ∷ lines_of (take (length text - (n + 1)) (drop (n + 1) text))
 line_ends text n e lt =
-    let place : n ≡ position_or_len (λ b. eqb b 10) text = e ∙ place_of_end text in
+    let index : n ≡ position_or_len (λ b. eqb b 10) text = e ∙ index_of_end text in
     let short : position_or_len (λ b. eqb b 10) text < length text = omega arith in
-    rw (take_rest text (n + 1), place) (slice_split_first (λ b. eqb b 10) text 0 short)
+    rw (take_rest text (n + 1), index) (slice_split_first (λ b. eqb b 10) text 0 short)
 
 last_line : (text : List ℕ) → length text ≤ prefix_len (λ b. not (eqb b 10)) text → lines_of text ≡ text ∷ []
 last_line [] le = refl
@@ -153,12 +153,12 @@ skip at [] = nothing_left at ∙ sym (nothing_left (at + 0))
 skip at (b ∷ bs) =
     elim (cases_Bool (is_blank b)) [
       | inl blank ↦
-          let place : (at + 1) + prefix_len is_blank bs ≡ at + suc (prefix_len is_blank bs) = omega arith in
-          blank_in_front at b bs blank ∙ skip (at + 1) bs ∙ rw (prefix_more is_blank b bs blank, place) refl
+          let index : (at + 1) + prefix_len is_blank bs ≡ at + suc (prefix_len is_blank bs) = omega arith in
+          blank_in_front at b bs blank ∙ skip (at + 1) bs ∙ rw (prefix_more is_blank b bs blank, index) refl
       | inr other ↦
           let none : prefix_len is_blank (b ∷ bs) ≡ 0 = rw other refl in
-          let place : at + 0 ≡ at = omega arith in
-          rw (none, place) refl
+          let index : at + 0 ≡ at = omega arith in
+          rw (none, index) refl
     ]
 
 pub none_is : (at n : ℕ) (bs : List ℕ) → n ≡ prefix_len is_blank bs → length bs ≤ n → lexemes_from at bs ≡ []
@@ -171,12 +171,12 @@ pub token_is : (at n m : ℕ) (bs : List ℕ) → n ≡ prefix_len is_blank bs �
 token_is at n m bs e lt k =
     let front = drop_more bs n 0 lt in
     let shown : is_blank (get_or bs n 0) ≡ false = rw e (prefix_len_stops is_blank bs 0 (omega arith)) in
-    let place : (at + n) + m ≡ at + (n + m) = omega arith in
+    let index : (at + n) + m ≡ at + (n + m) = omega arith in
     skip at bs ∙ rw (← e) (ap (lexemes_from (at + n)) front)
     ∙ token_in_front (at + n) m (get_or bs n 0) (drop (n + 1) bs) shown (rw front at k)
-    ∙ rw (← front, place, drop-drop m n bs) refl
+    ∙ rw (← front, index, drop-drop m n bs) refl
 
--- tokens without their places
+-- tokens without their indices
 abbrev pub words_from : ℕ → List ℕ → List (List ℕ)
 words_from at bs = map (λ (l : Lexeme). l.text) (lexemes_from at bs)
 
@@ -302,8 +302,8 @@ line_slices text at line rest h =
 after_line : (text : List ℕ) (at : ℕ) (line rest : List ℕ) → drop at text ≡ line ++ 10 ∷ rest
     → drop (at + length line + 1) text ≡ rest
 after_line text at line rest h =
-    let place : at + length line + 1 ≡ at + (length line + 1) = omega arith in
-    rw place (sym (drop-drop (length line + 1) at text) ∙ ap (drop (length line + 1)) h
+    let index : at + length line + 1 ≡ at + (length line + 1) = omega arith in
+    rw index (sym (drop-drop (length line + 1) at text) ∙ ap (drop (length line + 1)) h
     ∙ drop-append-add line (10 ∷ rest) 1)
 
 lines_slices : (text : List ℕ) (at : ℕ) (lines : List (List ℕ)) → drop at text ≡ join_with_byte 10 lines
@@ -339,8 +339,8 @@ pub next_tokens : (text rest line : List ℕ) (others : List (List ℕ)) (start 
     → lexemes more ≡ lexemes found ++ lexemes_from start (before_comment line)
     → lexemes more ++ lexemes_of_lines (start + (length line + 1)) others ≡ tokens_of text
 next_tokens text rest line others start found more so_far line_more added =
-    let place : start + (length line + 1) ≡ start + length line + 1 = omega arith in
-    rw (place, added, append_assoc)
+    let index : start + (length line + 1) ≡ start + length line + 1 = omega arith in
+    rw (index, added, append_assoc)
     (ap (λ lines. lexemes found ++ lexemes_of_lines start lines) (sym line_more) ∙ so_far)
 
 -- the words of the lines, in order, are the tokens

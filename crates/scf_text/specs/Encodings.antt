@@ -35,8 +35,8 @@ operand_pieces operands.Constant = Mark (code "#") ∷ Number K Hexadecimal ∷ 
 operand_pieces operands.Index = Index ∷ []
 
 -- `[K]`
-abbrev pub place_pieces : List Piece
-place_pieces = Mark (code "[") ∷ Number K Decimal ∷ Mark (code "]") ∷ []
+abbrev pub index_pieces : List Piece
+index_pieces = Mark (code "[") ∷ Number K Decimal ∷ Mark (code "]") ∷ []
 
 abbrev pub arithmetic_word : Arithmetic → List ℕ
 arithmetic_word o.Add = codes "add"
@@ -57,15 +57,15 @@ test_word CommonBit = codes "jset"
 
 -- the word for an operation, and what stands behind that word
 abbrev pub word_and_pieces : Operation → List ℕ × List Piece
-word_and_pieces LoadWord = (codes "ld", place_pieces)
+word_and_pieces LoadWord = (codes "ld", index_pieces)
 word_and_pieces (LoadLength A) = (codes "ld", Len ∷ [])
 word_and_pieces (LoadLength X) = (codes "ldx", Len ∷ [])
 word_and_pieces (LoadConstant A) = (codes "ld", operand_pieces operands.Constant)
 word_and_pieces (LoadConstant X) = (codes "ldx", operand_pieces operands.Constant)
-word_and_pieces (LoadScratch A) = (codes "ld", Memory ∷ place_pieces)
-word_and_pieces (LoadScratch X) = (codes "ldx", Memory ∷ place_pieces)
-word_and_pieces (StoreScratch A) = (codes "st", Memory ∷ place_pieces)
-word_and_pieces (StoreScratch X) = (codes "stx", Memory ∷ place_pieces)
+word_and_pieces (LoadScratch A) = (codes "ld", Memory ∷ index_pieces)
+word_and_pieces (LoadScratch X) = (codes "ldx", Memory ∷ index_pieces)
+word_and_pieces (StoreScratch A) = (codes "st", Memory ∷ index_pieces)
+word_and_pieces (StoreScratch X) = (codes "stx", Memory ∷ index_pieces)
 word_and_pieces (Compute arithmetic operand) = (arithmetic_word arithmetic, operand_pieces operand)
 word_and_pieces Negate = (codes "neg", [])
 word_and_pieces Jump = (codes "ja", Target K ∷ [])

@@ -23,7 +23,7 @@ ascii_fault line [] = None
 ascii_fault line (b ∷ bs) =
     if nat_lt b 128 then ascii_fault (if is_line_end b then line + 1 else line) bs else Some (fault.NotAscii line)
 
--- the label has a place already
+-- the label has an index already
 abbrev pub label_fault : SymbolTable → ℕ → Option (List ℕ) → Option TextFault
 label_fault symbols line = option_and_then (λ name. if is_some (symbols name) then Some (fault.Label line) else None)
 
@@ -50,15 +50,15 @@ abbrev pub statements_fault : List Statement → List Statement → Option TextF
 statements_fault before [] = None
 statements_fault before (s ∷ ss) = option_or (statement_fault before s) (statements_fault (before ++ s ∷ []) ss)
 
--- A name with no place, or a place that the field doesn't reach. Places behind the jump alone are reached.
+-- A name with no index, or an index that the field doesn't reach. Indices behind the jump alone are reached.
 abbrev pub target_fault : SymbolTable → ℕ → ℕ → ℕ → FieldValue → Option TextFault
 target_fault symbols at line limit (Number n) = None
 target_fault symbols at line limit (Label name) =
-    let is_far : ℕ → Bool = λ place. nat_lt place (at + 1) || nat_le limit (place - (at + 1)) in
-    option_map_or (λ place. if is_far place then Some (fault.JumpTooFar line) else None) (symbols name)
+    let is_far : ℕ → Bool = λ index. nat_lt index (at + 1) || nat_le limit (index - (at + 1)) in
+    option_map_or (λ index. if is_far index then Some (fault.JumpTooFar line) else None) (symbols name)
     (Some (fault.Label line))
 
--- The targets of instructions with their lines, the first at this place: of a conditional jump its JT and then its JF.
+-- The targets of instructions with their lines, the first at this index: of a conditional jump its JT and then its JF.
 abbrev pub targets_fault : SymbolTable → ℕ → List (ℕ × ParsedInsn) → Option TextFault
 targets_fault symbols at [] = None
 targets_fault symbols at (d ∷ ds) =

@@ -12,7 +12,7 @@ use Rattle.scf_text.specs.declared.encoding.Field.TheVariants.{Code, Jt, Jf, K}
 use Rattle.scf_text.specs.Characters.{is_name_start, begins_in}
 use Rattle.scf_text.specs.Encodings.{Encoding, encodings}
 
--- what stands for a field: a number, or the name of a place
+-- what stands for a field: a number, or the name of an index
 pub data FieldValue : Type 0 where
   Number : (n : ℕ) → FieldValue
   Label : (name : List ℕ) → FieldValue

@@ -9,19 +9,19 @@ use Rattle.scf_text.specs.ParsedInsns.{FieldValue, Number, Label, ParsedInsn}
 use Rattle.scf_text.specs.Statements.{Statement, SymbolTable, symbols_in, statements_of, labels_from}
 use Rattle.scf_text.specs.Statements.{instruction_in, parsed_insns_in, parsed_insns_of}
 
--- What is written says the number. A name says how far its place is behind the next instruction.
+-- What is written says the number. A name says how far its index is behind the next instruction.
 abbrev pub Says : SymbolTable → ℕ → FieldValue → ℕ → Type 0
 Says symbols at (Number n) value = value ≡ n
 Says symbols at (Label name) value = symbols name ≡ Some (at + 1 + value)
 
--- what is written at this place says the instruction
+-- what is written at this index says the instruction
 pub record SaysInsn (symbols : SymbolTable) (at : ℕ) (d : ParsedInsn) (i : Insn) : Type 0 where
   pub code : i.code ≡ d.code
   pub jt : Says symbols at d.jt i.jt
   pub jf : Says symbols at d.jf i.jf
   pub k : Says symbols at d.k i.k
 
--- These say the instructions in order, the first at this place.
+-- These say the instructions in order, the first at this index.
 abbrev pub SaysEach : SymbolTable → ℕ → List (ℕ × ParsedInsn) → List Insn → Type 0
 SaysEach symbols at [] [] = Unit {0}
 SaysEach symbols at (d ∷ ds) (i ∷ is) = SaysInsn symbols at d.1 i × SaysEach symbols (at + 1) ds is

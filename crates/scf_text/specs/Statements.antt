@@ -38,21 +38,21 @@ parsed_insns_by line (t ∷ ts) = option_to_list (option_map (λ d. (line, d)) (
 abbrev pub parsed_insns_in : Statement → List (ℕ × ParsedInsn)
 parsed_insns_in s = parsed_insns_by s.line (instruction_in s.tokens)
 
--- The labels of statements, the first of which stands at this place. Each names the place of the next instruction, or
+-- The labels of statements, the first of which stands at this index. Each names the index of the next instruction, or
 -- the end where none follows.
 abbrev pub labels_from : ℕ → List Statement → List (List ℕ × ℕ)
 labels_from at [] = []
 labels_from at (s ∷ ss) =
     map (λ name. (name, at)) (option_to_list (label_in s.tokens)) ++ labels_from (at + length (parsed_insns_in s)) ss
 
--- the place that each name stands for, if it stands for one
+-- the index that each name stands for, if it stands for one
 abbrev pub SymbolTable : Type 0
 SymbolTable = List ℕ → Option ℕ
 
 abbrev pub index_of : List (List ℕ × ℕ) → SymbolTable
 index_of labels = λ name. lookup (bytes_eq name) labels
 
--- the places of the names that statements give
+-- the indices of the names that statements give
 abbrev pub symbols_in : List Statement → SymbolTable
 symbols_in ss = index_of (labels_from 0 ss)
 

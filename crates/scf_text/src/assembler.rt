@@ -8,7 +8,7 @@ ghost use Rattle.scf_text.specs.Spelling.{Spells};
 ghost use Rattle.scf_text.specs.Tokens.{tokens_of};
 ghost use Rattle.scf_text.specs.Faults.{IsFault, ascii_fault, statements_fault, targets_fault, fault_of};
 ghost use Rattle.scf_text.specs.internal.Reading.{parsed_insns_view, HaveTokens, IsLeft, IsRead, Leaves};
-ghost use Rattle.scf_text.specs.internal.Results.{TellsTarget, TellsInsn, TellsInsns, TellsText, fault_in, places_view};
+ghost use Rattle.scf_text.specs.internal.Results.{TellsTarget, TellsInsn, TellsInsns, TellsText, fault_in, indices_view};
 ghost use Rattle.scf_text.specs.internal.Views.{field_value_view, parsed_view};
 
 use crate::fault::TextFault;
@@ -71,7 +71,7 @@ fn read_text<'a>(
 
 /// The instruction index of a label: the count of instructions before it.
 fn find_index(symbols: &SymbolTable<'_>, name: &[u8]) -> Option<usize>
-    ensures { result ≡ places_view symbols.now name.now }
+    ensures { result ≡ indices_view symbols.now name.now }
 {
     let Ok(index) = symbols
         .labels
@@ -96,20 +96,20 @@ fn value_of<'a>(
     line: usize,
 ) -> Result<u64, TextFault>
     requires { IsTrue (is_below limit (field_value_view written)) }
-    ensures { TellsTarget (places_view symbols.now) at line limit (field_value_view written.entry) result }
+    ensures { TellsTarget (indices_view symbols.now) at line limit (field_value_view written.entry) result }
 {
     match written {
         FieldValue::Number(_) | FieldValue::Large(_) => written
             .below(limit)
             .ok_or(TextFault::NumberRange { line }),
         FieldValue::Label(name) => {
-            let Some(place) = find_index(symbols, name) else {
+            let Some(index) = find_index(symbols, name) else {
                 return Err(TextFault::Label { line });
             };
-            if place <= at {
+            if index <= at {
                 return Err(TextFault::JumpTooFar { line });
             }
-            let offset = (place - at - 1) as u64;
+            let offset = (index - at - 1) as u64;
             if offset >= limit {
                 return Err(TextFault::JumpTooFar { line });
             }
@@ -124,7 +124,7 @@ fn resolve(
     written: &NumberedInsn<'_>,
     at: usize,
 ) -> Result<Insn, TextFault>
-    ensures { TellsInsn (places_view symbols.now) at written.now.line (parsed_view written.now.parsed) result }
+    ensures { TellsInsn (indices_view symbols.now) at written.now.line (parsed_view written.now.parsed) result }
 {
     let line = written.line;
     let parsed = written.parsed;
@@ -145,8 +145,8 @@ fn resolve(
 
 /// All instructions, with their labels resolved.
 fn resolve_all(alloc: Global, symbols: &SymbolTable<'_>) -> Result<Vec<Insn>, TextFault>
-    ensures tells { TellsInsns (targets_fault (places_view symbols.now) 0 (parsed_insns_view symbols.now.parsed_insns.now))
-        (places_view symbols.now) (parsed_insns_view symbols.now.parsed_insns.now) result }
+    ensures tells { TellsInsns (targets_fault (indices_view symbols.now) 0 (parsed_insns_view symbols.now.parsed_insns.now))
+        (indices_view symbols.now) (parsed_insns_view symbols.now.parsed_insns.now) result }
     ensures some { OnErr result (0 < length symbols.now.parsed_insns.now) }
 {
     let mut insns = Vec::new(alloc);

@@ -12,10 +12,10 @@ use crate::token::is_of_word;
 use std::cmp::Ordering;
 
 /// The text from an offset on.
-fn text_from(text: &[u8], place: usize) -> &[u8]
-    ensures { result.now ≡ drop place text.now }
+fn text_from(text: &[u8], index: usize) -> &[u8]
+    ensures { result.now ≡ drop index text.now }
 {
-    text.get(place..).unwrap_or_default()
+    text.get(index..).unwrap_or_default()
 }
 
 /// The length of the common prefix of the leading words of two texts.
@@ -52,10 +52,10 @@ fn compare_words(text: &[u8], left: usize, right: usize) -> Ordering
 }
 
 /// Compares the word at an offset with another, up to their first difference.
-pub(crate) fn compare_with(text: &[u8], place: usize, name: &[u8]) -> Ordering
-    ensures { result ≡ slice_cmp nat_cmp (name_at text.now place) name.now }
+pub(crate) fn compare_with(text: &[u8], index: usize, name: &[u8]) -> Ordering
+    ensures { result ≡ slice_cmp nat_cmp (name_at text.now index) name.now }
 {
-    let word = text_from(text, place)
+    let word = text_from(text, index)
         .iter()
         .take_while(|byte| is_of_word(**byte));
     word.cmp(name.iter())
@@ -69,10 +69,10 @@ fn compare_labels(text: &[u8], left: usize, right: usize) -> Ordering
 }
 
 /// The line that contains an offset, counted from 1.
-fn line_at(text: &[u8], place: usize) -> usize
-    ensures { result ≡ line_at text.now place }
+fn line_at(text: &[u8], index: usize) -> usize
+    ensures { result ≡ line_at text.now index }
 {
-    let before = text.get(..place).unwrap_or(text);
+    let before = text.get(..index).unwrap_or(text);
     1 + before.iter().filter(|byte| **byte == b'\n').count()
 }
 

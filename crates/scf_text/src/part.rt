@@ -25,7 +25,7 @@ pub(crate) enum Next<'a> {
 }
 
 /// What a part of a line begins with.
-#[tactic(auto, using(crate::proofs::PlaceLemmas::token_behind))]
+#[tactic(auto, using(crate::proofs::IndexLemmas::token_behind))]
 pub(crate) fn front(part: &[u8]) -> Next<'_>
     ensures words { (words_in part.now ≡ words_at result) × (others_in part.now ≡ others_at result) }
     ensures behind { LiesBehind part.now 0 result }

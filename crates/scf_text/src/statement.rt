@@ -4,7 +4,7 @@ ghost use Rattle.std.specs.Option.{option_map, unwrap_or};
 ghost use Rattle.scf_text.specs.Statements.{Statement, label_in, instruction_in};
 ghost use Rattle.scf_text.specs.internal.Reading.{parsed_insns_view, IsLeft, Leaves, part_statements};
 ghost use Rattle.scf_text.specs.internal.Parts.{words_in, others_in, words_at, others_at, statements_after};
-ghost use Rattle.scf_text.specs.internal.Symbols.{IsLinePart, FollowsBehind, LiesBehind, name_at, place_after};
+ghost use Rattle.scf_text.specs.internal.Symbols.{IsLinePart, FollowsBehind, LiesBehind, name_at, index_after};
 ghost use Rattle.scf_text.specs.internal.Results.{TellsDraft, AddsLabel, AddsInstruction};
 ghost use Rattle.scf_text.specs.internal.Views.{parsed_view};
 
@@ -83,7 +83,7 @@ fn add_label(text: &[u8], labels: &mut Vec<usize>, label: Option<usize>) -> Resu
 }
 
 /// Adds the instruction of a statement that begins at this offset, if it has one, and returns the rest.
-#[tactic(auto, using(crate::proofs::PlaceLemmas::follows_behind))]
+#[tactic(auto, using(crate::proofs::IndexLemmas::follows_behind))]
 fn add_instruction<'a>(
     parsed_insns: &mut Vec<NumberedInsn<'a>>,
     first: Next<'a>,
@@ -92,8 +92,8 @@ fn add_instruction<'a>(
 ) -> Result<Option<&'a [u8]>, TextFault>
     ensures adds { AddsInstruction parsed_insns.old.items start line (words_at first.entry) result parsed_insns.new.items }
     ensures stops { IfOk result (λ after. others_at first.entry ≡ statements_after after) }
-    ensures behind { IfOk result (λ after. (part : List ℕ) (place : ℕ)
-        → LiesBehind part place first.entry → FollowsBehind part place after) }
+    ensures behind { IfOk result (λ after. (part : List ℕ) (index : ℕ)
+        → LiesBehind part index first.entry → FollowsBehind part index after) }
     ensures some { OnErr result (words_at first.entry ≢ []) }
 {
     match first {
@@ -129,7 +129,7 @@ fn add_statement<'a>(
         → IsLeft text.now part.entry.start all
         ((record { line = part.entry.line; tokens = words_in part.entry.bytes.now }) ∷ rest) labels.old.items
         parsed_insns.old.items
-        → Leaves text.now result all rest (λ after. place_after part.entry.start part.entry.bytes.now after)
+        → Leaves text.now result all rest (λ after. index_after part.entry.start part.entry.bytes.now after)
         labels.new.items parsed_insns.new.items }
     ensures stops { IfOk result (λ after. others_in part.entry.bytes.now ≡ statements_after after) }
     ensures behind { IfOk result (λ after. FollowsBehind part.entry.bytes.now 0 after) }

@@ -18,8 +18,8 @@ abbrev pub own_fault : BesideFault → VerifyFault
 own_fault (Verify fault) = fault
 own_fault (Beside fault) = fault
 
-abbrev told : PartReader → Option (List ℕ)
-told reader = Some (rest_of reader)
+abbrev input : PartReader → Option (List ℕ)
+input reader = Some (rest_of reader)
 
 abbrev none : PartReader → ℕ
 none reader = 0
@@ -36,8 +36,8 @@ stacks_fault EachCall relation limits filters beside tables (Beside fault) well 
 -- no read of a part is why
 pub pair_reads_well : (T : Type 0) (filters beside : List (Option (List ℕ))) (fault : BesideFault)
     (olds news besides besides_new : List PartReader) → IsRefusedPair filters beside (λ behind. behind ≡ Memory) fault
-    → LeavesFirstReaders {T = T} told none olds (Err fault) news
-    → LeavesBesideReaders {T = T} told none besides (Err fault) besides_new → NoReadFailed (own_fault fault)
+    → LeavesFirstReaders {T = T} input none olds (Err fault) news
+    → LeavesBesideReaders {T = T} input none besides (Err fault) besides_new → NoReadFailed (own_fault fault)
 pair_reads_well T filters beside (Verify fault) olds news besides besides_new (inl refused) first second =
     stack_reads_well T filters fault olds news refused first
 pair_reads_well T filters beside (Verify fault) olds news besides besides_new (inr refused) first second =
@@ -48,9 +48,9 @@ pair_reads_well T filters beside (Beside fault) olds news besides besides_new re
 pub calls_read_well : (T : Type 0) (filters beside : List (Option (List ℕ))) (bytes : Option (List ℕ)) (fault : BesideFault)
     (olds news besides besides_new : List PartReader) (table table_new : PartReader)
     → IsRefusedPair filters beside (IsTableFault bytes) fault
-    → LeavesFirstReaders {T = T} told none olds (Err fault) news
-    → LeavesBesideReaders {T = T} told none besides (Err fault) besides_new
-    → LeavesLastReader {T = T} told none table (Err fault) table_new → NoReadFailed (own_fault fault)
+    → LeavesFirstReaders {T = T} input none olds (Err fault) news
+    → LeavesBesideReaders {T = T} input none besides (Err fault) besides_new
+    → LeavesLastReader {T = T} input none table (Err fault) table_new → NoReadFailed (own_fault fault)
 calls_read_well T filters beside bytes (Verify fault) olds news besides besides_new table table_new (inl refused) first
     second third = stack_reads_well T filters fault olds news refused first
 calls_read_well T filters beside bytes (Verify fault) olds news besides besides_new table table_new (inr refused) first
@@ -59,44 +59,44 @@ calls_read_well T filters beside bytes (Beside fault) olds news besides besides_
     second third = stopped_reads_well beside fault besides besides_new refused.2 second
 
 -- it is what the command comes to
-pub beside_fault : (asked : Comparison) (bytes : Option (List ℕ)) (filters beside tables own : List (List ℕ))
-    (fault : BesideFault) (over : Scopes) → asked.scopes ≡ over → tables ≡ own
-    → HoldsBeside asked.scopes bytes filters beside tables
-    → ComparesStacks over asked.relation asked.limits filters beside own (Err (fault_of_beside fault))
-    → ComparesBeside asked bytes (Err (fault_of_beside fault))
-beside_fault asked bytes filters beside tables own (Verify fault) over is are held stacks = (
+pub beside_fault : (comparison : Comparison) (bytes : Option (List ℕ)) (filters beside tables own : List (List ℕ))
+    (fault : BesideFault) (over : Scopes) → comparison.scopes ≡ over → tables ≡ own
+    → HoldsBeside comparison.scopes bytes filters beside tables
+    → ComparesStacks over comparison.relation comparison.limits filters beside own (Err (fault_of_beside fault))
+    → ComparesBeside comparison bytes (Err (fault_of_beside fault))
+beside_fault comparison bytes filters beside tables own (Verify fault) over is are held stacks = (
   filters,
   beside,
   tables,
   held,
-  subst (λ (o : Scopes). ComparesStacks o asked.relation asked.limits filters beside tables
+  subst (λ (o : Scopes). ComparesStacks o comparison.relation comparison.limits filters beside tables
       (Err (fault_of_beside (Verify fault)))) (sym is)
-      (subst (λ (t : List (List ℕ)). ComparesStacks over asked.relation asked.limits filters beside t
+      (subst (λ (t : List (List ℕ)). ComparesStacks over comparison.relation comparison.limits filters beside t
       (Err (fault_of_beside (Verify fault)))) (sym are) stacks),
 )
-beside_fault asked bytes filters beside tables own (Beside fault) over is are held stacks = (
+beside_fault comparison bytes filters beside tables own (Beside fault) over is are held stacks = (
   filters,
   beside,
   tables,
   held,
-  subst (λ (o : Scopes). ComparesStacks o asked.relation asked.limits filters beside tables
+  subst (λ (o : Scopes). ComparesStacks o comparison.relation comparison.limits filters beside tables
       (Err (fault_of_beside (Beside fault)))) (sym is)
-      (subst (λ (t : List (List ℕ)). ComparesStacks over asked.relation asked.limits filters beside t
+      (subst (λ (t : List (List ℕ)). ComparesStacks over comparison.relation comparison.limits filters beside t
       (Err (fault_of_beside (Beside fault)))) (sym are) stacks),
 )
 
-pub beside_reply : (asked : Comparison) (bytes : Option (List ℕ)) (filters beside tables first second : List (List ℕ))
-    (reply : Reply) (over : Scopes) → asked.scopes ≡ over → first ≡ filters → second ≡ beside
-    → HoldsBeside asked.scopes bytes filters beside tables
-    → ComparesStacks over asked.relation asked.limits first second tables (Ok reply)
-    → ComparesBeside asked bytes (Ok reply)
-beside_reply asked bytes filters beside tables first second reply over is are_first are_second held stacks = (
+pub beside_reply : (comparison : Comparison) (bytes : Option (List ℕ)) (filters beside tables first second : List (List ℕ))
+    (reply : Reply) (over : Scopes) → comparison.scopes ≡ over → first ≡ filters → second ≡ beside
+    → HoldsBeside comparison.scopes bytes filters beside tables
+    → ComparesStacks over comparison.relation comparison.limits first second tables (Ok reply)
+    → ComparesBeside comparison bytes (Ok reply)
+beside_reply comparison bytes filters beside tables first second reply over is are_first are_second held stacks = (
   filters,
   beside,
   tables,
   held,
-  subst (λ (o : Scopes). ComparesStacks o asked.relation asked.limits filters beside tables (Ok reply)) (sym is)
-      (subst (λ (f : List (List ℕ)). ComparesStacks over asked.relation asked.limits f beside tables (Ok reply)) are_first
-      (subst (λ (b : List (List ℕ)). ComparesStacks over asked.relation asked.limits first b tables (Ok reply)) are_second
+  subst (λ (o : Scopes). ComparesStacks o comparison.relation comparison.limits filters beside tables (Ok reply)) (sym is)
+      (subst (λ (f : List (List ℕ)). ComparesStacks over comparison.relation comparison.limits f beside tables (Ok reply)) are_first
+      (subst (λ (b : List (List ℕ)). ComparesStacks over comparison.relation comparison.limits first b tables (Ok reply)) are_second
       stacks)),
 )

@@ -13,7 +13,7 @@ AllZip-more R (a ∷ xs) (b ∷ ys) x y h own = (h.0, AllZip-more R xs ys x y h.
 AllZip-more R [] (b ∷ ys) x y h own = absurd h
 AllZip-more R (a ∷ xs) [] x y h own = absurd h
 
--- the lists hold the same from a place on, and this stands there
+-- the lists hold the same from an index on, and this stands there
 pub record SameFrom {R : Type 0} (i : ℕ) (olds news : List R) (old : R) : Type 0 where
   pub within : i < length news
   pub here : old ≡ get_or news i old
@@ -37,7 +37,7 @@ module _ {R : Type 0} (i : ℕ) (olds news : List R) (old : R) (from : SameFrom 
   olds_taken : take (i + 1) olds ≡ take i olds ++ old ∷ []
   olds_taken = take_more olds i old within_olds ∙ ap (λ x. take i olds ++ x ∷ []) (sym old_here)
 
--- what is known once the readers before a place had filters
+-- what is known once the readers before an index had filters
 pub record IsStackUpTo {R : Type 0} (remaining : R → Option (List ℕ)) (failures : R → ℕ) (i : ℕ) (olds news : List R)
     (stack : List (List Insn)) : Type 0 where
   pub has_stack : HasStack (map remaining (take i olds)) stack
@@ -55,10 +55,10 @@ stack_grows remaining failures i olds news old new stack pushed from upto push e
     upto.has_stack.accepted push.1 in
     let total : cost_of (stack ++ push.0 ∷ []) ≤ max_insns_per_path + 4 =
     omega (arith, push.2.0, sum_by_push (λ filter. length filter + 4) stack push.0) in
-    let told : map remaining (take (i + 1) olds) ≡ map remaining (take i olds) ++ remaining old ∷ [] =
+    let input : map remaining (take (i + 1) olds) ≡ map remaining (take i olds) ++ remaining old ∷ [] =
     ap (map remaining) (olds_taken i olds news old from) ∙ map-append remaining (take i olds) (old ∷ []) in
     record {
-      has_stack = rw (told, push.2.1) record { accepted = accepted; total = total };
+      has_stack = rw (input, push.2.1) record { accepted = accepted; total = total };
       ended = rw (olds_taken i olds news old from, take_more_set news i new from.within)
           (AllZip-more (HasEnded remaining failures) (take i olds) (take i news) old new upto.ended end);
       same = drop-set-lt (i + 1) news i new (omega arith) ∙ same_behind i olds news old from;
@@ -102,7 +102,7 @@ readers_stop remaining failures i olds news old new stack fault from upto left =
 pub told_of_parts : (readers : List PartReader) → map (λ reader. Some (rest_of reader)) readers
     ≡ map Some (map rest_of readers)
 told_of_parts [] = refl
-told_of_parts (reader ∷ readers) = ap (λ told. Some (rest_of reader) ∷ told) (told_of_parts readers)
+told_of_parts (reader ∷ readers) = ap (λ input. Some (rest_of reader) ∷ input) (told_of_parts readers)
 
 -- a reader that never fails isn't why there is no stack
 pub never_fails : {R : Type 0} (remaining : R → Option (List ℕ)) (fault : VerifyFault) (olds news : List R)
@@ -111,8 +111,8 @@ never_fails remaining fault olds news h = grind arith
 
 -- ---- readers of parts, which never fail
 
-abbrev told : PartReader → Option (List ℕ)
-told reader = Some (rest_of reader)
+abbrev input : PartReader → Option (List ℕ)
+input reader = Some (rest_of reader)
 
 abbrev none : PartReader → ℕ
 none reader = 0
@@ -120,11 +120,11 @@ none reader = 0
 -- no read of one is why nothing is compared
 pub reads_well : (T : Type 0) (fault : VerifyFault) (olds news : List PartReader)
     (table table_new profile profile_new : PartReader)
-    → LeavesFilterReaders {T = T} told none olds (Err fault) news
-    → LeavesTableReader {T = T} told none table (Err fault) table_new
-    → LeavesProfileReader {T = T} told none profile (Err fault) profile_new → NoReadFailed fault
+    → LeavesFilterReaders {T = T} input none olds (Err fault) news
+    → LeavesTableReader {T = T} input none table (Err fault) table_new
+    → LeavesProfileReader {T = T} input none profile (Err fault) profile_new → NoReadFailed fault
 reads_well T (FilterRead fault) olds news table table_new profile profile_new of_filters of_table of_profile = record {
-  of_filter = never_fails told (FilterRead fault) olds news of_filters;
+  of_filter = never_fails input (FilterRead fault) olds news of_filters;
   of_table = λ is. cc;
   of_profile = λ is. cc;
 }
@@ -146,9 +146,9 @@ memory_is_no_read = record { of_filter = λ is. cc; of_table = λ is. cc; of_pro
 
 -- nor why there is no stack
 pub stack_reads_well : (T : Type 0) (texts : List (Option (List ℕ))) (fault : VerifyFault) (olds news : List PartReader)
-    → HasNoStack texts fault → LeavesFilterReaders {T = T} told none olds (Err fault) news → NoReadFailed fault
+    → HasNoStack texts fault → LeavesFilterReaders {T = T} input none olds (Err fault) news → NoReadFailed fault
 stack_reads_well T texts (FilterRead fault) olds news refused left = record {
-  of_filter = never_fails told (FilterRead fault) olds news left;
+  of_filter = never_fails input (FilterRead fault) olds news left;
   of_table = λ is. cc;
   of_profile = λ is. cc;
 }
@@ -158,15 +158,15 @@ stack_reads_well T texts fault olds news refused left =
     record { of_filter = λ is. cc; of_table = λ is. cc; of_profile = λ is. cc }
 
 pub stopped_reads_well : (texts : List (Option (List ℕ))) (fault : VerifyFault) (olds news : List PartReader)
-    → HasNoStack texts fault → HaveStopped told none fault olds news → NoReadFailed fault
+    → HasNoStack texts fault → HaveStopped input none fault olds news → NoReadFailed fault
 stopped_reads_well texts (TableRead fault) olds news refused left = absurd refused.why
 stopped_reads_well texts (ProfileRead fault) olds news refused left = absurd refused.why
 stopped_reads_well texts fault olds news refused left =
-    record { of_filter = never_fails told fault olds news left; of_table = λ is. cc; of_profile = λ is. cc }
+    record { of_filter = never_fails input fault olds news left; of_table = λ is. cc; of_profile = λ is. cc }
 
 -- nor why a table isn't read
 pub table_reads_well : (T : Type 0) (fault : VerifyFault) (bytes : Option (List ℕ)) (table table_new : PartReader)
-    → IsTableFault bytes fault → LeavesTableReader {T = T} told none table (Err fault) table_new → NoReadFailed fault
+    → IsTableFault bytes fault → LeavesTableReader {T = T} input none table (Err fault) table_new → NoReadFailed fault
 table_reads_well T (FilterRead fault) bytes table table_new (inl refused) left = absurd refused
 table_reads_well T (FilterRead fault) bytes table table_new (inr refused) left = absurd (cc (refused.2))
 table_reads_well T (TableRead fault) bytes table table_new refused left = record {

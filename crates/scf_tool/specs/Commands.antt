@@ -63,59 +63,59 @@ max_input_len = 16777216
 
 -- what the input is read as: its bytes, or why they aren't read
 abbrev pub ReadsInput : Option (List ℕ) → Result (List ℕ) InputFault → Type 0
-ReadsInput told result = ReadsUnder max_input_len told result
+ReadsInput input result = ReadsUnder max_input_len input result
 
 -- The input is a bundle whose parts hold these filters, these profiles and these tables.
 abbrev pub HoldsBundle : Option (List ℕ) → List (List ℕ) → List (List ℕ) → List (List ℕ) → Type 0
-HoldsBundle told filters profiles tables =
-    (bytes : List ℕ) × ReadsInput told (Ok bytes) × IsBundle bytes filters profiles tables
+HoldsBundle input filters profiles tables =
+    (bytes : List ℕ) × ReadsInput input (Ok bytes) × IsBundle bytes filters profiles tables
 
 -- What a command ends with that takes a bundle: the input isn't read, it is no bundle, the counts of its filters,
 -- profiles and tables aren't such, or this holds of the end.
 abbrev pub EndsOnBundle : Option (List ℕ) → (ℕ → ℕ → ℕ → Type 0) → (Result Reply Fault → Type 0)
     → Result Reply Fault → Type 0
-EndsOnBundle told counts holds (Err (faults.Input fault)) = ReadsInput told (Err fault)
-EndsOnBundle told counts holds (Err (faults.Bundle fault)) =
-    (bytes : List ℕ) × ReadsInput told (Ok bytes) × IsBundleFault bytes fault
-EndsOnBundle told counts holds (Err faults.Parts) =
-    (filters profiles tables : List (List ℕ)) × HoldsBundle told filters profiles tables
+EndsOnBundle input counts holds (Err (faults.Input fault)) = ReadsInput input (Err fault)
+EndsOnBundle input counts holds (Err (faults.Bundle fault)) =
+    (bytes : List ℕ) × ReadsInput input (Ok bytes) × IsBundleFault bytes fault
+EndsOnBundle input counts holds (Err faults.Parts) =
+    (filters profiles tables : List (List ℕ)) × HoldsBundle input filters profiles tables
     × (counts (length filters) (length profiles) (length tables) → ⊥)
-EndsOnBundle told counts holds ending = holds ending
+EndsOnBundle input counts holds ending = holds ending
 
 -- ---- one filter
 
 -- What is replied of an accepted filter to `check`, the count of its instructions; to `run`, its answer to the call and
--- the length of its run; to `run --path`, these and the places of the instructions on its way.
+-- the length of its run; to `run --path`, these and the indices of the instructions on its way.
 abbrev pub IsReplyOn : Request → List Insn → Reply → Type 0
 IsReplyOn requests.Check insns (Accepted count) = count ≡ length insns
 IsReplyOn (requests.Run call) insns (Ran ran) = IsRun insns (words_of call) ran.answer.0 ran.steps
-IsReplyOn (requests.Trace call) insns (Bytes bytes) = (answer : ℕ) × (places : List ℕ)
-    × IsPathOf insns (words_of call) answer places × (bytes.items ≡ traced_text answer places)
+IsReplyOn (requests.Trace call) insns (Bytes bytes) = (answer : ℕ) × (indices : List ℕ)
+    × IsPathOf insns (words_of call) answer indices × (bytes.items ≡ traced_text answer indices)
 IsReplyOn request insns reply = ⊥
 
 -- what these end with: the reply is true of an accepted filter, or it isn't accepted
 abbrev pub EndsOnFilter : Request → Option (List ℕ) → Result Reply Fault → Type 0
-EndsOnFilter request told (Ok reply) = (insns : List Insn) × IsAcceptedFilter told insns × IsReplyOn request insns reply
-EndsOnFilter request told (Err (faults.Verify fault)) = IsNoFilter told fault
-EndsOnFilter request told (Err fault) = ⊥
+EndsOnFilter request input (Ok reply) = (insns : List Insn) × IsAcceptedFilter input insns × IsReplyOn request insns reply
+EndsOnFilter request input (Err (faults.Verify fault)) = IsNoFilter input fault
+EndsOnFilter request input (Err fault) = ⊥
 
 -- `dis`: the listing of the instructions whose bytes the input is
 abbrev pub Lists : Option (List ℕ) → Result Reply Fault → Type 0
-Lists told (Ok (Bytes bytes)) =
-    (insns : List Insn) × ReadsFilter told (Ok insns) × (bytes.items ≡ text_of insns)
-Lists told (Err (faults.Verify (verifies.FilterRead fault))) = ReadsFilter told (Err fault)
-Lists told ending = ⊥
+Lists input (Ok (Bytes bytes)) =
+    (insns : List Insn) × ReadsFilter input (Ok insns) × (bytes.items ≡ text_of insns)
+Lists input (Err (faults.Verify (verifies.FilterRead fault))) = ReadsFilter input (Err fault)
+Lists input ending = ⊥
 
 -- ---- a text
 
 -- `asm`: the bytes of the instructions that the input spells
 abbrev pub Assembles : Option (List ℕ) → Result Reply Fault → Type 0
-Assembles told (Ok (Bytes bytes)) =
-    (text : List ℕ) × ReadsInput told (Ok text) × (insns : List Insn)
+Assembles input (Ok (Bytes bytes)) =
+    (text : List ℕ) × ReadsInput input (Ok text) × (insns : List Insn)
     × spelling.Spells text insns × (bytes.items ≡ program_bytes insns)
-Assembles told (Err (faults.Input fault)) = ReadsInput told (Err fault)
-Assembles told (Err (faults.Text fault)) = (text : List ℕ) × ReadsInput told (Ok text) × IsFault fault (fault_of text)
-Assembles told ending = ⊥
+Assembles input (Err (faults.Input fault)) = ReadsInput input (Err fault)
+Assembles input (Err (faults.Text fault)) = (text : List ℕ) × ReadsInput input (Ok text) × IsFault fault (fault_of text)
+Assembles input ending = ⊥
 
 -- ---- a stack of filters
 
@@ -134,16 +134,16 @@ DecidesCall call filters ending = ⊥
 
 -- They are all that the bundle holds.
 abbrev pub EndsOnFilters : Option (List ℕ) → (List (List ℕ) → Result Reply Fault → Type 0) → Result Reply Fault → Type 0
-EndsOnFilters told holds = EndsOnBundle told (λ filters profiles tables. (profiles ≡ 0) × (tables ≡ 0))
-    (λ ending. (filters : List (List ℕ)) × HoldsBundle told filters [] [] × holds filters ending)
+EndsOnFilters input holds = EndsOnBundle input (λ filters profiles tables. (profiles ≡ 0) × (tables ≡ 0))
+    (λ ending. (filters : List (List ℕ)) × HoldsBundle input filters [] [] × holds filters ending)
 
 -- ---- a profile
 
 -- A profile and a table are all that the bundle holds.
 abbrev pub EndsOnProfile : Option (List ℕ) → (List ℕ → List ℕ → Result Reply Fault → Type 0)
     → Result Reply Fault → Type 0
-EndsOnProfile told holds = EndsOnBundle told (λ filters profiles tables. (filters ≡ 0) × (profiles ≡ 1) × (tables ≡ 1))
-    (λ ending. (profile table : List ℕ) × HoldsBundle told [] (profile ∷ []) (table ∷ []) × holds profile table ending)
+EndsOnProfile input holds = EndsOnBundle input (λ filters profiles tables. (filters ≡ 0) × (profiles ≡ 1) × (tables ≡ 1))
+    (λ ending. (profile table : List ℕ) × HoldsBundle input [] (profile ∷ []) (table ∷ []) × holds profile table ending)
 
 -- The table and the profile are read, and state this.
 pub record IsStated (profile table : List ℕ) (loaded : Loaded) : Type 0 where
@@ -193,19 +193,19 @@ ComparesParts over relation limits filters profile table ending = ⊥
 -- `compare`: the report of the comparison, where one filter or more, a profile and a table are all that the bundle
 -- holds
 abbrev pub Compares : Comparison → Option (List ℕ) → Result Reply Fault → Type 0
-Compares asked told =
-    EndsOnBundle told (λ filters profiles tables. (1 ≤ filters) × (profiles ≡ 1) × (tables ≡ 1))
+Compares comparison input =
+    EndsOnBundle input (λ filters profiles tables. (1 ≤ filters) × (profiles ≡ 1) × (tables ≡ 1))
     (λ ending. (filters : List (List ℕ)) × (profile table : List ℕ) × (1 ≤ length filters)
-    × HoldsBundle told filters (profile ∷ []) (table ∷ [])
-    × ComparesParts asked.scopes asked.relation asked.limits filters profile table ending)
+    × HoldsBundle input filters (profile ∷ []) (table ∷ [])
+    × ComparesParts comparison.scopes comparison.relation comparison.limits filters profile table ending)
 
 -- ---- a comparison with other filters
 
 -- The input is a bundle for a comparison over these calls, whose parts hold these filters, these beside them and these
 -- tables.
 abbrev pub HoldsBeside : Scopes → Option (List ℕ) → List (List ℕ) → List (List ℕ) → List (List ℕ) → Type 0
-HoldsBeside over told filters beside tables =
-    (bytes : List ℕ) × ReadsInput told (Ok bytes) × IsBesideBundle over bytes filters beside tables
+HoldsBeside over input filters beside tables =
+    (bytes : List ℕ) × ReadsInput input (Ok bytes) × IsBesideBundle over bytes filters beside tables
 
 -- why two stacks aren't compared: call by call there is a table, too
 abbrev pub AreNotCompared : Scopes → List (List ℕ) → List (List ℕ) → List (List ℕ) → BesideFault → Type 0
@@ -235,24 +235,24 @@ ComparesStacks over relation limits filters beside tables ending = ⊥
 -- `compare --beside`: the report of the comparison of the filters with those beside them, any number of either; call by
 -- call the bundle holds a table, too
 abbrev pub ComparesBeside : Comparison → Option (List ℕ) → Result Reply Fault → Type 0
-ComparesBeside asked told (Err (faults.Input fault)) = ReadsInput told (Err fault)
-ComparesBeside asked told (Err (faults.Bundle fault)) =
-    (bytes : List ℕ) × ReadsInput told (Ok bytes) × AreNoParts (beside_kinds asked.scopes) bytes fault
-ComparesBeside asked told (Err faults.Parts) = (filters beside tables : List (List ℕ))
-    × HoldsBeside asked.scopes told filters beside tables × (asked.scopes ≡ EachCall) × (length tables ≢ 1)
-ComparesBeside asked told ending = (filters beside tables : List (List ℕ))
-    × HoldsBeside asked.scopes told filters beside tables
-    × ComparesStacks asked.scopes asked.relation asked.limits filters beside tables ending
+ComparesBeside comparison input (Err (faults.Input fault)) = ReadsInput input (Err fault)
+ComparesBeside comparison input (Err (faults.Bundle fault)) =
+    (bytes : List ℕ) × ReadsInput input (Ok bytes) × AreNoParts (beside_kinds comparison.scopes) bytes fault
+ComparesBeside comparison input (Err faults.Parts) = (filters beside tables : List (List ℕ))
+    × HoldsBeside comparison.scopes input filters beside tables × (comparison.scopes ≡ EachCall) × (length tables ≢ 1)
+ComparesBeside comparison input ending = (filters beside tables : List (List ℕ))
+    × HoldsBeside comparison.scopes input filters beside tables
+    × ComparesStacks comparison.scopes comparison.relation comparison.limits filters beside tables ending
 
 -- ---- all commands
 
 -- what a request ends with is true of the input
 abbrev pub IsTrueReply : Request → Option (List ℕ) → Result Reply Fault → Type 0
-IsTrueReply (requests.Ask call) told = EndsOnProfile told (GivesReason call)
-IsTrueReply requests.Assemble told = Assembles told
-IsTrueReply (requests.Compare asked) told = Compares asked told
-IsTrueReply (requests.CompareBeside asked) told = ComparesBeside asked told
-IsTrueReply requests.Compile told = EndsOnProfile told Compiles
-IsTrueReply (requests.Decide call) told = EndsOnFilters told (DecidesCall call)
-IsTrueReply requests.List told = Lists told
-IsTrueReply request told = EndsOnFilter request told
+IsTrueReply (requests.Ask call) input = EndsOnProfile input (GivesReason call)
+IsTrueReply requests.Assemble input = Assembles input
+IsTrueReply (requests.Compare comparison) input = Compares comparison input
+IsTrueReply (requests.CompareBeside comparison) input = ComparesBeside comparison input
+IsTrueReply requests.Compile input = EndsOnProfile input Compiles
+IsTrueReply (requests.Decide call) input = EndsOnFilters input (DecidesCall call)
+IsTrueReply requests.List input = Lists input
+IsTrueReply request input = EndsOnFilter request input

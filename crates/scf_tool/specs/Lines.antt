@@ -34,16 +34,16 @@ answer_text answer = text_by (action_of (action_half answer)) answer
 abbrev pub steps_text : ℕ → List ℕ
 steps_text steps = codes " steps " ++ decimal steps ++ codes "\n"
 
--- the line of the places on a run's way
+-- the line of the indices on a run's way
 abbrev pub path_text : List ℕ → List ℕ
-path_text places = codes "path" ++ (flat_map (λ place. codes " " ++ decimal place) places ++ codes "\n")
+path_text indices = codes "path" ++ (flat_map (λ index. codes " " ++ decimal index) indices ++ codes "\n")
 
 -- the lines of a run whose way is shown
 abbrev pub traced_text : ℕ → List ℕ → List ℕ
-traced_text answer places = answer_text answer ++ (steps_text (length places) ++ path_text places)
+traced_text answer indices = answer_text answer ++ (steps_text (length indices) ++ path_text indices)
 
 -- why a profile answers so, behind the answer, and the end of its line
 abbrev pub reason_text : Reason → List ℕ
 reason_text Foreign = codes " foreign\n"
-reason_text (Entry place) = codes " entry " ++ decimal place ++ codes "\n"
+reason_text (Entry index) = codes " entry " ++ decimal index ++ codes "\n"
 reason_text Default = codes " default\n"

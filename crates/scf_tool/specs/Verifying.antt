@@ -66,7 +66,7 @@ LeavesProfileReader remaining failures old result new = HasEnded remaining failu
 
 -- these bytes, where they are known, are those of the instructions
 abbrev pub IsEncoded : Option (List ℕ) → List Insn → Type 0
-IsEncoded bytes insns = IfSome bytes (λ told. told ≡ program_bytes insns) × AllByRecursion IsInsn insns
+IsEncoded bytes insns = IfSome bytes (λ input. input ≡ program_bytes insns) × AllByRecursion IsInsn insns
 
 -- a filter: the bytes of instructions that keep every rule of filters
 pub record IsAcceptedFilter (bytes : Option (List ℕ)) (insns : List Insn) : Type 0 where
@@ -76,19 +76,19 @@ pub record IsAcceptedFilter (bytes : Option (List ℕ)) (insns : List Insn) : Ty
 
 -- what is read of a reader's bytes, few enough for a limit
 abbrev pub ReadsUnder : ℕ → Option (List ℕ) → Result (List ℕ) InputFault → Type 0
-ReadsUnder limit bytes result = IfSome bytes (λ told. IsInput (λ (read : List ℕ). read) limit told result)
+ReadsUnder limit bytes result = IfSome bytes (λ input. IsInput (λ (read : List ℕ). read) limit input result)
 
 -- what is read of a filter's bytes
 abbrev pub ReadsFilter : Option (List ℕ) → Result (List Insn) ReadFault → Type 0
-ReadsFilter bytes result = IfSome bytes (λ told. IsReading (λ (insns : List Insn). insns) told result)
+ReadsFilter bytes result = IfSome bytes (λ input. IsReading (λ (insns : List Insn). insns) input result)
 
 -- a call table: the bytes are few enough, and spell the map
 abbrev pub IsTable : Option (List ℕ) → Names → Type 0
-IsTable bytes names = IfSome bytes (λ told. (length told ≤ max_text_len) × (table_of told ≡ Ok names))
+IsTable bytes names = IfSome bytes (λ input. (length input ≤ max_text_len) × (table_of input ≡ Ok names))
 
 -- a profile: the JSON value of the bytes and the map state it, with what is left out of it
 abbrev pub IsLoaded : Option (List ℕ) → Names → Loaded → Type 0
-IsLoaded bytes names loaded = IfSome bytes (λ told. Loads told names loaded)
+IsLoaded bytes names loaded = IfSome bytes (λ input. Loads input names loaded)
 
 -- ---- a fault
 
@@ -103,14 +103,14 @@ IsNoFilter bytes fault = ⊥
 abbrev pub IsNoTable : Option (List ℕ) → VerifyFault → Type 0
 IsNoTable bytes (TableRead fault) = ReadsUnder max_text_len bytes (Err fault)
 IsNoTable bytes (Table fault) =
-    IfSome bytes (λ told. (length told ≤ max_text_len) × (fault ≢ tables.Memory → table_of told ≡ Err fault))
+    IfSome bytes (λ input. (length input ≤ max_text_len) × (fault ≢ tables.Memory → table_of input ≡ Err fault))
 IsNoTable bytes fault = ⊥
 
 -- why it has no profile: the bytes and the map of the table state none, for this fault first
 abbrev pub IsNoProfile : Names → Option (List ℕ) → VerifyFault → Type 0
 IsNoProfile names bytes (ProfileRead fault) = ReadsUnder max_text_len bytes (Err fault)
 IsNoProfile names bytes (Profile fault) =
-    IfSome bytes (λ told. (length told ≤ max_text_len) × Refuses told names fault)
+    IfSome bytes (λ input. (length input ≤ max_text_len) × Refuses input names fault)
 IsNoProfile names bytes fault = ⊥
 
 -- why a table and a profile state nothing that is compared: the first that isn't read, or out of memory behind both

@@ -67,10 +67,10 @@ fn plain(status: Status, name: &'static str) -> FaultKind
 }
 
 /// A kind with one number.
-fn placed(status: Status, name: &'static str, place: &'static str, number: usize) -> FaultKind
-    ensures { kind_of result ≡ (status, name.now, (place.now, number) ∷ []) }
+fn numbered(status: Status, name: &'static str, unit: &'static str, number: usize) -> FaultKind
+    ensures { kind_of result ≡ (status, name.now, (unit.now, number) ∷ []) }
 {
-    kind(status, name, [named(place, number), None, None])
+    kind(status, name, [named(unit, number), None, None])
 }
 
 /// A kind with status 1, in an entry of a profile or outside of them.
@@ -78,7 +78,7 @@ fn refused_in(name: &'static str, entry: Option<u32>) -> FaultKind
     ensures { kind_of result ≡ (Status.Refused, name.now, table.in_entry entry) }
 {
     match entry {
-        Some(place) => placed(Refused, name, "entry", place as usize),
+        Some(entry) => numbered(Refused, name, "entry", entry as usize),
         None => plain(Refused, name),
     }
 }
@@ -97,8 +97,8 @@ fn bundle_kind(fault: BundleFault) -> FaultKind
     ensures { kind_of result ≡ table.bundle_kind fault }
 {
     match fault {
-        BundleFault::Header { offset } => placed(Failed, "Header", "offset", offset),
-        BundleFault::Short { offset } => placed(Failed, "Short", "offset", offset),
+        BundleFault::Header { offset } => numbered(Failed, "Header", "offset", offset),
+        BundleFault::Short { offset } => numbered(Failed, "Short", "offset", offset),
         BundleFault::Memory => plain(Failed, "Memory"),
     }
 }
@@ -108,7 +108,7 @@ fn read_kind(fault: ReadFault) -> FaultKind
 {
     match fault {
         ReadFault::Read => plain(Failed, "Read"),
-        ReadFault::Truncated { offset } => placed(Failed, "Truncated", "offset", offset),
+        ReadFault::Truncated { offset } => numbered(Failed, "Truncated", "offset", offset),
         ReadFault::TooLong => plain(Failed, "TooLong"),
         ReadFault::Memory => plain(Failed, "Memory"),
     }
@@ -120,12 +120,12 @@ fn check_kind(fault: CheckFault) -> FaultKind
     match fault {
         CheckFault::Empty => plain(Refused, "Empty"),
         CheckFault::TooLong => plain(Refused, "TooLong"),
-        CheckFault::Code { at } => placed(Refused, "Code", "at", at),
-        CheckFault::Load { at } => placed(Refused, "Load", "at", at),
-        CheckFault::Scratch { at } => placed(Refused, "Scratch", "at", at),
-        CheckFault::Divisor { at } => placed(Refused, "Divisor", "at", at),
-        CheckFault::Shift { at } => placed(Refused, "Shift", "at", at),
-        CheckFault::Jump { at } => placed(Refused, "Jump", "at", at),
+        CheckFault::Code { at } => numbered(Refused, "Code", "at", at),
+        CheckFault::Load { at } => numbered(Refused, "Load", "at", at),
+        CheckFault::Scratch { at } => numbered(Refused, "Scratch", "at", at),
+        CheckFault::Divisor { at } => numbered(Refused, "Divisor", "at", at),
+        CheckFault::Shift { at } => numbered(Refused, "Shift", "at", at),
+        CheckFault::Jump { at } => numbered(Refused, "Jump", "at", at),
         CheckFault::LastNotReturn => plain(Refused, "LastNotReturn"),
         CheckFault::Unset { at, word } => {
             let fields = [named("at", at), named("word", usize::from(word)), None];
@@ -139,13 +139,13 @@ fn text_kind(fault: TextFault) -> FaultKind
     ensures { kind_of result ≡ table.text_kind fault }
 {
     match fault {
-        TextFault::NotAscii { line } => placed(Refused, "NotAscii", "line", line),
-        TextFault::Mnemonic { line } => placed(Refused, "Mnemonic", "line", line),
-        TextFault::Operand { line } => placed(Refused, "Operand", "line", line),
-        TextFault::NumberRange { line } => placed(Refused, "NumberRange", "line", line),
-        TextFault::Label { line } => placed(Refused, "Label", "line", line),
-        TextFault::JumpTooFar { line } => placed(Refused, "JumpTooFar", "line", line),
-        TextFault::TooLong { line } => placed(Refused, "TooLong", "line", line),
+        TextFault::NotAscii { line } => numbered(Refused, "NotAscii", "line", line),
+        TextFault::Mnemonic { line } => numbered(Refused, "Mnemonic", "line", line),
+        TextFault::Operand { line } => numbered(Refused, "Operand", "line", line),
+        TextFault::NumberRange { line } => numbered(Refused, "NumberRange", "line", line),
+        TextFault::Label { line } => numbered(Refused, "Label", "line", line),
+        TextFault::JumpTooFar { line } => numbered(Refused, "JumpTooFar", "line", line),
+        TextFault::TooLong { line } => numbered(Refused, "TooLong", "line", line),
         TextFault::Memory => plain(Failed, "Memory"),
     }
 }
@@ -154,10 +154,10 @@ fn table_kind(fault: TableFault) -> FaultKind
     ensures { kind_of result ≡ table.table_kind fault }
 {
     match fault {
-        TableFault::Form { line } => placed(Refused, "Form", "line", line),
-        TableFault::Name { line } => placed(Refused, "Name", "line", line),
-        TableFault::Number { line } => placed(Refused, "Number", "line", line),
-        TableFault::Repeated { line } => placed(Refused, "Repeated", "line", line),
+        TableFault::Form { line } => numbered(Refused, "Form", "line", line),
+        TableFault::Name { line } => numbered(Refused, "Name", "line", line),
+        TableFault::Number { line } => numbered(Refused, "Number", "line", line),
+        TableFault::Repeated { line } => numbered(Refused, "Repeated", "line", line),
         TableFault::Memory => plain(Failed, "Memory"),
     }
 }
@@ -208,7 +208,7 @@ fn push_kind(fault: PushFault) -> FaultKind
     ensures { kind_of result ≡ table.push_kind fault }
 {
     match fault {
-        PushFault::TooMany { total } => placed(Refused, "TooMany", "total", total),
+        PushFault::TooMany { total } => numbered(Refused, "TooMany", "total", total),
         PushFault::Memory => plain(Failed, "Memory"),
     }
 }

@@ -63,34 +63,34 @@ pub(crate) fn write_steps<S: Sink>(sink: &mut S, steps: u64) -> Result<(), Write
     write_fragments(sink, &[Text(" steps "), Decimal(steps), Text("\n")])
 }
 
-fn write_places<S: Sink>(sink: &mut S, places: &[usize]) -> Result<(), WriteFault>
+fn write_indices<S: Sink>(sink: &mut S, indices: &[usize]) -> Result<(), WriteFault>
     ensures { Writes S.contents S.failures sink.old
-        (flat_map (λ place. codes " " ++ decimal place) places.now) result sink.new }
+        (flat_map (λ index. codes " " ++ decimal index) indices.now) result sink.new }
 {
-    for place in places {
-        write_fragments(sink, &[Text(" "), Decimal(*place as u64)])?;
+    for index in indices {
+        write_fragments(sink, &[Text(" "), Decimal(*index as u64)])?;
     }
     Ok(())
 }
 
 /// Writes the line of a run's path.
-fn write_path<S: Sink>(sink: &mut S, places: &[usize]) -> Result<(), WriteFault>
-    ensures { Writes S.contents S.failures sink.old (path_text places.now) result sink.new }
+fn write_path<S: Sink>(sink: &mut S, indices: &[usize]) -> Result<(), WriteFault>
+    ensures { Writes S.contents S.failures sink.old (path_text indices.now) result sink.new }
 {
     write_whole(sink, b"path")?;
-    write_places(sink, places)?;
+    write_indices(sink, indices)?;
     write_whole(sink, b"\n")
 }
 
 /// Writes the answer of a run, its steps and its path.
 pub(crate) fn write_trace<S: Sink>(sink: &mut S, trace: &Trace) -> Result<(), WriteFault>
     ensures { Writes S.contents S.failures sink.old
-        (traced_text trace.now.answer.0 trace.now.places.items) result sink.new }
+        (traced_text trace.now.answer.0 trace.now.indices.items) result sink.new }
 {
-    let places = trace.places.as_slice();
+    let indices = trace.indices.as_slice();
     write_answer(sink, trace.answer)?;
-    write_steps(sink, places.len() as u64)?;
-    write_path(sink, places)
+    write_steps(sink, indices.len() as u64)?;
+    write_path(sink, indices)
 }
 
 /// Writes the reason of a profile's answer, and a line end.
@@ -99,8 +99,8 @@ pub(crate) fn write_reason<S: Sink>(sink: &mut S, reason: Reason) -> Result<(), 
 {
     match reason {
         Reason::Foreign => write_whole(sink, b" foreign\n"),
-        Reason::Entry(place) => {
-            let line = [Text(" entry "), Decimal(u64::from(place)), Text("\n")];
+        Reason::Entry(index) => {
+            let line = [Text(" entry "), Decimal(u64::from(index)), Text("\n")];
             write_fragments(sink, &line)
         }
         Reason::Default => write_whole(sink, b" default\n"),

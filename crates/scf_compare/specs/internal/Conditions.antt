@@ -39,7 +39,7 @@ IsAtTest test Low n = HasSameHigh test n
 abbrev pub IsAtPart : Condition → ConditionPart → ℕ → Type 0
 IsAtPart c part n = IsAtTest (test_of c).0 part n
 
--- what is known of a number on a way on
+-- what is known of a number at a successor
 abbrev pub TestLeadsTo : NumberTest → Successor → ℕ → Type 0
 TestLeadsTo test Holds n = tree_answer test n ≡ true
 TestLeadsTo test Fails n = tree_answer test n ≡ false
@@ -50,13 +50,13 @@ ConditionLeadsTo c Holds n = condition_holds c n ≡ true
 ConditionLeadsTo c Fails n = condition_holds c n ≡ false
 ConditionLeadsTo c (Then part) n = IsAtPart c part n
 
--- the way of the opposite
+-- the successor of the opposite
 abbrev pub opposite_successor : Successor → Successor
 opposite_successor Holds = Fails
 opposite_successor Fails = Holds
 opposite_successor (Then part) = Then part
 
--- the ways on from an atom, over the words of a call with this number
+-- the successors behind an atom, over the words of a call with this number
 abbrev pub SplitsTest : NumberTest → Question → List ℕ → ℕ → Type 0
 SplitsTest test question words n =
     (atom_answer question.atom words ≡ true → TestLeadsTo test question.if_true n)
@@ -78,13 +78,13 @@ successor_size Holds holds fails = holds
 successor_size Fails holds fails = fails
 successor_size (Then part) holds fails = part_size part holds fails
 
--- over the words of a call the ways on from a part's question
+-- over the words of a call the successors behind a part's question
 abbrev pub SplitsAt : Condition → ConditionPart → Question → Type 0
 SplitsAt c part question =
     (words : List ℕ) → IsWords words → IsAtPart c part (argument (call_of words) c.index)
     → Splits c question words (argument (call_of words) c.index)
 
--- a part's question, and what is asked on both ways, are within its size
+-- a part's question, and what both successors ask, are within its size
 abbrev pub CostsAt : ConditionPart → Question → Type 0
 CostsAt part question =
     (holds fails : ℕ)

@@ -8,14 +8,14 @@ use Rattle.scf_insn.specs.declared.operation.Operation.TheVariants.{LoadScratch,
 use Rattle.scf_compare.specs.declared.control_flow.ControlFlow.{ControlFlow}
 use Rattle.scf_compare.specs.declared.control_flow.ControlFlow.TheVariants.{FallThrough, Jump, ConditionalJump, DivideByIndex, ReturnConstant, ReturnAccumulator}
 
--- how an instruction goes on from a place
+-- how an instruction goes on from an index
 abbrev pub control_flow_at : Operation → Insn → ℕ → ControlFlow
-control_flow_at Jumps i place = Jump (place + 1 + i.k)
-control_flow_at (JumpIf test operand) i place = ConditionalJump test operand (place + 1 + i.jt) (place + 1 + i.jf)
-control_flow_at ReturnsConstant i place = ReturnConstant
-control_flow_at ReturnsAccumulator i place = ReturnAccumulator
-control_flow_at (Compute Div Index) i place = DivideByIndex (place + 1)
-control_flow_at _ i place = FallThrough (place + 1)
+control_flow_at Jumps i index = Jump (index + 1 + i.k)
+control_flow_at (JumpIf test operand) i index = ConditionalJump test operand (index + 1 + i.jt) (index + 1 + i.jf)
+control_flow_at ReturnsConstant i index = ReturnConstant
+control_flow_at ReturnsAccumulator i index = ReturnAccumulator
+control_flow_at (Compute Div Index) i index = DivideByIndex (index + 1)
+control_flow_at _ i index = FallThrough (index + 1)
 
 -- it loads or stores a scratch word
 abbrev pub UsesScratch : Operation → Type 0
@@ -23,7 +23,7 @@ UsesScratch (LoadScratch r) = Unit {0}
 UsesScratch (StoreScratch r) = Unit {0}
 UsesScratch _ = ⊥
 
--- the places that it goes on to are below a length
+-- the indices that it goes on to are below a length
 abbrev pub IsInside : ℕ → ControlFlow → Type 0
 IsInside len (FallThrough next) = next < len
 IsInside len (Jump target) = target < len

@@ -22,12 +22,12 @@ use Rattle.scf_compare.specs.internal.Leaves.{filter_leaves}
 use Rattle.scf_compare.specs.internal.Trees.{Leaves, Tree}
 use Rattle.scf_compare.specs.internal.Values.{AreValues, IsPlainValue, Describes}
 
--- The run over the words comes to a place with registers that the values abstract.
-pub record ComesTo (insns : List Insn) (place : ℕ) (registers : KnownRegisters) (words : List ℕ) : Type 0 where
+-- The run over the words comes to an index with registers that the values abstract.
+pub record ComesTo (insns : List Insn) (index : ℕ) (registers : KnownRegisters) (words : List ℕ) : Type 0 where
   pub state : State
   pub earlier : List State
   pub chain : IsChain insns words start state earlier
-  pub there : state.place ≡ place
+  pub there : state.pc ≡ index
   pub describes : Describes registers words state
 
 -- What is known of the answer where a run ends by how its instruction goes on: the constant of a return; 0 of a
@@ -38,7 +38,7 @@ EndsWith ReturnAccumulator i answer = Unit {0}
 EndsWith (DivideByIndex next) i answer = answer ≡ Some (record { 0 = 0 })
 EndsWith _ i answer = ⊥
 
--- An end of a filter, at the place where a run of it ends: only what is in the accumulator isn't known there.
+-- A leaf of a filter, at the index where a run of it ends: only what is in the accumulator isn't known there.
 pub record IsFilterEnd (insns : List Insn) (leaf : SideLeaf) : Type 0 where
   pub insn : Insn
   pub operation : Operation
@@ -46,20 +46,20 @@ pub record IsFilterEnd (insns : List Insn) (leaf : SideLeaf) : Type 0 where
   pub ends : EndsWith (control_flow_at operation insn leaf.at) insn leaf.answer
 
 abbrev pub filter_is_node : List Insn → KnownRegisters → FilterNode → Type 0
-filter_is_node insns registers (At place) = (place < length insns) × AreValues registers
+filter_is_node insns registers (At index) = (index < length insns) × AreValues registers
 filter_is_node insns registers (Stopped answer at) = IsFilterEnd insns (record { answer = Some answer; at = at })
 
 abbrev pub filter_reaches : List Insn → KnownRegisters → FilterNode → List ℕ → Type 0
-filter_reaches insns registers (At place) words = ComesTo insns place registers words
+filter_reaches insns registers (At index) words = ComesTo insns index registers words
 filter_reaches insns registers (Stopped answer at) words = RunAnswers insns words answer.0
 
 abbrev pub filter_size : List Insn → FilterNode → ℕ
-filter_size insns (At place) = tree_size insns place
+filter_size insns (At index) = tree_size insns index
 filter_size insns (Stopped answer at) = 1
 
 -- a plain program has a plain value in its accumulator, and divides nothing
 abbrev pub filter_is_plain : List Insn → KnownRegisters → FilterNode → Type 0
-filter_is_plain insns registers (At place) = IsPlainProgram insns × IsPlainValue registers.a
+filter_is_plain insns registers (At index) = IsPlainProgram insns × IsPlainValue registers.a
 filter_is_plain insns registers (Stopped answer at) = ⊥
 
 -- the tree, for what is known of the registers at its nodes
@@ -74,7 +74,7 @@ filter_tree insns registers = record {
 abbrev pub leaves_of_filter : List Insn → Leaves SideLeaf
 leaves_of_filter insns = filter_leaves (IsFilterEnd insns) (RunAnswers insns)
 
--- the ways on from a test
+-- the successors of a test
 abbrev pub IsStepOf : Decision → FilterNode → FilterNode → Step FilterNode SideLeaf → Type 0
 IsStepOf (Decided outcome) if_true if_false step = step ≡ Next (if outcome then if_true else if_false)
 IsStepOf (Asks atoms holds) if_true if_false step =

@@ -35,10 +35,10 @@ module _ {F K N : Type 0} (store : Store F) (tree : K → Tree N) where
   -- The words are in an open branch: the facts allow them at its mark, and they give what is learned on the way in and
   -- come to its node.
   pub record IsInBranch (frontier : Frontier F K N) (words : List ℕ) : Type 0 where
-    pub place : ℕ
+    pub index : ℕ
     pub branch : OpenBranch K N
-    pub stands : slice_get frontier.branches.items place ≡ Some branch
-    pub allowed : store.allows frontier.facts place words
+    pub stands : slice_get frontier.branches.items index ≡ Some branch
+    pub allowed : store.allows frontier.facts index words
     pub given : GivesLearned branch.learned words
     pub reached : (tree branch.known).reaches branch.node words
 
@@ -47,29 +47,29 @@ module _ {F K N : Type 0} (store : Store F) (tree : K → Tree N) where
   IsAhead frontier comes_on words =
       IsInBranch frontier words ⊎ (store.allows frontier.facts (store.level frontier.facts) words × comes_on words)
 
-  -- Each open branch has an open mark at its own place, and no words are allowed, at a mark or now, but those of the
+  -- Each open branch has an open mark at its own index, and no words are allowed, at a mark or now, but those of the
   -- scope.
   pub record IsFrontier (scope : List ℕ → Type 0) (frontier : Frontier F K N) : Type 0 where
     pub marks : store.level frontier.facts ≡ length frontier.branches.items
-    pub branches : (place : ℕ) (branch : OpenBranch K N) → slice_get frontier.branches.items place ≡ Some branch
+    pub branches : (index : ℕ) (branch : OpenBranch K N) → slice_get frontier.branches.items index ≡ Some branch
         → IsOpenBranch tree branch
     pub within : (level : ℕ) → level ≤ length frontier.branches.items
         → (words : List ℕ) → store.allows frontier.facts level words → scope words
 
   -- An open branch has exact facts at its mark, which stay so with what is learned on the way in, and its node is
   -- plain: all that is allowed there and gives what is learned comes to it.
-  pub record IsExactBranch (frontier : Frontier F K N) (place : ℕ) (branch : OpenBranch K N) : Type 0 where
-    pub facts : IsTrue (store.is_exact frontier.facts place)
+  pub record IsExactBranch (frontier : Frontier F K N) (index : ℕ) (branch : OpenBranch K N) : Type 0 where
+    pub facts : IsTrue (store.is_exact frontier.facts index)
     pub keeps : LearnsExactly branch.learned
     pub plain : (tree branch.known).is_plain branch.node
-    pub reached : (words : List ℕ) → store.allows frontier.facts place words → GivesLearned branch.learned words
+    pub reached : (words : List ℕ) → store.allows frontier.facts index words → GivesLearned branch.learned words
         → (tree branch.known).reaches branch.node words
 
   -- each open branch is so
   abbrev pub AreExact : Frontier F K N → Type 0
   AreExact frontier =
-      (place : ℕ) (branch : OpenBranch K N) → slice_get frontier.branches.items place ≡ Some branch
-      → IsExactBranch frontier place branch
+      (index : ℕ) (branch : OpenBranch K N) → slice_get frontier.branches.items index ≡ Some branch
+      → IsExactBranch frontier index branch
 
   -- So is each open branch, the facts are exact now, what comes is plain, and all that is allowed now comes on from
   -- here.

@@ -54,30 +54,30 @@ insn_counts (Some ReturnsConstant) i later = omega arith
 insn_counts (Some ReturnsAccumulator) i later = omega arith
 insn_counts operation i later = omega arith
 
-pub place_counts : (insns : List Insn) (place : ℕ) → 0 < tree_size insns place
+pub index_counts : (insns : List Insn) (index : ℕ) → 0 < tree_size insns index
 unfolding tree_sizes
-place_counts [] place = omega arith
-place_counts (i ∷ insns) zero = insn_counts (operation_of i.code) i (tree_sizes insns)
-place_counts (i ∷ insns) (suc place) = place_counts insns place
+index_counts [] index = omega arith
+index_counts (i ∷ insns) zero = insn_counts (operation_of i.code) i (tree_sizes insns)
+index_counts (i ∷ insns) (suc index) = index_counts insns index
 
 -- each node of a filter's tree counts
 pub node_counts : (insns : List Insn) (registers : KnownRegisters) (node : FilterNode)
     → 0 < (filter_tree insns registers).size node
-node_counts insns registers (At place) = place_counts insns place
+node_counts insns registers (At index) = index_counts insns index
 node_counts insns registers (Stopped answer at) = omega arith
 
 pub paths_count : (filters : List (List Insn)) → 0 < stack_paths filters
 paths_count [] = omega arith
 paths_count (filter ∷ filters) =
-    scaled_counts (tree_size filter 0) (stack_paths filters) (place_counts filter 0) (paths_count filters)
+    scaled_counts (tree_size filter 0) (stack_paths filters) (index_counts filter 0) (paths_count filters)
 
 -- each node of a stack's tree counts
 pub stack_node_counts : (filters : List (List Insn)) (registers : KnownRegisters) (node : StackNode)
     → 0 < (stack_tree filters registers).size node
 stack_node_counts filters registers Empty = omega arith
-stack_node_counts filters registers (InStack place older node) =
-    let here = filter_at filters place in
-    let behind = drop (place + 1) filters in
+stack_node_counts filters registers (InStack index older node) =
+    let here = filter_at filters index in
+    let behind = drop (index + 1) filters in
     scaled_counts (filter_size here node) (stack_paths behind) (node_counts here registers node) (paths_count behind)
 
 part_counts : (part : ConditionPart) (holds fails : ℕ) → 0 < part_size part holds fails
@@ -89,7 +89,7 @@ part_counts Low holds fails = omega arith
 pub profile_node_counts : (s : NumberedProfile) (node : ProfileNode) → 0 < (profile_tree s).size node
 profile_node_counts s Architecture = omega arith
 profile_node_counts s Range = omega arith
-profile_node_counts s (Number place) = omega arith
+profile_node_counts s (Number index) = omega arith
 profile_node_counts s (OfCondition at part) = part_counts part _ _
 profile_node_counts s (Answers answer) = omega arith
 

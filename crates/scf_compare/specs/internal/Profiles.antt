@@ -11,7 +11,7 @@ use Rattle.scf_profile.specs.PlainProfile.{IsPlainRule}
 use Rattle.scf_profile.specs.ProfileAnswers.{ProfileAnswers}
 use Rattle.scf_profile.specs.declared.rule.Rule.{Rule}
 use Rattle.scf_profile.specs.RulesByNumber.{rules_of}
-use Rattle.scf_compare.specs.declared.profile.ConditionPlace.{ConditionPlace}
+use Rattle.scf_compare.specs.declared.profile.ConditionPosition.{ConditionPosition}
 use Rattle.scf_compare.specs.declared.profile.ProfileNode.{ProfileNode}
 use Rattle.scf_compare.specs.declared.profile.ProfileNode.TheVariants.{Architecture, Range, Number, Condition as OfCondition, Answer as Answers}
 use Rattle.scf_compare.specs.declared.question.ConditionPart.{ConditionPart}
@@ -20,63 +20,63 @@ use Rattle.scf_compare.specs.Effort.{conditions_size, rules_size}
 use Rattle.scf_compare.specs.internal.NumberedProfiles.{NumberedProfile}
 use Rattle.scf_compare.specs.internal.Trees.{Tree}
 
--- the rules of the number at a place
+-- the rules of the number at an index
 abbrev pub own_rules : List NumberRules → ℕ → List Rule
-own_rules numbers place = slice_index_or (map (λ own. own.rules.items) numbers) place []
+own_rules numbers index = slice_index_or (map (λ own. own.rules.items) numbers) index []
 
--- the conditions of the rule at a place of them
-abbrev pub own_conditions : List NumberRules → ConditionPlace → List Condition
+-- the conditions of the rule at an index of them
+abbrev pub own_conditions : List NumberRules → ConditionPosition → List Condition
 own_conditions numbers at = slice_index_or (map (λ r. r.conditions) (own_rules numbers at.number)) at.rule []
 
 -- There is a number, a rule of it and a condition of the rule.
-pub record StandsAt (numbers : List NumberRules) (at : ConditionPlace) : Type 0 where
+pub record StandsAt (numbers : List NumberRules) (at : ConditionPosition) : Type 0 where
   pub number : at.number < length numbers
   pub rule : at.rule < length (own_rules numbers at.number)
   pub condition : at.condition < length (own_conditions numbers at)
 
--- A native call's number has the rules of the number at a place, and the call meets none of them before one.
+-- A native call's number has the rules of the number at an index, and the call meets none of them before one.
 pub record IsAtRule (s : NumberedProfile) (number rule : ℕ) (call : CallRecord) : Type 0 where
   pub native : IsNative call
   pub own : rules_of call.nr s.profile.rules ≡ own_rules s.numbers number
   pub unmet : All (λ earlier. meets earlier call ≡ false) (take rule (own_rules s.numbers number))
 
 -- The call is at a rule of a number, and the rule's conditions before one hold of it.
-pub record IsAtCondition (s : NumberedProfile) (at : ConditionPlace) (call : CallRecord) : Type 0 where
+pub record IsAtCondition (s : NumberedProfile) (at : ConditionPosition) (call : CallRecord) : Type 0 where
   pub at_rule : IsAtRule s at.number at.rule call
   pub held : all_hold call (take at.condition (own_conditions s.numbers at)) ≡ true
 
 -- The call is at a condition, and this much is known of the argument when a part of it is asked.
-pub record KnowsPart (s : NumberedProfile) (at : ConditionPlace) (part : ConditionPart) (call : CallRecord)
+pub record KnowsPart (s : NumberedProfile) (at : ConditionPosition) (part : ConditionPart) (call : CallRecord)
     : Type 0 where
   pub at_condition : IsAtCondition s at call
   pub condition : Condition
   pub here : slice_get (own_conditions s.numbers at) at.condition ≡ Some condition
   pub known : IsAtPart condition part (argument call condition.index)
 
--- the call has none of the numbers before a place
+-- the call has none of the numbers before an index
 abbrev pub IsFrom : ℕ → List NumberRules → CallRecord → Type 0
-IsFrom place numbers call = All (λ own. call.nr ≢ own.number) (take place numbers)
+IsFrom index numbers call = All (λ own. call.nr ≢ own.number) (take index numbers)
 
 abbrev pub profile_is_node : NumberedProfile → ProfileNode → Type 0
 profile_is_node s Architecture = Unit {0}
 profile_is_node s Range = Unit {0}
-profile_is_node s (Number place) = Unit {0}
+profile_is_node s (Number index) = Unit {0}
 profile_is_node s (OfCondition at part) = StandsAt s.numbers at
 profile_is_node s (Answers answer) = Unit {0}
 
 abbrev pub profile_reaches : NumberedProfile → ProfileNode → List ℕ → Type 0
 profile_reaches s Architecture words = Unit {0}
 profile_reaches s Range words = (call_of words).arch ≡ audit_arch_x86_64
-profile_reaches s (Number place) words = IsNative (call_of words) × IsFrom place s.numbers (call_of words)
+profile_reaches s (Number index) words = IsNative (call_of words) × IsFrom index s.numbers (call_of words)
 profile_reaches s (OfCondition at part) words = KnowsPart s at part (call_of words)
 profile_reaches s (Answers answer) words = ProfileAnswers s.profile (call_of words) answer.0
 
 -- the size of what is asked once a rule failed
-abbrev pub size_behind : List NumberRules → ConditionPlace → ℕ
+abbrev pub size_behind : List NumberRules → ConditionPosition → ℕ
 size_behind numbers at = rules_size (drop (at.rule + 1) (own_rules numbers at.number))
 
 -- the size of what is asked once a condition of a rule holds
-abbrev pub size_of_rest : List NumberRules → ConditionPlace → ℕ
+abbrev pub size_of_rest : List NumberRules → ConditionPosition → ℕ
 size_of_rest numbers at =
     conditions_size (drop (at.condition + 1) (own_conditions numbers at)) (size_behind numbers at)
 
@@ -87,7 +87,7 @@ numbers_size numbers = sum_by (λ own. 1 + rules_size own.rules.items) numbers
 abbrev pub profile_size : NumberedProfile → ProfileNode → ℕ
 profile_size s Architecture = 8 + numbers_size s.numbers
 profile_size s Range = 3 + numbers_size s.numbers
-profile_size s (Number place) = 1 + numbers_size (drop place s.numbers)
+profile_size s (Number index) = 1 + numbers_size (drop index s.numbers)
 profile_size s (OfCondition at part) = part_size part (size_of_rest s.numbers at) (size_behind s.numbers at)
 profile_size s (Answers answer) = 1
 

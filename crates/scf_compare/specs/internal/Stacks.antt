@@ -13,45 +13,45 @@ use Rattle.scf_compare.specs.internal.Leaves.{KnowsAnswer, SideTells, filter_lea
 use Rattle.scf_compare.specs.internal.Filters.{IsFilterEnd, filter_is_node, filter_reaches, filter_size, filter_is_plain}
 use Rattle.scf_compare.specs.internal.Trees.{Leaves, Tree}
 
--- the filter at a place of a stack
+-- the filter at an index of a stack
 abbrev pub filter_at : List (List Insn) → ℕ → List Insn
-filter_at filters place = slice_index_or filters place []
+filter_at filters index = slice_index_or filters index []
 
 -- An end of one of the filters, or of none, which allow.
 abbrev pub IsStackLeaf : List (List Insn) → SideLeaf → Type 0
 IsStackLeaf [] leaf = leaf ≡ record { answer = Some (record { 0 = seccomp_ret_allow }); at = 0 }
 IsStackLeaf (filter ∷ filters) leaf = (one : List Insn) × Contains (filter ∷ filters) one × IsFilterEnd one leaf
 
--- what the filters before a place decide, from the second one on
+-- what the filters before an index decide, from the second one on
 abbrev pub IsOlder : List (List Insn) → ℕ → Option SideLeaf → Type 0
-IsOlder filters place None = place ≡ 0
-IsOlder filters place (Some leaf) = IsStackLeaf filters leaf
+IsOlder filters index None = index ≡ 0
+IsOlder filters index (Some leaf) = IsStackLeaf filters leaf
 
 -- what is known of what they decide is so
 abbrev pub OlderTells : List (List Insn) → ℕ → Option SideLeaf → List ℕ → Type 0
-OlderTells filters place older words = IfSome older (λ leaf. SideTells (StackAnswers (take place filters)) leaf words)
+OlderTells filters index older words = IfSome older (λ leaf. SideTells (StackAnswers (take index filters)) leaf words)
 
 abbrev pub stack_is_node : List (List Insn) → KnownRegisters → StackNode → Type 0
 stack_is_node filters registers Empty = filters ≡ []
-stack_is_node filters registers (At place older node) =
-    (place < length filters) × filter_is_node (filter_at filters place) registers node × IsOlder filters place older
+stack_is_node filters registers (At index older node) =
+    (index < length filters) × filter_is_node (filter_at filters index) registers node × IsOlder filters index older
 
 -- the older filters decide so, where that is known, and the words come to the node of the filter
 abbrev pub stack_reaches : List (List Insn) → KnownRegisters → StackNode → List ℕ → Type 0
 stack_reaches filters registers Empty words = Unit {0}
-stack_reaches filters registers (At place older node) words =
-    OlderTells filters place older words × filter_reaches (filter_at filters place) registers node words
+stack_reaches filters registers (At index older node) words =
+    OlderTells filters index older words × filter_reaches (filter_at filters index) registers node words
 
 -- the newer filters stand whole behind each end of a filter
 abbrev pub stack_size : List (List Insn) → StackNode → ℕ
 stack_size filters Empty = 1
-stack_size filters (At place older node) =
-    filter_size (filter_at filters place) node * stack_paths (drop (place + 1) filters)
+stack_size filters (At index older node) =
+    filter_size (filter_at filters index) node * stack_paths (drop (index + 1) filters)
 
 abbrev pub stack_is_plain : List (List Insn) → KnownRegisters → StackNode → Type 0
 stack_is_plain filters registers Empty = Unit {0}
-stack_is_plain filters registers (At place older node) =
-    All IsPlainProgram filters × IfSome older KnowsAnswer × filter_is_plain (filter_at filters place) registers node
+stack_is_plain filters registers (At index older node) =
+    All IsPlainProgram filters × IfSome older KnowsAnswer × filter_is_plain (filter_at filters index) registers node
 
 -- the tree, for what is known of the registers at its nodes
 abbrev pub stack_tree : List (List Insn) → KnownRegisters → Tree StackNode

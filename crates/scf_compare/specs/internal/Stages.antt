@@ -14,7 +14,7 @@ use Rattle.scf_compare.specs.internal.Leaves.{AreWordsIn, Tells, KnowsBoth, Were
 use Rattle.scf_compare.specs.internal.Frontier.{IsInBranch, IsAhead, IsFrontier, AreExact, IsExact, open_size}
 use Rattle.scf_compare.specs.internal.Trees.{Tree, GoesOn, StaysPlain, step_size}
 
--- A finding of a leaf is true, is neither Holds nor Unfinished, and decides.
+-- A finding at a leaf is true, is neither Holds nor Unfinished, and decides.
 pub record IsFound (compared : Compared) (finding : Finding) : Type 0 where
   pub holds : IsTrueFinding compared finding
   pub within : (limit effort : ℕ) → IsFindingWithin limit effort finding
@@ -28,8 +28,8 @@ finding_of_all steps None = Holds steps
 
 -- The tree at a node is the one for what is known there.
 module _ {F K N : Type 0} (store : Store F) (compared : Compared) (tree : K → Tree N) (old new : Frontier F K N) where
-  -- A turn at one frontier leads to a node at another: no words are lost, no steps are added, and what exact facts
-  -- decide they still decide.
+  -- A step at one frontier leads to a node at another: no words are lost, the size doesn't grow, and what complete
+  -- facts decide they still decide.
   pub record LeadsTo (here : Tree N) (step : Step N PairLeaf) (next : N) : Type 0 where
     pub frontier : IsFrontier store tree (AreWordsIn compared) new
     pub node : here.is_node next
@@ -47,9 +47,8 @@ module _ {F K N : Type 0} (store : Store F) (compared : Compared) (tree : K → 
     pub size : open_size tree new + there.size next ≡ open_size tree old
     pub exact : AreExact store tree old → IsExact store tree new (there.is_plain next) (there.reaches next)
 
-  -- A step goes over from a node to another, and a place is known of an end that is left open, if one was found: the
-  -- words that were ahead still are, or were seen; at least one step fewer is left; and what exact facts decide they
-  -- still decide.
+  -- A step goes from one node to another, and the first undecided leaf is known, if there was one: the words that were
+  -- ahead still are, or were seen; at least one step fewer is left; and what complete facts decide they still decide.
   pub record GoesOver (here : Tree N) (from : N) (there : Tree N) (found : Option (Which × ℕ)) (next : N) : Type 0 where
     pub frontier : IsFrontier store tree (AreWordsIn compared) new
     pub node : there.is_node next

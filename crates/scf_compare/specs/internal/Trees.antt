@@ -29,46 +29,46 @@ abbrev pub KeepsAsked : Option Atoms → Type 0
 KeepsAsked None = ⊥
 KeepsAsked (Some atoms) = KeepsEither atoms
 
--- A turn leads to nodes of the tree, and asks of some of the sixteen words.
+-- A step leads to nodes of the tree, and asks of some of the sixteen words.
 abbrev pub IsProper : {N E : Type 0} → Tree N → (E → Type 0) → Step N E → Type 0
 IsProper tree is_leaf (Next next) = tree.is_node next
-IsProper tree is_leaf (Branch asked if_true if_false) = IsAsked asked × tree.is_node if_true × tree.is_node if_false
+IsProper tree is_leaf (Branch atoms if_true if_false) = IsAsked atoms × tree.is_node if_true × tree.is_node if_false
 IsProper tree is_leaf (Leaf leaf) = is_leaf leaf
 
--- The words go on from a turn, and what an end tells is true of them.
+-- The words go on from a step, and what a leaf tells is true of them.
 abbrev pub GoesOn : {N E : Type 0} → Tree N → (E → List ℕ → Type 0) → Step N E → List ℕ → Type 0
 GoesOn tree tells (Next next) words = tree.reaches next words
-GoesOn tree tells (Branch asked if_true if_false) words =
-    GoesEither asked words (tree.reaches if_true words) (tree.reaches if_false words)
+GoesOn tree tells (Branch atoms if_true if_false) words =
+    GoesEither atoms words (tree.reaches if_true words) (tree.reaches if_false words)
 GoesOn tree tells (Leaf leaf) words = tells leaf words
 
--- how many steps it takes to see all behind a turn
+-- how many steps it takes to see all behind a step
 abbrev pub step_size : {N E : Type 0} → Tree N → Step N E → ℕ
 step_size tree (Next next) = tree.size next
-step_size tree (Branch asked if_true if_false) = tree.size if_true + tree.size if_false
+step_size tree (Branch atoms if_true if_false) = tree.size if_true + tree.size if_false
 step_size tree (Leaf leaf) = 0
 
--- One step, and then what is seen behind the turn, are within a size.
+-- One step, and then what is seen behind it, are within a size.
 abbrev pub Costs : {N E : Type 0} → Tree N → Step N E → ℕ → Type 0
 Costs tree step size = step_size tree step + 1 ≤ size
 
--- The turn of a plain node: atoms decide, and exact facts stay exact with their answer; the next nodes are plain, and
--- an end tells all.
+-- The step of a plain node: atoms decide, and complete facts stay complete with their answer; the next nodes are plain,
+-- and a leaf tells all.
 abbrev pub StaysPlain : {N E : Type 0} → Tree N → (E → Type 0) → Step N E → Type 0
 StaysPlain tree tells_all (Next next) = tree.is_plain next
-StaysPlain tree tells_all (Branch asked if_true if_false) =
-    KeepsAsked asked × tree.is_plain if_true × tree.is_plain if_false
+StaysPlain tree tells_all (Branch atoms if_true if_false) =
+    KeepsAsked atoms × tree.is_plain if_true × tree.is_plain if_false
 StaysPlain tree tells_all (Leaf leaf) = tells_all leaf
 
--- Which ends a tree has, what one tells of the words that come to it, and which tell all that is asked.
+-- Which leaves a tree has, what one tells of the words that come to it, and which tell all that is asked.
 pub record Leaves (E : Type 0) : Type 1 where
   pub is_leaf : E → Type 0
   pub tells : E → List ℕ → Type 0
   pub tells_all : E → Type 0
 
--- A turn at a node, for what is known here, and the tree for what is known there, where the turn goes on: it leads to
--- nodes, given words that come to the node go on, one step and what is behind the turn are within the node's size, and
--- from a plain node all stays plain.
+-- A step at a node, for what is known here, and the tree for what is known there, where the step goes on: it leads to
+-- nodes, given words that come to the node go on, one step and what is behind it are within the node's size, and from a
+-- plain node all stays plain.
 pub record IsStep {N E : Type 0} (leaves : Leaves E) (given : List ℕ → Type 0) (here : Tree N) (node : N)
     (there : Tree N) (step : Step N E) : Type 0 where
   pub proper : IsProper there leaves.is_leaf step

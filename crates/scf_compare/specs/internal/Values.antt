@@ -36,13 +36,13 @@ Abstracts Unknown words x = Unit {0}
 -- a decision asks of some of the sixteen words
 abbrev pub IsTestDecision : Decision → Type 0
 IsTestDecision (Decided outcome) = Unit {0}
-IsTestDecision (Asks asked holds) = AsksOfWords asked
+IsTestDecision (Asks atoms holds) = AsksOfWords atoms
 IsTestDecision Open = Unit {0}
 
 -- over the words a decision tells the outcome of a test
 abbrev pub Decides : Decision → List ℕ → Bool → Type 0
 Decides (Decided outcome) words test = test ≡ outcome
-Decides (Asks asked holds) words test = (test ≡ true) ↔ (atoms_answer asked words ≡ holds)
+Decides (Asks atoms holds) words test = (test ≡ true) ↔ (atoms_answer atoms words ≡ holds)
 Decides Open words test = Unit {0}
 
 -- a known number, or a whole word of the record
@@ -56,7 +56,7 @@ IsPlainValue Unknown = ⊥
 -- a decision that isn't left open, and that keeps exact facts exact
 abbrev pub IsPlainDecision : Decision → Type 0
 IsPlainDecision (Decided outcome) = Unit {0}
-IsPlainDecision (Asks asked holds) = KeepsEither asked
+IsPlainDecision (Asks atoms holds) = KeepsEither atoms
 IsPlainDecision Open = ⊥
 
 pub record AreValues (registers : KnownRegisters) : Type 0 where

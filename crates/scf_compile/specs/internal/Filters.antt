@@ -41,34 +41,34 @@ abbrev pub rules_code : Answer → List Rule → List Insn
 rules_code default [] = return_with default.0 ∷ []
 rules_code default (r ∷ rs) = rule_code r ++ behind_rule r.conditions (rules_code default rs)
 
--- Some instructions are put before others, which stay at their places, and sound with them, and plain where this is so.
-pub record ArePut (plain : Type 0) (before after : List Insn) (place : Position) : Type 0 where
+-- Some instructions are put before others, which stay at their indices, and sound with them, and plain where this is so.
+pub record ArePut (plain : Type 0) (before after : List Insn) (index : Position) : Type 0 where
   pub longer : length before ≤ length after
   pub stays : (p : Position) → p.0 ≤ length before → code_from p after ≡ code_from p before
-  pub some : 0 < place.0
-  pub near : IsNear place after
+  pub some : 0 < index.0
+  pub near : IsNear index after
   pub sound : (asked : Bool) → (IsTrue asked → plain) → AreSound asked before → AreSound asked after
 
--- From a place on each call with a number that the ranges serve is answered by the rules wanted of it, after two
+-- From an index on each call with a number that the ranges serve is answered by the rules wanted of it, after two
 -- steps for each halving of the ranges.
-pub record IsSearchPut (default : Answer) (ranges : List NrRange) (before after : List Insn) (place : Position)
+pub record IsSearchPut (default : Answer) (ranges : List NrRange) (before after : List Insn) (index : Position)
     : Type 0 where
   pub small : length after + 2 ≤ length before + sum_by range_bound ranges
-  pub put : ArePut (AllRules IsPlainRule ranges) before after place
+  pub put : ArePut (AllRules IsPlainRule ranges) before after index
   pub ends : (call : CallRecord) (wanted : ℕ → List Rule) (low high halvings : ℕ) → IsRecord call
       → AreServed default wanted low ranges high → low ≤ call.nr → call.nr < high → length ranges ≤ 2 ^ halvings
-      → EndsWithin (words_of call) (code_from place after) call.nr (first_answer call default (wanted call.nr))
+      → EndsWithin (words_of call) (code_from index after) call.nr (first_answer call default (wanted call.nr))
       (2 * halvings + (1 + sum_by rule_bound (wanted call.nr)))
 
--- From a place on each call with a number that isn't one of x32 is answered by the profile's rules of the number. Seven
+-- From an index on each call with a number that isn't one of x32 is answered by the profile's rules of the number. Seven
 -- instructions more are within the bound on the size, and five steps more within that on the steps.
-pub record IsSearchOf (p : Profile) (code : List Insn) (place : Position) : Type 0 where
-  pub some : 0 < place.0
-  pub near : IsNear place code
+pub record IsSearchOf (p : Profile) (code : List Insn) (index : Position) : Type 0 where
+  pub some : 0 < index.0
+  pub near : IsNear index code
   pub small : (length code + 7 ≤ size_bound_of p) × (size_bound_of p < 2 ^ 31)
   pub sound : (plain : Bool) → (IsTrue plain → IsPlainProfile p) → AreSound plain code
   pub ends : (call : CallRecord) → IsRecord call → call.nr < x32_syscall_bit
-      → EndsWithin (words_of call) (code_from place code) call.nr
+      → EndsWithin (words_of call) (code_from index code) call.nr
       (first_answer call p.default_answer (rules_of call.nr p.rules)) (search_bound_of p - 5)
 
 -- what the filter and the profile answer to a call

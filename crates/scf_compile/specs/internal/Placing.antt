@@ -7,35 +7,35 @@ use Rattle.scf_insn.specs.declared.operation.Test.{Test}
 use Rattle.scf_compile.specs.declared.placing.Position.{Position}
 use Rattle.scf_compile.specs.internal.Insns.{jump_if, jump_over}
 
--- the code from a place on
+-- the code from an index on
 abbrev pub code_from : Position → List Insn → List Insn
-code_from place code = drop (length code - place.0) code
+code_from index code = drop (length code - index.0) code
 
--- a conditional jump that stands two instructions before the code reaches the place
-pub record IsNear (place : Position) (code : List Insn) : Type 0 where
-  pub stands : place.0 ≤ length code
-  pub near : length code < place.0 + 255
+-- a conditional jump that stands two instructions before the code reaches the index
+pub record IsNear (index : Position) (code : List Insn) : Type 0 where
+  pub stands : index.0 ≤ length code
+  pub near : length code < index.0 + 255
 
 -- The block, of no more than two instructions, stands first, before the code that stood.
-pub record IsFirst (block before after : List Insn) (place : Position) : Type 0 where
+pub record IsFirst (block before after : List Insn) (index : Position) : Type 0 where
   pub whole : after ≡ block ++ before
-  pub first : place.0 ≡ length after
+  pub first : index.0 ≡ length after
   pub few : length after ≤ 2 + length before
 
 -- no jump to the instruction from two instructions before the code is near enough
 abbrev pub IsOutOfReach : Insn → List Insn → Type 0
 IsOutOfReach wanted code = All (λ insn. insn ≢ wanted) (take 255 code)
 
--- The block stands at a place of the code, which is as it was before or has the block more: if this is one instruction,
+-- The block stands at an index of the code, which is as it was before or has the block more: if this is one instruction,
 -- only where it was out of reach.
-pub record IsPut (block before after : List Insn) (place : Position) : Type 0 where
+pub record IsPut (block before after : List Insn) (index : Position) : Type 0 where
   pub front : List Insn
   pub whole : after ≡ front ++ before
   pub put : (front ≡ []) ⊎ (front ≡ block)
   pub few : length after ≤ length block + length before
   pub behind : List Insn
-  pub there : code_from place after ≡ block ++ behind
-  pub near : IsNear place after
+  pub there : code_from index after ≡ block ++ behind
+  pub near : IsNear index after
   pub once : (insn : Insn) → block ≡ insn ∷ [] → (after ≡ before) ⊎ IsOutOfReach insn before
 
 -- tests the accumulator, and passes `hit` instructions where the test holds and else `miss`: more than 255 by a jump of

@@ -5,7 +5,7 @@ use Rattle.scf_machine.specs.Machine.{State, IsRunFrom}
 
 -- a state of a compiled filter, which uses neither the index register nor scratch words
 abbrev pub at : ℕ → ℕ → State
-at place a = record { place = place; a = a; x = 0; scratch = [] }
+at index a = record { pc = index; a = a; x = 0; scratch = [] }
 
 -- From its head, with `a` in the accumulator, the code ends in the answer within so many steps.
 pub record EndsWithin (words : List ℕ) (code : List Insn) (a answer most : ℕ) : Type 0 where

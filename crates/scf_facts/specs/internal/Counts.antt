@@ -1,7 +1,7 @@
 -- Counts of what a store had learned at each of its open marks.
 use Rattle.std.specs.Prelude.{◌≤◌, ℕ, List, slice_index_or}
 
--- the count at a level: at an open mark, by its place, or past the last mark the count now
+-- the count at a level: at an open mark, by its index, or past the last mark the count now
 abbrev pub count_at : List ℕ → ℕ → ℕ → ℕ
 count_at marks now level = slice_index_or marks level now
 

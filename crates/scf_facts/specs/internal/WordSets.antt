@@ -40,8 +40,8 @@ is_exact_set facts = length facts.refuted == 0
 -- the lists of words that are allowed, where each word has its facts
 pub record AllowsWords (sets : List NumberFacts) (words : List ℕ) : Type 0 where
   pub sixteen : IsWords words
-  pub each : (place : ℕ) (default : NumberFacts) → place < length sets
-      → AllowsNumber (slice_index_or sets place default) (slice_index words place)
+  pub each : (index : ℕ) (default : NumberFacts) → index < length sets
+      → AllowsNumber (slice_index_or sets index default) (slice_index words index)
 
 -- what is known: the facts of each word, and pairs of atoms that aren't both true
 pub record AllFacts : Type 0 where

@@ -1,4 +1,4 @@
--- The labels of a text, kept by the places where they begin.
+-- The labels of a text, kept by the indices where they begin.
 use Rattle.std.specs.Prelude.{◌≡◌, ℕ, ◌<◌, ◌≤◌, List, map, min, Option, Some, None, Result, Ok, Err, nat_lt, Bool}
 use Rattle.std.specs.declared.cmp.Ordering.{Ordering}
 use Rattle.std.specs.Cmp.Lexicographic.{slice_cmp}
@@ -9,11 +9,11 @@ use Rattle.scf_text.specs.declared.fault.TextFault.{TextFault}
 use Rattle.scf_text.specs.declared.fault.TextFault.TheVariants as fault
 use Rattle.scf_text.specs.internal.Symbols.{name_at, line_at}
 
--- names that stand for places, each with its place
+-- names that stand for indices, each with its index
 abbrev pub Labels : Type 0
 Labels = List (List ℕ × ℕ)
 
--- The labels that begin at these places, where instructions begin at those: a label stands for the number of the
+-- The labels that begin at these indices, where instructions begin at those: a label stands for the number of the
 -- instructions before it.
 abbrev pub labels_at : List ℕ → List ℕ → List ℕ → Labels
 labels_at text begins starts = map (λ s. (name_at text s, prefix_len (λ b. nat_lt b s) begins)) starts

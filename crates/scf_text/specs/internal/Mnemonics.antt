@@ -13,7 +13,7 @@ use Rattle.scf_text.specs.declared.encoding.Piece.TheVariants.{Mark, Len, Memory
 use Rattle.scf_text.specs.declared.encoding.Field.TheVariants.{Jt, Jf, K}
 use Rattle.scf_text.specs.declared.encoding.Encoding.{Encoding}
 use Rattle.scf_text.specs.Encodings as encodings
-use Rattle.scf_text.specs.Encodings.{arithmetic_word, operand_pieces, place_pieces, test_word}
+use Rattle.scf_text.specs.Encodings.{arithmetic_word, operand_pieces, index_pieces, test_word}
 
 -- the word that stands first
 abbrev pub mnemonic_text : Mnemonic → List ℕ
@@ -52,8 +52,8 @@ pieces_of s.Length = Len ∷ []
 pieces_of s.Accumulator = Accumulator ∷ []
 pieces_of s.Index = operand_pieces operands.Index
 pieces_of s.Constant = operand_pieces operands.Constant
-pieces_of s.Absolute = place_pieces
-pieces_of s.Scratch = Memory ∷ place_pieces
+pieces_of s.Absolute = index_pieces
+pieces_of s.Scratch = Memory ∷ index_pieces
 pieces_of s.Jump = Target K ∷ []
 pieces_of s.TestConstant = operand_pieces operands.Constant ++ both_targets
 pieces_of s.TestIndex = operand_pieces operands.Index ++ both_targets

@@ -20,7 +20,7 @@ abbrev pub AreNew : Labels → Labels → Type 0
 AreNew earlier [] = Unit {0}
 AreNew earlier (l ∷ ls) = (index_of earlier l.0 ≡ None) × AreNew (earlier ++ l ∷ []) ls
 
--- the name of a label with its place
+-- the name of a label with its index
 abbrev pub label_at : ℕ → Option (List ℕ) → Labels
 label_at at label = map (λ name. (name, at)) (option_to_list label)
 
@@ -44,7 +44,7 @@ part_statements line part =
 abbrev pub HaveTokens : List Statement → Type 0
 HaveTokens ss = flat_map (λ (s : Statement). s.tokens) ss ≢ []
 
--- Labels that were given are kept by where they begin, all before this place, as instructions are, which follow one
+-- Labels that were given are kept by where they begin, all before this index, as instructions are, which follow one
 -- another. The first fault of all these statements is the first repeat among the labels, or else a later one.
 pub record AreKept (text : List ℕ) (end : ℕ) (given : Labels) (all : List Statement) (later : Option TextFault)
     (begins kept : List ℕ) : Type 0 where
@@ -59,7 +59,7 @@ pub record AreKept (text : List ℕ) (end : ℕ) (given : Labels) (all : List St
   pub first : IsFirstRepeat text labels repeat
   pub fault : statements_fault [] all ≡ option_or (option_map (repeat_fault text) repeat) later
 
--- Of all these statements those before the rest are read, up to this place, and what they give is kept.
+-- Of all these statements those before the rest are read, up to this index, and what they give is kept.
 pub record IsLeft (text : List ℕ) (end : ℕ) (all rest : List Statement) (kept : List ℕ)
     (kept_insns : List NumberedInsn) : Type 0 where
   pub before : List Statement
@@ -78,13 +78,13 @@ pub record IsEnded (text : List ℕ) (all : List Statement) (kept : List ℕ) (e
   pub fault : IsFirstRepeat text kept None → IsFault e later
   pub some : HaveTokens all
 
--- All statements but the rest were read, up to a place, or the reading ended among them.
+-- All statements but the rest were read, up to an index, or the reading ended among them.
 abbrev pub Leaves : {T : Type 0} → List ℕ → Result T TextFault → List Statement → List Statement → (T → ℕ) → List ℕ
     → List NumberedInsn → Type 0
 Leaves text (Ok x) all rest end kept kept_insns = IsLeft text (end x) all rest kept kept_insns
 Leaves text (Err e) all rest end kept kept_insns = IsEnded text all kept e
 
--- All statements were read, and none has a fault: the labels are sorted, no two of one name, and stand for the places
+-- All statements were read, and none has a fault: the labels are sorted, no two of one name, and stand for the indices
 -- that the text gives to them.
 pub record IsRead (text labels : List ℕ) (parsed_insns : List NumberedInsn) : Type 0 where
   pub sorted : IsSortedBy (is_before text) labels

@@ -41,13 +41,13 @@ insn_fault symbols at line d =
     option_or (target_fault symbols at line (2 ^ 8) d.jt)
     (option_or (target_fault symbols at line (2 ^ 8) d.jf) (target_fault symbols at line (2 ^ 32) d.k))
 
--- the instruction that is written at this place
+-- the instruction that is written at this index
 abbrev pub TellsInsn : SymbolTable → ℕ → ℕ → parsed_insns.ParsedInsn → Result Insn TextFault → Type 0
 TellsInsn symbols at line parsed (Ok insn) =
     (insn_fault symbols at line parsed ≡ None) × SaysInsn symbols at parsed insn × IsInsn insn
 TellsInsn symbols at line parsed (Err e) = insn_fault symbols at line parsed ≡ Some e
 
--- the instructions that are written, the first at place 0, where this is no fault
+-- the instructions that are written, the first at index 0, where this is no fault
 abbrev pub TellsInsns : Option TextFault → SymbolTable → List (ℕ × parsed_insns.ParsedInsn) → Result (Vec Insn) TextFault → Type 0
 TellsInsns first symbols written (Ok insns) =
     (first ≡ None) × SaysEach symbols 0 written insns.items × AllByRecursion IsInsn insns.items
@@ -64,7 +64,7 @@ TellsDraft at line mnemonic operands parsed (Ok _) =
     × (parsed_insns.parsed_of mnemonic operands ≡ Some parsed)
 TellsDraft at line mnemonic operands parsed (Err e) = instruction_fault at line (mnemonic ∷ operands) ≡ Some e
 
--- The label that begins at this place, if there is one, is kept with the others. Else memory was refused, or the first
+-- The label that begins at this index, if there is one, is kept with the others. Else memory was refused, or the first
 -- repeat among them is told.
 abbrev pub AddsLabel : {T : Type 0} → List ℕ → List ℕ → Option ℕ → Result T TextFault → List ℕ → Type 0
 AddsLabel text old label (Ok _) new = IsPermutation (old ++ option_to_list label) new
@@ -72,7 +72,7 @@ AddsLabel {T} text old label (Err e) new =
     ((new ≡ old) × (e ≡ fault.Memory))
     ⊎ (IsPermutation (old ++ option_to_list label) new × (IsDistinct nat_eq new → TellsRepeat {T = T} text new (Err e)))
 
--- The instruction of these tokens, if there are any, stands behind the others and begins at this place.
+-- The instruction of these tokens, if there are any, stands behind the others and begins at this index.
 abbrev pub AddsInstruction : {T : Type 0} → List NumberedInsn → ℕ → ℕ → List (List ℕ) → Result T TextFault
     → List NumberedInsn → Type 0
 AddsInstruction old start line tokens (Ok _) new =
@@ -87,6 +87,6 @@ Reads known said part parsed Unfit = (known ≡ true) × (said ≡ None)
 Reads known said part parsed (Said after) =
     (known ≡ true) × (said ≡ Some parsed) × (others_in part ≡ statements_after after) × FollowsBehind part 0 after
 
--- the places that labels stand for
-abbrev pub places_view : Kept → SymbolTable
-places_view kept = index_of (labels_at kept.text.now (begins_of kept.parsed_insns.now) kept.labels.now)
+-- the indices that labels stand for
+abbrev pub indices_view : Kept → SymbolTable
+indices_view kept = index_of (labels_at kept.text.now (begins_of kept.parsed_insns.now) kept.labels.now)

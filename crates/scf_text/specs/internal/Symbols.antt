@@ -1,4 +1,4 @@
--- Where the parts of a line stand in the text, and what stands at a place.
+-- Where the parts of a line stand in the text, and what stands at an index.
 use Rattle.std.specs.Prelude.{◌≡◌, ℕ, ◌+◌, ◌-◌, ◌<◌, ◌≤◌, true, false, List, ◌++◌, take, drop, length, Option, Some, None}
 use Rattle.std.specs.Borrow.{Bor}
 use Rattle.std.specs.List.{count_by, take_while}
@@ -8,19 +8,19 @@ use Rattle.scf_text.specs.Characters.{is_line_end, is_word_byte}
 use Rattle.scf_text.specs.ParsedInsns.{is_name}
 use Rattle.scf_text.specs.internal.Parts.{begins_in_word}
 
--- the name that begins at this place: the word there
+-- the name that begins at this index: the word there
 abbrev pub name_at : List ℕ → ℕ → List ℕ
-name_at text place = take_while is_word_byte (drop place text)
+name_at text index = take_while is_word_byte (drop index text)
 
 -- how many line ends there are
 abbrev pub count_ends : List ℕ → ℕ
 count_ends bytes = count_by is_line_end bytes
 
--- the number of the line in which this place is
+-- the number of the line in which this index is
 abbrev pub line_at : List ℕ → ℕ → ℕ
-line_at text place = 1 + count_ends (take place text)
+line_at text index = 1 + count_ends (take index text)
 
--- The part begins at this place, in this line. No word goes on behind it.
+-- The part begins at this index, in this line. No word goes on behind it.
 pub record IsLinePart (text : List ℕ) (line start : ℕ) (part : List ℕ) : Type 0 where
   pub behind : List ℕ
   pub whole : drop start text ≡ part ++ behind
@@ -29,22 +29,22 @@ pub record IsLinePart (text : List ℕ) (line start : ℕ) (part : List ℕ) : T
   pub unbroken : count_ends part ≡ 0
   pub within : start + length part ≤ length text
 
--- The rest of a part begins behind this place of it.
-pub record IsBehind (part : List ℕ) (place : ℕ) (rest : List ℕ) : Type 0 where
+-- The rest of a part begins behind this index of it.
+pub record IsBehind (part : List ℕ) (index : ℕ) (rest : List ℕ) : Type 0 where
   pub start : ℕ
-  pub later : place < start
+  pub later : index < start
   pub within : start ≤ length part
   pub is : rest ≡ drop start part
 
 -- so does what follows a statement, if something does
 abbrev pub FollowsBehind : List ℕ → ℕ → Option (Bor (List ℕ)) → Type 0
-FollowsBehind part place None = place ≤ length part
-FollowsBehind part place (Some rest) = IsBehind part place rest.now
+FollowsBehind part index None = index ≤ length part
+FollowsBehind part index (Some rest) = IsBehind part index rest.now
 
 -- so does what follows the token in front
 abbrev pub LiesBehind : List ℕ → ℕ → Next → Type 0
-LiesBehind part place (Token t rest) = IsBehind part place rest.now
-LiesBehind part place (End rest) = FollowsBehind part place rest
+LiesBehind part index (Token t rest) = IsBehind part index rest.now
+LiesBehind part index (End rest) = FollowsBehind part index rest
 
 -- The token begins at its start. If it is a name, it is the word there.
 abbrev pub BeginsAt : List ℕ → Next → Type 0
@@ -52,7 +52,7 @@ BeginsAt part (Token t rest) =
     (is_name t.text.now ≡ true → name_at part t.start ≡ t.text.now) × IsBehind part t.start rest.now
 BeginsAt part (End rest) = Unit {0}
 
--- where what follows a statement begins, or a place behind the part if nothing does
-abbrev pub place_after : ℕ → List ℕ → Option (Bor (List ℕ)) → ℕ
-place_after start part None = start + length part + 1
-place_after start part (Some rest) = start + (length part - length rest.now)
+-- where what follows a statement begins, or an index behind the part if nothing does
+abbrev pub index_after : ℕ → List ℕ → Option (Bor (List ℕ)) → ℕ
+index_after start part None = start + length part + 1
+index_after start part (Some rest) = start + (length part - length rest.now)

@@ -62,24 +62,24 @@ fn compare_each_call(
 /// `compare --beside`: whether a stack of filters answers as another one does, or is no more or no less permissive.
 pub(super) fn compare_beside<R: Source>(
     alloc: Global,
-    asked: Comparison,
+    comparison: Comparison,
     input: &mut R,
 ) -> Result<Reply, Fault>
-    ensures answer { ComparesBeside asked (R.remaining input.old) result }
+    ensures answer { ComparesBeside comparison (R.remaining input.old) result }
     ensures left { LeavesWhole R.remaining R.failures input.old result input.new }
 {
     let bytes = whole_input(alloc, input)?;
-    let contents = Contents::beside(alloc, &bytes, asked.scopes)?;
+    let contents = Contents::beside(alloc, &bytes, comparison.scopes)?;
     let mut filters = contents.filters;
     let mut beside = contents.beside;
-    match asked.scopes {
+    match comparison.scopes {
         Scopes::AtOnce(scope) => Ok(compare_at_once(
             alloc,
             &mut filters,
             &mut beside,
             scope,
-            asked.relation,
-            asked.limits,
+            comparison.relation,
+            comparison.limits,
         )?),
         Scopes::EachCall => {
             let Some(mut table) = only(contents.tables) else {
@@ -90,8 +90,8 @@ pub(super) fn compare_beside<R: Source>(
                 &mut filters,
                 &mut beside,
                 &mut table,
-                asked.relation,
-                asked.limits,
+                comparison.relation,
+                comparison.limits,
             )?)
         }
     }

@@ -105,16 +105,16 @@ fn compare_parts(
     filters: &mut [PartReader<'_>],
     profile: &mut PartReader<'_>,
     table: &mut PartReader<'_>,
-    asked: Comparison,
+    comparison: Comparison,
 ) -> Result<Reply, VerifyFault>
-    ensures reply { IfOk result (λ reply. ComparesParts asked.scopes asked.relation asked.limits
+    ensures reply { IfOk result (λ reply. ComparesParts comparison.scopes comparison.relation comparison.limits
         (map rest_of filters.old) (rest_of profile.old) (rest_of table.old) (Ok reply)) }
-    ensures fault { IfErr result (λ fault. ComparesParts asked.scopes asked.relation asked.limits
+    ensures fault { IfErr result (λ fault. ComparesParts comparison.scopes comparison.relation comparison.limits
         (map rest_of filters.old) (rest_of profile.old) (rest_of table.old) (Err (Fault.Verify fault))) }
 {
-    let limits = asked.limits;
-    let relation = asked.relation;
-    match asked.scopes {
+    let limits = comparison.limits;
+    let relation = comparison.relation;
+    match comparison.scopes {
         Scopes::AtOnce(scope) => compare_at_once(
             alloc, filters, profile, table, scope, relation, limits,
         ),
@@ -129,11 +129,11 @@ fn compared_parts<'a>(
     bytes: &'a [u8],
 ) -> Result<Option<(Vec<PartReader<'a>>, PartReader<'a>, PartReader<'a>)>, BundleFault>
     // Where it holds other parts, that is what any comparison ends with.
-    ensures parts { (told : Option (List ℕ)) → ReadsInput told (Ok bytes.now) → IfOk result (λ parts.
+    ensures parts { (input : Option (List ℕ)) → ReadsInput input (Ok bytes.now) → IfOk result (λ parts.
         MatchOption parts
-        ((asked : Comparison) → Compares asked told (Err Fault.Parts))
+        ((comparison : Comparison) → Compares comparison input (Err Fault.Parts))
         (λ own. (1 ≤ length (map rest_of own.0.items))
-        × HoldsBundle told (map rest_of own.0.items) (rest_of own.1 ∷ []) (rest_of own.2 ∷ []))) }
+        × HoldsBundle input (map rest_of own.0.items) (rest_of own.1 ∷ []) (rest_of own.2 ∷ []))) }
     ensures fault { IfErr result (IsBundleFault bytes.now) }
 {
     let contents = Contents::of(alloc, bytes)?;
@@ -148,15 +148,15 @@ fn compared_parts<'a>(
 /// `compare`: whether a stack of filters answers as a profile does, or is no more or no less permissive.
 pub(super) fn compare_bundle<R: Source>(
     alloc: Global,
-    asked: Comparison,
+    comparison: Comparison,
     input: &mut R,
 ) -> Result<Reply, Fault>
-    ensures answer { Compares asked (R.remaining input.old) result }
+    ensures answer { Compares comparison (R.remaining input.old) result }
     ensures left { LeavesWhole R.remaining R.failures input.old result input.new }
 {
     let bytes = whole_input(alloc, input)?;
     let Some((mut filters, mut profile, mut table)) = compared_parts(alloc, &bytes)? else {
         return Err(Fault::Parts);
     };
-    Ok(compare_parts(alloc, &mut filters, &mut profile, &mut table, asked)?)
+    Ok(compare_parts(alloc, &mut filters, &mut profile, &mut table, comparison)?)
 }

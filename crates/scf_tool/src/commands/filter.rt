@@ -43,7 +43,7 @@ pub(super) fn run_filter<R: Source>(
 
 /// The lines of a run and its way.
 fn lines_of(alloc: Global, trace: &Trace) -> Result<Vec<u8>, Memory>
-    ensures { IfOk result (λ text. text.items ≡ traced_text trace.now.answer.0 trace.now.places.items) }
+    ensures { IfOk result (λ text. text.items ≡ traced_text trace.now.answer.0 trace.now.indices.items) }
 {
     let mut text = Buffer::new(alloc);
     match write_trace(&mut text, trace) {
@@ -54,8 +54,8 @@ fn lines_of(alloc: Global, trace: &Trace) -> Result<Vec<u8>, Memory>
 
 /// The lines of a filter's run on a call and its way.
 fn traced(alloc: Global, program: &Program, call: &CallRecord) -> Result<Vec<u8>, Memory>
-    ensures { IfOk result (λ text. (answer : ℕ) × (places : List ℕ)
-        × IsPathOf program.now (words_of call.now) answer places × (text.items ≡ traced_text answer places)) }
+    ensures { IfOk result (λ text. (answer : ℕ) × (indices : List ℕ)
+        × IsPathOf program.now (words_of call.now) answer indices × (text.items ≡ traced_text answer indices)) }
 {
     let trace = trace(alloc, program, call)?;
     lines_of(alloc, &trace)

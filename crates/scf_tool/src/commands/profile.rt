@@ -64,10 +64,10 @@ fn profile_and_table<'a>(
     alloc: Global,
     bytes: &'a [u8],
 ) -> Result<Option<(PartReader<'a>, PartReader<'a>)>, BundleFault>
-    ensures parts { (told : Option (List ℕ)) → ReadsInput told (Ok bytes.now) → IfOk result (λ parts.
+    ensures parts { (input : Option (List ℕ)) → ReadsInput input (Ok bytes.now) → IfOk result (λ parts.
         MatchOption parts
-        (EndsOnProfile told (λ _ _ _. ⊥) (Err Fault.Parts))
-        (λ both. HoldsBundle told [] (rest_of both.0 ∷ []) (rest_of both.1 ∷ []))) }
+        (EndsOnProfile input (λ _ _ _. ⊥) (Err Fault.Parts))
+        (λ both. HoldsBundle input [] (rest_of both.0 ∷ []) (rest_of both.1 ∷ []))) }
     ensures fault { IfErr result (IsBundleFault bytes.now) }
 {
     let contents = Contents::of(alloc, bytes)?;

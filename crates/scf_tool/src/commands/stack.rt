@@ -19,10 +19,10 @@ fn filters_alone<'a>(
     alloc: Global,
     bytes: &'a [u8],
 ) -> Result<Option<Vec<PartReader<'a>>>, BundleFault>
-    ensures filters { (told : Option (List ℕ)) → ReadsInput told (Ok bytes.now) → IfOk result (λ filters.
+    ensures filters { (input : Option (List ℕ)) → ReadsInput input (Ok bytes.now) → IfOk result (λ filters.
         MatchOption filters
-        (EndsOnFilters told (λ _ _. ⊥) (Err Fault.Parts))
-        (λ own. HoldsBundle told (map rest_of own.items) [] [])) }
+        (EndsOnFilters input (λ _ _. ⊥) (Err Fault.Parts))
+        (λ own. HoldsBundle input (map rest_of own.items) [] [])) }
     ensures fault { IfErr result (IsBundleFault bytes.now) }
 {
     let contents = Contents::of(alloc, bytes)?;

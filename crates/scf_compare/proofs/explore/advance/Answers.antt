@@ -7,11 +7,11 @@ returns-in_ok-next-in-Branch-Some-default-default-clause-stage g c =
     let C = g.C.Comparison in
     let comparison = c.args.comparison.now in
     let tree = C.tree comparison in
-    let asked = c.in-Branch-Some-default-default in
-    let step = rw (asked.is, asked.field-0-is) at c.step.ensures in
+    let branch = c.in-Branch-Some-default-default in
+    let step = rw (branch.is, branch.field-0-is) at c.step.ensures in
     led g.F.WordFacts (C.compared comparison) tree c.args.frontier.now c.ask.new.frontier c.requires.frontier
     (tree c.args.known.now) c.args.node (tree c.step.new.known)
-    (Branch (Some asked.atoms) asked.if_true asked.if_false)
+    (Branch (Some branch.atoms) branch.if_true branch.if_false)
     c.in_ok-next-in-Branch-Some-default-default.next
     step.leads step.costs step.plain c.in_ok-next-in-Branch-Some-default-default.ensures _
 

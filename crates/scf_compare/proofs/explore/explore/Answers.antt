@@ -19,7 +19,7 @@ all_seen compared old new words ahead first seen now = elim seen [
   | inr ahead ↦ now ahead
 ]
 
--- so the finding is true, and it decides where nothing is left open
+-- so the finding is true, and it decides where no leaf is undecided
 of_all : (compared : Compared) (steps limit effort : ℕ) (first_undecided : Option (Which × ℕ))
     → IfSome first_undecided (IsFirstUndecided compared)
     → ((words : List ℕ) → AreWordsIn compared words → WereSeen compared first_undecided words)
@@ -27,7 +27,7 @@ of_all : (compared : Compared) (steps limit effort : ℕ) (first_undecided : Opt
     → let finding = finding_of_all steps first_undecided in
     IsTrueFinding compared finding × IsFindingWithin limit effort finding
     × (first_undecided ≡ None → IsFindingDecided (AllRelated compared) limit effort finding)
-of_all compared steps limit effort None place seen bounds =
+of_all compared steps limit effort None index seen bounds =
     let all : AllRelated compared = λ call is_record in_scope.
     let within : AreWordsIn compared (words_of call) =
     (IsWords-words_of call is_record, rw (call_of-words_of call is_record) in_scope) in
@@ -36,7 +36,7 @@ of_all compared steps limit effort None place seen bounds =
       | inr undecided ↦ absurd (let none = undecided in cc)
     ] in
     (all, (bounds.1, bounds.2), λ _. all)
-of_all compared steps limit effort (Some first) place seen bounds = (place, bounds.0, λ e. absurd (cc))
+of_all compared steps limit effort (Some first) index seen bounds = (index, bounds.0, λ e. absurd (cc))
 
 -- as many steps as were taken, which is one or more
 counts_all : (steps limit : ℕ) (first_undecided : Option (Which × ℕ)) → 0 < steps
@@ -53,20 +53,20 @@ loop-steps-init g c =
     rw new.facts (record {
       frontier = record {
         marks = c.requires.unmarked ∙ sym (ap length new.branches);
-        branches = λ place branch stands. absurd (let no_branch = rw new.branches at stands in cc);
+        branches = λ index branch stands. absurd (let no_branch = rw new.branches at stands in cc);
         within = λ level up_to words allowed.
             let first : level ≡ 0 = omega (arith, ap length new.branches) in
             (c.requires.scope words).0 (rw first at allowed);
       };
       node = c.requires.node;
-      place = tt;
+      index = tt;
       words = λ words within.
           inr (inr (rw c.requires.unmarked ((c.requires.scope words).1 within), c.requires.reached words within));
       size = omega (arith, none);
       exact = λ exact plain. (
         refl,
         record {
-          branches = λ place branch stands. absurd (let no_branch = rw new.branches at stands in cc);
+          branches = λ index branch stands. absurd (let no_branch = rw new.branches at stands in cc);
           facts = rw c.requires.unmarked exact;
           plain = plain;
           reached = λ words allowed.
@@ -84,7 +84,7 @@ returns-in-AllSeen g c =
     let counts = g.met.C.Comparison.counts c.args.comparison.now c.loop-steps.known c.loop-steps.node in
     let all =
     of_all compared (c.loop-steps.steps + 1) c.args.limit
-    ((tree c.args.start).size c.args.root) c.advance.new.first_undecided after.place
+    ((tree c.args.start).size c.args.root) c.advance.new.first_undecided after.index
     (λ words within. all_seen _ _ _ words _ after.first (c.loop-steps.invariant.words words within) (seen words))
     (omega arith, omega arith, omega (arith, c.loop-steps.invariant.size, counts)) in
     rw c.seen_in.ensures (record {
@@ -122,7 +122,7 @@ loop-steps-preserved g c =
     record {
       frontier = over.frontier;
       node = over.node;
-      place = after.place;
+      index = after.index;
       words = λ words within.
           elim (c.loop-steps.invariant.words words within) [
             | inl before ↦ inl (still_seen compared c.loop-steps.first_undecided _ words after.first before)

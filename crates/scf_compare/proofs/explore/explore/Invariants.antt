@@ -11,7 +11,7 @@ invariant-loop-steps g l =
     record {
       frontier : IsFrontier store tree (AreWordsIn compared) l.frontier;
       node : here.is_node l.node;
-      place : IfSome l.first_undecided (IsFirstUndecided compared);
+      index : IfSome l.first_undecided (IsFirstUndecided compared);
       words : (words : List ℕ) → AreWordsIn compared words
           → WereSeen compared l.first_undecided words ⊎ IsAhead store tree l.frontier (here.reaches l.node) words;
       size : l.steps + (open_size tree l.frontier + here.size l.node) ≤ whole.size l.fn.root;

@@ -1,4 +1,4 @@
--- The ways on from an instruction follow the runs that come to it, and their sizes are within its size.
+-- The successors of an instruction follow the runs that come to it, and their sizes are within its size.
 use Rattle.scf_compare.proofs.Common.{refl, sym, subst, ◌∙◌, arith, rules, common_steps, IfSome_then, Answer, RunAnswers, filter_tree}
 use Rattle.scf_compare.proofs.ControlFlows.{plain_flow, size_by_flow}
 use Rattle.scf_compare.proofs.Successors.{leads, step_leads}

@@ -24,9 +24,9 @@ returns-in_ok-learn-in-Unknown g c =
     (record {
       branches = ensures.branches;
       marks = learned.marks ∙ ensures.marks;
-      levels = λ place up_to.
-          let one = ensures.at_marks place up_to in
-          let other = learned.at_marks place (omega (arith, ensures.marks)) in (
+      levels = λ index up_to.
+          let one = ensures.at_marks index up_to in
+          let other = learned.at_marks index (omega (arith, ensures.marks)) in (
             λ words. (λ h. (one.0 words).0 ((other.0 words).0 h), λ h. (other.0 words).1 ((one.0 words).1 h)),
             other.1 ∙ one.1,
           );

@@ -1,11 +1,11 @@
 use Rattle.scf_compare.proofs.Common.{length, ◌≡◌, ◌<◌, arith}
-use Rattle.scf_compare.proofs.Branches.{place_last, taken}
+use Rattle.scf_compare.proofs.Branches.{index_last, taken}
 use Rattle.scf_compare.proofs.frontier.take_branch.Goals as goal
 
 pub learn_answer-requires : goal.learn_answer-requires
 learn_answer-requires g c =
     (c.requires.branches (length c.pop.new.self.items) c.in-Some.branch
-    (rw c.in-Some.ensures.items (place_last c.pop.new.self.items c.in-Some.branch))).asks
+    (rw c.in-Some.ensures.items (index_last c.pop.new.self.items c.in-Some.branch))).asks
 
 pub returns : goal.returns
 returns g c =
@@ -21,12 +21,12 @@ returns g c =
     (record {
       branches = c.in-Some.ensures.items;
       marks = omega (arith, marks, c.undo.ensures.closed);
-      levels = λ place below.
+      levels = λ index below.
           grind (
             arith,
             c.undo.ensures.closed,
-            c.undo.ensures.law_undo place,
-            c.in_ok-learn_answer.ensures.at_marks place,
+            c.undo.ensures.law_undo index,
+            c.in_ok-learn_answer.ensures.at_marks index,
           );
       known = λ words. grind (arith, c.in_ok-learn_answer.ensures.learned words, same);
       exact = λ keeps was. grind (arith, c.in_ok-learn_answer.ensures.exact keeps, same);

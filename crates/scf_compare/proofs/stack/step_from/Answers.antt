@@ -1,4 +1,4 @@
--- The turns of the filter that is asked are turns of the stack, and where it ends the next one begins.
+-- The steps of the filter that is asked are steps of the stack, and at its leaves the next one begins.
 use Rattle.scf_compare.proofs.Common.{[], ◌+◌, ◌*◌, ◌<◌, ◌≤◌, ℕ, List, length, drop, arith, take_all, mul-le-mul_left, Insn, stack_paths, filter_size, scaled_costs, paths_count, filter_at}
 use Rattle.scf_compare.proofs.Stacks.{is_stack_leaf, paths_from}
 use Rattle.scf_compare.proofs.stack.step_from.Goals as goal
@@ -9,15 +9,15 @@ filter_of-requires c = c.loop-next.invariant.node.0
 pub step_in_filter-requires : goal.step_in_filter-requires
 step_in_filter-requires c = rw c.filter_of.ensures c.loop-next.invariant.node.1
 
--- a turn's costs in the tree of a filter, with the newer filters behind each of its ends
-whole_costs : (filters : List (List Insn)) (place a b n whole : ℕ) → a + b + 1 ≤ n
-    → n * stack_paths (drop (place + 1) filters) ≤ whole
-    → a * stack_paths (drop (place + 1) filters) + b * stack_paths (drop (place + 1) filters) + 1 ≤ whole
-whole_costs filters place a b n whole costs most = grind (arith, paths_count, scaled_costs)
+-- a step's costs in the tree of a filter, with the newer filters behind each of its ends
+whole_costs : (filters : List (List Insn)) (index a b n whole : ℕ) → a + b + 1 ≤ n
+    → n * stack_paths (drop (index + 1) filters) ≤ whole
+    → a * stack_paths (drop (index + 1) filters) + b * stack_paths (drop (index + 1) filters) + 1 ≤ whole
+whole_costs filters index a b n whole costs most = grind (arith, paths_count, scaled_costs)
 
-whole_cost : (filters : List (List Insn)) (place a n whole : ℕ) → a + 1 ≤ n
-    → n * stack_paths (drop (place + 1) filters) ≤ whole → a * stack_paths (drop (place + 1) filters) + 1 ≤ whole
-whole_cost filters place a n whole cost most = grind (arith, whole_costs filters place a 0 n whole)
+whole_cost : (filters : List (List Insn)) (index a n whole : ℕ) → a + 1 ≤ n
+    → n * stack_paths (drop (index + 1) filters) ≤ whole → a * stack_paths (drop (index + 1) filters) + 1 ≤ whole
+whole_cost filters index a n whole cost most = grind (arith, whole_costs filters index a 0 n whole)
 
 pub returns-in-Next : goal.returns-in-Next
 returns-in-Next c =
@@ -27,7 +27,7 @@ returns-in-Next c =
       arith,
       so_far.reaches,
       step.leads,
-      whole_cost c.args.filters.now c.loop-next.place _ _ _ step.costs so_far.size,
+      whole_cost c.args.filters.now c.loop-next.index _ _ _ step.costs so_far.size,
     )
 
 pub returns-in-Branch : goal.returns-in-Branch
@@ -38,28 +38,28 @@ returns-in-Branch c =
       arith,
       so_far.reaches,
       step.leads,
-      whole_costs c.args.filters.now c.loop-next.place _ _ _ _ step.costs so_far.size,
+      whole_costs c.args.filters.now c.loop-next.index _ _ _ _ step.costs so_far.size,
     )
 
 -- the end of a filter's tree is one of the stack, and so is the end at which all filters so far decide
-pub returns-then-place-filters : goal.returns-then-place-filters
-returns-then-place-filters c =
+pub returns-then-index-filters : goal.returns-then-index-filters
+returns-then-index-filters c =
     let filters = c.args.filters.now in
-    let place = c.loop-next.place in
+    let index = c.loop-next.index in
     let step = rw (c.filter_of.ensures, c.in-Leaf.is) at c.step_in_filter.ensures in
     let so_far = c.loop-next.invariant in
-    let past : length filters ≤ place + 1 = omega (arith, c.if-place-filters.true) in
+    let past : length filters ≤ index + 1 = omega (arith, c.if-index-filters.true) in
     record {
-      proper = c.decided_at-decided.ensures.leaf filters place so_far.node.2
-          (is_stack_leaf filters place c.in-Leaf.leaf so_far.node.0 step.proper);
+      proper = c.decided_at-decided.ensures.leaf filters index so_far.node.2
+          (is_stack_leaf filters index c.in-Leaf.leaf so_far.node.0 step.proper);
       leads = λ words w r.
           let before = so_far.reaches words w r in
-          rw (take_all (place + 1) filters past)
-          at (c.decided_at-decided.ensures.decides filters place words so_far.node.0 so_far.node.2 before.0
+          rw (take_all (index + 1) filters past)
+          at (c.decided_at-decided.ensures.decides filters index words so_far.node.0 so_far.node.2 before.0
           (step.leads words w before.1));
       costs = omega (
         arith,
-        whole_cost filters place 0 (filter_size (filter_at filters place) c.loop-next.node) _ step.costs
+        whole_cost filters index 0 (filter_size (filter_at filters index) c.loop-next.node) _ step.costs
             so_far.size,
       );
       plain = λ plain.
@@ -70,33 +70,33 @@ returns-then-place-filters c =
 pub loop-next-preserved : goal.loop-next-preserved
 loop-next-preserved c =
     let filters = c.args.filters.now in
-    let place = c.loop-next.place in
-    let size = filter_size (filter_at filters place) in
+    let index = c.loop-next.index in
+    let size = filter_size (filter_at filters index) in
     let so_far = c.loop-next.invariant in
-    let inside : place + 1 < length filters = omega (arith, so_far.node.0, c.if-place-filters.false) in
+    let inside : index + 1 < length filters = omega (arith, so_far.node.0, c.if-index-filters.false) in
     let step = rw (c.filter_of.ensures, c.in-Leaf.is) at c.step_in_filter.ensures in
     let costs : 1 ≤ size c.loop-next.node = step.costs in
     let begun = rw c.filter_of-in-Leaf.ensures at c.start_in_filter-start.ensures in
-    let newer = stack_paths (drop (place + 1) filters) in
+    let newer = stack_paths (drop (index + 1) filters) in
     let most : newer * 1 ≤ newer * size c.loop-next.node = mul-le-mul_left newer costs in
     record {
       node = (
         inside,
         begun.node,
-        c.decided_at-decided.ensures.leaf filters place so_far.node.2
-            (is_stack_leaf filters place c.in-Leaf.leaf so_far.node.0 step.proper),
+        c.decided_at-decided.ensures.leaf filters index so_far.node.2
+            (is_stack_leaf filters index c.in-Leaf.leaf so_far.node.0 step.proper),
       );
       reaches = λ words w r.
           let before = so_far.reaches words w r in (
-            c.decided_at-decided.ensures.decides filters place words so_far.node.0 so_far.node.2 before.0
+            c.decided_at-decided.ensures.decides filters index words so_far.node.0 so_far.node.2 before.0
                 (step.leads words w before.1),
             begun.reached words,
           );
-      size = grind (arith, begun.size, paths_from filters (place + 1) inside, most, so_far.size);
+      size = grind (arith, begun.size, paths_from filters (index + 1) inside, most, so_far.size);
       plain = λ plain.
           let before = so_far.plain plain in (
             before.0,
             c.decided_at-decided.ensures.known before.1 (step.plain before.2),
-            begun.plain (before.0 (place + 1) [] inside),
+            begun.plain (before.0 (index + 1) [] inside),
           );
     }

@@ -3,14 +3,14 @@ use Rattle.scf_compare.proofs.stack.step_from.Given as goal
 
 abbrev pub invariant-loop-next : goal.invariant-loop-next
 invariant-loop-next l = record {
-  node : stack_is_node l.filters l.registers (At l.place l.older l.node);
+  node : stack_is_node l.filters l.registers (At l.index l.older l.node);
   reaches : (words : List ℕ) → IsWords words
       → stack_reaches l.filters l.initial.registers (At l.fn.first l.fn.decided l.fn.begun) words
-      → stack_reaches l.filters l.registers (At l.place l.older l.node) words;
-  size : stack_size l.filters (At l.place l.older l.node) ≤ stack_size l.filters (At l.fn.first l.fn.decided l.fn.begun);
+      → stack_reaches l.filters l.registers (At l.index l.older l.node) words;
+  size : stack_size l.filters (At l.index l.older l.node) ≤ stack_size l.filters (At l.fn.first l.fn.decided l.fn.begun);
   plain : stack_is_plain l.filters l.initial.registers (At l.fn.first l.fn.decided l.fn.begun)
-      → stack_is_plain l.filters l.registers (At l.place l.older l.node);
+      → stack_is_plain l.filters l.registers (At l.index l.older l.node);
 }
 
 abbrev pub decreases-loop-next : goal.decreases-loop-next
-decreases-loop-next l = length l.filters - l.place
+decreases-loop-next l = length l.filters - l.index

@@ -19,4 +19,4 @@ pub returns : goal.returns
 returns c =
     let laid = rw c.default_answer-default.ensures at (c.in_ok-ranges.ensures _ c.numbers.ensures.numbers) in
     search_of_profile _ c.numbers.ensures.profile _ laid
-    (rw (c.deref.ensures.value, c.default_answer-default.ensures, c.new-code.ensures.items) at c.in_ok-place.ensures)
+    (rw (c.deref.ensures.value, c.default_answer-default.ensures, c.new-code.ensures.items) at c.in_ok-index.ensures)

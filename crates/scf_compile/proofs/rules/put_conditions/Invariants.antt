@@ -1,7 +1,7 @@
 use Rattle.scf_compile.proofs.Common.{◌≡◌, ◌+◌, ◌-◌, ◌*◌, ◌≤◌, ◌++◌, drop, length, conditions_code}
 use Rattle.scf_compile.proofs.rules.put_conditions.Given as goal
 
--- the tests of the conditions from a place on stand before what stood
+-- the tests of the conditions from an index on stand before what stood
 abbrev pub invariant-loop-i : goal.invariant-loop-i
 invariant-loop-i l = record {
   whole : l.code.items ≡ conditions_code (drop l.i l.conditions) ++ l.fn.code.items;

@@ -33,7 +33,7 @@ returns-then-ranges-gt1 t c =
     let more = c.if-ranges-gt1.true in
     rw c.split_at.ensures.by_index.0 (IfOk-weaker c.put_branch.result (IsFirst _ _ _)
     (IsSearchPut c.args.default (c.split_at.result.0.now ++ c.split_at.result.1.now) _ _)
-    (λ place first. search_branch c.args.default _ _ s (omega arith) (omega arith, omega arith) c.index-high-0.is
+    (λ index first. search_branch c.args.default _ _ s (omega arith) (omega arith, omega arith) c.index-high-0.is
     c.in_ok-miss.ensures c.in_ok-hit.ensures (rw (← c.index-high-0.is) at first)) c.put_branch.ensures)
 
 pub returns : goal.returns
@@ -45,5 +45,5 @@ returns t c =
     let block : c.deref.result.now ≡ rules_code c.args.default s.rules.now = search rules in
     IfOk-weaker c.put_block.result (IsPut c.deref.result.now c.args.code.now.items c.put_block.new.code.items)
     (IsSearchPut c.args.default ss _ _)
-    (λ place put. rw is (search_one c.args.default s _ _ place (rw is at c.requires.rules) (rw block at put)))
+    (λ index put. rw is (search_one c.args.default s _ _ index (rw is at c.requires.rules) (rw block at put)))
     c.put_block.ensures

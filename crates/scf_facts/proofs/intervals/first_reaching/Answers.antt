@@ -4,8 +4,8 @@ use Rattle.scf_facts.proofs.intervals.first_reaching.Goals as goal
 
 pub returns : goal.returns
 returns c =
-    let place = c.count_ending_below.result in
-    let found : c.copied.result ≡ slice_get c.args.intervals.now place = grind (arith, common_steps, gets) in
-    let r = reached c.args.intervals.now place c.args.x c.copied.result c.requires
+    let index = c.count_ending_below.result in
+    let found : c.copied.result ≡ slice_get c.args.intervals.now index = grind (arith, common_steps, gets) in
+    let r = reached c.args.intervals.now index c.args.x c.copied.result c.requires
     c.count_ending_below.ensures.below found in
     record { reaches = grind (arith, common_steps, gets); one = r.0; first = r.1; none = r.2 }

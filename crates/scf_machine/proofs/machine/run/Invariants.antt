@@ -9,4 +9,4 @@ invariant-loop-answer l = record {
 }
 
 abbrev pub decreases-loop-answer : goal.decreases-loop-answer
-decreases-loop-answer l = length l.program - l.registers.place
+decreases-loop-answer l = length l.program - l.registers.pc

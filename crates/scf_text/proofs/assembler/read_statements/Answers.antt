@@ -1,7 +1,7 @@
 use Rattle.scf_text.proofs.Common.{◌≡◌, Err, ◌++◌, take, drop, length, length_permutation, arith, err_from_is_err_and, statements_of}
 use Rattle.std.proofs.lemmas.Grind.{common_steps}
 use Rattle.scf_text.proofs.TextLemmas.{nothing_read, sorted_leaves, is_read, label_told, ended_told}
-use Rattle.scf_text.proofs.ReadLemmas.{place_left}
+use Rattle.scf_text.proofs.ReadLemmas.{index_left}
 use Rattle.scf_text.proofs.assembler.read_statements.Goals as goal
 
 pub returns-in_err-check_labels : goal.returns-in_err-check_labels
@@ -51,7 +51,7 @@ returns c =
     let kept : take c.read_text-read.new.labels.len (sorted ++ drop (length sorted) c.read_text-read.new.labels.items) ≡ sorted =
     grind (arith, common_steps, length_permutation) in
     record {
-      read = rw kept (is_read text (place_left read.0 sorted read.1 (omega arith) moved)
+      read = rw kept (is_read text (index_left read.0 sorted read.1 (omega arith) moved)
           c.in_ok-check_labels.ensures.sorted c.in_ok-check_labels.ensures.tells);
       fault = tt;
       some = tt;

@@ -1,6 +1,6 @@
 use Rattle.scf_text.proofs.Common.{◌≡◌, [], ◌+◌, ◌-◌, refl, length, arith, err_from_is_err_and, IsPermutation-refl, lines_after, lines_of, statements_from}
-use Rattle.scf_text.proofs.PlaceLemmas.{line_is_part, line_behind}
-use Rattle.scf_text.proofs.ReadLemmas.{next_line, place_left}
+use Rattle.scf_text.proofs.IndexLemmas.{line_is_part, line_behind}
+use Rattle.scf_text.proofs.ReadLemmas.{next_line, index_left}
 use Rattle.scf_text.proofs.assembler.read_text.Goals as goal
 
 pub lines-init : goal.lines-init
@@ -63,7 +63,7 @@ lines-preserved c =
       rest = rw (← end) behind.0;
       line = rw (← end) behind.1;
       left = λ all left. rw (← end)
-          (place_left (start + (length line + 1)) c.add_line.new.labels.items
+          (index_left (start + (length line + 1)) c.add_line.new.labels.items
           (c.in_ok-add_line.ensures all (statements_from (c.lines.number + 1) others)
           (rw next at c.lines.invariant.left all left)) (omega (arith, c.without_comment.ensures.len))
           (IsPermutation-refl c.add_line.new.labels.items));

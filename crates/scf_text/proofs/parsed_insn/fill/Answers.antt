@@ -1,6 +1,6 @@
 use Rattle.scf_text.proofs.Common.{sym, ◌∙◌, refl, rules, arith, drop_more, Len}
 use Rattle.std.proofs.lemmas.Grind.{common_steps}
-use Rattle.scf_text.proofs.PlaceLemmas.{follows_behind}
+use Rattle.scf_text.proofs.IndexLemmas.{follows_behind}
 use Rattle.scf_text.proofs.parsed_insn.fill.Goals as goal
 
 pub returns-in-End-clause-said : goal.returns-in-End-clause-said

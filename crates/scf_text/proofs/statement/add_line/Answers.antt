@@ -1,6 +1,6 @@
 use Rattle.scf_text.proofs.Common.{◌++◌, ◌+◌, length, map, arith, err_from_is_err_and, others_in, IsPermutation-refl, part_statements, Statement}
-use Rattle.scf_text.proofs.PlaceLemmas.{behind_is_part}
-use Rattle.scf_text.proofs.ReadLemmas.{place_left}
+use Rattle.scf_text.proofs.IndexLemmas.{behind_is_part}
+use Rattle.scf_text.proofs.ReadLemmas.{index_left}
 use Rattle.scf_text.proofs.statement.add_line.Goals as goal
 
 pub returns-in_err-add_statement : goal.returns-in_err-add_statement
@@ -14,7 +14,7 @@ returns-in_err-add_statement c = λ all rest left.
 pub returns-in-None : goal.returns-in-None
 returns-in-None c = λ all rest left.
     let stops = rw c.in-None.is at c.in_ok-add_statement.ensures.stops in
-    place_left (c.args.line.start + length c.args.line.bytes.now + 1) c.add_statement.new.labels.items
+    index_left (c.args.line.start + length c.args.line.bytes.now + 1) c.add_statement.new.labels.items
     (rw c.in-None.is at (c.in_ok-add_statement.ensures.leaves all rest
     (rw stops at (c.statements.invariant.left all rest left))))
     (omega (arith, c.statements.invariant.end)) (IsPermutation-refl c.add_statement.new.labels.items)

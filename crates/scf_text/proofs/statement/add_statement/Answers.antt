@@ -1,5 +1,5 @@
-use Rattle.scf_text.proofs.Common.{◌≡◌, ◌+◌, ℕ, Option, Err, IsSome, subst, AddsLabel, rules, err_from_is_err_and, option_map, unwrap_or, words_in, place_after}
-use Rattle.scf_text.proofs.PlaceLemmas.{place_within, instruction_behind}
+use Rattle.scf_text.proofs.Common.{◌≡◌, ◌+◌, ℕ, Option, Err, IsSome, subst, AddsLabel, rules, err_from_is_err_and, option_map, unwrap_or, words_in, index_after}
+use Rattle.scf_text.proofs.IndexLemmas.{index_within, instruction_behind}
 use Rattle.scf_text.proofs.ReadLemmas.{label_mapped, label_refused, some_refused, statement_leaves}
 use Rattle.scf_text.proofs.statement.add_statement.Goals as goal
 
@@ -14,8 +14,8 @@ returns-clause-leaves c = λ all rest left.
     let lies = c.split_label-label.ensures.behind in
     statement_leaves (record { line = c.args.part.line; tokens = words_in bytes }) label
     c.add_label.new.labels.items left c.requires c.split_label-label.ensures.label
-    (place_within bytes (unwrap_or label 0) next lies) c.add_instruction.result
-    (λ after. place_after start bytes after) c.add_instruction.new.parsed_insns.items
+    (index_within bytes (unwrap_or label 0) next lies) c.add_instruction.result
+    (λ after. index_after start bytes after) c.add_instruction.new.parsed_insns.items
     (rw mapped at c.in_ok-add_label.ensures.adds)
     (rw (c.unwrap_or.ensures, c.split_label-label.ensures.rest) at c.add_instruction.ensures.adds)
     (instruction_behind c.add_instruction.result bytes start (unwrap_or label 0) next lies
@@ -39,7 +39,7 @@ returns-in_err-add_label-clause-leaves c = λ all rest left.
     rw (p.1, p.2)
     (label_refused (record { line = c.args.part.line; tokens = words_in bytes }) label
     c.add_label.new.labels.items left c.requires c.split_label-label.ensures.label
-    (place_within bytes (unwrap_or label 0) c.split_label-label.result.1 c.split_label-label.ensures.behind)
+    (index_within bytes (unwrap_or label 0) c.split_label-label.result.1 c.split_label-label.ensures.behind)
     c.in_err-add_label.field-0.0
     (subst (λ (o : Option ℕ). AddsLabel {T = Unit {0}} c.args.text.now c.args.labels.now.items o
     (Err c.in_err-add_label.field-0.0) c.add_label.new.labels.items) mapped c.in_err-add_label.ensures.adds)

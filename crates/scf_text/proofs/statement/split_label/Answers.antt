@@ -1,4 +1,4 @@
-use Rattle.scf_text.proofs.PlaceLemmas.{lies_behind}
+use Rattle.scf_text.proofs.IndexLemmas.{lies_behind}
 use Rattle.scf_text.proofs.statement.split_label.Goals as goal
 
 pub returns-then-eq-clause-behind : goal.returns-then-eq-clause-behind

@@ -26,7 +26,7 @@ pub lines-preserved : goal.lines-preserved
 lines-preserved c =
     let len = rw c.in-Some.is at c.first_line.ensures.len in
     record {
-      place = omega (arith, len, c.lines.invariant.place);
+      index = omega (arith, len, c.lines.invariant.index);
       told = next_tokens c.args.text.now c.lines.rest.now c.first_line.result.0.now
           (lines_of c.in-Some.next.now) c.lines.start
           c.lines.found.items c.push_tokens.new.found.items c.lines.invariant.told

@@ -3,7 +3,7 @@ use Rattle.scf_text.proofs.token.tokens.Given as goal
 
 abbrev pub invariant-lines : goal.invariant-lines
 invariant-lines l = record {
-  place : l.start + length l.rest ≡ length l.text;
+  index : l.start + length l.rest ≡ length l.text;
   told : lexemes l.found.items ++ lexemes_of_lines l.start (lines_of l.rest) ≡ tokens_of l.text;
 }
 

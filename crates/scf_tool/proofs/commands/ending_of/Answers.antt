@@ -11,7 +11,7 @@ explained words kind (Err fault) h e = rw e tt
 pub returns-in_err-request_of-in-Ok : goal.returns-in_err-request_of-in-Ok
 returns-in_err-request_of-in-Ok g c =
     let p = err_from_is_err_and c.from_residual.result c.from_residual.ensures.1 in
-    let asks = subst (λ (asked : Option (List ℕ × List Row)). AsksFor asked (Err c.in_err-request_of-in-Ok.field-0.0))
+    let asks = subst (λ (comparison : Option (List ℕ × List Row)). AsksFor comparison (Err c.in_err-request_of-in-Ok.field-0.0))
     c.in-Ok.ensures.matches c.in_err-request_of-in-Ok.ensures in
     rw (p.1, p.2) (inl ((c.in-Ok.ensures.kinds, asks), refl))
 

@@ -2,10 +2,10 @@ use Rattle.scf_tool.proofs.Common.{◌≡◌, ◌≤◌, ℕ, List, length, Opti
 use Rattle.scf_tool.proofs.filter.read_filter.Goals as goal
 
 encoded : (bytes : Option (List ℕ)) (insns : List Insn)
-    → IfSome bytes (λ told. (told ≡ program_bytes insns) × (length told ≤ max_filter_len))
-    → IfSome bytes (λ told. told ≡ program_bytes insns)
+    → IfSome bytes (λ input. (input ≡ program_bytes insns) × (length input ≤ max_filter_len))
+    → IfSome bytes (λ input. input ≡ program_bytes insns)
 encoded None insns h = tt
-encoded (Some told) insns h = h.0
+encoded (Some input) insns h = h.0
 
 pub returns-clause-refused : goal.returns-clause-refused
 returns-clause-refused g c = (

@@ -2,10 +2,10 @@ use Rattle.scf_tool.proofs.Common.{◌≡◌, ◌≤◌, ℕ, List, length, Opti
 use Rattle.scf_tool.proofs.verification.read_profile.Goals as goal
 
 refused_text : (bytes : Option (List ℕ)) (text : List ℕ) (names : Names) (fault : LoadFault)
-    → IfSome bytes (λ told. (told ≡ text) × (length told ≤ 4194304)) → Refuses text names fault
-    → IfSome bytes (λ told. (length told ≤ 4194304) × Refuses told names fault)
+    → IfSome bytes (λ input. (input ≡ text) × (length input ≤ 4194304)) → Refuses text names fault
+    → IfSome bytes (λ input. (length input ≤ 4194304) × Refuses input names fault)
 refused_text None text names fault h refused = tt
-refused_text (Some told) text names fault h refused =
+refused_text (Some input) text names fault h refused =
     (h.1, subst (λ (t : List ℕ). Refuses t names fault) (sym h.0) refused)
 
 pub returns-in_err-load-in-Ok-clause-refused : goal.returns-in_err-load-in-Ok-clause-refused

@@ -14,7 +14,7 @@ returns-then-from-numbers g c =
       proper = (refl, tt);
       leads = λ words given r. rw (c.default_answer-default_answer.ensures, c.profile.ensures)
           (of_no_number s (call_of words) c.numbers-numbers.ensures.numbered r.0
-          (rw (take_all from s.numbers past) at (c.first_possible-from.ensures.told words given.0 given.1 r.1)));
+          (rw (take_all from s.numbers past) at (c.first_possible-from.ensures.possible words given.0 given.1 r.1)));
       costs = omega arith;
       plain = λ plain. refl;
     })
@@ -32,7 +32,7 @@ returns-then-is_known_below g c =
       leads = λ words given r. rw (c.default_answer-default_answer.ensures, c.profile.ensures)
           (of_no_number s (call_of words) numbered r.0
           (from_above s.numbers s.profile.rules numbered.numbers (call_of words) from own here
-          (c.first_possible-from.ensures.told words given.0 given.1 r.1)
+          (c.first_possible-from.ensures.possible words given.0 given.1 r.1)
           (c.if-is_known_below.ensures refl words given.0 given.1)));
       costs = omega arith;
       plain = λ plain. refl;
@@ -56,11 +56,11 @@ returns g c =
         λ e. (
           r.0,
           all_more (λ o. (call_of words).nr ≢ o.number) s.numbers from own here
-              (c.first_possible-from.ensures.told words given.0 given.1 r.1) (word_isnt words 0 own.number given.0 e),
+              (c.first_possible-from.ensures.possible words given.0 given.1 r.1) (word_isnt words 0 own.number given.0 e),
         ),
       );
       costs =
-          let size = sizes_from s.numbers c.args.place from own c.first_possible-from.ensures.later here in
+          let size = sizes_from s.numbers c.args.index from own c.first_possible-from.ensures.later here in
           omega (arith, c.next_rule.ensures.size, size);
       plain = search rules;
     }

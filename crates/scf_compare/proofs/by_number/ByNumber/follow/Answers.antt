@@ -1,4 +1,4 @@
--- Where the ways on from a condition lead.
+-- Where the successors of a condition lead.
 use Rattle.scf_compare.proofs.Common.{add-one, ◌≡◌, get_or, false, slice_get-get_or, call_of, meets, own_conditions, own_rules}
 use Rattle.scf_compare.proofs.Rules.{all_more, fails_by, held_more, unmet_failing}
 use Rattle.scf_compare.proofs.Numbered.{conditions_read, no_rule}

@@ -1,6 +1,6 @@
 use Rattle.scf_compare.proofs.Common.{◌<◌, arith, ap, length, All, Contains, All-contains_itself, All-from_recursion, IsRule, NumberRules, Rule, own_all}
 use Rattle.scf_compare.proofs.Rules.{read_at}
-use Rattle.scf_compare.proofs.Numbered.{at_place}
+use Rattle.scf_compare.proofs.Numbered.{at_index}
 use Rattle.scf_compare.proofs.by_number.ByNumber.rules_at.Goals as goal
 
 -- what holds of each rule of the profile holds of those that are read
@@ -10,7 +10,7 @@ of_own P c all =
     let inside : c.args.number < length c.numbers.result.now =
     omega (arith, c.requires, ap length c.numbers.ensures.numbers) in
     let here = read_at _ s.numbers c.args.number _ c.numbers.ensures.numbers inside c.index-numbers-number.is in
-    rw c.deref.ensures (at_place (λ (own : NumberRules). All P own.rules.items) s.numbers c.args.number _
+    rw c.deref.ensures (at_index (λ (own : NumberRules). All P own.rules.items) s.numbers c.args.number _
     (own_all s.numbers s.profile.rules c.numbers.ensures.numbered.numbers P all) here)
 
 pub returns-clause-known : goal.returns-clause-known

@@ -5,7 +5,7 @@ use Rattle.scf_facts.proofs.word_set.WordSet.pick_end.Given as goal
 abbrev pub invariant-loop-interval : goal.invariant-loop-interval
 invariant-loop-interval l = record {
   same : l.interval-items ≡ l.self.intervals;
-  none : (place : ℕ) (default : Interval) → place < l.interval-index
-      → (AllowsNumber l.self (get_or l.self.intervals place default).low → ⊥)
-      × (AllowsNumber l.self (get_or l.self.intervals place default).high → ⊥);
+  none : (index : ℕ) (default : Interval) → index < l.interval-index
+      → (AllowsNumber l.self (get_or l.self.intervals index default).low → ⊥)
+      × (AllowsNumber l.self (get_or l.self.intervals index default).high → ⊥);
 }

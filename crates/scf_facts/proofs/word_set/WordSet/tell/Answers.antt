@@ -3,17 +3,17 @@ use Rattle.scf_facts.proofs.SetLaws.{both_answers}
 use Rattle.scf_facts.proofs.word_set.WordSet.tell.Goals as goal
 use Rattle.scf_facts.proofs.word_set.WordSet.tell.Goals.{in-Within+in-Some, in-Within+in-None, in-Masked}
 
-pub returns-in-None-told-clause-both : goal.returns-in-None-told-clause-both
-returns-in-None-told-clause-both c = λ _ exact.
+pub returns-in-None-decided-clause-both : goal.returns-in-None-decided-clause-both
+returns-in-None-decided-clause-both c = λ _ exact.
     let facts = c.args.self.now in
     let asked = answer_at c.args.atom in
     elim c.match-of.branch [
-      | in-Within+in-Some w ↦ cc (sym w.told-is ∙ c.in-None-told.is)
+      | in-Within+in-Some w ↦ cc (sym w.decided-is ∙ c.in-None-decided.is)
       | in-Within+in-None w ↦ both_answers facts asked (LiesIn w.in-Within.range) (LiesOutside w.in-Within.range)
           w.in-Within.answer w.in-Within.ensures.asks.1 (λ x inside out. omega arith) (w.in-None.ensures.both exact)
       | in-Masked w ↦ both_answers facts asked (HasBits w.in-Masked.bits) (LacksBits w.in-Masked.bits) true
           (λ x _. w.in-Masked.ensures.asks x) (λ x has lacks. lacks has)
-          (subst (λ (told : Option Bool). IfNone told (IsTrue (is_exact_set facts)
+          (subst (λ (decided : Option Bool). IfNone decided (IsTrue (is_exact_set facts)
           → SomeNumber facts (HasBits w.in-Masked.bits) × SomeNumber facts (LacksBits w.in-Masked.bits)))
-          (sym w.told-is ∙ c.in-None-told.is) w.has_bits-told.ensures.both exact)
+          (sym w.decided-is ∙ c.in-None-decided.is) w.has_bits-decided.ensures.both exact)
     ]

@@ -32,6 +32,6 @@ returns-clause-exact c = λ keeps.
     c.index_mut.result.now c.learn.new.self within c.index_mut.ensures.value (c.in_ok-former.ensures.exact keeps))
 
 pub returns-in_err-former-clause-at_marks : goal.returns-in_err-former-clause-at_marks
-returns-in_err-former-clause-at_marks c = λ place _.
+returns-in_err-former-clause-at_marks c = λ index _.
     rw (c.make_room.ensures.items, c.in_err-former.ensures.refused, c.index_mut.ensures.value, set-get_or)
     (λ words. (λ h. h, λ h. h), refl)

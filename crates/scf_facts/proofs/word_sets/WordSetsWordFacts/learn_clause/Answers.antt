@@ -8,5 +8,5 @@ returns-clause-law_clause c = λ words.
     simp known_now (allows_refuted facts.sets.items facts.clauses.items _ _ c.in_ok-push.ensures.items words)
 
 pub returns-in_err-push-clause-at_marks : goal.returns-in_err-push-clause-at_marks
-returns-in_err-push-clause-at_marks c = λ place _.
+returns-in_err-push-clause-at_marks c = λ index _.
     rw (c.make_room.ensures.items, c.in_err-push.ensures.items) (λ words. (λ h. h, λ h. h), refl)

@@ -8,7 +8,7 @@ invariant_of-self-clause-rising c = rw c.restore.ensures.trail
     (rising_cut c.args.self.now.trail.items _ _ c.in-Some.count c.in-Some.ensures.items c.args.self.now.rising)
 
 pub returns-in-Some-clause-law_undo : goal.returns-in-Some-clause-law_undo
-returns-in-Some-clause-law_undo c = λ place lt.
+returns-in-Some-clause-law_undo c = λ index lt.
     let facts = c.args.self.now in
     let back = ap (λ (s : List NumberFacts). known_of s c.restore.new.clauses.items)
     (with_items_is facts.sets c.restore.new.sets (c.restore.auto.sets ∙ c.deref_mut.ensures.len))
@@ -16,4 +16,4 @@ returns-in-Some-clause-law_undo c = λ place lt.
     ∙ ap (λ (s : List NumberFacts). restored (known_of s facts.clauses.items) (drop c.in-Some.count facts.trail.items))
     c.deref_mut.ensures.value in
     same_known _ _ (known_closed (known_of facts.sets.items facts.clauses.items) _ facts.trail.items _ facts.marks.items _
-    c.in-Some.count place back c.restore.ensures.trail c.in-Some.ensures.items facts.rising lt)
+    c.in-Some.count index back c.restore.ensures.trail c.in-Some.ensures.items facts.rising lt)

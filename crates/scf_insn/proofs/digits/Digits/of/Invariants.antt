@@ -5,7 +5,7 @@ use Rattle.scf_insn.proofs.digits.Digits.of.Given as goal
 abbrev pub invariant-loop-left : goal.invariant-loop-left
 invariant-loop-left l = record {
   room : length l.bytes ≡ 20;
-  place : l.start ≤ 19;
+  index : l.start ≤ 19;
   few : l.left < 10 ^ l.start;
   so_far : with_front l.radix l.start l.left (drop l.start l.bytes) ≡ digits l.radix false l.number;
 }

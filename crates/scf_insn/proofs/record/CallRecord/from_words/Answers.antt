@@ -1,5 +1,5 @@
 use Rattle.scf_insn.proofs.Common.{rules}
-use Rattle.scf_insn.proofs.CallWords.{words_by_place, words_of-call_of}
+use Rattle.scf_insn.proofs.CallWords.{words_by_index, words_of-call_of}
 use Rattle.scf_insn.proofs.record.CallRecord.from_words.Goals as goal
 
 pub returns-clause-words : goal.returns-clause-words
@@ -13,4 +13,4 @@ returns-clause-words c =
       c.joined-6.ensures,
       c.joined-7.ensures,
     )
-    (words_of-call_of c.args.words.now (words_by_place c.args.words.now (search rules) c.known_words.ensures))
+    (words_of-call_of c.args.words.now (words_by_index c.args.words.now (search rules) c.known_words.ensures))

@@ -11,8 +11,8 @@ unreachable-requires c =
     let inside = at_inside _ _ _ _ c.program.invariant.valid (rw (← c.program.view_is) at c.requires.1) in
     grind (arith, c.program.invariant.valid.each _ inside.0, read_here _ _ _ inside.0 c.index-insn.ensures)
 
-pub step-requires-clause-place : goal.step-requires-clause-place
-step-requires-clause-place c =
+pub step-requires-clause-pc : goal.step-requires-clause-pc
+step-requires-clause-pc c =
     let inside = at_inside _ _ _ _ c.program.invariant.valid (rw (← c.program.view_is) at c.requires.1) in omega arith
 
 pub step-requires-clause-fine : goal.step-requires-clause-fine

@@ -21,4 +21,4 @@ pub returns-in_default-clause-answer : goal.returns-in_default-clause-answer
 returns-in_default-clause-answer g c =
     let read : ReadsInput (g.R.Source.remaining c.args.input.now) (Ok c.deref.result.now) =
     rw c.deref.ensures.value c.in_ok-bytes.ensures.read in
-    (rw c.in_default.is at c.in_ok-filters.ensures.parts _ read) c.args.asked
+    (rw c.in_default.is at c.in_ok-filters.ensures.parts _ read) c.args.comparison

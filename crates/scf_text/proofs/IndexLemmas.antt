@@ -1,5 +1,5 @@
 -- Where the parts of a line stand in the text.
-use Rattle.scf_text.proofs.Common.{◌≡◌, ℕ, ◌+◌, ◌-◌, ◌<◌, ◌≤◌, false, List, [], ◌∷◌, ◌++◌, length, take, drop, Option, Some, None, Result, Ok, Err, IfOk, refl, sym, ap, ◌∙◌, append_assoc, append-nil, arith, inl, inr, filter, filter-append, take_while, take_rest, drop-append-add, cases_Bool, MatchOption, Bor, drop-drop, drop-append-le, take-add, take-append-le, take-append-add, take-append-drop, length-append, length-drop, length-filter, is_line_end, is_word_byte, count_ends, begins_in_word, before_comment, IsLinePart, IsBehind, FollowsBehind, LiesBehind, name_at, line_at, place_after}
+use Rattle.scf_text.proofs.Common.{◌≡◌, ℕ, ◌+◌, ◌-◌, ◌<◌, ◌≤◌, false, List, [], ◌∷◌, ◌++◌, length, take, drop, Option, Some, None, Result, Ok, Err, IfOk, refl, sym, ap, ◌∙◌, append_assoc, append-nil, arith, inl, inr, filter, filter-append, take_while, take_rest, drop-append-add, cases_Bool, MatchOption, Bor, drop-drop, drop-append-le, take-add, take-append-le, take-append-add, take-append-drop, length-append, length-drop, length-filter, is_line_end, is_word_byte, count_ends, begins_in_word, before_comment, IsLinePart, IsBehind, FollowsBehind, LiesBehind, name_at, line_at, index_after}
 use Rattle.scf_text.specs.declared.part.Next.{Next}
 use Rattle.scf_text.specs.declared.part.Next.TheVariants as next
 use Rattle.scf_text.proofs.TokenLemmas.{prefix_more, comment_of}
@@ -15,11 +15,11 @@ count_append xs ys =
       length-filter is_line_end ys,
     )
 
-lines_before : (text bytes : List ℕ) (place n : ℕ) → take n (drop place text) ≡ bytes
-    → line_at text (place + n) ≡ line_at text place + count_ends bytes
-lines_before text bytes place n e =
-    rw (take-add place n text)
-    (omega (arith, count_append (take place text) (take n (drop place text)), ap count_ends e))
+lines_before : (text bytes : List ℕ) (index n : ℕ) → take n (drop index text) ≡ bytes
+    → line_at text (index + n) ≡ line_at text index + count_ends bytes
+lines_before text bytes index n e =
+    rw (take-add index n text)
+    (omega (arith, count_append (take index text) (take n (drop index text)), ap count_ends e))
 
 rest_whole : (text part behind : List ℕ) (start n : ℕ) → drop start text ≡ part ++ behind → n ≤ length part
     → drop (start + n) text ≡ drop n part ++ behind
@@ -60,7 +60,7 @@ word_ends (x ∷ xs) ys h =
       | inr other ↦ rw other refl
     ]
 
--- a name of the part is the one at its place in the text
+-- a name of the part is the one at its index in the text
 pub name_of_part : (text part : List ℕ) (line start n : ℕ) → IsLinePart text line start part → n ≤ length part
     → name_at text (start + n) ≡ name_at part n
 name_of_part text part line start n p le =
@@ -116,16 +116,16 @@ line_behind text rest line next number start e numbered whole unbroken =
 
 -- what follows the rest of a part follows the part
 
-pub token_behind : (part : List ℕ) (place start len : ℕ) → place ≤ start → 0 < len → start + len ≤ length part
-    → IsBehind part place (take (length part - (start + len)) (drop (start + len) part))
-token_behind part place start len le some within =
+pub token_behind : (part : List ℕ) (index start len : ℕ) → index ≤ start → 0 < len → start + len ≤ length part
+    → IsBehind part index (take (length part - (start + len)) (drop (start + len) part))
+token_behind part index start len le some within =
     record { start = start + len; later = omega arith; within = within; is = take_rest part (start + len) }
 
-rest_len : {part rest : List ℕ} {place : ℕ} (b : IsBehind part place rest) → length rest ≡ length part - b.start
+rest_len : {part rest : List ℕ} {index : ℕ} (b : IsBehind part index rest) → length rest ≡ length part - b.start
 rest_len {part} b = ap length b.is ∙ length-drop b.start part
 
-behind_behind : {part rest end : List ℕ} {place : ℕ} → IsBehind part place rest → IsBehind rest 0 end
-    → IsBehind part place end
+behind_behind : {part rest end : List ℕ} {index : ℕ} → IsBehind part index rest → IsBehind rest 0 end
+    → IsBehind part index end
 behind_behind {part} b d =
     let len = rest_len b in
     record {
@@ -135,26 +135,26 @@ behind_behind {part} b d =
       is = d.is ∙ ap (drop d.start) b.is ∙ drop-drop d.start b.start part;
     }
 
-pub follows_behind : {part rest : List ℕ} {place : ℕ} (after : Option (Bor (List ℕ))) → IsBehind part place rest
-    → FollowsBehind rest 0 after → FollowsBehind part place after
+pub follows_behind : {part rest : List ℕ} {index : ℕ} (after : Option (Bor (List ℕ))) → IsBehind part index rest
+    → FollowsBehind rest 0 after → FollowsBehind part index after
 follows_behind None b d = omega arith
 follows_behind (Some end) b d = behind_behind b d
 
-pub lies_behind : {part rest : List ℕ} {place : ℕ} (next : Next) → IsBehind part place rest → LiesBehind rest 0 next
-    → LiesBehind part place next
+pub lies_behind : {part rest : List ℕ} {index : ℕ} (next : Next) → IsBehind part index rest → LiesBehind rest 0 next
+    → LiesBehind part index next
 lies_behind (next.Token t end) b d = behind_behind b d
 lies_behind (next.End after) b d = follows_behind after b d
 
 -- where it begins
-after_place : (part : List ℕ) (start place : ℕ) (after : Option (Bor (List ℕ))) → FollowsBehind part place after
-    → start + place + 1 ≤ place_after start part after
-after_place part start place None h = omega arith
-after_place part start place (Some rest) h = let len = rest_len h in omega arith
+after_index : (part : List ℕ) (start index : ℕ) (after : Option (Bor (List ℕ))) → FollowsBehind part index after
+    → start + index + 1 ≤ index_after start part after
+after_index part start index None h = omega arith
+after_index part start index (Some rest) h = let len = rest_len h in omega arith
 
-pub place_within : (part : List ℕ) (place : ℕ) (next : Next) → LiesBehind part place next → place ≤ length part
-place_within part place (next.Token t rest) h = omega arith
-place_within part place (next.End None) h = h
-place_within part place (next.End (Some rest)) h = omega arith
+pub index_within : (part : List ℕ) (index : ℕ) (next : Next) → LiesBehind part index next → index ≤ length part
+index_within part index (next.Token t rest) h = omega arith
+index_within part index (next.End None) h = h
+index_within part index (next.End (Some rest)) h = omega arith
 
 -- what follows a statement is a part again
 pub behind_is_part : (text part rest : List ℕ) (line start : ℕ) → IsLinePart text line start part → IsBehind part 0 rest
@@ -164,18 +164,18 @@ behind_is_part text part rest line start p b =
     let n : b.start ≡ length part - length rest = omega arith in
     (rw (← n) (rest_is_part text part rest line start b.start p b.within b.is), omega arith)
 
-follows_part : (part : List ℕ) (place : ℕ) (after : Option (Bor (List ℕ))) → FollowsBehind part place after
+follows_part : (part : List ℕ) (index : ℕ) (after : Option (Bor (List ℕ))) → FollowsBehind part index after
     → FollowsBehind part 0 after
-follows_part part place None h = omega arith
-follows_part part place (Some rest) h =
+follows_part part index None h = omega arith
+follows_part part index (Some rest) h =
     record { start = h.start; later = omega arith; within = h.within; is = h.is }
 
-pub instruction_behind : {E : Type 0} (r : Result (Option (Bor (List ℕ))) E) (bytes : List ℕ) (start place : ℕ)
-    (next : Next) → LiesBehind bytes place next
-    → IfOk r (λ after. (part : List ℕ) (place : ℕ) → LiesBehind part place next → FollowsBehind part place after)
-    → IfOk r (λ after. start + place + 1 ≤ place_after start bytes after)
+pub instruction_behind : {E : Type 0} (r : Result (Option (Bor (List ℕ))) E) (bytes : List ℕ) (start index : ℕ)
+    (next : Next) → LiesBehind bytes index next
+    → IfOk r (λ after. (part : List ℕ) (index : ℕ) → LiesBehind part index next → FollowsBehind part index after)
+    → IfOk r (λ after. start + index + 1 ≤ index_after start bytes after)
     × IfOk r (λ after. FollowsBehind bytes 0 after)
-instruction_behind (Ok after) bytes start place next lies h =
-    let behind = h bytes place lies in
-    (after_place bytes start place after behind, follows_part bytes place after behind)
-instruction_behind (Err e) bytes start place next lies h = (tt, tt)
+instruction_behind (Ok after) bytes start index next lies h =
+    let behind = h bytes index lies in
+    (after_index bytes start index after behind, follows_part bytes index after behind)
+instruction_behind (Err e) bytes start index next lies h = (tt, tt)

@@ -2,21 +2,21 @@
 use Rattle.std.specs.Prelude.{◌≡◌, ◌<◌, ◌≤◌, ◌^◌, ◌↔◌, ◌⊎◌, ℕ, Bool, IsTrue, true}
 use Rattle.std.specs.Int.{IsPowerOfTwo}
 use Rattle.scf_facts.specs.declared.atom.Atom.{Atom}
-use Rattle.scf_facts.specs.declared.asked.Asked.{Asked}
-use Rattle.scf_facts.specs.declared.asked.Asked.TheVariants.{Within, Masked}
+use Rattle.scf_facts.specs.declared.query.Query.{Query}
+use Rattle.scf_facts.specs.declared.query.Query.TheVariants.{Within, Masked}
 use Rattle.scf_facts.specs.Atoms.{answer_at}
 use Rattle.scf_facts.specs.internal.Bits.{HasBits}
 use Rattle.scf_facts.specs.internal.Intervals.{LiesIn}
 use Rattle.scf_facts.specs.Exactness.{KeepsExact}
 
 -- the answer of the atom by where the number lies, or by its bits
-abbrev pub Asks : Atom → Asked → Type 0
+abbrev pub Asks : Atom → Query → Type 0
 Asks atom (Within range answer) =
     (range.low ≤ range.high) × ((x : ℕ) → x < 2 ^ 32 → LiesIn range x ↔ (answer_at atom x ≡ answer))
 Asks atom (Masked bits) = (x : ℕ) → HasBits bits x ↔ (answer_at atom x ≡ true)
 
 -- where the bits are those of a simple mask, as far as an answer has to keep facts exact
-abbrev pub AsksSimply : Atom → Asked → Type 0
+abbrev pub AsksSimply : Atom → Query → Type 0
 AsksSimply atom (Within range answer) = Unit {0}
 AsksSimply atom (Masked bits) =
     (holds : Bool) → KeepsExact atom holds → IsTrue holds ⊎ (bits.mask ≡ 0) ⊎ IsPowerOfTwo bits.mask
