@@ -11,10 +11,7 @@ from collections.abc import Callable, Iterator
 from . import entries
 from .engines import Refused
 from .runtimes import MAX_RULES, PREFIX
-
-TYPE_CHECKING = False
-if TYPE_CHECKING:
-    from typing import Any
+from .values import Any
 
 I386 = f"{PREFIX}X86"
 # By the multiplexer the number of each syscall: linux/net.h and linux/ipc.h.
@@ -26,6 +23,11 @@ NUMBERS = {
     "ipc": {"semop": 1, "semget": 2, "semctl": 3, "semtimedop": 4, "msgsnd": 11, "msgrcv": 12, "msgget": 13,
             "msgctl": 14, "shmat": 21, "shmdt": 22, "shmget": 23, "shmctl": 24},
 }
+
+
+def is_multiplexed(name: str) -> bool:
+    """Whether socketcall or ipc makes a syscall, too."""
+    return any(name in numbers for numbers in NUMBERS.values())
 
 
 def rules_of(entry: dict[str, Any]) -> Iterator[dict[str, Any]]:
@@ -45,14 +47,14 @@ def add(profile: dict[str, Any], note: Callable[[str], None]) -> None:
         note(f"no rule of socketcall or ipc is added: architectures lacks {I386}")
         return
     default = entries.answer_of(profile["defaultAction"], profile.get("defaultErrnoRet"))
-    passed_on = [entries.answer_of(it["action"], it.get("errnoRet")) != default for it in profile["syscalls"]]
-    covered = {name for entry, is_given in zip(profile["syscalls"], passed_on) if is_given and not entry.get("args")
-               for name in entry["names"] if name in NUMBERS}
-    for name in sorted(covered):
+    differs = [entries.answer_of(it["action"], it.get("errnoRet")) != default for it in profile["syscalls"]]
+    unconditional = {name for entry, is_passed_on in zip(profile["syscalls"], differs)
+                     if is_passed_on and not entry.get("args") for name in entry["names"] if name in NUMBERS}
+    for name in sorted(unconditional):
         note(f"no rule of {name} is added: an entry without conditions covers all of its calls")
     found, count = [], 0
-    for entry, is_given in zip(profile["syscalls"], passed_on):
-        rules = [rule for rule in rules_of(entry) if is_given and rule["names"][0] not in covered]
+    for entry, is_passed_on in zip(profile["syscalls"], differs):
+        rules = [rule for rule in rules_of(entry) if is_passed_on and rule["names"][0] not in unconditional]
         count += sum(len(rule["args"]) for rule in rules)
         if count > MAX_RULES:
             raise Refused(f"the rules of socketcall and ipc have more than {MAX_RULES} conditions")
