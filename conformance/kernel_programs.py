@@ -276,6 +276,21 @@ def random_filter(random_of: random.Random, begin: Sequence[Insn] = ()) -> list[
     return maker.program
 
 
+def i386_filter(random_of: random.Random) -> list[Insn]:
+    """A filter for i386 syscalls, as compilers make them: rules of numbers, with tests of halves of arguments."""
+    maker = Maker(random_of, 1)
+    program = [Insn(LD_WORD, 4), Insn(JEQ, I386, 1, 0), Insn(RET, maker.answer())]
+    for _ in range(random_of.randint(1, 8)):
+        number = random_of.choice((*HARMLESS[I386].values(), *NUMBERS))
+        tests = [(4 * random_of.randrange(4, WORDS), random_of.choice(TESTS), random_of.choice((*CORNERS, *maker.pool)))
+                 for _ in range(random_of.choice((0, 1, 1, 2, 3)))]
+        program += [Insn(LD_WORD, 0), Insn(JEQ, number, 0, 2 * len(tests) + 1)]
+        for place, (word, code, k) in enumerate(tests):
+            program += [Insn(LD_WORD, word), Insn(code, k, 0, 2 * (len(tests) - place) - 1)]
+        program.append(Insn(RET, maker.answer()))
+    return [*program, Insn(RET, maker.answer())]
+
+
 # Each older filter of a stack lets the next one be installed.
 LETS_INSTALL = (Insn(LD_WORD, 0), Insn(JEQ, NR_SECCOMP, 0, 1), Insn(RET, ALLOW))
 
@@ -359,10 +374,13 @@ class Calls:
             return True
         return number >= X32 and arch == X86_64 and not self.x32
 
+    def site(self, random_of: random.Random) -> int:
+        sites = [site for site in self.sites if not is_gate(site) or random_of.random() < 0.3]
+        return random_of.choice(sites or [SITE])
+
     def one(self, random_of: random.Random, known: dict[int, set[int]]) -> Call:
         choose = random_of.choice
-        sites = [site for site in self.sites if not is_gate(site) or random_of.random() < 0.3]
-        site = choose(sites or [SITE])
+        site = self.site(random_of)
         arch = I386 if is_gate(site) else X86_64
 
         def word(place: int) -> int:
@@ -393,3 +411,10 @@ class Calls:
             found.append(replace(call, arguments=(words[0] | words[2] << 32, words[1] | words[3] << 32,
                                                   *call.arguments[2:])))
         return found
+
+
+class I386Calls(Calls):
+    """Makes calls by the i386 gate alone."""
+
+    def site(self, random_of: random.Random) -> int:
+        return random_of.choice([site for site in SITES if is_gate(site)])

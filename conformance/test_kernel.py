@@ -6,6 +6,7 @@ import json
 import os
 import random
 import re
+import shutil
 import struct
 import sys
 import unittest
@@ -21,14 +22,16 @@ import kernel_profiles  # noqa: E402
 import kernel_programs as programs  # noqa: E402
 from common import ALLOW, Case, insn, jeq, load, ret, taken  # noqa: E402
 from kernel_child import Setting  # noqa: E402
-from scftools.answers import DENIED, Answer  # noqa: E402
+from scftools.answers import DENIED, X86_64, Answer  # noqa: E402
 from scftools.calls import Call  # noqa: E402
+from scftools.values import replace  # noqa: E402
 from stand_in import OF_ANSWERS, OF_CHECKER, StandIn  # noqa: E402
 
 PROGRAM = os.path.join(HERE, "kernel")
 # linux/prctl.h, linux/seccomp.h
 PR_SET_NO_NEW_PRIVS, PR_SET_SECCOMP, SECCOMP_MODE_FILTER = 38, 22, 2
 NR_SECCOMP, NR_PTRACE = 317, 101
+WORD = 1 << 32
 # The most seconds of one processor that the gate's part takes: 33 are measured, 69 on a machine that does much else.
 # Most of them go to the starts of some ten thousand processes, which slow machines are slowest at.
 MOST_SECONDS = 700
@@ -93,7 +96,7 @@ class Gate(Asked):
         seconds = taken() - before
         self.assertEqual(status, 0, lines)
         self.assertRegex(lines[-1], r"^[1-9][0-9]* passed, 0 failed(, [0-9]+ skipped)?$")
-        found = (re.match("([a-z ]+): ([0-9]+);", line) for line in lines)
+        found = (re.match("([a-z0-9 ]+): ([0-9]+);", line) for line in lines)
         counts = {each[1]: int(each[2]) for each in found if each}
         self.assertGreater(counts["programs"], 2000)
         for kind in ("accepted", "Empty", "TooLong", "Code", "Load", "Scratch", "Divisor", "Shift", "Jump",
@@ -102,6 +105,9 @@ class Gate(Asked):
         if not any(line.startswith("skipped: calls:") for line in lines):
             self.assertGreater(counts["filters and stacks"], 200)
             self.assertEqual(counts["profiles"], 50)
+        if not any("i386 gate" in line or line.startswith("skipped: syscalls:") for line in lines):
+            calls = next(re.search("calls: ([0-9]+);", line) for line in lines if line.startswith("filters for i386"))
+            self.assertGreater(int(calls[1]), 2000)
         self.assertEqual(sum(line.startswith("otherwise: ") for line in lines), len(kernel_exceptions.ROWS))
         self.assertLess(seconds, MOST_SECONDS)
         self.assertEqual(os.listdir(self.folder), [])
@@ -130,6 +136,20 @@ class Dispositions(unittest.TestCase):
                 answer = Answer.read(StandIn().printed(action | 5))
                 self.assertEqual((answer.denies, answer.allows, answer.disposition), (True, False, DENIED))
                 self.assertIn("the process is killed", answer.does())
+
+
+class Changed(StandIn):
+    """A stand-in for scf that is given other calls than those that are made."""
+
+    def __init__(self, change):
+        super().__init__()
+        self.change = change
+
+    def run(self, data, call):
+        return super().run(data, self.change(call))
+
+    def decide(self, filters, call):
+        return super().decide(filters, self.change(call))
 
 
 class Planted(unittest.TestCase):
@@ -172,6 +192,21 @@ class Planted(unittest.TestCase):
         self.assertFalse(self.programs_differ(None))
         self.assertFalse(self.calls_differ(None))
 
+    def test_whole_registers_of_i386_calls(self):
+        """A stand-in that takes their low halves alone, or another architecture for theirs, is found out."""
+        if not self.abilities.i386:
+            self.skipTest("there is no i386 gate")
+        maker, cases = programs.I386Calls(True, self.abilities.x32), []
+        for place in range(20):
+            made = programs.i386_filter(random.Random(f"{place}"))
+            cases.append(kernel_cases.Case("i386", [programs.packed(made)],
+                                           maker.many(random.Random(f"{place}"), [made], 12)))
+        changes = ((lambda call: call, False), (lambda call: replace(call, architecture=X86_64), True),
+                   (lambda call: replace(call, arguments=tuple(it % WORD for it in call.arguments)), True))
+        for change, differs in changes:
+            asking = kernel_cases.Asking(self.kernel, Changed(change))
+            self.assertEqual(any(asking.calls(case) for case in cases), differs)
+
     def test_a_listener_and_a_tracer_are_told(self):
         notify, trace = ret(0x7FC00000), ret(0x7FF00007)
         calls = [kernel_child.call_at(site, number, (1 << 63, 2, 3, 4, 5, 6))
@@ -206,6 +241,54 @@ class Planted(unittest.TestCase):
         calls = [kernel_child.call_at(kernel_child.SITE, 39, ())] * 2
         for answer, text in ((0x00000005, "the thread ends"), (0x80000005, "the process ends")):
             self.assertEqual(self.kernel.ask([ret(answer)], calls).texts, [text])
+
+
+# A program of i386: it installs the filter on standard input, makes a syscall that no kernel has by `int 0x80` and by
+# libc, and prints what comes of each.
+OF_I386 = r"""
+#include <errno.h>
+#include <linux/filter.h>
+#include <linux/seccomp.h>
+#include <stdio.h>
+#include <sys/prctl.h>
+#include <unistd.h>
+__asm__("gate: push %ebp; push %ebx; push %esi; push %edi; mov 20(%esp), %eax; mov 24(%esp), %ebp; mov (%ebp), %ebx;"
+        "mov 4(%ebp), %ecx; mov 8(%ebp), %edx; mov 12(%ebp), %esi; mov 16(%ebp), %edi; mov 20(%ebp), %ebp; int $0x80;"
+        "pop %edi; pop %esi; pop %ebx; pop %ebp; ret");
+int gate(int number, const unsigned *arguments);
+int main(void) {
+    static struct sock_filter code[4096];
+    struct sock_fprog program = {read(0, code, sizeof code) / sizeof *code, code};
+    const unsigned a[6] = {0xffffffff, 0x80000000, 0x7fffffff, 0xfffffffe, 0x80000001, 0xdeadbeef};
+    if (prctl(PR_SET_NO_NEW_PRIVS, 1, 0, 0, 0) || prctl(PR_SET_SECCOMP, SECCOMP_MODE_FILTER, &program))
+        return 1;
+    int direct = -gate(400000, a), by_libc = syscall(400000, a[0], a[1], a[2], a[3], a[4], a[5]);
+    printf("%d %d %d\n", direct, by_libc, errno);
+    return 0;
+}
+"""
+
+
+@unittest.skipUnless(shutil.which("cc"), "there is no C compiler here")
+class OfI386(Case):
+    def test_what_a_filter_sees_of_a_program(self):
+        """The architecture of linux/audit.h, and registers whose upper halves are 0."""
+        program = os.path.join(self.folder, "of_i386")
+        if self.run_words(["cc", "-m32", "-x", "c", "-o", program, "-"], OF_I386.encode())[0]:
+            self.skipTest("no program of i386 can be built here")
+        arguments = (0xFFFFFFFF, 0x80000000, 0x7FFFFFFF, 0xFFFFFFFE, 0x80000001, 0xDEADBEEF)
+        words = [(1, 0x40000003), *((4 + 2 * at, it) for at, it in enumerate(arguments)),
+                 *((5 + 2 * at, 0) for at in range(6))]
+        wrong = 2 * len(words)
+        tests = b"".join(load(4 * word) + jeq(value, 0, wrong - 2 * at - 1) for at, (word, value) in enumerate(words))
+        data = load(0) + jeq(400000, 1, 0) + ret(ALLOW) + tests + ret(0x00050007) + ret(0x00050008)
+        try:
+            status, out, err = self.run_words([program], data)
+        except OSError as error:
+            self.skipTest(f"the kernel runs no program of i386: {error.strerror}")
+        if status == 1:
+            self.skipTest("the kernel doesn't let a process install filters")
+        self.assertEqual((status, out, err), (0, "7 -1 7\n", ""))
 
 
 class Reading(unittest.TestCase):
@@ -311,7 +394,7 @@ class Kept(Asked):
         self.assertEqual((status, err), (1, ""), out)
         self.assertEqual(out.split("\n")[1:-1], [
             "scf check: accepted 1", "the kernel: refuses the filter with errno 22", "0 passed, 1 failed"])
-        few = ["--programs=0", "--filters=1", "--profiles=0", "--calls=1", "--seed=x"]
+        few = ["--programs=0", "--filters=1", "--i386=0", "--profiles=0", "--calls=1", "--seed=x"]
         status, out, err = self.run_words([words[0], *few])
         self.assertEqual((status, err), (1, ""), out)
         kept = os.path.join(self.folder, "kernel-failures-x")
@@ -365,9 +448,9 @@ class Words(Case):
     def test_any_word_is_a_seed(self):
         for seed in (b"\xff", b"\xed\xa0\x80", "\u2115\n", ""):
             status, out, err = self.run_words([PROGRAM, "--seed", seed, "--programs=1", "--filters=0",
-                                                "--profiles=0"])
+                                                "--i386=0", "--profiles=0"])
             self.assertIn((status, err), ((0, ""), (4, "")), out)
 
     def test_closed_output(self):
-        self.assertEqual(self.closed_output("../conformance/kernel", "--programs=0", "--filters=0",
+        self.assertEqual(self.closed_output("../conformance/kernel", "--programs=0", "--filters=0", "--i386=0",
                                             "--profiles=0")[0], 3)
