@@ -255,8 +255,8 @@ class Table(Case):
 class OtherTables(Case):
     """tables/i386.table, x32.table, aarch64.table and arm.table."""
 
-    # What libseccomp 2.5.4 lacks though it knows newer ones: x86-64's alone, which x32's header has, too, and a second name
-    # of a number.
+    # What libseccomp 2.5.4 lacks though it knows newer ones: x86-64's alone, which x32's header has, too, and a second
+    # name of a number.
     LACKING = {"X32": {"uretprobe", "uprobe", "map_shadow_stack"}, "ARM": {"sync_file_range2"}}
 
     @unittest.skipUnless(ctypes.util.find_library("seccomp"), "there is no libseccomp here")

@@ -99,10 +99,11 @@ class List(Case):
         data = (load(4) + jeq(X86_64, 4, 0) + jeq(I386, 6, 0) + jeq(AARCH64, 8, 0) + jeq(ARM, 10, 0) + ret(0)
                 + load(0) + jeq(0x40000009, 0, 0) + ret(0) + load(0) + jeq(4, 0, 0) + ret(0)
                 + load(0) + jeq(56, 0, 0) + ret(0) + load(0) + jeq(0xF0005, 0, 0) + ret(0))
-        self.assertEqual(self.meanings(data)[1:5], ["x86-64: to 6, else 2", "i386: to 9, else 3", "aarch64: to 12, else 4",
-                                                    "arm: to 15, else 5"])
-        self.assertEqual(self.meanings(data)[7::3], ["x32 mmap: to 8, else 8", "write of i386: to 11, else 11",
-                                                     "openat of aarch64: to 14, else 14", "set_tls of arm: to 17, else 17"])
+        found = self.meanings(data)
+        self.assertEqual(found[1:5], ["x86-64: to 6, else 2", "i386: to 9, else 3", "aarch64: to 12, else 4",
+                                      "arm: to 15, else 5"])
+        self.assertEqual(found[7::3], ["x32 mmap: to 8, else 8", "write of i386: to 11, else 11",
+                                       "openat of aarch64: to 14, else 14", "set_tls of arm: to 17, else 17"])
 
     def test_several_architectures_at_one_test(self):
         """Each that comes there is named; where more come, or those that no test has told apart, none is."""
@@ -118,7 +119,8 @@ class List(Case):
         other = load(4) + jeq(X86_64, 0, 1) + ret(0) + load(0) + jeq(1, 0, 0) + ret(0)
         self.assertEqual(self.meanings(other)[4], "number 1 of other architectures: to 5, else 5")
         # what no record can have isn't counted: i386's is tested twice
-        twice = load(4) + jeq(X86_64, 2, 0) + jeq(I386, 1, 0) + ret(0) + jeq(ARM, 1, 0) + load(0) + jeq(1, 0, 0) + ret(0)
+        twice = (load(4) + jeq(X86_64, 2, 0) + jeq(I386, 1, 0) + ret(0) + jeq(ARM, 1, 0) + load(0) + jeq(1, 0, 0)
+                 + ret(0))
         self.assertEqual(self.meanings(twice)[6], "write or exit of i386: to 7, else 7")
 
     def test_where_any_architecture_comes(self):

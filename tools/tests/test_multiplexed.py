@@ -42,8 +42,9 @@ def answer_to(resolved, call):
     low = [it % (1 << 32) for it in call.arguments]
     named = tables.of_architecture(X86).names_of(call.number)
     default = answer_of(resolved["defaultAction"], resolved.get("defaultErrnoRet"))
-    answers = [answer_of(it["action"], it.get("errnoRet")) for it in resolved["syscalls"] if set(named) & set(it["names"])
-               and all(kernel_profiles.holds(one, low) for one in it.get("args", ()))]
+    met = [it for it in resolved["syscalls"] if set(named) & set(it["names"])
+           and all(kernel_profiles.holds(one, low) for one in it.get("args", ()))]
+    answers = [answer_of(it["action"], it.get("errnoRet")) for it in met]
     found = set(answers) - {default}
     assert len(found) < 2, (call, answers)
     return found.pop() if found else default
@@ -63,7 +64,8 @@ class Multiplexed(Case):
 
     def test_a_rule_of_each(self):
         first, second = condition(0, "NE", 40), condition(2, "LE", 7)
-        given = profile(entry("socket", "read", "shmat", args=[first, second]), entry("accept", errnoRet=5, action=ERRNO))
+        given = profile(entry("socket", "read", "shmat", args=[first, second]),
+                        entry("accept", errnoRet=5, action=ERRNO))
         self.assertEqual(self.resolved(given), ({**given, "syscalls": [
             given["syscalls"][0],
             entry("socketcall", args=[{"index": 0, "value": 1, "op": "SCMP_CMP_EQ"}, second]),
@@ -76,8 +78,8 @@ class Multiplexed(Case):
         found, said = self.resolved(given)
         self.assertEqual(found["syscalls"], [*given["syscalls"][:2], entry(
             "ipc", args=[{"index": 0, "value": 1, "op": "SCMP_CMP_EQ"}]), given["syscalls"][2]])
-        self.assertEqual(said, "resolve-profile: no rule of socketcall is added: an entry without conditions covers all "
-                               "of its calls\n")
+        self.assertEqual(said, "resolve-profile: no rule of socketcall is added: an entry without conditions covers "
+                               "all of its calls\n")
         # engines pass on none that answers as the default does
         for same in ({}, {"errnoRet": 1}):
             given = profile(entry("socket"), entry("socketcall", action=ERRNO, **same), entry("bind", action=ERRNO))
@@ -119,7 +121,7 @@ class Numbers(unittest.TestCase):
             self.assertEqual(multiplexed.NUMBERS[name], found)
 
 
-class Drawn:
+class RandomProfile:
     """Random profiles of multiplexed syscalls and of others, in which no two entries conflict."""
 
     def __init__(self, random_of):
@@ -160,13 +162,13 @@ class Drawn:
                 yield Call(number, I386, arguments=tuple(arguments))
 
 
-def resolved_here(given):
+def with_rules(given):
     found = json.loads(json.dumps(given))
     multiplexed.add(found, lambda _: None)
     return found
 
 
-def answered_otherwise(resolved, data, calls):
+def differences(resolved, data, calls):
     """The calls that a filter answers otherwise than the entries say."""
     machine, program = StandIn(), unpacked(data)
     return [call for call in calls if machine.answer(program, words_of(call)) != answer_to(resolved, call)]
@@ -177,13 +179,13 @@ class BesideLibseccomp(unittest.TestCase):
     def test_drawn_profiles(self):
         library, count, of_multiplexers = Library(), 0, 0
         for seed in range(400):
-            drawn = Drawn(random.Random(f"multiplexed {seed}"))
-            given = drawn.profile()
+            source = RandomProfile(random.Random(f"multiplexed {seed}"))
+            given = source.profile()
             # read is without conditions, so that the number is loaded (see test_lost_load)
             given["syscalls"].append(entry("read"))
-            resolved = resolved_here(given)
-            calls = [it for _ in range(3) for it in drawn.calls(resolved)]
-            self.assertEqual(answered_otherwise(resolved, library.filter_of(given), calls), [], json.dumps(given))
+            resolved = with_rules(given)
+            calls = [it for _ in range(3) for it in source.calls(resolved)]
+            self.assertEqual(differences(resolved, library.filter_of(given), calls), [], json.dumps(given))
             count += len(calls)
             of_multiplexers += sum(it.number in MULTIPLEXERS.values() for it in calls)
         self.assertGreater(count, 5000)
@@ -210,7 +212,7 @@ class BesideLibseccomp(unittest.TestCase):
                         entry("socket", action=ERRNO, errnoRet=5, args=[condition(0, "EQ", 16)]))
         with self.assertRaises(Conflict):
             Library().filter_of(given)
-        first, second = [it for it in resolved_here(given)["syscalls"] if it["names"] == ["socketcall"]]
+        first, second = [it for it in with_rules(given)["syscalls"] if it["names"] == ["socketcall"]]
         self.assertEqual((first["names"], first["args"]), (second["names"], second["args"]))
         self.assertNotEqual(first["action"], second["action"])
 
