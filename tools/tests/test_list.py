@@ -1,13 +1,15 @@
 """tools/list."""
 import itertools
+import random
 import re
 import shutil
 import subprocess
 import unittest
 
 from common import ALLOW, EPERM, I386, KILL_PROCESS, SCF, X86_64, Case, filter_of, insn, jeq, jge, load, ret
-from scftools import flow_graph, paths, tables
+from scftools import flow_graph, listing, paths, tables
 from scftools.calls import Call
+from stand_in import StandIn
 
 # linux/audit.h
 AARCH64, ARM = 0xC00000B7, 0x40000028
@@ -130,6 +132,22 @@ class List(Case):
                + jeq(1, 0, 0) + ret(0))
         for data in (one, two):
             self.assertEqual(self.meanings(data)[-2].split(":")[0], "write")
+
+    def test_no_path_of_another_architecture(self):
+        """Of random filters: at each instruction that a record comes to, its architecture is among those that may."""
+        machine, come = StandIn(), 0
+        for seed in range(300):
+            random_of = random.Random(f"listing {seed}")
+            tests = [load(4), load(0), *(jeq(random_of.choice((X86_64, I386, AARCH64, ARM, 1)), random_of.randrange(4),
+                                             random_of.randrange(4)) for _ in range(9)), insn(0x45, 1, 0, 1)]
+            data = load(4) + b"".join(random_of.choice(tests) for _ in range(14)) + ret(0) * 4
+            known = listing.known_facts(listing.instructions(data))
+            for architecture, number in itertools.product((X86_64, I386, AARCH64, ARM, 0x1234), (0, 1, I386)):
+                places = machine.path(data, Call(number, architecture))
+                its = [known[place].architectures for place in places]
+                self.assertEqual([it for it in its if not it.has(architecture)], [], seed)
+                come += sum(not it.are_all_but for it in its)
+        self.assertGreater(come, 1000)
 
     def test_x32_is_of_x86_64_alone(self):
         for architecture, says, on_edge in (
