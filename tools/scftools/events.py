@@ -6,8 +6,9 @@ import itertools
 import re
 from collections.abc import Iterable, Iterator, Sequence
 
-from . import audit_records, strace
+from . import audit_records, strace, tables
 from .answers import ACTIONS, DOES, I386, MAX_ERRNO, X86_64, Answer
+from .architectures import PREFIX
 from .audit_records import Malformed
 from .calls import Call
 from .tables import Table
@@ -161,8 +162,8 @@ class _Ends(strace.Log):
             self._forked(who, text)
         self.last.pop(who, None)
         architecture = MODES.get(self._mode_of(who))
-        nr = None if architecture is None else self.number_of(name[1]) if architecture == X86_64 else \
-            audit_records.named_number(name[1], architecture, self.table)
+        own = {X86_64: self.table, I386: tables.of_architecture(f"{PREFIX}X86")}.get(architecture)
+        nr = None if own is None else strace.number_of(name[1], own)
         if architecture is None or nr is None:
             self._count(self.foreign, number)
             return

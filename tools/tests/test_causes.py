@@ -485,6 +485,14 @@ class Strace(Causes):
                                        "2 is 0x9")
             self.assertIn("# so the filter answers it", lines)
 
+    def test_numbers_of_i386_without_a_name(self):
+        """As strace prints those that it doesn't know."""
+        log = ("7  [ Process PID=7 runs in 32 bit mode. ]\n"
+               "7  syscall_0x1f4(0x1, 0x2, 0x3, 0x4, 0x5, 0x6) = -1 EPERM (Operation not permitted)\n")
+        lines = self.why("-", self.file("f.bpf", answering(0x50001, 500)), given=log.encode(), status=0)
+        self.assertEqual(lines[0], "# process 7: the syscall is number 500 of the architecture i386")
+        self.assertIn("# so the filter answers it", lines)
+
     THREADS = r"""
 #include <linux/filter.h>
 #include <linux/seccomp.h>
