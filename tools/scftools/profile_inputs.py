@@ -109,21 +109,23 @@ def read_as_it_is(name: str, caps: str | None = None) -> bytes:
 
 
 def read(name: str, caps: str | None = None, is_runtimes: bool = False) -> ProfileInput:
-    """The profile in a file, a pipe or standard input, with `caps` an engine's. Refuses one with members that only
-    podman reads otherwise than scf, or, if a runtime is said to apply it, that any program in Go does; scf itself
-    refuses the other members of engines."""
+    """The profile in a file, a pipe or standard input."""
+    data = inputs.read(name, "profile") if caps is None else inputs.read_whole(name, "engine's profile")
+    return profile_in(data, name, caps, is_runtimes)
+
+
+def profile_in(data: bytes, name: str, caps: str | None = None, is_runtimes: bool = False) -> ProfileInput:
+    """The profile in what was read of an input, with `caps` an engine's. Refuses one with members that only podman
+    reads otherwise than scf, or, if a runtime is said to apply it, that any program in Go does; scf itself refuses the
+    other members of engines."""
+    data = plain(data, name)
     if caps is not None:
-        return _resolved(read_engines(name), name, caps)
-    return ProfileInput(checked(plain(inputs.read(name, "profile"), name), is_runtimes))
-
-
-def checked(data: bytes, is_runtimes: bool = False) -> bytes:
-    """A profile that was read, refused as `read` says."""
+        return _resolved(data, name, caps)
     found = profiles.errno_by_name(data)
     if found is not None:
         hint = "--runtime podman takes it" if is_runtimes else "scf resolve-profile resolves it"
         raise program.ToolError(f"{found}, which only podman reads: {hint}", program.NEGATIVE)
     misread = profiles.misread_members(data) if is_runtimes else []
     if misread:
-        raise program.ToolError(f"{misread[0].describe()}", program.NEGATIVE)
-    return data
+        raise program.ToolError(misread[0].describe(), program.NEGATIVE)
+    return ProfileInput(data)

@@ -127,6 +127,11 @@ class Kubernetes(Case):
             self.assertIn(says, self.run_tool("ask", path)[2])
 
 
+# What the kernel logs of a syscall that a filter denied.
+DENIED_MOUNT = ("audit: type=1326 audit(1700000000.000:7): auid=0 uid=0 gid=0 ses=1 pid=9 comm=\"x\" exe=\"/x\" sig=0 "
+                "arch=c000003e syscall=165 compat=0 ip=0x7f0000000000 code=0x50000")
+
+
 class Caps(Case):
     """--caps: what resolve-profile makes of an engine's profile, in each command."""
 
@@ -146,7 +151,7 @@ class Caps(Case):
         for caps in ("none", "SYS_ADMIN"):
             done = self.run_tool("resolve-profile", "--keep-first", "--caps", caps, self.engine)
             resolved = self.file(f"{caps}.json", done[1])
-            for words in (("ask", "--nr=mount"), ("compile",), ("needs", log), ("lint",)):
+            for words in (("ask", "--nr=mount"), ("compile",), ("needs", log), ("lint",), ("why", DENIED_MOUNT)):
                 by_caps, plain = (subprocess.run([tool(words[0]), *more, *words[1:], path], stdout=subprocess.PIPE,
                                                  stderr=subprocess.PIPE, check=False)
                                   for more, path in ((("--caps", caps), self.engine), ((), resolved)))
