@@ -9,7 +9,8 @@ KINDS = ("filter", "profile", "table")
 BESIDE = "beside"
 # The most bytes that scf reads; it refuses a longer bundle.
 LIMIT = 1 << 24
-HEADER = re.compile(rb"(filter|profile|table) ([0-9]{1,8})\n")
+# (compiled when it is first used, which is rare)
+HEADER = rb"(filter|profile|table) ([0-9]{1,8})\n"
 
 
 def bundle(parts: Iterable[tuple[str, bytes]]) -> bytes:
@@ -28,7 +29,7 @@ def part_of(data: bytes, kind: str) -> bytes | None:
     """The first part of a kind, if a bundle has one before any malformed part."""
     at = 0
     while True:
-        header = HEADER.match(data, at)
+        header = re.compile(HEADER).match(data, at)
         if header is None or header.end() + int(header[2]) > len(data):
             return None
         at = header.end() + int(header[2])

@@ -6,9 +6,7 @@ tool kills the child, and if the tool can't, the child's own timer does: the ker
 """
 from __future__ import annotations
 
-import ctypes
 import os
-import pickle
 import select
 import signal
 import time
@@ -70,6 +68,8 @@ def run(work: Callable[[], Any], seconds: float) -> Any:
         signal.pthread_sigmask(signal.SIG_SETMASK, mask)
     if not data:
         raise Died("the inspecting process ended without a result")
+    import pickle  # pylint: disable=import-outside-toplevel
+
     is_well, result = pickle.loads(data)
     if not is_well:
         raise result
@@ -107,6 +107,9 @@ def _wait_for(child: int) -> None:
 
 def _be_child(work: Callable[[], Any], file: int, seconds: float, parent: int) -> NoReturn:
     """Runs the function, with all signals blocked but that of the timer."""
+    import ctypes  # pylint: disable=import-outside-toplevel
+    import pickle  # pylint: disable=import-outside-toplevel
+
     try:
         os.setpgid(0, 0)
         for number in (*ENDING, signal.SIGALRM):

@@ -5,11 +5,9 @@ stopped, so that no new one is missed. All continue (PTRACE_DETACH), whatever ha
 """
 from __future__ import annotations
 
-import ctypes
 import errno
 import os
 import struct
-import threading
 import time
 from collections.abc import Callable
 
@@ -99,6 +97,8 @@ class Hold:
 
     def __init__(self, kernel: Kernel, listed: Callable[[], dict[int, int]], patience: float,
                  is_forced: bool = False, restarts: restart.Restarts | None = None) -> None:
+        import threading  # pylint: disable=import-outside-toplevel
+
         self.kernel = kernel
         self.listed = listed
         self.patience = patience
@@ -122,13 +122,13 @@ class Hold:
         self.refused_before: dict[int, tuple[float, int, bool]] = {}
         # Held by this thread, but for the time in which it waits in PTRACE_SEIZE; then the other one waits for threads,
         # and puts down here what became of them.
-        self.lock = threading.Lock()
+        self.lock, self.reaper = threading.Lock(), threading.Thread(target=self.reap, daemon=True)
         self.states: dict[int, int] = {}
         self.is_over = False
 
     def __enter__(self) -> Hold:
         self.lock.acquire()
-        threading.Thread(target=self.reap, daemon=True).start()
+        self.reaper.start()
         return self
 
     def __exit__(self, *_: object) -> None:
@@ -350,11 +350,13 @@ def filter_at(kernel: Kernel, thread: int, process: int, place: int) -> bytes | 
     ptrace(2) says that 0 is the newest; the kernel counts from the oldest (get_nth_filter in kernel/seccomp.c). The
     length is asked before the copy and told by it, and the room is that of the longest filter.
     """
+    import ctypes  # pylint: disable=import-outside-toplevel
+
     room = ctypes.create_string_buffer(LONGEST * INSTRUCTION.size)
     try:
         count = kernel.ptrace(PTRACE_SECCOMP_GET_FILTER, thread, place, None)
         if count <= LONGEST:
-            again = kernel.ptrace(PTRACE_SECCOMP_GET_FILTER, thread, place, ctypes.cast(room, ctypes.c_void_p))
+            again = kernel.ptrace(PTRACE_SECCOMP_GET_FILTER, thread, place, room)
     except OSError as error:
         if error.errno == errno.ENOENT:
             return None

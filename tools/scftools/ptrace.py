@@ -1,7 +1,6 @@
 """What is asked of the kernel of processes: by ptrace(2), and by the files of /proc (proc(5))."""
 from __future__ import annotations
 
-import ctypes
 import errno
 import fcntl
 import os
@@ -56,7 +55,9 @@ class Kernel:
     """What is asked of the kernel; an OSError where a call of it fails."""
 
     def __init__(self) -> None:
-        self.library = ctypes.CDLL(None, use_errno=True)
+        import ctypes  # pylint: disable=import-outside-toplevel
+
+        self.ctypes, self.library = ctypes, ctypes.CDLL(None, use_errno=True)
         self.library.ptrace.restype = ctypes.c_long
         self.library.ptrace.argtypes = [ctypes.c_long, ctypes.c_long, ctypes.c_void_p, ctypes.c_void_p]
         # The tool that looks, which may do that in a child.
@@ -65,14 +66,14 @@ class Kernel:
     def ptrace(self, request: int, thread: int, place: int | None, data: object) -> int:
         answer: int = self.library.ptrace(request, thread, place, data)
         if answer < 0:
-            number = ctypes.get_errno()
+            number = self.ctypes.get_errno()
             raise OSError(number, os.strerror(number))
         return answer
 
     def registers(self, thread: int) -> dict[str, int]:
         """The registers of a stopped thread."""
-        room = (ctypes.c_uint64 * len(REGISTERS))()
-        self.ptrace(PTRACE_GETREGS, thread, None, ctypes.cast(room, ctypes.c_void_p))
+        room = (self.ctypes.c_uint64 * len(REGISTERS))()
+        self.ptrace(PTRACE_GETREGS, thread, None, room)
         return dict(zip(REGISTERS, room))
 
     def set_result(self, thread: int, result: int) -> None:
@@ -81,9 +82,9 @@ class Kernel:
 
     def architecture_of_call(self, thread: int) -> int | None:
         """The architecture of the system call in which a thread is stopped; None before Linux 5.3."""
-        room = ctypes.create_string_buffer(SYSCALL_INFO.size)
+        room = self.ctypes.create_string_buffer(SYSCALL_INFO.size)
         try:
-            self.ptrace(PTRACE_GET_SYSCALL_INFO, thread, SYSCALL_INFO.size, ctypes.cast(room, ctypes.c_void_p))
+            self.ptrace(PTRACE_GET_SYSCALL_INFO, thread, SYSCALL_INFO.size, room)
         except OSError:
             return None
         return SYSCALL_INFO.unpack(room.raw)[1]

@@ -13,7 +13,6 @@ generatePatch of seccomp/patchbpf), and were found by filters that crun 1.8.1 an
 """
 from __future__ import annotations
 
-import argparse
 import os
 from collections.abc import Callable, Iterator, Sequence
 
@@ -25,6 +24,7 @@ from .values import Any, dataclass, field, replace
 TYPE_CHECKING = False
 if TYPE_CHECKING:
     from . import processes
+    from .words import Parser
 
 RUNC, CRUN = "runc", "crun"
 # The actions that the runtimes know, under one name each if they have two; and those that take a number, which is
@@ -62,12 +62,12 @@ HELP = ("read a profile as this container runtime does: runc and crun take a res
         "names that this machine's libseccomp doesn't know are left out")
 
 
-def add_option(parser: argparse.ArgumentParser) -> None:
+def add_option(parser: Parser) -> None:
     """Adds `--runtime`."""
     parser.add_argument("--runtime", choices=tuple(RUNTIMES), help=HELP)
 
 
-def add_options(parser: argparse.ArgumentParser, without_caps: str = "podman for podman, or docker") -> None:
+def add_options(parser: Parser, without_caps: str = "podman for podman, or docker") -> None:
     """Adds `--runtime`, and what says how an engine resolves a profile; without `--caps` for which capabilities."""
     add_option(parser)
     parser.add_argument("--engine", choices=tuple(engines.ENGINES),
@@ -84,12 +84,12 @@ def add_options(parser: argparse.ArgumentParser, without_caps: str = "podman for
                         help="ignore a member of entries that no engine reads, which may be a condition")
 
 
-def is_engines(options: argparse.Namespace) -> bool:
+def is_engines(options: Any) -> bool:
     """Whether some word says that a profile is an engine's."""
     return any(getattr(options, it) is not None for it in ("engine", "caps", "kernel", "arch", "ignore"))
 
 
-def setting_of_words(options: argparse.Namespace, parser: argparse.ArgumentParser) -> Setting:
+def setting_of_words(options: Any, parser: Parser) -> Setting:
     """The container that an engine resolves profiles for."""
     engine = options.engine or (RUNTIMES[options.runtime].engine if options.runtime else None)
     is_podman = engine == "podman"
@@ -102,7 +102,7 @@ def setting_of_words(options: argparse.Namespace, parser: argparse.ArgumentParse
         parser.error(str(why))
 
 
-def setting_of_process(options: argparse.Namespace, kernel: processes.Kernel) -> Setting:
+def setting_of_process(options: Any, kernel: processes.Kernel) -> Setting:
     """The container of a process: without `--caps` with the capabilities of the process's bounding set, which are those
     that the engine gave the container."""
     bounding = kernel.status_of(options.pid).get("CapBnd")

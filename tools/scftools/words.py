@@ -1,16 +1,19 @@
 """The command line of a tool. Usage errors are printed safely, under the name by which the tool was called."""
 from __future__ import annotations
 
-import argparse
 import re
 import sys
+import types
 from collections.abc import Iterable
 
 from . import client, output, program, verdicts
 from .values import Any, NoReturn
 
-# argparse would look for translations of its messages at each start, and the tools have none.
-argparse._ = str  # type: ignore
+# argparse imports gettext, and looks for translations of its messages at each start: the tools have none.
+sys.modules.setdefault("gettext", types.SimpleNamespace(  # type: ignore
+    gettext=str, ngettext=lambda one, several, count: one if count == 1 else several))
+
+import argparse  # noqa: E402 pylint: disable=wrong-import-position
 
 
 class Version(argparse.Action):
