@@ -3,9 +3,8 @@
 from __future__ import annotations
 
 import errno
-import re
 
-from .values import dataclass
+from .values import Pattern, dataclass
 
 # linux/seccomp.h: the actions by the high half of an answer, the strictest first.
 ACTIONS = {0x8000: "KILL_PROCESS", 0x0000: "KILL_THREAD", 0x0003: "TRAP", 0x0005: "ERRNO", 0x7FC0: "USER_NOTIF",
@@ -40,7 +39,7 @@ ARCHITECTURES = {X86_64: "x86-64", I386: "i386", 0xC00000B7: "aarch64", 0x400000
 # The first x32 syscall number (__X32_SYSCALL_BIT in asm/unistd.h).
 X32 = 0x40000000
 
-PRINTED = re.compile(r"([A-Z_]+) (0x[0-9a-f]{8}|[0-9]+)")
+PRINTED = Pattern(r"([A-Z_]+) (0x[0-9a-f]{8}|[0-9]+)")
 
 
 @dataclass(frozen=True)

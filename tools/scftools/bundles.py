@@ -1,16 +1,16 @@
 """Bundles: several inputs as one, which is how scf reads them, since it opens no file itself."""
 from __future__ import annotations
 
-import re
 from collections.abc import Iterable, Sequence
+
+from .values import Pattern
 
 KINDS = ("filter", "profile", "table")
 # The kind of a filter of the other side, which only `scf compare --beside` reads.
 BESIDE = "beside"
 # The most bytes that scf reads; it refuses a longer bundle.
 LIMIT = 1 << 24
-# (compiled when it is first used, which is rare)
-HEADER = rb"(filter|profile|table) ([0-9]{1,8})\n"
+HEADER = Pattern(rb"(filter|profile|table) ([0-9]{1,8})\n")
 
 
 def bundle(parts: Iterable[tuple[str, bytes]]) -> bytes:
@@ -29,7 +29,7 @@ def part_of(data: bytes, kind: str) -> bytes | None:
     """The first part of a kind, if a bundle has one before any malformed part."""
     at = 0
     while True:
-        header = re.compile(HEADER).match(data, at)
+        header = HEADER.match(data, at)
         if header is None or header.end() + int(header[2]) > len(data):
             return None
         at = header.end() + int(header[2])

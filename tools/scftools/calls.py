@@ -1,19 +1,18 @@
 """Syscall records: what a filter sees, how one is given as options, and how one is printed."""
 from __future__ import annotations
 
-import re
 
 from . import architectures, constants, tables
 from .answers import ARCHITECTURES, X32, X86_64
 from .tables import Table
-from .values import dataclass
+from .values import Pattern, dataclass
 
 # The fields of a record, by the names of scf's options, in scf's order.
 OPTIONS = ("nr", "arch", "ip", "a0", "a1", "a2", "a3", "a4", "a5")
 # Bit 31, which no kernel's numbers have; and -1, which a tracer sets to skip a syscall, and which filters still see
 # (Documentation/userspace-api/seccomp_filter.rst of Linux; do_syscall_64 of x86 executes no such syscall).
 NO_CALL, SKIPPED = 0x80000000, 0xFFFFFFFF
-PRINTED = re.compile(r"call nr ([0-9]+) arch (0x[0-9a-f]+) ip (0x[0-9a-f]+) args((?: 0x[0-9a-f]+){6})")
+PRINTED = Pattern(r"call nr ([0-9]+) arch (0x[0-9a-f]+) ip (0x[0-9a-f]+) args((?: 0x[0-9a-f]+){6})")
 
 
 def number_text(number: int, architecture: int = X86_64) -> str:

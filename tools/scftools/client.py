@@ -2,12 +2,11 @@
 from __future__ import annotations
 
 import os
-import re
 from collections.abc import Iterable, Sequence
 
 from . import output, program
 from .program import NEGATIVE, NOT_BUILT, SUCCESS, UNKNOWN, ToolError
-from .values import dataclass
+from .values import Pattern, dataclass
 
 # In the sources the command, which builds the program where it never was; the program, as it is installed or was built.
 SCF = os.path.join(program.TOP, "scf")
@@ -23,7 +22,7 @@ SECONDS, ALL_SECONDS, FEW_STEPS = 6, 8, "1000"
 LIMIT_HELP = f"at most N steps for each comparison [default: 1000000, and {SECONDS} s of CPU time for all together]"
 SPENT = (f"all comparisons together took {SECONDS} s of CPU time, the most without --limit: what {FEW_STEPS} steps "
          f"don't decide is unfinished")
-FAULT = re.compile(r"fault ([a-z]+) ([A-Za-z0-9]+)((?: [a-z]+ [0-9]+)*)")
+FAULT = Pattern(r"fault ([a-z]+) ([A-Za-z0-9]+)((?: [a-z]+ [0-9]+)*)")
 _is_spent_reported = False
 # The CPU time that was taken before the limits began to count, in seconds.
 _seconds_before = 0.0

@@ -13,11 +13,11 @@ import re
 from collections.abc import Sequence
 
 from . import architectures, arguments, program
-from .values import dataclass, field
+from .values import Pattern, dataclass, field
 
 FILE, UNLIKE = (os.path.join(program.TOP, "tables", f"arguments.{it}") for it in ("symbols", "unlike"))
 FAMILIES = os.path.join(program.TOP, "tables", "x86_64.constants")
-NAME = re.compile(r"[A-Za-z_]\w*", re.A)
+NAME = Pattern(r"[A-Za-z_]\w*", re.A)
 # Architectures whose registers have 32 bits.
 NARROW = tuple(f"{architectures.PREFIX}{it}" for it in ("X86", "ARM"))
 # The least similarity of a nearest name, and the longest name that gets one.

@@ -12,7 +12,7 @@ from .architectures import PREFIX
 from .audit_records import Malformed
 from .calls import Call
 from .tables import Table
-from .values import dataclass, field, replace
+from .values import Pattern, dataclass, field, replace
 
 # The most distinct events that are kept of a text, and the most values that unknown bits of arguments may take.
 EVENTS, WAYS = 200, 8
@@ -25,10 +25,10 @@ FAILS = ("ERRNO", "TRACE", "USER_NOTIF")
 # The architectures of strace's modes.
 MODES = {strace.NATIVE: X86_64, "32 bit": I386}
 NUMBERS_OF_ERRNOS = {name: number for number, name in errno.errorcode.items()}
-SIGSYS = re.compile(r"--- SIGSYS \{([^}]{0,1000})\} ---")
-MEMBER = re.compile(r"(si_\w+)=(\w+)")
-KILLED = re.compile(r"\+\+\+ killed by SIGSYS")
-FAILED = re.compile(r" *= -1 (?:(E[A-Z0-9]+) \(|\(errno ([0-9]{1,4})\))")
+SIGSYS = Pattern(r"--- SIGSYS \{([^}]{0,1000})\} ---")
+MEMBER = Pattern(r"(si_\w+)=(\w+)")
+KILLED = Pattern(r"\+\+\+ killed by SIGSYS")
+FAILED = Pattern(r" *= -1 (?:(E[A-Z0-9]+) \(|\(errno ([0-9]{1,4})\))")
 
 
 @dataclass(frozen=True)

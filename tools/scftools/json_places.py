@@ -5,8 +5,10 @@ import json
 import re
 from collections.abc import Iterator, Sequence
 
-TOKEN = re.compile(r'"[^"\\]*(?:\\.[^"\\]*)*"?|[\[\]{},:]|[^\s\[\]{},:"]+', re.S)
-NAME = re.compile(r"[A-Za-z_]\w*", re.A)
+from .values import Pattern
+
+TOKEN = Pattern(r'"[^"\\]*(?:\\.[^"\\]*)*"?|[\[\]{},:]|[^\s\[\]{},:"]+', re.S)
+NAME = Pattern(r"[A-Za-z_]\w*", re.A)
 # At most so many characters of a member's name are printed.
 LONGEST = 40
 

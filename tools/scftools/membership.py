@@ -7,23 +7,22 @@ descendants.
 from __future__ import annotations
 
 import os
-import re
 from collections.abc import Iterable
 
 from . import containers
 from .container_files import OF_A_USER, Described
 from .machine import Process
 from .ptrace import Kernel
-from .values import dataclass
+from .values import Pattern, dataclass
 
 # The units that run processes of their own (systemd.exec(5)), as the name of a control group has them; systemd puts `_`
 # before a name that would mean something else there (cg_escape of its basic/cgroup-util.c).
-UNIT = re.compile(rb"_?([A-Za-z0-9:_.\\@-]{1,255}\.(?:service|socket|mount|swap))")
+UNIT = Pattern(rb"_?([A-Za-z0-9:_.\\@-]{1,255}\.(?:service|socket|mount|swap))")
 # The hierarchies in which systemd makes the groups of units.
 OF_SYSTEMD = ("name=systemd", "")
 # The name or identifier in the name of a container's group, after what its engine puts before it; and whose it is.
-IDENTIFIER = re.compile(rb"(?:(libpod|docker|cri-containerd|crio|runc|crun|machine|lxc\.payload)[-.])?(.+?)"
-                        rb"(?:\.scope)?")
+IDENTIFIER = Pattern(rb"(?:(libpod|docker|cri-containerd|crio|runc|crun|machine|lxc\.payload)[-.])?(.+?)"
+                     rb"(?:\.scope)?")
 ENGINES = {b"libpod": "podman", b"docker": "Docker", b"cri-containerd": "containerd", b"crio": "CRI-O",
            b"machine": "systemd-nspawn", b"lxc.payload": "LXC", b"runc": "runc", b"crun": "crun"}
 

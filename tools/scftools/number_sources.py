@@ -5,17 +5,17 @@ import re
 
 from . import libseccomp, program
 from .answers import X32
-from .values import dataclass, field
+from .values import Pattern, dataclass, field
 
 # A number, one with something added to it, or another syscall's name.
 VALUE = r"([0-9]+)|\([ \t]*(\w+)[ \t]*\+[ \t]*([0-9]+)[ \t]*\)|__NR_([A-Za-z_]\w*)"
-DEFINE = re.compile(rf"^[ \t]*#[ \t]*define[ \t]+__(?:ARM_)?NR_([A-Za-z_]\w*)[ \t]+(?:{VALUE})[ \t\r\f\v]*$",
-                    re.M | re.A)
-COMMENT = re.compile(r"/\*.*?(?:\*/|\Z)|//[^\n]*", re.S)
-NAME = re.compile(r"[A-Za-z_]\w*", re.A)
-ROW = re.compile(r"[^\n]+")
+DEFINE = Pattern(rf"^[ \t]*#[ \t]*define[ \t]+__(?:ARM_)?NR_([A-Za-z_]\w*)[ \t]+(?:{VALUE})[ \t\r\f\v]*$",
+                 re.M | re.A)
+COMMENT = Pattern(r"/\*.*?(?:\*/|\Z)|//[^\n]*", re.S)
+NAME = Pattern(r"[A-Za-z_]\w*", re.A)
+ROW = Pattern(r"[^\n]+")
 # The first row that isn't empty and no comment.
-FIRST = re.compile(r"^[ \t\r]*([^ \t\r\n#][^\n]*)", re.M)
+FIRST = Pattern(r"^[ \t\r]*([^ \t\r\n#][^\n]*)", re.M)
 # A count, and names in capital letters, such as SYSCALL_BASE, are no syscalls.
 COUNT = "syscalls"
 

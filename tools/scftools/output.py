@@ -12,9 +12,11 @@ import re
 import sys
 from collections.abc import Iterable, Iterator, Sequence
 
+from .values import Pattern
+
 # C0, DEL and C1; and the characters that change the direction of text or end a line (Unicode's Bidi_Control, LINE
 # SEPARATOR and PARAGRAPH SEPARATOR), which make text look different than it is.
-CONTROL = re.compile("[\x00-\x1f\x7f-\x9f\u061c\u200e\u200f\u2028-\u202e\u2066-\u2069]")
+CONTROL = Pattern("[\x00-\x1f\x7f-\x9f\u061c\u200e\u200f\u2028-\u202e\u2066-\u2069]")
 
 
 def _bytes_of(found: re.Match[str]) -> str:

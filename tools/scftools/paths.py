@@ -1,7 +1,6 @@
 """Paths: which instructions of a filter run on a syscall, by `scf run --path`, and the last tests among them."""
 from __future__ import annotations
 
-import re
 from collections.abc import Iterator, Sequence
 
 from . import client, listing, verdicts
@@ -10,10 +9,10 @@ from .calls import Call
 from .filters import Filter
 from .listing import Instruction
 from .tables import Table
-from .values import dataclass
+from .values import Pattern, dataclass
 from .verdicts import Decision
 
-PRINTED = re.compile(r"path((?: [0-9]+)+)")
+PRINTED = Pattern(r"path((?: [0-9]+)+)")
 # At most so many of the last tests are printed.
 MOST = 12
 

@@ -8,7 +8,7 @@ from collections.abc import Sequence
 
 from . import engines, filters, inputs, kubernetes, profiles, program
 from .profiles import DerivedProfile, Origin
-from .values import dataclass
+from .values import Pattern, dataclass
 
 TYPE_CHECKING = False
 if TYPE_CHECKING:
@@ -17,7 +17,7 @@ if TYPE_CHECKING:
 # What `podman inspect`, `docker inspect` and `crictl inspect` print, by members that they have.
 OF_PODMAN, OF_DOCKER, OF_CRI = b'"OCIConfigPath"', b'"HostConfig"', b'"runtimeSpec"'
 TASK = "/run/containerd/io.containerd.runtime.v2.task/moby/{}/config.json"
-ID = re.compile(rb'"Id":\s*"([0-9a-f]{64})"')
+ID = Pattern(rb'"Id":\s*"([0-9a-f]{64})"')
 HELP = ("PROFILE is an engine's own: resolve it, as resolve-profile does, for a container with these capabilities, "
         "such as docker, podman, none or CAP_KILL,SYS_ADMIN")
 

@@ -10,11 +10,11 @@ import re
 from collections.abc import Callable, Iterator
 
 from . import json_places
-from .values import Any, dataclass
+from .values import Any, Pattern, dataclass
 
 DEEPEST = 127
 # Half of a character, which stands alone.
-SURROGATE = "[\ud800-\udfff]"
+SURROGATE = Pattern("[\ud800-\udfff]")
 # No number that scf takes has more digits.
 LONGEST_NUMBER = 40
 # The default actions that allow what no rule names.
@@ -215,7 +215,7 @@ def _odd_value(text: str) -> str | None:
             return f"{where} is {token}, which isn't a JSON number"
         if token[0] in "-0123456789" and len(token) <= LONGEST_NUMBER and abs(float(token)) == float("inf"):
             return f"{where} is a number out of range"
-        if token[0] == '"' and "\\u" in token and re.search(SURROGATE, json.loads(token)):
+        if token[0] == '"' and "\\u" in token and SURROGATE.search(json.loads(token)):
             return f"{where} has an unpaired surrogate"
     return None
 

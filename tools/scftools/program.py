@@ -1,6 +1,8 @@
 """How a tool starts and exits, and where its files are."""
 from __future__ import annotations
 
+# (the module signal makes enums of its constants)
+import _signal as signal
 import os
 import sys
 from collections.abc import Callable
@@ -45,8 +47,6 @@ is_tool = False
 def start(main: Callable[[], int]) -> NoReturn:
     """Runs a tool, and exits with its status."""
     global is_tool  # pylint: disable=global-statement
-    import signal  # pylint: disable=import-outside-toplevel
-
     is_tool = True
     # SIGPIPE and SIGINT end the tool as they end any other.
     signal.signal(signal.SIGPIPE, signal.SIG_DFL)

@@ -4,8 +4,9 @@ from __future__ import annotations
 import errno
 import fcntl
 import os
-import re
 import struct
+
+from .values import Pattern
 
 # sys/ptrace.h
 PTRACE_POKEUSER = 6
@@ -32,7 +33,7 @@ PROC_CGROUP_INIT_INO = 0xEFFFFFFB
 # The most bytes of a file of /proc that are read.
 MAX_CONTENTS = 1 << 20
 # A byte of a path in a file of /proc that separates its fields.
-OCTAL = re.compile(rb"\\([0-3][0-7]{2})")
+OCTAL = Pattern(rb"\\([0-3][0-7]{2})")
 
 
 def numbers_in(folder: str) -> list[int]:

@@ -3,7 +3,6 @@ and why filters and a profile differ on a syscall."""
 from __future__ import annotations
 
 import json
-import re
 from collections.abc import Iterator, Sequence
 
 from . import bundles, client, explanation, paths, profiles, program
@@ -12,14 +11,14 @@ from .calls import Call
 from .paths import Giver
 from .profiles import Origin
 from .tables import Table
-from .values import dataclass
+from .values import Pattern, dataclass
 from .verdicts import Fault, Verdict
 
 TYPE_CHECKING = False
 if TYPE_CHECKING:
     from .compare import Comparison
 
-PRINTED = re.compile(r"(\w+ \w+) (?:entry ([0-9]+)|(default)|(foreign))")
+PRINTED = Pattern(r"(\w+ \w+) (?:entry ([0-9]+)|(default)|(foreign))")
 BY_STUB = "by the ENOSYS that runc puts before the filter"
 # At most so many characters of an entry are printed.
 LONGEST = 400

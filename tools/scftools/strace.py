@@ -10,7 +10,7 @@ from collections.abc import Callable, Iterator
 
 from . import constants, inputs, output, program
 from .tables import Table
-from .values import dataclass, field
+from .values import Pattern, dataclass, field
 
 # The most bytes that are read of a log, of a line, of a syscall that isn't finished yet and of an argument.
 LIMIT, LINE, BEGINNING, ARGUMENT = 1 << 30, 1 << 16, 1 << 13, 1 << 12
@@ -21,36 +21,36 @@ PENDING, KEPT, LEFT, PROCESSES = 10000, 1000, 100000, 1 << 20
 MAKERS = 100
 # What comes before a syscall: a process, a time, the instruction pointer and the syscall number (strace(1): -f, -Y; -t,
 # -tt, -ttt, -r; -i; -n).
-LEADER = re.compile(
+LEADER = Pattern(
     r"(?:\[pid +([0-9]{1,10})(?:<[^>]{0,64}>)?\] |([0-9]{1,10})(?:<[^>]{0,64}>)? +)?"
     r" *(?:[0-9]{2}:[0-9]{2}:[0-9]{2}(?:\.[0-9]+)? +|[0-9]+\.[0-9]+ +)?(?:\(\+ *[0-9.]+\) )?"
     r"(?:\[[0-9a-f?]{16}\] )?(?:\[ *([0-9]{1,10})\] )?(?:\[[0-9a-f?]{8,16}\] )?")
-CALL = re.compile(r"([a-z_][a-z0-9_]{0,63})\(")
-RESUMED = re.compile(r"<\.\.\. ([a-z_][a-z0-9_]{0,63}) resumed> ?")
-MODE = re.compile(r"(?:strace: )?\[ Process PID=([0-9]{1,10})[^\]]{0,64} runs in ([0-9a-z ]{1,16}) mode\. \]")
-MESSAGE = re.compile(r"strace: Process [0-9]+ (?:attached|detached)")
-RESULT = re.compile(r" *= (\?|-?[0-9]+|0x[0-9a-f]+)")
+CALL = Pattern(r"([a-z_][a-z0-9_]{0,63})\(")
+RESUMED = Pattern(r"<\.\.\. ([a-z_][a-z0-9_]{0,63}) resumed> ?")
+MODE = Pattern(r"(?:strace: )?\[ Process PID=([0-9]{1,10})[^\]]{0,64} runs in ([0-9a-z ]{1,16}) mode\. \]")
+MESSAGE = Pattern(r"strace: Process [0-9]+ (?:attached|detached)")
+RESULT = Pattern(r" *= (\?|-?[0-9]+|0x[0-9a-f]+)")
 # What ends an argument, or holds what doesn't.
-STOP = re.compile(r'["\[\](){},]|/\*|(?<=[0-9D])<(?!<)')
-STRING = re.compile(r'"[^"\\]*(?:\\.[^"\\]*)*"', re.S)
+STOP = Pattern(r'["\[\](){},]|/\*|(?<=[0-9D])<(?!<)')
+STRING = Pattern(r'"[^"\\]*(?:\\.[^"\\]*)*"', re.S)
 # What -y and -yy print behind a descriptor: <pipe:[7]>, <TCP:[1.2.3.4:5->6.7.8.9:10]> and <UNIX:[7,"name"]>, where a
 # name stands as a text does, or a path, in which < and > are escaped, as </dev/null<char 1:3>>.
 OBJECT = (r'<(?:[\w-]+:\[(?:"(?:\\.|[^"\\])*"|[^"])*?\]'
           r"|(?![\w-]+:\[)(?:\\.|[^\\<>])*(?:<(?:block|char) [0-9:]+>)?)>(?:\(deleted\))?")
-DESCRIBED = re.compile(OBJECT, re.S)
+DESCRIBED = Pattern(OBJECT, re.S)
 # A number or a name, and what it is.
-PART = re.compile(rf"(?:0x([0-9a-f]{{1,16}})|0([0-7]{{1,22}})|(-?[0-9]{{1,20}})|([A-Z_][A-Z0-9_]*))"
-                  rf"(?:{OBJECT})?(?: /\*.*?\*/)?", re.S)
+PART = Pattern(rf"(?:0x([0-9a-f]{{1,16}})|0([0-7]{{1,22}})|(-?[0-9]{{1,20}})|([A-Z_][A-Z0-9_]*))"
+               rf"(?:{OBJECT})?(?: /\*.*?\*/)?", re.S)
 UNFINISHED, NATIVE = " <unfinished ...>", "64 bit"
-COMMENT = re.compile(r"/\*|\*/")
+COMMENT = Pattern(r"/\*|\*/")
 # Where strace's order isn't that of the registers: clone's arguments have names. Of others fewer than these are shown:
 # without one half of an offset, or by an operation; unknown flags of IPC are printed as one number with what follows.
 CLONE = {"flags": 0, "child_stack": 1, "parent_tid": 2, "parent_tidptr": 2, "child_tidptr": 3, "tls": 4}
 ORDER = {"preadv2": (6, (0, 1, 2, 3, 5)), "pwritev2": (6, (0, 1, 2, 3, 5)), "futex": (6, (0, 1)), "ptrace": (4, (0, 1)),
          "msgget": (3, (0,)), "semget": (4, (0, 1)), "shmget": (4, (0, 1))}
 # Of a mode the lower 16 bits are shown, in octal digits.
-OCTAL = re.compile(r"(?:\A|\|)0[0-7]")
-NAMED = re.compile(r" *([a-z_]+)=")
+OCTAL = Pattern(r"(?:\A|\|)0[0-7]")
+NAMED = Pattern(r" *([a-z_]+)=")
 FORKS = ("clone(", "clone3(", "fork(", "vfork(")
 
 

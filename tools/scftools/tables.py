@@ -3,16 +3,15 @@ from __future__ import annotations
 
 import functools
 import os
-import re
 from collections.abc import Iterable, Sequence
 
 from . import inputs, program
-from .values import dataclass
+from .values import Pattern, dataclass
 
 # The architectures beside x86-64 whose tables come with scf, by OCI names; x32's has its numbers without 0x40000000.
 NAMES = {"SCMP_ARCH_X86": "i386", "SCMP_ARCH_X32": "x32", "SCMP_ARCH_AARCH64": "aarch64", "SCMP_ARCH_ARM": "arm"}
 OTHERS = {it: os.path.join(program.TOP, "tables", f"{name}.table") for it, name in NAMES.items()}
-LINE = re.compile(rb"[ \t]*([A-Za-z_][A-Za-z0-9_]*)[ \t]+0*([0-9]{1,10})[ \t]*\r?")
+LINE = Pattern(rb"[ \t]*([A-Za-z_][A-Za-z0-9_]*)[ \t]+0*([0-9]{1,10})[ \t]*\r?")
 # At most so many unknown names are listed, and longer ones get no nearest name.
 MOST_LISTED, LONGEST = 20, 64
 # The least similarity of a nearest name (difflib's ratio): two swapped letters in a name of four.

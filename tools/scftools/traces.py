@@ -18,21 +18,22 @@ from .calls import SKIPPED, X32
 from .profiles import ALLOWING
 from .strace import KEPT, LEFT
 from .tables import Table
+from .values import Pattern
 
 NAME, HEXADECIMAL = "[a-z_][a-z0-9_]{0,63}", re.compile("0x[0-9a-f]{1,16}")
 # perf trace: `0.017 ( 0.002 ms): ls/1234 brk() = 0x1`; one that was interrupted ends with `...`, and goes on behind
 # `... [continued]: `.
-PERF = re.compile(rf" *(?:[0-9]+\.[0-9]+|\?) \( *(?:[0-9.]+ ms)? *\): (?:(?:.{{0,64}}?/)?([0-9]{{1,10}}) +)?"
-                  rf"(?:\.\.\. \[continued\]: ({NAME})\(|({NAME})\()")
-COUNTED = re.compile(rf" +({NAME}) +([0-9]{{1,12}}) +[0-9]{{1,12}}(?: +[0-9]+\.[0-9]+){{4}} +[0-9.]+%")
-SYS_ENTER = re.compile(r"\bsys_enter: NR (-?[0-9]{1,10}) \(((?:[0-9a-f]{1,16}, ){5}[0-9a-f]{1,16})\)$")
-MAP = re.compile(r"@[A-Za-z0-9_]{0,64}\[([^\],]{1,128})\]: ([0-9]{1,18})$")
-PROBE = re.compile(rf"(?:tracepoint:syscalls:)?sys_enter_({NAME})")
+PERF = Pattern(rf" *(?:[0-9]+\.[0-9]+|\?) \( *(?:[0-9.]+ ms)? *\): (?:(?:.{{0,64}}?/)?([0-9]{{1,10}}) +)?"
+               rf"(?:\.\.\. \[continued\]: ({NAME})\(|({NAME})\()")
+COUNTED = Pattern(rf" +({NAME}) +([0-9]{{1,12}}) +[0-9]{{1,12}}(?: +[0-9]+\.[0-9]+){{4}} +[0-9.]+%")
+SYS_ENTER = Pattern(r"\bsys_enter: NR (-?[0-9]{1,10}) \(((?:[0-9a-f]{1,16}, ){5}[0-9a-f]{1,16})\)$")
+MAP = Pattern(r"@[A-Za-z0-9_]{0,64}\[([^\],]{1,128})\]: ([0-9]{1,18})$")
+PROBE = Pattern(rf"(?:tracepoint:syscalls:)?sys_enter_({NAME})")
 # `7 05:35:00.123456789 0 ls (1234) > openat dirfd=..`, and `<` where it returns.
-SYSDIG = re.compile(rf"[0-9]{{1,18}} [0-9:.]{{8,24}} [0-9]{{1,5}} .{{1,256}}? \(-?[0-9]{{1,10}}(?:\.[0-9]{{1,10}})?\) "
-                    rf"([<>]) ({NAME})(?: |$)")
+SYSDIG = Pattern(rf"[0-9]{{1,18}} [0-9:.]{{8,24}} [0-9]{{1,5}} .{{1,256}}? \(-?[0-9]{{1,10}}(?:\.[0-9]{{1,10}})?\) "
+                 rf"([<>]) ({NAME})(?: |$)")
 # The name of a syscall that sysdig has no event for.
-GENERIC = re.compile(rf"\bID=[0-9]{{1,6}}\(({NAME})\)")
+GENERIC = Pattern(rf"\bID=[0-9]{{1,6}}\(({NAME})\)")
 # Events of sysdig that are no syscalls (driver/event_table.c), and those of two syscalls or more.
 NO_SYSCALLS = frozenset("switch procexit procinfo signaldeliver page_fault drop container cpu_hotplug k8s mesos tracer "
                         "notification infra scapevent pluginevent group_deleted group_added user_deleted user_added "
@@ -42,10 +43,10 @@ SEVERAL = {"accept": "accept4", "dup": "dup2 or dup3", "epoll_create": "epoll_cr
 # Names of sysdig's own for one syscall.
 OWN = {"pread": "pread64", "prlimit": "prlimit64", "pwrite": "pwrite64", "umount": "umount2"}
 # What the programs print beside syscalls.
-HEADINGS = re.compile(r"#| Summary of events:$| +syscall +calls +errors| +\(msec\)|[ -]*$|"
-                      r" .{1,64} \([0-9]{1,10}\), [0-9]+ events|Attach(?:ing|ed) [0-9]+ probes?")
+HEADINGS = Pattern(r"#| Summary of events:$| +syscall +calls +errors| +\(msec\)|[ -]*$|"
+                   r" .{1,64} \([0-9]{1,10}\), [0-9]+ events|Attach(?:ing|ed) [0-9]+ probes?")
 # Syscalls that the kernel's log and perf trace say they lost.
-LOST = re.compile(audit_records.SUPPRESSED.pattern + r"|\ALOST ([0-9]{1,18}) events!")
+LOST = Pattern(audit_records.SUPPRESSED.pattern + r"|\ALOST ([0-9]{1,18}) events!")
 
 
 class Trace(strace.Log):

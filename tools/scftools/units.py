@@ -15,7 +15,7 @@ from collections.abc import Callable, Iterator, Sequence
 
 from . import libseccomp, output, program
 from .engines import OCI_ARCH
-from .values import dataclass, field
+from .values import Pattern, dataclass, field
 
 PROPERTIES = ("Id", "LoadState", "NeedDaemonReload", "FragmentPath", "DropInPaths", "SystemCallFilter",
               "SystemCallErrorNumber", "SystemCallArchitectures", "SystemCallLog")
@@ -28,7 +28,7 @@ MOST_ERRNO = 4095
 # asm-generic/errno.h; Python's module lacks it.
 ERRNOS = {**{name: number for number, name in errno.errorcode.items()}, "EHWPOISON": 133}
 # An errno as safe_atoi of systemd's basic/parse-util.c reads it: in C's notation, also with the prefixes 0b and 0o.
-NUMBER = re.compile(r"\+?(?:0[xX][0-9a-fA-F]+|0[bB][01]+|0[oO][0-7]+|0[0-7]*|[1-9][0-9]*)|-0", re.A)
+NUMBER = Pattern(r"\+?(?:0[xX][0-9a-fA-F]+|0[bB][01]+|0[oO][0-7]+|0[0-7]*|[1-9][0-9]*)|-0", re.A)
 # What each allow-list has beside what it names.
 IMPLIED = "@default"
 # The names of ConditionArchitecture= and SystemCallArchitectures=, and those of the OCI specification.

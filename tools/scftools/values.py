@@ -1,10 +1,12 @@
-"""Value classes: `dataclass`, `field` and `replace` of Python's own module, as far as the tools need them; and the
-types `Any` and `NoReturn`.
+"""What takes Python's own modules long at a tool's start: value classes, patterns, and the types `Any` and `NoReturn`.
 
-Python's module imports `inspect` and compiles methods for each class, which takes a tool longer at its start than all
-else; here the methods of all classes are the same few functions. The types are only for who reads or checks them.
+`dataclass`, `field` and `replace` are those of the module `dataclasses`, as far as the tools need them. That imports
+`inspect` and compiles methods for each class; here the methods of all classes are the same few functions. The types are
+only for who reads or checks them.
 """
 from __future__ import annotations
+
+import re
 
 TYPE_CHECKING = False
 if TYPE_CHECKING:
@@ -13,6 +15,18 @@ if TYPE_CHECKING:
     from typing import Any, NoReturn
 else:
     Any = NoReturn = object
+
+
+class Pattern:
+    """A regular expression, which is compiled when it is first used."""
+
+    def __init__(self, text: str | bytes, flags: int = 0):
+        self._given = text, flags
+
+    def __getattr__(self, name: str) -> Any:
+        compiled = re.compile(*self._given)
+        self.__dict__.update((it, getattr(compiled, it)) for it in ("finditer", "fullmatch", "match", "search", "sub"))
+        return getattr(compiled, name)
 
 
 class Default:

@@ -14,7 +14,7 @@ from .answers import Answer
 from .calls import Call
 from .client import Fault
 from .tables import Table
-from .values import dataclass, replace
+from .values import Pattern, dataclass, replace
 
 # The sets of syscalls that are compared.
 ALL, NATIVE, CALLS = "all", "native", "calls"
@@ -28,8 +28,8 @@ NO_MORE, MORE, NO_LESS, LESS = "no more", "more", "no less", "less"
 # With --disposition.
 SAME_DISPOSITION = "same disposition"
 HOLDS, FAILS = (SAME, NO_MORE, NO_LESS, SAME_DISPOSITION), (DIFFERS, MORE, LESS)
-NAMED = re.compile(r"([0-9]+) ([A-Za-z0-9_,]+) (differs|more|less|undecided|unfinished)\b(.*)")
-ANSWERED = re.compile(r" args((?: 0x[0-9a-f]+){6}) filter (\w+ \w+) (?:profile|beside) (\w+ \w+)")
+NAMED = Pattern(r"([0-9]+) ([A-Za-z0-9_,]+) (differs|more|less|undecided|unfinished)\b(.*)")
+ANSWERED = Pattern(r" args((?: 0x[0-9a-f]+){6}) filter (\w+ \w+) (?:profile|beside) (\w+ \w+)")
 LEFT_OUT = ("skipped ", "other ")
 
 

@@ -7,7 +7,6 @@ allows all else: what is more permissive than that is allowed.
 from __future__ import annotations
 
 import os
-import re
 from collections.abc import Callable, Iterator, Sequence
 
 from . import program
@@ -17,11 +16,11 @@ from .entries import ALLOWING, Condition, Entry, Reading, profile_of
 from .findings import Finding, listed
 from .reasons import Reason
 from .trials import Trial
-from .values import dataclass
+from .values import Pattern, dataclass
 from .verdicts import NamedCall
 
 FILE = os.path.join(program.TOP, "tables", "dangerous.calls")
-LINE = re.compile(r"(\w+) (?:\[(\d) has (0x[0-9a-f]+)\] )?(\S.*)")
+LINE = Pattern(r"(\w+) (?:\[(\d) has (0x[0-9a-f]+)\] )?(\S.*)")
 DELEGATES, ALLOWS = ("SCMP_ACT_TRACE", 1), ("SCMP_ACT_ALLOW", 0)
 ALLOWS_ALL = b'{"defaultAction": "SCMP_ACT_ALLOW"}'
 

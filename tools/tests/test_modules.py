@@ -3,6 +3,7 @@ import ast
 import dataclasses
 import os
 import pickle
+import re
 import sys
 import unittest
 
@@ -117,6 +118,13 @@ class Values(unittest.TestCase):
                 self.assertEqual(bag, Bag([2]))
                 with self.assertRaises(TypeError):
                     hash(bag)
+
+    def test_patterns_are_compiled_when_they_are_used(self):
+        pattern = values.Pattern("(A)(b)", re.I)
+        self.assertEqual((pattern.fullmatch("aB")[2], pattern.sub(r"\2\1", "abc"), pattern.groups), ("B", "bac", 2))
+        wrong = values.Pattern("(")
+        with self.assertRaises(re.error):
+            wrong.match("x")
 
     def test_they_are_pickled(self):
         found = client.Fault.read("fault profile Conflict number 41 first 0 second 1")
