@@ -26,9 +26,8 @@ environment, folders or site packages. So it adds its own folder, by its real na
     kubernetes  Kubernetes' SeccompProfile objects, as JSON or YAML
     json_places where values stand in a JSON text: lines, columns and paths
     profile_faults  which member of a profile a fault is about
-    faults      the rows of docs/FAULTS.md
     verdicts    what scf prints of a comparison, a decision or a run, as values
-    explanation what an answer, a verdict or a fault of scf means
+    explanation what an answer, a verdict or a fault of scf means, with the rows of docs/FAULTS.md
     refusals    why scf refuses an input, and which of several filters it is
     compare     comparisons of filters with a profile
     stack_comparison  comparisons of filters with other filters

@@ -1,17 +1,44 @@
-"""What scf's answers, verdicts and faults mean: the lines that the tools add after scf's."""
+"""What scf's answers, verdicts and faults mean: the lines that the tools add after scf's. Those of faults, `undecided`
+and `unfinished` are the rows of docs/FAULTS.md."""
 from __future__ import annotations
 
+import re
 from collections.abc import Iterator
 
-from . import faults, tables, verdicts
+from . import program, tables, verdicts
 from .answers import Answer
 from .calls import Call
 from .tables import Table
 from .verdicts import Fault, Report
 
+UNNAMED = ["docs/FAULTS.md doesn't name this line."]
+
+
+def _key(line: str) -> str:
+    """The words of a printed line up to its numbers, which are the key of its row."""
+    words = line.split()
+    return " ".join(words[:3] if words[:1] == ["fault"] else words[:1])
+
+
+def _rows() -> dict[str, list[str]]:
+    """For each line in the page, by its words without numbers, the cells after it except the status."""
+    found: dict[str, list[str]] = {}
+    with open(program.FAULTS, encoding="utf-8") as file:
+        for line in file:
+            if line.startswith("| `"):
+                cells = [cell.strip() for cell in line.strip().strip("|").split("|")]
+                for pattern in re.findall(r"`([^`]+)`", cells[0]):
+                    found[_key(pattern)] = [cell for cell in cells[1:] if not cell.isdigit()]
+    return found
+
+
+def what_a_row_says(line: str) -> list[str]:
+    """The sentences of a printed line's row: when it appears, and what to do."""
+    return _rows().get(_key(line), UNNAMED)
+
 
 def of_fault(fault: Fault, table: Table | None) -> Iterator[str]:
-    yield from faults.what_a_row_says(fault.line)
+    yield from what_a_row_says(fault.line)
     if (fault.source, fault.kind) == ("profile", "Conflict") and table is not None:
         yield f"the syscall is {Call(fault.numbers['number']).describe(table)}"
 
@@ -47,7 +74,7 @@ def of_verdict(report: Report, table: Table, is_native: bool, count: int) -> Ite
     if verdict.fails or verdict.word == verdicts.UNDETERMINED:
         yield from of_differing(verdict, table, is_native, count)
     elif not verdict.holds:
-        yield from faults.what_a_row_says(report.lines[0])
+        yield from what_a_row_says(report.lines[0])
 
 
 def of_skipped(report: Report, table: Table, default_lets_through: bool) -> Iterator[str]:
