@@ -21,7 +21,7 @@ from .strace import Seen
 from .tables import Table
 from .traces import Trace
 from .trials import Trial
-from .values import dataclass, field
+from .values import dataclass
 from .verdicts import UNFINISHED, Verdict
 
 TYPE_CHECKING = False
@@ -32,6 +32,12 @@ if TYPE_CHECKING:
 IS_ALLOWED, ISNT_ALLOWED, DEPENDS, UNDECIDED = "made", "not made", "depends", "untold"
 # The words of text output; JSON has those above.
 WORDS = {IS_ALLOWED: "allowed", ISNT_ALLOWED: "not allowed", DEPENDS: DEPENDS, UNDECIDED: "undecided"}
+# What in a log isn't judged, by its name in JSON.
+UNJUDGED = {"foreign": "syscalls not judged, since their processes don't run in 64-bit mode",
+            "cut": "syscalls not judged, since the log lacks their beginning or end",
+            "more": "syscalls not judged, since there are too many with other arguments",
+            "lines": "lines not judged, since they can't be parsed",
+            "lost": "syscalls not judged, since the log has lost them"}
 # The most entries with conditions for one name, and the most syscalls to judge, each with each of its values.
 CONDITIONS, WAYS = 64, 2000
 REFERRED, EQUAL = ("SCMP_ACT_TRACE", 1), "SCMP_CMP_EQ"
@@ -95,12 +101,9 @@ class Needs:
     """The result: the syscalls that were judged, and what wasn't."""
 
     judged: list[Judgement]
-    unnamed: dict[str, int] = field(default_factory=dict)
-    foreign: int = 0
-    unread: int = 0
-    cut: int = 0
-    left: int = 0
-    lost: int = 0
+    # names that the table doesn't have, and other kinds of UNJUDGED, each with how often it was met
+    unnamed: dict[str, int]
+    unjudged: dict[str, int]
     # what is the matter with the first record that can't be read
     fault: str = ""
     # whether there are several logs, whose names lines then say
@@ -112,8 +115,7 @@ class Needs:
     @property
     def isnt_whole(self) -> bool:
         """Whether something in the log wasn't judged, or there was nothing to judge."""
-        return bool(self.unnamed or self.foreign or self.unread or self.cut or self.left or self.lost
-                    or not self.judged)
+        return bool(self.unnamed or any(self.unjudged.values()) or not self.judged)
 
     @property
     def status(self) -> int:
@@ -190,7 +192,8 @@ class Judge:
 
 def find(log: Trace, judge: Judge) -> Needs:
     """The calls of a log, by their numbers, each judged."""
-    found = Needs([], {}, log.foreign.count, log.unread.count, log.cut.count, log.left.count, log.lost.count, log.fault)
+    counts = log.foreign.count, log.cut.count, log.left.count, log.unread.count, log.lost.count
+    found = Needs([], {}, dict(zip(UNJUDGED, counts)), log.fault)
     traced: list[TracedCall] = []
     for (name, values), seen in log.calls.items():
         number = judge.number_of(name)
@@ -204,7 +207,7 @@ def find(log: Trace, judge: Judge) -> Needs:
         if ways <= WAYS:
             found.judged.append(judge.of(one))
         else:
-            found.left += one.seen.count
+            found.unjudged["more"] += one.seen.count
     return found
 
 
@@ -243,18 +246,11 @@ def _of_unjudged(needs: Needs) -> Iterator[str]:
                + ("; it is a syscall of other architectures alone" if name in elsewhere else ""))
     if len(needs.unnamed) > tables.MOST_LISTED:
         yield f"more such names: {len(needs.unnamed) - tables.MOST_LISTED}"
-    if needs.foreign:
-        yield f"syscalls not judged, since their processes don't run in 64-bit mode: {needs.foreign}"
-    if needs.cut:
-        yield f"syscalls not judged, since the log lacks their beginning or end: {needs.cut}"
-    if needs.left:
-        yield f"syscalls not judged, since there are too many with other arguments: {needs.left}"
-    if needs.unread:
-        yield f"lines not judged, since they can't be parsed: {needs.unread}"
-    if needs.fault:
-        yield needs.fault
-    if needs.lost:
-        yield f"syscalls not judged, since the log has lost them: {needs.lost}"
+    for kind, count in needs.unjudged.items():
+        if count:
+            yield f"{UNJUDGED[kind]}: {count}"
+        if kind == "lines" and needs.fault:
+            yield needs.fault
     if not needs.judged:
         yield "the log has no syscall"
 
@@ -289,15 +285,14 @@ def as_json(needs: Needs, table: Table) -> dict[str, object]:
             shown["verdict"] = one.line
         found.append(shown)
     return {"status": needs.status, "calls": found,
-            "not_judged": {"names": needs.unnamed, "foreign": needs.foreign, "cut": needs.cut, "more": needs.left,
-                           "lines": needs.unread, "lost": needs.lost}}
+            "not_judged": {"names": needs.unnamed, **needs.unjudged}}
 
 
-def _entries(needs: Needs, always: Iterable[str]) -> Iterator[dict[str, object]]:
+def _entries(judged: Sequence[Judgement], always: Iterable[str]) -> Iterator[dict[str, object]]:
     """The entries that allow the syscalls, with the values of known arguments that conditions test."""
     plain: dict[str, None] = {}
     ruled: dict[str, dict[tuple[tuple[int, int], ...], None]] = {}
-    for one in needs.judged:
+    for one in judged:
         for values in one.traced.known():
             ruled.setdefault(one.traced.name, {})[tuple(values.items())] = None
     for name, rules in ruled.items():
@@ -322,7 +317,7 @@ def least_profile(needs: Needs, judge: Judge) -> tuple[str, list[str]]:
         found["defaultErrnoRet"] = top["defaultErrnoRet"]
     found.update((name, top[name]) for name in ("architectures", *KEPT) if name in top)
     named = [it for it in needs.judged if judge.table.number_of(it.traced.name) is not None]
-    found["syscalls"] = list(_entries(Needs(named), (name for name in ALWAYS if judge.number_of(name) is not None)))
+    found["syscalls"] = list(_entries(named, (name for name in ALWAYS if judge.number_of(name) is not None)))
     remarks = list(_of_unjudged(needs))
     remarks += [f"{it.traced.name} has no name, and isn't in the profile" for it in needs.judged
                 if judge.table.number_of(it.traced.name) is None]
