@@ -99,7 +99,7 @@ class OfStates(Hook):
             self.assertEqual((status, child.wait()), (3, -signal.SIGKILL), err)
             self.assertIn("container a\\xed\\xbf\\xbf", err)
             self.assertIn(says, err)
-        with mock.patch.object(hooks, "failed", side_effect=str):
+        with mock.patch.object(hooks, "failure", side_effect=str):
             self.assertIn("itself failed: KeyError", hooks.run_safely(lambda: {}["none"]))
 
     def test_a_process_that_is_gone(self):
@@ -513,9 +513,9 @@ class OfTime(Hook):
         examination = hooks.Examination(process, 60, True)
         with mock.patch.object(hooks, "EXPLANATION_SECONDS", 0.1):
             found = examination.result(lambda: hooks.Finding(1, "differs", lambda: time.sleep(5), dict), True)
-        self.assertEqual((found.status, found.verdict, found.value), (1, "differs", {
+        self.assertEqual((found.status, found.verdict, found.value()), (1, "differs", {
             "status": 1, "scope": "native", "verdict": "differs"}))
-        self.assertEqual(found.lines, ["no explanation: it takes longer than 0.1 seconds"])
+        self.assertEqual(found.lines(), ["no explanation: it takes longer than 0.1 seconds"])
         self.assertEqual(examination.killed, [hooks.Kill(True, f"process {child.pid} was killed")])
         self.is_killed(child, 20)
 
@@ -564,7 +564,7 @@ class Inside(Hook):
         self.addCleanup(child.wait)
         self.addCleanup(child.kill)
         process = self.process(pid=child.pid)
-        with mock.patch.object(hooks, "sent"), mock.patch.object(hooks, "KILL_SECONDS", 0.1):
+        with mock.patch.object(hooks, "send_signal"), mock.patch.object(hooks, "KILL_SECONDS", 0.1):
             hooks.send_signal.return_value = None
             self.assertEqual(process.kill(), hooks.Kill(True, f"SIGKILL was sent to process {child.pid}; it hasn't "
                                                                 f"ended yet"))
