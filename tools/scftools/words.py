@@ -42,7 +42,8 @@ class Parser(argparse.ArgumentParser):
         (summary, usage, *rest), name = text.split("\n\n"), output.escaped(program.name())
         statuses = [it for it in rest if it.startswith(("Exit status:", "The exit status is"))]
         # (a percent sign would be argparse's)
-        usage = re.sub("(?m)^   ", " " * len("usage:"), re.sub(r"(?m)^    (?:scf )?[\w/-]+", f"    {name}", usage))
+        usage = re.sub(r"(?m)^    (?:scf )?[\w/-]+", lambda _: f"    {name}", usage)
+        usage = re.sub("(?m)^   ", " " * len("usage:"), usage)
         super().__init__(prog=name, usage=usage.strip().replace("%", "%%"), description=summary,
                          epilog=" ".join([needs, *statuses]), allow_abbrev=False, formatter_class=Formatter)
         self.examples = re.findall(r"(?m)^    (.*)$", examples)

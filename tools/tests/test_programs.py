@@ -399,6 +399,12 @@ class Programs(Case):
             self.assertEqual((status, out), (2, ""))
             self.assertEqual(err, f"scf-{name}: there is no file 'none'\n")
 
+    def test_a_name_of_a_stranger(self):
+        link = os.path.join(self.folder, "\x1b[2J%s\\1")
+        os.symlink(tool("check"), link)
+        status, out, err = self.run_words([link, "--help"])
+        self.assertEqual((status, err, out.split("\n")[0]), (0, "", "usage: \\x1b[2J%s\\1 FILTER.."))
+
     def test_nothing_of_the_user_is_imported(self):
         """A module of the same name beside the tool's user, or in PYTHONPATH, isn't read: the tools run as root."""
         for name in ("argparse", "os", "re", "scftools", "sitecustomize", "usercustomize"):
