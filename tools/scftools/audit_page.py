@@ -20,8 +20,8 @@ from .tables import Table
 PROVED = ("Each comparison of a stack of filters with a profile is proved for all x86-64 syscalls and arguments by "
           "scf; what the files of runtimes and systemd say, and which process belongs to what, isn't.")
 COLOURS = {AS_CONFIGURED: "good", STRICTER: "good", OTHERWISE: "warn", NOT_KNOWN: "warn"}
-# The digits of a hash that are shown.
-DIGITS = 12
+# The digits of a hash that are shown, and the most stacks of a row that are shown unfolded.
+DIGITS, FEW = 12, 3
 
 
 def _coloured(verdict: str) -> Markup:
@@ -62,21 +62,31 @@ def _processes(row: Row) -> Markup:
     return tag("details", tag("summary", count), listed(shown))
 
 
-def _row(row: Row, audit: Audit) -> list[object]:
+def _stacks_of(row: Row, audit: Audit) -> Markup:
+    """The distinct stacks of a row's threads, each with its verdict if they have several."""
     numbers = {id(stack): at for at, stack in enumerate(audit.stacks)}
+    has_several = len({it.judgement.verdict for it in row.parts}) > 1
+    found = []
+    for part in row.parts:
+        at = numbers.get(id(part.stack))
+        shown = part.judgement.why or part.stack.told if at is None else \
+            joined([tag("a", f"stack {at}", href=f"#stack-{at}"), f": {part.stack.told}"])
+        found.append(joined([f"{part.judgement.verdict}: " if has_several else "", shown]))
+    if len(found) <= FEW:
+        return listed(found)
+    return tag("details", tag("summary", f"{len(found)} stacks"), listed(found))
+
+
+def _row(row: Row, audit: Audit) -> list[object]:
     held = 0
     for process in row.processes:
         held |= process.capabilities
     capabilities = engines.capabilities_in(held)
-    stacks = [joined([f"{part.judgement.verdict}: " if len(row.parts) > 1 else "",
-                      tag("a", f"stack {numbers[id(part.stack)]}", href=f"#stack-{numbers[id(part.stack)]}"),
-                      f": {part.stack.description}"]) if id(part.stack) in numbers else
-              f"{part.judgement.verdict}: {part.judgement.why or part.stack.description}" for part in row.parts]
     source = [row.expected.source or "nothing is configured", " ", _hash(row.expected.digest)]
     if row.expected.why is not None:
         source += [" ", row.expected.why]
     return [_coloured(row.verdict), joined([row.kind, " ", tag("strong", row.name, class_="long")]),
-            ", ".join(audit_output.about(row)), tag("span", *source, class_="long"), listed(stacks),
+            ", ".join(audit_output.about(row)), tag("span", *source, class_="long"), _stacks_of(row, audit),
             tag("details", tag("summary", str(len(capabilities))), " ".join(capabilities)) if capabilities else "none",
             "yes" if all(it.has_no_new_privileges for it in row.processes) else "no", _processes(row)]
 

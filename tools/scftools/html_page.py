@@ -29,7 +29,11 @@ pre { overflow-x: auto; background: var(--band); padding: .6rem; border-radius: 
   overflow-wrap: normal; }
 table { border-collapse: collapse; width: 100%; } th, td { text-align: left; vertical-align: top;
   padding: .35rem .6rem; border-bottom: 1px solid var(--line); } thead th { background: var(--band); }
-.scroll { overflow-x: auto; } .scroll td, .scroll th { white-space: nowrap; overflow-wrap: normal; }
+.scroll { overflow-x: auto; } .scroll td, .scroll th { white-space: nowrap; overflow-wrap: normal; line-height: 1.5rem;
+  padding: .375rem .625rem; }
+table.scroll { border-collapse: separate; border-spacing: 0; }
+.scroll td:first-child, .scroll th:first-child { position: sticky; left: 0; max-width: 9rem; white-space: normal; }
+.scroll td:first-child { background: var(--page); }
 .bad { color: var(--bad); font-weight: 600; } .warn { color: var(--warn); font-weight: 600; }
 .good { color: var(--good); font-weight: 600; }
 details { margin: .25rem 0; } summary { cursor: pointer; }
