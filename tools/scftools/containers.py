@@ -23,7 +23,8 @@ HIERARCHIES = ("", "name=systemd", "pids")
 # docker-ID.scope, cri-containerd-ID.scope and crio-ID.scope; podman's has the container in a group below. runc and crun
 # by themselves make NAME.scope of a name; LXC and systemd-nspawn name what is the container's beside what is their own,
 # and the group of conmon, which watches a container of podman or CRI-O, isn't the container's.
-NAMED = re.compile(rb".*/(?![a-z]+-conmon-)(?:(?:[a-z-]+-)?[0-9a-f]{64}(?:\.scope)?(?:/container)?|(?:runc|crun)-[^/]+\.scope(?:/container)?|"
+NAMED = re.compile(rb".*/(?![a-z]+-conmon-)(?:(?:[a-z-]+-)?[0-9a-f]{64}(?:\.scope)?(?:/container)?|"
+                   rb"(?:runc|crun)-[^/]+\.scope(?:/container)?|"
                    rb"lxc\.payload[./][^/]+|(?:machine-[^/]+\.scope|systemd-nspawn@[^/]+\.service)/payload)(?=/|\Z)")
 # systemd's groups (systemd.special(7)) if they aren't at the top, and aren't those of a user's service manager.
 OF_SYSTEMD = re.compile(rb"(/.*?[^/]+)/(?:init\.scope|system\.slice)(?:/|\Z)")

@@ -116,7 +116,8 @@ class Search:
             self.untold.append(Untold(*doubtful[0], verdict))
 
     def begin(self) -> str:
-        """Removes what is without effect, if the entries as they are read here are the profile's: scf's word on that."""
+        """Removes what is without effect, if the entries as they are read here are the profile's: scf's word on
+        that."""
         doubtful = self._doubtful()
         verdict = self._without(set(doubtful))
         if verdict.word == SAME or not doubtful:

@@ -2,8 +2,8 @@
 
 A filter that doesn't test the architecture takes the number of an i386 syscall for one of x86-64; and x32 syscalls have
 the architecture of x86-64, with numbers from 0x40000000 on. An x86-64 kernel has no other ABIs. Each profile denies
-foreign syscalls, so one comparison with a profile that allows every x86-64 syscall tells whether all are denied. If not,
-the filters are compared with one that denies a kind and allows all else, for each kind: no scope of scf has these
+foreign syscalls, so one comparison with a profile that allows every x86-64 syscall tells whether all are denied. If
+not, the filters are compared with one that denies a kind and allows all else, for each kind: no scope of scf has these
 syscalls alone. If scf can't decide, some syscalls are tried by `scf decide`, and the result says so.
 """
 from __future__ import annotations

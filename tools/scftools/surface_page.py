@@ -17,8 +17,8 @@ if TYPE_CHECKING:
 
 # How a cell of the matrix says what holds for all syscalls of a group.
 ALL_DENIED, SOME, ALL_ALLOWED = "all denied", "some", "all allowed"
-PROVED = ("What is allowed, delegated or denied is proved for all x86-64 syscalls and arguments by scf, which also gives "
-          "the examples.")
+PROVED = ("What is allowed, delegated or denied is proved for all x86-64 syscalls and arguments by scf, which also "
+          "gives the examples.")
 
 
 @dataclass(frozen=True)

@@ -329,7 +329,8 @@ class Node(Audited, Systemd):
 
     def container_in(self, where, words, name, **env):
         """Starts a container of crun, without a control group."""
-        status, out, err = self.on(*words, "--cgroup-manager=disabled", "run", "--detach", "--bundle", where, name, **env)
+        status, out, err = self.on(*words, "--cgroup-manager=disabled", "run", "--detach", "--bundle", where, name,
+                                   **env)
         if status:
             self.skipTest(f"crun starts no container here: {(out + err).strip()}")
 
@@ -350,7 +351,8 @@ class Node(Audited, Systemd):
             "back": "as configured", "admin": "as configured", "free": "unconfined by configuration",
             os.path.realpath("/usr/bin/python3"): "stricter"})
         self.assertEqual({name: it["engine"] for (kind, name), it in rows.items() if kind == "container"}, {
-            "box": "runc", "open": "crun", "mine": "crun", **dict.fromkeys(("front", "back", "admin", "free"), "podman")})
+            "box": "runc", "open": "crun", "mine": "crun",
+            **dict.fromkeys(("front", "back", "admin", "free"), "podman")})
         pods = {rows["container", name]["pod"] for name in ("front", "back")}
         self.assertEqual((len(pods), None in pods, rows["container", "admin"]["pod"]), (1, False, None))
         self.assertEqual(["CAP_SYS_ADMIN" in rows["container", name]["capabilities"] for name in ("admin", "front")],
@@ -358,8 +360,8 @@ class Node(Audited, Systemd):
         (call,) = [part["call"] for part in rows["unit", "scf-more.service"]["parts"]]
         self.assertEqual(call["names"], ["chroot"])
         (row,) = [row for (kind, _), row in rows.items() if kind == "program"]
-        self.assertEqual((len(row["parts"]), sorted(it["process"] for part in row["parts"] for it in part["processes"])),
-                         (20, sorted(numbers)))
+        found = sorted(it["process"] for part in row["parts"] for it in part["processes"])
+        self.assertEqual((len(row["parts"]), found), (20, sorted(numbers)))
 
 
 IDENTIFIER = "0123456789abcdef" * 4
@@ -422,7 +424,8 @@ class Files(unittest.TestCase):
             ("sandbox-id", "ab" * 32), ("sandbox-name", "web-1"), ("sandbox-namespace", "default"))}
         for top in ("/run/containerd", "/run/k3s/containerd"):
             bundle = f"{top}/io.containerd.runtime.v2.task/k8s.io/{IDENTIFIER}"
-            self.assertEqual(self.of(bundle, **cri), ("containerd", "web", "docker.io/library/nginx:1", "default/web-1"))
+            self.assertEqual(self.of(bundle, **cri),
+                             ("containerd", "web", "docker.io/library/nginx:1", "default/web-1"))
         self.assertEqual(self.of("/run/containerd/io.containerd.runtime.v2.task/default/box"),
                          ("containerd", None, None, None))
 
