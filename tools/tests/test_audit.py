@@ -6,7 +6,7 @@ import shutil
 import subprocess
 import unittest
 
-from common import ALLOW, EPERM, Case, filter_of, profile_of, ret, tool
+from common import ALLOW, EPERM, TOP, Case, filter_of, profile_of, ret, tool
 from confined import processes
 from own_machine import OwnMachine, Systemd
 from scftools import audit, audit_output, container_files, machine, membership, output, tables
@@ -362,6 +362,38 @@ class Node(Audited, Systemd):
         (row,) = [row for (kind, _), row in rows.items() if kind == "program"]
         found = sorted(it["process"] for part in row["parts"] for it in part["processes"])
         self.assertEqual((len(row["parts"]), found), (20, sorted(numbers)))
+
+
+class Service(Audited, Systemd):
+    """The service of contrib/systemd, with its restrictions, under a real systemd."""
+
+    with open(os.path.join(TOP, "contrib", "systemd", "scf-audit.service"), encoding="ascii") as opened:
+        # (nothing else of the system is started)
+        UNITS = {"scf-audit.service": opened.read(),
+                 "scf-audit.service.d/alone.conf": "[Unit]\nDefaultDependencies=no\n",
+                 "scf-same.service": UNIT.format("SystemCallFilter=~mount")}
+
+    def started(self):
+        """Starts the service: how its program ended, and whether that counts as a success."""
+        self.on("systemctl", "start", "scf-audit.service")
+        return self.on("systemctl", "show", "scf-audit.service", "--property=ExecMainStatus,Result")[1].split()
+
+    def test_it(self):
+        where = os.path.join(self.folder, "metrics")
+        # (this folder may be in /tmp)
+        self.file("units/scf-audit.service.d/here.conf", f"[Service]\nPrivateTmp=no\nReadWritePaths=-{where}\nExecStart=\n"
+                  f"ExecStart={tool('audit')} --allow-unconfined --prometheus {where}/scf.prom\n")
+        for words in (("daemon-reload",), ("start", "scf-same.service")):
+            self.assertEqual(self.on("systemctl", *words)[0], 0, words)
+        # without node_exporter's folder the tool says so, and not systemd
+        self.assertEqual(sorted(self.started()), ["ExecMainStatus=3", "Result=exit-code"])
+        os.mkdir(where)
+        # (what has ended well isn't remembered)
+        self.assertIn("Result=success", self.started())
+        with open(f"{where}/scf.prom", encoding="ascii") as file:
+            text = file.read()
+        for line in ('scf_unit_verdict{unit="scf-same.service",verdict="as configured"} 1', "scf_audit_status 4"):
+            self.assertIn(f"\n{line}\n", text)
 
 
 IDENTIFIER = "0123456789abcdef" * 4
