@@ -67,7 +67,8 @@ def tested(filters: Sequence[bytes]) -> set[int]:
     """The numbers at which tests of the filters change."""
     found: set[int] = set()
     for data in filters:
-        for code, _, _, k in INSTRUCTION.iter_unpack(data):
+        whole = data[:len(data) // INSTRUCTION.size * INSTRUCTION.size]
+        for code, _, _, k in INSTRUCTION.iter_unpack(whole):
             if code in (JUMP | JEQ, JUMP | JGT, JUMP | JGE):
                 found.update((k, k + 1))
     return found
