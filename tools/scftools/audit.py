@@ -235,10 +235,10 @@ class Judge:
                 continue
             if isinstance(one, other_abis.Proved) and not one.lets_none_through or \
                     isinstance(one, other_abis.Tried) and one.let_through:
-                return Judgement(WEAKER, why=f"the profile doesn't name {one.kind.profile_name}; {one.told()}",
+                return Judgement(WEAKER, why=f"the profile doesn't name {one.kind.profile_name}; {one.describe()}",
                                  comparison=found.comparison)
             if isinstance(one, other_abis.Tried):
-                found = replace(found, verdict=NOT_KNOWN, why=one.told())
+                found = replace(found, verdict=NOT_KNOWN, why=one.describe())
         return replace(found, not_compared=tuple(names))
 
 

@@ -69,8 +69,8 @@ def _stacks_of(row: Row, audit: Audit) -> Markup:
     found = []
     for part in row.parts:
         at = numbers.get(id(part.stack))
-        shown = part.judgement.why or part.stack.told if at is None else \
-            joined([tag("a", f"stack {at}", href=f"#stack-{at}"), f": {part.stack.told}"])
+        shown = part.judgement.why or part.stack.description if at is None else \
+            joined([tag("a", f"stack {at}", href=f"#stack-{at}"), f": {part.stack.description}"])
         found.append(joined([f"{part.judgement.verdict}: " if has_several else "", shown]))
     if len(found) <= FEW:
         return listed(found)

@@ -138,7 +138,7 @@ def of_native_calls(comparison: Comparison, report: Report) -> tuple[list[str], 
         return [], all_named if by_name.verdict.holds else list(count_lines(by_name.calls))
     others = [call for call in by_name.calls if not found.has(call)]
     count, others_differ = len(by_name.calls) - len(others), newer.another_call(comparison, found)
-    newer_lines = [found.told(others_differ is None, comparison.table)]
+    newer_lines = [found.describe(others_differ is None, comparison.table)]
     if count:
         newer_lines.append(f"syscalls in the table among these: {count}")
     if others_differ is None:
@@ -190,7 +190,7 @@ def of_foreign(comparison: Comparison, report: Report, scope: str, is_quiet: boo
     found = other_abis.let_through([one.data for one in comparison.filters], comparison.limit)
     if found and not (is_quiet and other_abis.are_none(found)):
         yield LOOKED_AT[scope]
-        yield from other_abis.told(found, report.architectures)
+        yield from other_abis.describe(found, report.architectures)
 
 
 def notes(comparison: Comparison, report: Report, scope: str) -> Iterator[str]:

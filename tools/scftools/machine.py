@@ -14,7 +14,7 @@ import signal
 import time
 from collections.abc import Callable, Iterable, Iterator
 
-from . import child, output, processes
+from . import child, processes
 from .hold import Unreadable, require_rights
 from .processes import Kernel, Stack
 from .ptrace import contents
@@ -62,10 +62,6 @@ class Process:
     # whether some thread is in a mode of seccomp(2), and whether the main one can't be stopped soon
     is_confined: bool
     is_stuck: bool
-
-    @property
-    def told(self) -> str:
-        return f"process {self.number} ({output.escaped(self.name)})"
 
 
 @dataclass

@@ -99,7 +99,7 @@ class Newer:
     def has(self, call: NamedCall) -> bool:
         return call.number >= self.first
 
-    def told(self, are_all: bool, table: Table) -> str:
+    def describe(self, are_all: bool, table: Table) -> str:
         return (f"{_told('syscalls', are_all, self.first, table)}, the filter with {self.filters.named()} and the "
                 f"profile with {self.profile.named()}")
 

@@ -54,7 +54,7 @@ class Kind:
         """The filter that denies these syscalls, and allows all else."""
         return self.tests + KILL + ALLOW
 
-    def told(self, number: int) -> str:
+    def describe(self, number: int) -> str:
         """A syscall's name and number."""
         shown, names = number_text(number, self.architecture), self.names(number)
         return f"{names[0]} ({shown.partition(' ')[2]})" if names else shown
@@ -102,11 +102,11 @@ class Proved:
     def lets_none_through(self) -> bool:
         return self.call is None
 
-    def told(self) -> str:
+    def describe(self) -> str:
         if self.call is None or self.answer is None:
             return f"{self.kind.name}: every syscall is denied"
         which = "some syscalls are allowed" if self.answer.disposition == ALLOWED else "not every syscall is denied"
-        return f"{self.kind.name}: {which}, such as {self.kind.told(self.call.number)}: {self.answer}"
+        return f"{self.kind.name}: {which}, such as {self.kind.describe(self.call.number)}: {self.answer}"
 
     def as_json(self) -> dict[str, object]:
         shown = [] if self.call is None or self.answer is None else [
@@ -122,13 +122,13 @@ class Tried:
     kind: Kind
     let_through: tuple[tuple[str, int, Answer], ...]
 
-    def told(self) -> str:
+    def describe(self) -> str:
         tried = f"{self.kind.name}: undecided whether any syscall is allowed; of {len(self.kind.calls)} tried,"
         if not self.let_through:
             return f"{tried} none is"
         _, number, answer = self.let_through[0]
         verb = "is" if len(self.let_through) == 1 else "are"
-        return f"{tried} {len(self.let_through)} {verb}, such as {self.kind.told(number)}: {answer}"
+        return f"{tried} {len(self.let_through)} {verb}, such as {self.kind.describe(number)}: {answer}"
 
     def as_json(self) -> dict[str, object]:
         return {"kind": self.kind.name, "is_decided": False, "tried": len(self.kind.calls),
@@ -166,12 +166,12 @@ def are_none(found: Sequence[Proved | Tried]) -> bool:
     return all(isinstance(one, Proved) and one.lets_none_through for one in found)
 
 
-def told(found: Sequence[Proved | Tried], profile_names: Sequence[str] = ()) -> list[str]:
+def describe(found: Sequence[Proved | Tried], profile_names: Sequence[str] = ()) -> list[str]:
     """A line for each kind, given a profile that names these other architectures."""
     if are_none(found):
         return [NONE]
     named = {name: f"; the profile also names {name}" for name in profile_names}
-    return [*(one.told() + named.get(one.kind.profile_name, "") for one in found), OTHERS]
+    return [*(one.describe() + named.get(one.kind.profile_name, "") for one in found), OTHERS]
 
 
 def all_denied() -> list[Proved | Tried]:

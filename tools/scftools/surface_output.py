@@ -45,12 +45,12 @@ def _summary(surface: Surface) -> str:
 
 
 def _foreign(surface: Surface) -> str:
-    return "; ".join(other_abis.told(surface.foreign))
+    return "; ".join(other_abis.describe(surface.foreign))
 
 
 def of_whole(surface: Surface) -> list[str]:
     """How many syscalls are allowed, denied and so on; those of other ABIs; numbers without a name."""
-    return [_summary(surface), _foreign(surface), f"numbers without a name: {surface.unnamed.told()}"]
+    return [_summary(surface), _foreign(surface), f"numbers without a name: {surface.unnamed.describe()}"]
 
 
 def details(row: Row) -> list[str]:
@@ -58,7 +58,7 @@ def details(row: Row) -> list[str]:
     if row.conditions is not None:
         return [row.conditions.describe()]
     if row.shown:
-        return [f"{word_of(disposition)} {shown.told()}" for disposition, shown in row.shown.items()]
+        return [f"{word_of(disposition)} {shown.describe()}" for disposition, shown in row.shown.items()]
     return [str(row.answer)] if row.answer else []
 
 
@@ -67,7 +67,7 @@ def details_as_c(row: Row) -> list[str]:
     if row.conditions is not None:
         return [row.conditions.describe()]
     if row.shown:
-        return [f"{word_of(disposition)} {shown.told_as_c(row.names[0])}" for disposition, shown in row.shown.items()]
+        return [f"{word_of(disposition)} {shown.describe_as_c(row.names[0])}" for disposition, shown in row.shown.items()]
     return [row.answer.named()] if row.answer else []
 
 

@@ -27,7 +27,7 @@ class Named:
 
     name: str
     surface: Surface | None
-    told: str
+    description: str
     digest: str | None = None
 
     @property
@@ -55,7 +55,7 @@ def _group_calls(rows: list[surfaces.Row]) -> Markup:
 
 def stack(one: Named, groups: Groups) -> Iterator[Markup]:
     """All syscalls of a stack, group by group."""
-    yield tag("h3", f"{one.name}: ", one.told, id=one.anchor)
+    yield tag("h3", f"{one.name}: ", one.description, id=one.anchor)
     if one.digest is not None:
         yield tag("p", "SHA-256 ", tag("code", one.digest, class_="long"))
     if one.surface is None:

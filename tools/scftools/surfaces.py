@@ -42,11 +42,11 @@ class Shown:
     answer: Answer
     is_whole: bool
 
-    def told(self) -> str:
+    def describe(self) -> str:
         at = f"ip {self.call.pointer:#x} " if self.call.pointer else "" if self.is_whole else "at some ip "
         return f"{at}args {' '.join(map(hex, self.call.arguments))} {self.answer}"
 
-    def told_as_c(self, name: str) -> str:
+    def describe_as_c(self, name: str) -> str:
         """The same, as C would have the syscall, and with the name of an errno."""
         at = f"ip {self.call.pointer:#x} " if self.call.pointer else "" if self.is_whole else "at some ip "
         return f"{at}{constants.call_text(name, self.call.arguments)} {self.answer.named()}"

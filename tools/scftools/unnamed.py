@@ -34,7 +34,7 @@ class Unnamed:
             return ""
         return f", such as {self.shown.call.number}: {self.shown.filters}"
 
-    def told(self) -> str:
+    def describe(self) -> str:
         if self.are_made:
             return f"all {self.count} are always allowed"
         if self.untold:

@@ -340,7 +340,7 @@ class Foreign(Case):
         return kind.name == "i386" and call.architecture == I386 and call.number < 2 * X32
 
     def test_told(self):
-        told = [one.told() for one in other_abis.let_through([ret(TRACE)])]
+        told = [one.describe() for one in other_abis.let_through([ret(TRACE)])]
         self.assertEqual(told, ["i386: not every syscall is denied, such as restart_syscall (0): TRACE 0",
                                 "x32: not every syscall is denied, such as read (0x40000000 + 0): TRACE 0"])
 
@@ -349,12 +349,12 @@ class Foreign(Case):
         squares = load(4) + jeq(X86_64, 1, 0) + load(0) + insn(0x07, 0) + insn(0x2C, 0) + jeq(9, 0, 1) + ret(LOG) + \
             ret(EPERM)
         found = other_abis.let_through([squares])
-        self.assertEqual(found[0].told(), "i386: undecided whether any syscall is allowed; of 12 tried, 1 is, "
+        self.assertEqual(found[0].describe(), "i386: undecided whether any syscall is allowed; of 12 tried, 1 is, "
                                           "such as read (3): LOG")
         self.assertEqual(found[0].as_json(), {
             "kind": "i386", "is_decided": False, "tried": 12,
             "let_through": [{"name": "read", "number": 3, "answer": {"action": "LOG", "data": 0}}]})
-        self.assertEqual([one.told() for one in other_abis.let_through([filter_of([READ])], "0")], [
+        self.assertEqual([one.describe() for one in other_abis.let_through([filter_of([READ])], "0")], [
             f"{kind}: undecided whether any syscall is allowed; of {count} tried, none is"
             for kind, count in (("i386", 12), ("x32", 11))])
 

@@ -188,8 +188,8 @@ class Rows(Case):
         """A line of --calls lacks it; the call is shown whole all the same."""
         row = known("by the instruction pointer").rows[1]
         self.assertEqual(row.shown[M].call.pointer & 0xFFFFFFFF, 0x1234)
-        self.assertRegex(row.shown[M].told(), r"\Aip 0x[0-9a-f]*1234 args 0x0 0x0 0x0 0x0 0x0 0x0 ALLOW\Z")
-        self.assertEqual(row.shown[R].told(), "args 0x0 0x0 0x0 0x0 0x0 0x0 ERRNO 1")
+        self.assertRegex(row.shown[M].describe(), r"\Aip 0x[0-9a-f]*1234 args 0x0 0x0 0x0 0x0 0x0 0x0 ALLOW\Z")
+        self.assertEqual(row.shown[R].describe(), "args 0x0 0x0 0x0 0x0 0x0 0x0 ERRNO 1")
 
     def test_a_pointer_that_cannot_be_shown(self):
         """The line says that there is one."""
@@ -197,7 +197,7 @@ class Rows(Case):
         line = next(it for it in asker.of_named(questions.IS_REFUSED, OWN).calls if it.number == WRITE)
         unable = type("Unable", (questions.Asker,), {"of_numbers": lambda *_: None})(asker.filters)
         shown = surfaces._shown(unable, questions.IS_REFUSED, line)
-        self.assertEqual((shown.is_whole, shown.told()), (False, "at some ip args 0x0 0x0 0x0 0x0 0x0 0x0 ALLOW"))
+        self.assertEqual((shown.is_whole, shown.describe()), (False, "at some ip args 0x0 0x0 0x0 0x0 0x0 0x0 ALLOW"))
 
     def test_random_filters(self):
         """No sampled call has a fate that what is said excludes, and what is shown is so."""
@@ -230,7 +230,7 @@ class Rows(Case):
         self.assertEqual((surface.rows[3].never, set(surface.rows[3].shown) - {M, R}), ([], set()))
         surface = of([filter_of([READ])], "0")
         self.assertEqual([row.said for row in surface.rows], ["unfinished"] * 5)
-        self.assertEqual(surface.unnamed.told(), f"{OTHERS} are undecided")
+        self.assertEqual(surface.unnamed.describe(), f"{OTHERS} are undecided")
 
     def test_a_number_with_two_names_and_one_with_zeros(self):
         self.assertEqual(of([ret(ALLOW)]).rows[0].names, ["read", "too"])
@@ -240,48 +240,48 @@ class Rows(Case):
     def test_a_table_without_names(self):
         surface = of([ret(ALLOW)], table=b"# none\n")
         self.assertEqual((surface.rows, surface_output.of_whole(surface)[0]), ([], "allowed 0, depends 0, denied 0"))
-        self.assertEqual(surface.unnamed.told(), f"all {X32} are always allowed")
+        self.assertEqual(surface.unnamed.describe(), f"all {X32} are always allowed")
 
 
 class Unnamed(unittest.TestCase):
     """Numbers that the table doesn't name."""
 
-    def told(self, *filters, **more):
-        return of(filters, **more).unnamed.told()
+    def describe(self, *filters, **more):
+        return of(filters, **more).unnamed.describe()
 
     def test_none_and_all(self):
-        self.assertEqual(self.told(filter_of([READ, EXIT_GROUP])), f"all {OTHERS} are always denied")
-        self.assertEqual(self.told(ret(ALLOW)), f"all {OTHERS} are always allowed")
-        self.assertEqual(self.told(of_number(READ, EPERM, LOG)), f"all {OTHERS} are always allowed")
-        self.assertEqual(self.told(ret(USER_NOTIF)), f"all {OTHERS} {SOME} 2: USER_NOTIF")
+        self.assertEqual(self.describe(filter_of([READ, EXIT_GROUP])), f"all {OTHERS} are always denied")
+        self.assertEqual(self.describe(ret(ALLOW)), f"all {OTHERS} are always allowed")
+        self.assertEqual(self.describe(of_number(READ, EPERM, LOG)), f"all {OTHERS} are always allowed")
+        self.assertEqual(self.describe(ret(USER_NOTIF)), f"all {OTHERS} {SOME} 2: USER_NOTIF")
 
     def test_some(self):
         """Counted on both sides of each test, and over what the table names."""
         some = gate(jge(400, 0, 2) + jge(410, 1, 0) + ret(ALLOW) + ret(EPERM))
-        self.assertEqual(self.told(some), f"10 of {OTHERS} {SOME} 400: ALLOW")
-        self.assertEqual(self.told(filter_of([READ, 400])), f"1 of {OTHERS} {SOME} 400: ALLOW")
-        self.assertEqual(self.told(gate(jgt(X32 - 3, 0, 1) + ret(ALLOW) + ret(EPERM))),
+        self.assertEqual(self.describe(some), f"10 of {OTHERS} {SOME} 400: ALLOW")
+        self.assertEqual(self.describe(filter_of([READ, 400])), f"1 of {OTHERS} {SOME} 400: ALLOW")
+        self.assertEqual(self.describe(gate(jgt(X32 - 3, 0, 1) + ret(ALLOW) + ret(EPERM))),
                          f"2 of {OTHERS} {SOME} {X32 - 2}: ALLOW")
         below = gate(jge(42, 1, 0) + ret(ALLOW) + ret(EPERM))
-        self.assertEqual(self.told(below), f"{42 - 4} of {OTHERS} {SOME} 2: ALLOW")
-        self.assertEqual(self.told(filter_of([*range(0, 80, 2)])),
+        self.assertEqual(self.describe(below), f"{42 - 4} of {OTHERS} {SOME} 2: ALLOW")
+        self.assertEqual(self.describe(filter_of([*range(0, 80, 2)])),
                          f"{40 - 1} of {OTHERS} {SOME} 2: ALLOW")
         all_but = of_number(300, EPERM, ALLOW)
-        self.assertEqual(self.told(all_but), f"{OTHERS - 1} of {OTHERS} {SOME} 2: ALLOW")
+        self.assertEqual(self.describe(all_but), f"{OTHERS - 1} of {OTHERS} {SOME} 2: ALLOW")
 
     def test_where_no_test_of_the_number_turns(self):
         """The odd ones below 64, but for those that have a name."""
         odd = gate(jge(64, 3, 0) + insn(0x45, 1, 0, 2) + ret(ALLOW) * 2 + ret(EPERM))
         self.assertEqual(StandIn().decide([odd], Call(63)), "ALLOW 0")
         self.assertEqual({StandIn().decide([odd], Call(number)) for number in (62, 64, 65)}, {"ERRNO 1"})
-        self.assertEqual(self.told(odd), f"{32 - 3} of {OTHERS} {SOME} 3: ALLOW")
+        self.assertEqual(self.describe(odd), f"{32 - 3} of {OTHERS} {SOME} 3: ALLOW")
 
     def test_by_an_argument(self):
-        self.assertEqual(self.told(of_number(400, by_argument(7, ALLOW, EPERM), EPERM)),
+        self.assertEqual(self.describe(of_number(400, by_argument(7, ALLOW, EPERM), EPERM)),
                          f"1 of {OTHERS} {SOME} 400: ALLOW")
 
     def test_a_stack(self):
-        self.assertEqual(self.told(filter_of([400, 401]), filter_of([401, 402])),
+        self.assertEqual(self.describe(filter_of([400, 401]), filter_of([401, 402])),
                          f"1 of {OTHERS} {SOME} 401: ALLOW")
 
     def test_what_could_not_be_told(self):
@@ -289,15 +289,15 @@ class Unnamed(unittest.TestCase):
         found = of([SQUARE]).unnamed
         self.assertGreater(found.untold, 0)
         self.assertLessEqual(found.let_through + found.untold, OTHERS)
-        self.assertRegex(found.told(), r"[0-9]+ are undecided\Z")
-        self.assertEqual(self.told(allowing(range(300, 1300, 2))), f"500 of {OTHERS} {SOME} 300: ALLOW")
+        self.assertRegex(found.describe(), r"[0-9]+ are undecided\Z")
+        self.assertEqual(self.describe(allowing(range(300, 1300, 2))), f"500 of {OTHERS} {SOME} 300: ALLOW")
         # before, between and behind these 300 numbers are 301 ranges, those between of two numbers
         found = of([allowing(range(300, 1500, 4), ALLOW)]).unnamed
         self.assertEqual((found.let_through, found.untold), (300, 2 * (301 - unnamed.MOST)))
-        self.assertEqual(found.told(), f"at least 300 of {OTHERS} {SOME} 300: ALLOW; {found.untold} are undecided")
+        self.assertEqual(found.describe(), f"at least 300 of {OTHERS} {SOME} 300: ALLOW; {found.untold} are undecided")
         long = gate(jeq(400, 0, 1) + ret(ALLOW) + jeq(0, 0, 0) * 4087 + ret(EPERM))
         self.assertEqual(StandIn().check(long), "accepted 4096")
-        self.assertEqual(self.told(long), f"1 of {OTHERS} {SOME} 400: ALLOW")
+        self.assertEqual(self.describe(long), f"1 of {OTHERS} {SOME} 400: ALLOW")
 
     def test_gaps(self):
         self.assertEqual(list(unnamed.gaps(tables.Table(OWN))), [(2, 39), (40, 41), (42, 231), (232, X32)])
