@@ -12,7 +12,7 @@ from collections.abc import Iterator
 from dataclasses import dataclass
 
 TOP = os.path.dirname(os.path.dirname(os.path.realpath(__file__)))
-ITEM = re.compile(r"^(?P<indent> *)(?P<public>pub )?(?:const )?fn (?P<name>\w+)", re.M)
+ITEM = re.compile(r'^(?P<indent> *)(?P<public>pub )?(?:const |extern "C" )?fn (?P<name>\w+)', re.M)
 BLOCK = re.compile(r"^(?P<kind>impl|(?:pub )?trait)\b(?P<head>[^{;]*)\{", re.M)
 CLAUSE = re.compile(r"\b(?:requires|ensures)(?:[ \t]+(?P<name>\w+))?\s*(?=\{)")
 NAME = r"[^\s(){}\[\],.;:]+"

@@ -157,6 +157,14 @@ class Believe(Case):
         self.assertEqual((status, err), (0, ""))
         self.assertEqual(out.splitlines()[3:5], [f"{ALIKE}:3-4 Alike", f"{ALIKE}:7-9 Inside"])
 
+    def test_a_call_for_c(self):
+        calls = "crates/top/src/calls.rt"
+        exported = FILES[calls].replace("pub fn made(n: u32)", '#[unsafe(no_mangle)]\npub extern "C" fn top_made(n: u32)')
+        status, out, err = self.believe("top_made", **{
+            calls: exported, "crates/top/src/lib.rt": "mod calls;\n\npub use calls::{top_made, Store, stored};\n"})
+        self.assertEqual((status, err), (0, ""))
+        self.assertIn(f"{ALIKE}:3-4 Alike\n", out)
+
     def test_wrong_words(self):
         for words, said in ((["none"], "there is no public call 'none'"),
                             (["made"], "'made' is one of low::made, top::made"),

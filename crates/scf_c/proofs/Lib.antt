@@ -1,0 +1,3 @@
+mod ComparisonLemmas
+mod ReadingLemmas
+mod StackLemmas

@@ -1,0 +1,32 @@
+-- Why filters and texts are refused.
+use Rattle.std.specs.Prelude.{ℕ, List, Some, Err}
+use Rattle.scf_text.specs.Faults.{IsFault, fault_of}
+use Rattle.scf_tool.specs.Commands.{NoReadFailed}
+use Rattle.scf_tool.specs.FilterStacks.{HasNoStack}
+use Rattle.scf_tool.specs.Verifying.{IsNoFilter, ReadsFilter}
+use Rattle.scf_tool.specs.declared.verify_fault.VerifyFault.TheVariants.{FilterRead}
+use Rattle.scf_c.specs.declared.layout.Bytes.{Bytes}
+use Rattle.scf_c.specs.declared.refusal.Refusal.{Refusal}
+use Rattle.scf_c.specs.declared.refusal.Refusal.TheVariants.{Verify, Text}
+use Rattle.scf_c.specs.Layout.{known}
+
+-- Why the bytes are no accepted filter. It isn't that they can't be read.
+abbrev pub IsFilterRefused : List ℕ → Refusal → Type 0
+IsFilterRefused bytes (Verify why) = IsNoFilter (Some bytes) why × NoReadFailed why
+IsFilterRefused bytes why = ⊥
+
+-- why the filters are no stack
+abbrev pub IsStackRefused : List Bytes → Refusal → Type 0
+IsStackRefused filters (Verify why) = HasNoStack (known filters) why × NoReadFailed why
+IsStackRefused filters why = ⊥
+
+-- why the bytes are no list of instructions
+abbrev pub IsListRefused : List ℕ → Refusal → Type 0
+IsListRefused bytes (Verify (FilterRead fault)) =
+    ReadsFilter (Some bytes) (Err fault) × NoReadFailed (FilterRead fault)
+IsListRefused bytes why = ⊥
+
+-- why a text spells no instructions: its first fault, or out of memory
+abbrev pub IsTextRefused : List ℕ → Refusal → Type 0
+IsTextRefused text (Text why) = IsFault why (fault_of text)
+IsTextRefused text why = ⊥

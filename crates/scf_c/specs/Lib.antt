@@ -1,0 +1,9 @@
+pub mod Comparisons
+pub mod Faults
+pub mod Filters
+pub mod HandingOut
+pub mod Layout
+pub mod Profiles
+pub mod Questions
+pub mod Statuses
+pub mod internal

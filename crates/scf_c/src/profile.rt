@@ -1,0 +1,140 @@
+//! A profile by itself.
+
+ghost use Rattle.std.specs.Prelude.{◌≡◌, ◌≢◌, ℕ, List, Some, IfErr, IfOk};
+ghost use Rattle.scf_insn.specs.declared.insn.Insn.{Insn};
+ghost use Rattle.scf_machine.specs.Machine.{RunAnswers};
+ghost use Rattle.scf_profile.specs.ProfileAnswers.{ProfileAnswers};
+ghost use Rattle.scf_profile.specs.Reasons.{IsReason};
+ghost use Rattle.scf_profile.specs.SameAnswers.{SameAnswers};
+ghost use Rattle.scf_profile.specs.declared.loaded.Loaded.{Loaded};
+ghost use Rattle.scf_profile.specs.declared.reason.Reason.{Reason};
+ghost use Rattle.scf_tool.specs.Commands.{IsStated};
+ghost use Rattle.scf_tool.specs.Verifying.{IsAcceptedFilter};
+ghost use Rattle.scf_c.specs.Faults.{IsRefusal, no_fault};
+ghost use Rattle.scf_c.specs.Layout.{record_of};
+ghost use Rattle.scf_c.specs.HandingOut.{IsHandedOut, IsNothingHandedOut};
+ghost use Rattle.scf_c.specs.Profiles.{IsCompilationRefused, IsProfileRefused, no_reason, reason_of};
+ghost use Rattle.scf_c.specs.Statuses.{ok};
+
+use crate::fault::{no_fault, refuse};
+use crate::layout::{Call, Fault, ProfileReason};
+use crate::memory::{encoding_of, hand_out};
+use crate::refusal::Refusal;
+use crate::status::OK;
+use scf_compile::{CompileFault, compile};
+use scf_machine::Program;
+use scf_profile::{CallTable, Loaded, Reason, load};
+use scf_tool::VerifyFault;
+use std::alloc::Global;
+
+/// What a profile and a table state.
+fn loaded(alloc: Global, profile: &[u8], table: &[u8]) -> Result<Loaded, Refusal>
+    ensures stated { IfOk result (IsStated profile.now table.now) }
+    ensures refused { IfErr result (IsProfileRefused profile.now table.now) }
+{
+    let names = match CallTable::read(alloc, table) {
+        Ok(names) => names,
+        Err(fault) => return Err(Refusal::Verify(VerifyFault::Table(fault))),
+    };
+    match load(alloc, profile, &names) {
+        Ok(loaded) => Ok(loaded),
+        Err(fault) => Err(Refusal::Verify(VerifyFault::Profile(fault))),
+    }
+}
+
+/// The filter of a profile and a table.
+fn compiled(alloc: Global, profile: &[u8], table: &[u8]) -> Result<Program, Refusal>
+    ensures program { IfOk result (λ program. (loaded : Loaded) × IsStated profile.now table.now loaded
+        × SameAnswers (RunAnswers program) loaded.profile) }
+    ensures refused { IfErr result (IsCompilationRefused profile.now table.now) }
+{
+    let loaded = loaded(alloc, profile, table)?;
+    match compile(alloc, &loaded.profile) {
+        Ok(program) => Ok(program),
+        Err(fault) => Err(Refusal::Compile(fault)),
+    }
+}
+
+/// The bytes of the filter of a profile and a table.
+fn filter_bytes(alloc: Global, profile: &[u8], table: &[u8]) -> Result<Vec<u8>, Refusal>
+    ensures filter { IfOk result (λ bytes. (loaded : Loaded) × IsStated profile.now table.now loaded
+        × (insns : List Insn) × IsAcceptedFilter (Some bytes.items) insns
+        × SameAnswers (RunAnswers insns) loaded.profile) }
+    ensures refused { IfErr result (IsCompilationRefused profile.now table.now) }
+{
+    let program = compiled(alloc, profile, table)?;
+    match encoding_of(alloc, program.insns()) {
+        Ok(bytes) => Ok(bytes),
+        Err(_) => Err(Refusal::Compile(CompileFault::Memory)),
+    }
+}
+
+/// The filter that answers as a profile does. The table gives the profile's names their numbers.
+#[unsafe(no_mangle)]
+pub extern "C" fn scf_compile(
+    alloc: Global,
+    profile: &[u8],
+    table: &[u8],
+    filter: &mut [u8],
+    needed: &mut usize,
+    fault: &mut Fault,
+) -> u32
+    ensures compiled { result ≡ ok → (loaded : Loaded) × IsStated profile.now table.now loaded
+        × (bytes : List ℕ) × (insns : List Insn) × IsAcceptedFilter (Some bytes) insns
+        × SameAnswers (RunAnswers insns) loaded.profile
+        × IsHandedOut bytes filter.old filter.new needed.new × (fault.new ≡ no_fault) }
+    ensures refused { result ≢ ok → IsRefusal (IsCompilationRefused profile.now table.now) result fault.new
+        × IsNothingHandedOut filter.old filter.new needed.new }
+{
+    *needed = 0;
+    *fault = no_fault();
+    match filter_bytes(alloc, profile, table) {
+        Ok(bytes) => {
+            hand_out(bytes.as_slice(), filter, needed);
+            OK
+        }
+        Err(why) => refuse(why, fault),
+    }
+}
+
+fn numbered(reason: Reason) -> ProfileReason
+    ensures { result ≡ reason_of reason }
+{
+    match reason {
+        Reason::Default => ProfileReason { kind: 1, entry: 0 },
+        Reason::Entry(entry) => ProfileReason { kind: 2, entry },
+        Reason::Foreign => ProfileReason { kind: 3, entry: 0 },
+    }
+}
+
+/// What a profile answers to a call, and why. The table gives the profile's names their numbers.
+#[unsafe(no_mangle)]
+pub extern "C" fn scf_ask(
+    alloc: Global,
+    profile: &[u8],
+    table: &[u8],
+    call: &Call,
+    answer: &mut u32,
+    reason: &mut ProfileReason,
+    fault: &mut Fault,
+) -> u32
+    ensures answered { result ≡ ok → (loaded : Loaded) × IsStated profile.now table.now loaded
+        × ProfileAnswers loaded.profile (record_of call.now) answer.new
+        × (own : Reason) × IsReason loaded.profile (record_of call.now) own × (reason.new ≡ reason_of own)
+        × (fault.new ≡ no_fault) }
+    ensures refused { result ≢ ok → IsRefusal (IsProfileRefused profile.now table.now) result fault.new
+        × (answer.new ≡ 0) × (reason.new ≡ no_reason) }
+{
+    *answer = 0;
+    *reason = ProfileReason { kind: 0, entry: 0 };
+    *fault = no_fault();
+    match loaded(alloc, profile, table) {
+        Ok(loaded) => {
+            let asked = call.record();
+            *answer = loaded.profile.answer(&asked).0;
+            *reason = numbered(loaded.profile.reason(&asked));
+            OK
+        }
+        Err(why) => refuse(why, fault),
+    }
+}

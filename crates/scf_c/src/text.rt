@@ -1,0 +1,111 @@
+//! Filters as texts.
+
+ghost use Rattle.std.specs.Prelude.{◌≡◌, ◌≢◌, List, Ok, Some, IfErr, IfOk};
+ghost use Rattle.scf_insn.specs.Insn.{program_bytes};
+ghost use Rattle.scf_insn.specs.declared.insn.Insn.{Insn};
+ghost use Rattle.scf_text.specs.Listing.{text_of};
+ghost use Rattle.scf_text.specs.Spelling as spelling;
+ghost use Rattle.scf_tool.specs.Verifying.{ReadsFilter};
+ghost use Rattle.scf_c.specs.Faults.{IsRefusal, no_fault};
+ghost use Rattle.scf_c.specs.Filters.{IsListRefused, IsTextRefused};
+ghost use Rattle.scf_c.specs.HandingOut.{IsHandedOut, IsNothingHandedOut};
+ghost use Rattle.scf_c.specs.Statuses.{ok};
+
+use crate::fault::{no_fault, refuse};
+use crate::layout::Fault;
+use crate::memory::{Buffer, Reader, encoding_of, hand_out};
+use crate::refusal::Refusal;
+use crate::status::OK;
+use scf_insn::{Insn, Memory, ReadFault, read_program};
+use scf_text::{TextFault, assemble, disassemble};
+use std::alloc::Global;
+
+/// The bytes of the instructions that a text spells.
+fn assembled(alloc: Global, text: &[u8]) -> Result<Vec<u8>, Refusal>
+    ensures spelled { IfOk result (λ bytes. (insns : List Insn)
+        × spelling.Spells text.now insns × (bytes.items ≡ program_bytes insns)) }
+    ensures refused { IfErr result (IsTextRefused text.now) }
+{
+    let insns = match assemble(alloc, text) {
+        Ok(insns) => insns,
+        Err(why) => return Err(Refusal::Text(why)),
+    };
+    match encoding_of(alloc, &insns) {
+        Ok(bytes) => Ok(bytes),
+        Err(_) => Err(Refusal::Text(TextFault::Memory)),
+    }
+}
+
+/// The filter that a text spells. It isn't checked.
+#[unsafe(no_mangle)]
+pub extern "C" fn scf_assemble(
+    alloc: Global,
+    text: &[u8],
+    filter: &mut [u8],
+    needed: &mut usize,
+    fault: &mut Fault,
+) -> u32
+    ensures assembled { result ≡ ok → (insns : List Insn) × spelling.Spells text.now insns
+        × IsHandedOut (program_bytes insns) filter.old filter.new needed.new × (fault.new ≡ no_fault) }
+    ensures refused { result ≢ ok → IsRefusal (IsTextRefused text.now) result fault.new
+        × IsNothingHandedOut filter.old filter.new needed.new }
+{
+    *needed = 0;
+    *fault = no_fault();
+    match assembled(alloc, text) {
+        Ok(bytes) => {
+            hand_out(bytes.as_slice(), filter, needed);
+            OK
+        }
+        Err(why) => refuse(why, fault),
+    }
+}
+
+/// The listing of instructions.
+fn listing_of(alloc: Global, insns: &[Insn]) -> Result<Vec<u8>, Memory>
+    ensures { IfOk result (λ text. text.items ≡ text_of insns.now) }
+{
+    let mut text = Buffer::new(alloc);
+    match disassemble(insns, &mut text) {
+        Ok(()) => Ok(text.into_bytes()),
+        Err(_) => Err(Memory),
+    }
+}
+
+/// The listing of the instructions with these bytes.
+fn listed(alloc: Global, filter: &[u8]) -> Result<Vec<u8>, Refusal>
+    ensures listed { IfOk result (λ text. (insns : List Insn) × ReadsFilter (Some filter.now) (Ok insns)
+        × (text.items ≡ text_of insns)) }
+    ensures refused { IfErr result (IsListRefused filter.now) }
+{
+    let insns = read_program(alloc, &mut Reader::new(filter))?;
+    match listing_of(alloc, &insns) {
+        Ok(text) => Ok(text),
+        Err(_) => Err(Refusal::from(ReadFault::Memory)),
+    }
+}
+
+/// The listing of a filter. It isn't checked.
+#[unsafe(no_mangle)]
+pub extern "C" fn scf_list(
+    alloc: Global,
+    filter: &[u8],
+    text: &mut [u8],
+    needed: &mut usize,
+    fault: &mut Fault,
+) -> u32
+    ensures listed { result ≡ ok → (insns : List Insn) × ReadsFilter (Some filter.now) (Ok insns)
+        × IsHandedOut (text_of insns) text.old text.new needed.new × (fault.new ≡ no_fault) }
+    ensures refused { result ≢ ok → IsRefusal (IsListRefused filter.now) result fault.new
+        × IsNothingHandedOut text.old text.new needed.new }
+{
+    *needed = 0;
+    *fault = no_fault();
+    match listed(alloc, filter) {
+        Ok(lines) => {
+            hand_out(lines.as_slice(), text, needed);
+            OK
+        }
+        Err(why) => refuse(why, fault),
+    }
+}
