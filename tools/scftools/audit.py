@@ -267,8 +267,9 @@ class Options:
             comparison = Comparison([Filter("", IS_MADE.filter)], profile, self.table, self.limit)
             fault = comparison.run(compare.NATIVE)[1].fault
             if fault is not None and fault.kind not in ("Conflict", "RepeatedIndex"):
-                why = "".join(f": {it}" for it in [*compare.sentences_of(comparison, fault)][:1])
-                raise program.ToolError((f"'{name}': " if fault.source == "profile" else "") + fault.line + why,
+                when, _, *where = *compare.sentences_of(comparison, fault), "", ""
+                told = " ".join(filter(None, (f"{fault.line}:", when, *where)))
+                raise program.ToolError(f"'{name}': {told}" if fault.source == "profile" else told,
                                         program.USAGE_ERROR if fault.source == "number" else program.IO_ERROR)
 
 

@@ -559,12 +559,13 @@ class Words(Case):
 
     def test_what_scf_refuses(self):
         """It is said before anything is looked at."""
-        for text, says in (("x", "fault profile Json"), ('{"defaultAction": "SCMP_ACT_FOO"}', "fault profile Action")):
+        for text, says in (("x", "fault profile Json: .* at line 1, column 1: "),
+                           ('{"defaultAction": "SCMP_ACT_FOO"}', "fault profile Action: .* at line 1, column 19")):
             name = self.file("p.json", text)
             for words in (("--expect", name), ("--baseline", f"no-more:{name}")):
                 status, out, err = self.run_tool("audit", *words)
                 self.assertEqual((status, out), (3, ""), words)
-                self.assertIn(f"audit: '{name}': {says}: ", err)
+                self.assertRegex(err, f"\\Aaudit: '{name}': {says}")
         status, out, err = self.run_tool("audit", "--limit", "x")
         self.assertEqual((status, out, err.split(":")[1]), (2, "", " fault number limit"))
         status, out, err = self.run_tool("audit", "--table", self.file("t", "x y z\n"))
