@@ -396,7 +396,7 @@ class WithAnotherScf(Case):
         with open(os.path.join(self.folder, "kept.relations"), encoding="ascii") as handed:
             self.assertEqual(handed.read().split("\n"), [f"compare --native --no-{it} --limit=7"
                                                          for it in ("more", "less")]
-                             + ["compare --no-more --limit=7"] * 2 + [""])
+                             + ["compare --no-more --limit=7", *["compare --beside --no-more --limit=7"] * 2, ""])
         self.assertEqual(self.run_fake("--all", "--table", "t", "a.bpf", "p.json")[2], "compare\n")
 
 
