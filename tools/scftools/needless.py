@@ -2,8 +2,8 @@
 entries that give one syscall two answers, with an example.
 
 A short search looks for a syscall that only one entry answers. If it finds none the entry is doubtful, and scf compares
-the profile with its entries without all that is doubtful, and if that isn't the same, without its halves. So all
-reported entries can be removed together, and each by itself.
+the profile with itself without all that is doubtful, and if that isn't the same, without its halves. So all reported
+entries can be removed together, and each by itself.
 """
 from __future__ import annotations
 
@@ -96,37 +96,20 @@ class Search:
         for entry in self.entries.values():
             yield replace(entry, names=tuple(it for it in entry.names if (entry.place, it) not in gone))
 
-    def _without(self, gone: set[Named]) -> Verdict:
-        """scf's verdict on the filter and a profile of the entries without these names."""
-        return self.trial.verdict([self.filter], profile_of(self.default, self._kept(gone)))
-
-    def _settle(self, doubtful: Sequence[Named], verdict: Verdict | None = None) -> None:
-        """Removes what scf proves to be without effect: all of it, or else the same for its halves. The verdict is that
-        without all of it, if it is known."""
-        if verdict is None and self.trial.count >= COMPARISONS:
+    def _settle(self, doubtful: Sequence[Named]) -> None:
+        """Removes what scf proves to be without effect: all of it, or else the same for its halves."""
+        if self.trial.count >= COMPARISONS:
             self.untold += [Untold(*it, None) for it in doubtful]
             return
-        verdict = verdict or self._without(self.gone | set(doubtful))
+        gone = self.gone | set(doubtful)
+        verdict = self.trial.verdict([self.filter], profile_of(self.default, self._kept(gone)))
         if verdict.word == SAME:
-            self.gone |= set(doubtful)
+            self.gone = gone
         elif len(doubtful) > 1:
             self._settle(doubtful[:len(doubtful) // 2])
             self._settle(doubtful[len(doubtful) // 2:])
         elif not verdict.fails:
             self.untold.append(Untold(*doubtful[0], verdict))
-
-    def begin(self) -> str:
-        """Removes what is without effect, if the entries as they are read here are the profile's: scf's word on
-        that."""
-        doubtful = self._doubtful()
-        verdict = self._without(set(doubtful))
-        if verdict.word == SAME or not doubtful:
-            self.gone = set(doubtful)
-            return verdict.word
-        as_read = self._without(set()).word
-        if as_read == SAME:
-            self._settle(doubtful, verdict)
-        return as_read
 
     def _is_within(self, entry: Entry, names: Sequence[str], others: Sequence[Entry]) -> bool:
         """Whether scf proves that others cover an entry."""
@@ -150,7 +133,10 @@ class Search:
         return TOGETHER, tuple(sorted(set.union(*having)))
 
     def run(self) -> Iterator[Needless]:
-        """What is without effect, all together, by entry; `untold` has what is undecided."""
+        """What is without effect, all together, by entry; afterwards `untold` has what is undecided."""
+        doubtful = self._doubtful()
+        if doubtful:
+            self._settle(doubtful)
         for entry in self.entries.values():
             names = tuple(name for name in entry.names if (entry.place, name) in self.gone)
             if names:

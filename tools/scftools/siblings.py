@@ -21,11 +21,13 @@ SIBLINGS = {
 ENOSYS = ("ERRNO", 38)
 
 
-def of_siblings(table: Table, ask: Callable[[Call], Reason], found: Sequence[Entry]) -> Iterator[Finding]:
+def of_siblings(table: Table, ask: Callable[[Call], Reason], found: Sequence[Entry],
+                is_read: bool = False) -> Iterator[Finding]:
     """Denials by an entry that another syscall makes void. One with ENOSYS isn't meant to keep a program from anything,
     but to lead it to the other one; entries with conditions are left out."""
     conditional = {name for it in found if it.conditions for name in it.names}
-    denying = (it for it in found if it.answer[0] not in ALLOWING)
+    # if the entries are the profile's, only one that denies can be what denies
+    denying = (it for it in found if not is_read or it.answer[0] not in ALLOWING)
     for name in dict.fromkeys(name for it in denying for name in it.names if name in SIBLINGS):
         denied = _ask(table, ask, name)
         if denied is None or denied.entry is None or name in conditional or denied.answer is None or \
