@@ -72,11 +72,11 @@ class Asker:
         """The verdict on all x86-64 syscalls with numbers from `first` to `last`, with a complete record as example."""
         return self._compared(question, [f"--nr-from={first}", f"--nr-to={last}"]).verdict
 
-    def of_rest(self, names: Sequence[str], table: bytes) -> Verdict | None:
-        """The verdict on whether every syscall is denied but those with these names; those of other ABIs, too."""
+    def of_rest(self, names: Sequence[str], table: bytes, scope: str) -> Verdict | None:
+        """The verdict on whether every syscall of a scope is denied but those with these names."""
         entries = [{"names": names, "action": "SCMP_ACT_ALLOW"}] if names else []
         profile = json.dumps({"defaultAction": "SCMP_ACT_KILL_PROCESS", "syscalls": entries}).encode()
-        done = client.compare(RELATIONS[NO_MORE], bundles.of_comparison(self.filters, profile, table), self.limit)
+        done = client.compare([*SCOPES[scope], *RELATIONS[NO_MORE]], bundles.of_comparison(self.filters, profile, table), self.limit)
         return verdicts.report(done.text).verdict
 
     def decided(self, call: Call) -> Answer | None:

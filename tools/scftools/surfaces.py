@@ -11,7 +11,7 @@ from .questions import IS_MADE, IS_NEVER_MADE, IS_NEVER_REFUSED, IS_REFUSED, Ask
 from .tables import Table
 from .unnamed import Unnamed
 from .values import dataclass, field
-from .verdicts import UNDECIDED, UNFINISHED, NamedCall
+from .verdicts import ALL, NATIVE, UNDECIDED, UNFINISHED, NamedCall
 
 TYPE_CHECKING = False
 if TYPE_CHECKING:
@@ -192,13 +192,19 @@ def _of_rest(asker: Asker, rows: Sequence[Row], table: Table,
     """What filters allow of other ABIs; and adds the numbers that no row has. Both are asked at once if the numbers
     before these are denied."""
     ranges, denied = list(unnamed.gaps(table)), {row.number for row in rows if row.holds(IS_REFUSED)}
-    is_likely = all(first - 1 in denied for first, _ in ranges)
-    verdict = asker.of_rest([row.names[0] for row in rows], table.data) if is_likely else None
-    if verdict is not None and verdict.holds:
+    names, verdict, native = [row.names[0] for row in rows], None, None
+    if all(first - 1 in denied for first, _ in ranges):
+        verdict = asker.of_rest(names, table.data, ALL)
+    is_foreign = verdict is not None and verdict.call is not None and not verdict.call.is_native
+    if is_foreign:
+        native = asker.of_rest(names, table.data, NATIVE)
+    if any(it is not None and it.holds for it in (verdict, native)):
         found.are_made = found.are_made and not ranges
+    else:
+        unnamed.count(asker, ranges, found)
+    if verdict is not None and verdict.holds:
         return other_abis.all_denied()
-    unnamed.count(asker, ranges, found)
-    if verdict is not None and verdict.call is not None and not verdict.call.is_native:
+    if verdict is not None and is_foreign:
         return other_abis.of_each(asker.filters, asker.limit, verdict)
     return other_abis.let_through(asker.filters, asker.limit)
 

@@ -133,9 +133,9 @@ def known(name):
     return of(KNOWN[name][0])
 
 
-def allowing(numbers, foreign=KILL_PROCESS):
+def allowing(numbers, more=b""):
     """Allows any count of numbers."""
-    return gate(b"".join(jeq(number, 0, 1) + ret(ALLOW) for number in numbers) + ret(EPERM), foreign)
+    return gate(b"".join(jeq(number, 0, 1) + ret(ALLOW) for number in numbers) + more + ret(EPERM))
 
 
 def random_plain(random_of, count):
@@ -291,10 +291,11 @@ class Unnamed(unittest.TestCase):
         self.assertLessEqual(found.let_through + found.untold, OTHERS)
         self.assertRegex(found.describe(), r"[0-9]+ are undecided\Z")
         self.assertEqual(self.describe(allowing(range(300, 1300, 2))), f"500 of {OTHERS} {SOME} 300: ALLOW")
-        # before, between and behind these 300 numbers are 301 ranges, those between of two numbers
-        found = of([allowing(range(300, 1500, 4), ALLOW)]).unnamed
-        self.assertEqual((found.let_through, found.untold), (300, 2 * (301 - unnamed.MOST)))
-        self.assertEqual(found.describe(), f"at least 300 of {OTHERS} {SOME} 300: ALLOW; {found.untold} are undecided")
+        # before, between and behind these 300 numbers are 302 ranges, those between of two numbers
+        found = of([allowing(range(300, 1500, 4), more=jge(X32 // 2, 0, 1) + ret(ALLOW))]).unnamed
+        self.assertEqual((found.let_through, found.untold), (300 + X32 // 2, 2 * (302 - unnamed.MOST)))
+        self.assertEqual(found.describe(), f"at least {300 + X32 // 2} of {OTHERS} {SOME} 300: ALLOW; "
+                                           f"{found.untold} are undecided")
         long = gate(jeq(400, 0, 1) + ret(ALLOW) + jeq(0, 0, 0) * 4087 + ret(EPERM))
         self.assertEqual(StandIn().check(long), "accepted 4096")
         self.assertEqual(self.describe(long), f"1 of {OTHERS} {SOME} 400: ALLOW")
