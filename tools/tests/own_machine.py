@@ -187,6 +187,9 @@ class Systemd(Machine):
         super().setUp()
         for name, text in {"scf-none.target": "[Unit]\nDefaultDependencies=no\n", **self.UNITS}.items():
             self.file(f"units/{name}", text)
+        # (what a system starts at its boot would empty /tmp, which is this one's: a unit that wants it doesn't start)
+        for name in ("sysinit.target", "basic.target", "systemd-tmpfiles-setup.service", "systemd-sysctl.service"):
+            os.symlink("/dev/null", f"{self.folder}/units/{name}")
         self.cgroup = self.made_cgroup()
         self.boot = subprocess.Popen(["sh", "-c", BOOT, "boot", self.cgroup, f"{self.folder}/units", SYSTEMD],
                                      stdin=subprocess.DEVNULL, stdout=subprocess.DEVNULL, stderr=subprocess.DEVNULL)
