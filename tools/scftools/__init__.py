@@ -61,6 +61,7 @@ environment, folders or site packages. So it adds its own folder, by its real na
     traces      logs of syscalls by any program that writes them
     requirements  what a program needs of a profile, from logs of its syscalls
     engines     what a container engine makes of its own profile for one container
+    multiplexed i386 syscalls that socketcall and ipc make too, as libseccomp adds their rules
     runtimes    what container runtimes make of a profile
     child       a function in a child process that ends in time, whatever it waits in
     ptrace      ptrace(2), and the files of /proc
