@@ -47,6 +47,8 @@ environment, folders or site packages. So it adds its own folder, by its real na
     actions     errnos that no program knows, actions that wait for a supervisor, a default that allows
     arguments   how many arguments a syscall has, and what they are
     conditions  conditions beside what the kernel does with an argument
+    architecture_findings  rules for the architectures that a profile names, or doesn't
+    lost_load   profiles of which libseccomp makes a filter that never loads the syscall number
     watchlist   dangerous syscalls, and those that the kernel restarts, in what a profile allows
     siblings    syscalls that do what another one does
     lint        what is odd in a profile: all findings
