@@ -337,7 +337,8 @@ class OtherAbis(Case):
         status, lines = self.said(self.lets_both, i386)
         self.assertEqual((status, lines), (0, [
             "same", "other SCMP_ARCH_X86", "# the profile's other architectures are left out",
-            "# compared: x86-64 syscalls; other ABIs are only checked for any allowed syscall:", "# i386: every syscall is denied; the profile also names SCMP_ARCH_X86", f"# {x32}",
+            "# compared: x86-64 syscalls; other ABIs are only checked for any allowed syscall:",
+            "# i386: every syscall is denied; the profile also names SCMP_ARCH_X86", f"# {x32}",
             "# other ABIs: the kernel has no others", ""]))
         lines = self.said(self.lets_both, self.profile("X32"))[1]
         self.assertIn(f"# {x32}; the profile also names SCMP_ARCH_X32", lines)
