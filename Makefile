@@ -2,7 +2,10 @@
 # make install [PREFIX=/usr/local]  puts it, its tools, manual pages and completions below PREFIX; with DESTDIR below
 #                                   that folder
 # make uninstall                    takes them away
-# make deb, make dist               makes a Debian package, or an archive, of what is built, in dist/
+# make lib                          builds libscf, the library for C, C++, Python, Rust and Go, in library/out
+# make install-lib, uninstall-lib   puts its header, archive, shared object, file for pkg-config and Python module below
+#                                   PREFIX; LIBDIR and PYTHON_DIR say where, if not in lib and lib/python3/dist-packages
+# make deb, make dist               makes Debian packages, or an archive, of both, in dist/
 # make check                        runs the whole gate
 
 PREFIX = /usr/local
@@ -20,7 +23,12 @@ BASH = $(TO)/share/bash-completion/completions
 ZSH = $(TO)/share/zsh/$(if $(filter /usr,$(PREFIX)),vendor-completions,site-functions)
 FISH = $(TO)/share/fish/vendor_completions.d
 
-.PHONY: all check install uninstall deb dist
+LIBSCF = library/out/libscf.so.0
+LIBDIR = $(PREFIX)/lib
+PYTHON_DIR = $(PREFIX)/lib/python3/dist-packages
+VERSION = $(shell awk '/define SCF_VERSION_[MP]/ { printf "%s%s", dot, $$3; dot = "." }' library/scf.h)
+
+.PHONY: all check install uninstall lib install-lib uninstall-lib deb dist
 
 all:
 	./build
@@ -53,5 +61,24 @@ uninstall:
 	rm -f "$(BIN)/scf" "$(MAN)/scf.1" "$(BASH)/scf" "$(ZSH)/_scf" "$(FISH)/scf.fish"
 	rm -rf "$(LIB)" "$(DOC)"
 
-deb dist: $(PROGRAM)
+lib:
+	library/build
+
+$(LIBSCF):
+	library/build
+
+install-lib: $(LIBSCF) uninstall-lib
+	install -d "$(TO)/include" "$(DESTDIR)$(LIBDIR)/pkgconfig" "$(DESTDIR)$(PYTHON_DIR)"
+	install -m 644 library/scf.h "$(TO)/include"
+	install -m 644 library/out/libscf.a $(LIBSCF) "$(DESTDIR)$(LIBDIR)"
+	ln -sf libscf.so.0 "$(DESTDIR)$(LIBDIR)/libscf.so"
+	umask 022; sed 's|@PREFIX@|$(PREFIX)|; s|@LIBDIR@|$(LIBDIR)|; s|@VERSION@|$(VERSION)|' library/scf.pc.in \
+	    >"$(DESTDIR)$(LIBDIR)/pkgconfig/scf.pc"
+	install -m 644 library/python/scf.py "$(DESTDIR)$(PYTHON_DIR)"
+
+uninstall-lib:
+	rm -f "$(TO)/include/scf.h" "$(DESTDIR)$(LIBDIR)/libscf.a" "$(DESTDIR)$(LIBDIR)/libscf.so" \
+	    "$(DESTDIR)$(LIBDIR)/libscf.so.0" "$(DESTDIR)$(LIBDIR)/pkgconfig/scf.pc" "$(DESTDIR)$(PYTHON_DIR)/scf.py"
+
+deb dist: $(PROGRAM) $(LIBSCF)
 	dev/package $@ dist

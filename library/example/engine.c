@@ -1,0 +1,67 @@
+/* What a container engine can do before it loads a filter: libseccomp builds the filter in memory, and scf proves that
+ * it answers every syscall of x86-64 as the profile says.
+ *
+ *     cc engine.c $(pkg-config --cflags --libs scf libseccomp)
+ *
+ * Status 0: proved. Status 1: it isn't; the report says which call differs. Status 3: the inputs can't be compared.
+ */
+#define _GNU_SOURCE
+#include <errno.h>
+#include <scf.h>
+#include <seccomp.h>
+#include <stdio.h>
+#include <string.h>
+#include <sys/mman.h>
+#include <unistd.h>
+
+/* What an engine would have read from its configuration, and from x86_64.table. */
+static const char profile[] =
+    "{\"defaultAction\": \"SCMP_ACT_ERRNO\", \"syscalls\": ["
+    "{\"names\": [\"read\", \"write\", \"exit_group\"], \"action\": \"SCMP_ACT_ALLOW\"},"
+    "{\"names\": [\"socket\"], \"action\": \"SCMP_ACT_ALLOW\","
+    " \"args\": [{\"index\": 0, \"value\": 40, \"op\": \"SCMP_CMP_NE\"}]}]}";
+static const char table[] = "read 0\nwrite 1\nsocket 41\nexit_group 231\n";
+
+/* The filter that libseccomp makes of the same rules, or with one that is missing. */
+static int build(scmp_filter_ctx ctx, int is_wrong) {
+    const int names[] = {SCMP_SYS(read), SCMP_SYS(write), SCMP_SYS(exit_group)};
+    for (int i = is_wrong; i < 3; i++)
+        if (seccomp_rule_add(ctx, SCMP_ACT_ALLOW, names[i], 0) != 0) return -1;
+    return seccomp_rule_add(ctx, SCMP_ACT_ALLOW, SCMP_SYS(socket), 1, SCMP_A0(SCMP_CMP_NE, 40));
+}
+
+/* Proves the filter: 0, 1 or 3 as above. */
+static int prove(const uint8_t *filter, size_t len) {
+    const struct scf_bytes stack = {filter, len};
+    const struct scf_right_side right = {
+        .kind = SCF_PROFILE,
+        .profile = {(const uint8_t *)profile, strlen(profile)},
+        .table = {(const uint8_t *)table, strlen(table)},
+    };
+    const struct scf_question question = {.scope = SCF_NATIVE_CALLS, .relation = SCF_SAME, .limit = SCF_LIMIT};
+    struct scf_comparison comparison;
+    struct scf_fault fault;
+    char report[4096];
+    size_t needed;
+    if (scf_compare(&stack, 1, &right, &question, &comparison, (uint8_t *)report, sizeof report, &needed, &fault)
+        != SCF_OK) {
+        fprintf(stderr, "source %u is refused: kind %u\n", fault.source, fault.kind);
+        return 3;
+    }
+    fwrite(report, 1, needed < sizeof report ? needed : sizeof report, stdout);
+    return comparison.verdict != SCF_HOLDS;
+}
+
+int main(int argc, char **argv) {
+    static uint8_t filter[4096 * 8];
+    int status = 3, memory = memfd_create("filter", MFD_CLOEXEC);
+    scmp_filter_ctx ctx = seccomp_init(SCMP_ACT_ERRNO(EPERM));
+    (void)argv;
+    if (ctx != NULL && memory >= 0 && build(ctx, argc > 1) == 0 && seccomp_export_bpf(ctx, memory) == 0) {
+        ssize_t len = pread(memory, filter, sizeof filter, 0);
+        if (len > 0) status = prove(filter, (size_t)len);
+        /* here an engine loads the filter, if the status is 0 */
+    }
+    seccomp_release(ctx);
+    return status;
+}

@@ -1,0 +1,3 @@
+module scf
+
+go 1.19

@@ -1,0 +1,85 @@
+//! Why a call failed.
+
+use std::fmt;
+
+/// An enum of numbers of scf.h, each with a name of `docs/FAULTS.md`, and one for those of a later library.
+macro_rules! numbers {
+    ($(#[$about:meta])* $name:ident: $($variant:ident)*;) => {
+        $(#[$about])*
+        #[derive(Clone, Copy, Debug, PartialEq, Eq, Hash)]
+        #[non_exhaustive]
+        #[allow(missing_docs)]
+        pub enum $name {
+            $($variant,)*
+            /// One that this version doesn't know.
+            Other(u32),
+        }
+
+        impl From<u32> for $name {
+            fn from(number: u32) -> $name {
+                const ALL: &[$name] = &[$($name::$variant),*];
+                ALL.get((number as usize).wrapping_sub(1)).copied().unwrap_or($name::Other(number))
+            }
+        }
+    };
+}
+
+numbers! {
+    /// What is refused.
+    Source: Filter Beside Text Table Profile Compile Stack Compare;
+}
+
+numbers! {
+    /// Why it is refused: the kinds of docs/FAULTS.md.
+    Kind: Memory Read Truncated TooLong Empty Code Load Scratch Divisor Shift Jump LastNotReturn Unset NotAscii Mnemonic
+    Operand NumberRange Label JumpTooFar Form Name Number Repeated Json Missing Kind Action Operator EmptyNames Index
+    RepeatedIndex Errno ErrnoRange NoX8664 EngineForm TooMany Conflict TooLarge;
+}
+
+/// The number in place of an entry of a profile, for what is outside of them.
+pub const NO_ENTRY: u64 = u64::MAX;
+
+/// Why an input isn't accepted.
+#[derive(Clone, Copy, Debug, PartialEq, Eq, Hash)]
+pub struct Fault {
+    /// Which input.
+    pub source: Source,
+    /// Why.
+    pub kind: Kind,
+    /// The numbers that say where, in the order of the line that docs/FAULTS.md has for it; then 0.
+    pub numbers: [u64; 3],
+}
+
+impl fmt::Display for Fault {
+    fn fmt(&self, f: &mut fmt::Formatter<'_>) -> fmt::Result {
+        write!(f, "{:?} is refused: {:?}", self.source, self.kind)?;
+        match self.numbers {
+            [NO_ENTRY, ..] => Ok(()),
+            [first, second, third] => write!(f, " ({first}, {second}, {third})"),
+        }
+    }
+}
+
+/// Why a call failed.
+#[derive(Clone, Copy, Debug, PartialEq, Eq, Hash)]
+#[non_exhaustive]
+pub enum Error {
+    /// An input isn't accepted.
+    Refused(Fault),
+    /// The library doesn't know a number that it was handed; it is older than this crate.
+    WrongArgument,
+    /// Out of memory.
+    NoMemory,
+}
+
+impl fmt::Display for Error {
+    fn fmt(&self, f: &mut fmt::Formatter<'_>) -> fmt::Result {
+        match self {
+            Error::Refused(fault) => fault.fmt(f),
+            Error::WrongArgument => f.write_str("a number has no meaning"),
+            Error::NoMemory => f.write_str("out of memory"),
+        }
+    }
+}
+
+impl std::error::Error for Error {}

@@ -1,0 +1,266 @@
+/* libscf: checks, runs, lists, compiles and compares seccomp filters for x86-64, in memory.
+ *
+ *     cc program.c $(pkg-config --cflags --libs scf)
+ *
+ * Each call is a function of its arguments. The library keeps nothing between calls, opens no file, makes no system
+ * call but those of malloc, and never ends the process.
+ *
+ * Memory. The caller owns every byte, before and after a call. The library reads what a pointer to const leads to and
+ * writes what another one leads to, during the call alone. A pointer may be NULL only if it is that of a list and the
+ * list's length is 0. What a call writes must not overlap anything else that it is handed.
+ *
+ * Results. Every result is set however a call ends. With a status other than SCF_OK the fault says why, and everything
+ * else is 0. Texts, filters and other lists are handed out as snprintf does: at most `room` elements of the front are
+ * written, and *needed is the whole length; if that is more than `room`, repeat the call with more. No 0 is appended.
+ *
+ * Threads, signals, fork. Calls may run side by side in any number of threads, also on the same inputs. As for malloc,
+ * none may be made in a signal handler, or in the child of a fork of a process with threads before it runs another
+ * program. A call takes less than 256 KiB of stack.
+ *
+ * Limits. A filter has at most 4096 instructions, a profile 4194304 bytes and 4096 rules, a stack of filters 32768
+ * instructions, where each older filter counts 4 more.
+ *
+ * Numbers of this interface never change their meaning, and structs never change their layout. Statuses, kinds of
+ * faults and other numbers may be added: take an unknown status for SCF_REFUSED.
+ */
+#ifndef SCF_H
+#define SCF_H
+
+#include <stddef.h>
+#include <stdint.h>
+
+#ifdef __cplusplus
+extern "C" {
+#endif
+
+/* The version of this header. Before 1.0.0 a library fits if its first two numbers are the same. */
+#define SCF_VERSION_MAJOR 0
+#define SCF_VERSION_MINOR 1
+#define SCF_VERSION_PATCH 0
+#define SCF_VERSION (SCF_VERSION_MAJOR << 16 | SCF_VERSION_MINOR << 8 | SCF_VERSION_PATCH)
+
+/* The version of the library, as SCF_VERSION. */
+uint32_t scf_version(void);
+
+/* How a call ended. A verdict is no status: a comparison that fails ends with SCF_OK. */
+enum scf_status {
+    SCF_OK = 0,
+    SCF_REFUSED = 1,        /* an input isn't accepted */
+    SCF_WRONG_ARGUMENT = 2, /* a number in a struct has no meaning; no fault says more */
+    SCF_NO_MEMORY = 3       /* malloc failed; nothing stays allocated, and the call may be repeated */
+};
+
+/* ---- faults: docs/FAULTS.md explains each, by its printed line `fault SOURCE KIND NUMBER ..` */
+
+struct scf_fault {
+    uint32_t source;     /* enum scf_source; 0: there is no fault */
+    uint32_t kind;       /* enum scf_kind */
+    uint64_t numbers[3]; /* those of the printed line, in its order, then 0 */
+};
+
+/* Which input is refused, or what memory ran out for. */
+enum scf_source {
+    SCF_SOURCE_FILTER = 1,
+    SCF_SOURCE_BESIDE = 2, /* a filter of the right side, or their stack */
+    SCF_SOURCE_TEXT = 3,
+    SCF_SOURCE_TABLE = 4,
+    SCF_SOURCE_PROFILE = 5,
+    SCF_SOURCE_COMPILE = 6,
+    SCF_SOURCE_STACK = 7,
+    SCF_SOURCE_COMPARE = 8
+};
+
+enum scf_kind {
+    SCF_KIND_MEMORY = 1,
+    SCF_KIND_READ = 2, /* never comes: bytes in memory can be read */
+    /* filters: the index of an instruction, and of SCF_KIND_UNSET the scratch word, too */
+    SCF_KIND_TRUNCATED = 3, /* the offset of a byte */
+    SCF_KIND_TOO_LONG = 4, /* also of texts (the line), tables and profiles */
+    SCF_KIND_EMPTY = 5,
+    SCF_KIND_CODE = 6,
+    SCF_KIND_LOAD = 7,
+    SCF_KIND_SCRATCH = 8,
+    SCF_KIND_DIVISOR = 9,
+    SCF_KIND_SHIFT = 10,
+    SCF_KIND_JUMP = 11,
+    SCF_KIND_LAST_NOT_RETURN = 12,
+    SCF_KIND_UNSET = 13,
+    /* texts: the line, from 1 */
+    SCF_KIND_NOT_ASCII = 14,
+    SCF_KIND_MNEMONIC = 15,
+    SCF_KIND_OPERAND = 16,
+    SCF_KIND_NUMBER_RANGE = 17,
+    SCF_KIND_LABEL = 18,
+    SCF_KIND_JUMP_TOO_FAR = 19,
+    /* tables: the line, from 1 */
+    SCF_KIND_FORM = 20,
+    SCF_KIND_NAME = 21,
+    SCF_KIND_NUMBER = 22,
+    SCF_KIND_REPEATED = 23,
+    /* profiles: the index of the entry in `syscalls`, or SCF_NO_ENTRY */
+    SCF_KIND_JSON = 24, /* without a number */
+    SCF_KIND_MISSING = 25,
+    SCF_KIND_KIND = 26,
+    SCF_KIND_ACTION = 27,
+    SCF_KIND_OPERATOR = 28,
+    SCF_KIND_EMPTY_NAMES = 29,
+    SCF_KIND_INDEX = 30,
+    SCF_KIND_REPEATED_INDEX = 31,
+    SCF_KIND_ERRNO = 32,
+    SCF_KIND_ERRNO_RANGE = 33,
+    SCF_KIND_NO_X8664 = 34,
+    SCF_KIND_ENGINE_FORM = 35,
+    SCF_KIND_TOO_MANY = 36, /* rules; of stacks the total of instructions */
+    SCF_KIND_CONFLICT = 37, /* the syscall number, and two entries */
+    /* the compiler */
+    SCF_KIND_TOO_LARGE = 38
+};
+
+#define SCF_NO_ENTRY UINT64_MAX
+
+/* ---- inputs */
+
+struct scf_bytes {
+    const uint8_t *at;
+    size_t len;
+};
+
+/* What a filter sees of a syscall: struct seccomp_data of linux/seccomp.h. */
+struct scf_call {
+    uint32_t nr;
+    uint32_t arch; /* SCF_ARCH_X86_64 for a syscall of x86-64 */
+    uint64_t ip;
+    uint64_t args[6];
+};
+
+#define SCF_ARCH_X86_64 0xc000003eu
+
+/* ---- one filter: its bytes are the kernel's struct sock_filter, 8 to an instruction, little-endian */
+
+/* Checks that the kernel accepts the filter; *count is its number of instructions. */
+uint32_t scf_check(const uint8_t *filter, size_t filter_len, size_t *count, struct scf_fault *fault);
+
+/* Runs the filter on a call: its answer (SECCOMP_RET_..), and how many instructions it executed. */
+uint32_t scf_run(const uint8_t *filter, size_t filter_len, const struct scf_call *call, uint32_t *answer,
+                 uint32_t *steps, struct scf_fault *fault);
+
+/* Runs the filter on a call, and hands out the indices of the instructions that it executed. */
+uint32_t scf_trace(const uint8_t *filter, size_t filter_len, const struct scf_call *call, uint32_t *answer,
+                   size_t *path, size_t room, size_t *needed, struct scf_fault *fault);
+
+/* Hands out the listing of the filter, as `scf dis` prints it. The filter isn't checked. */
+uint32_t scf_list(const uint8_t *filter, size_t filter_len, uint8_t *text, size_t room, size_t *needed,
+                  struct scf_fault *fault);
+
+/* Hands out the filter that a text spells, in the language of `scf asm`. The filter isn't checked. */
+uint32_t scf_assemble(const uint8_t *text, size_t text_len, uint8_t *filter, size_t room, size_t *needed,
+                      struct scf_fault *fault);
+
+/* The answer of a stack of filters to a call: all run, and the one that takes precedence answers (seccomp(2)). The
+ * oldest filter comes first. */
+uint32_t scf_decide(const struct scf_bytes *filters, size_t filters_len, const struct scf_call *call,
+                    uint32_t *answer, struct scf_fault *fault);
+
+/* ---- a profile: OCI's seccomp object in JSON, or a config with one; the table gives its names their numbers */
+
+/* Hands out a filter that answers every call as the profile does. */
+uint32_t scf_compile(const uint8_t *profile, size_t profile_len, const uint8_t *table, size_t table_len,
+                     uint8_t *filter, size_t room, size_t *needed, struct scf_fault *fault);
+
+struct scf_reason {
+    uint32_t kind;  /* enum scf_reason_kind */
+    uint32_t entry; /* of SCF_BY_ENTRY: its index in `syscalls` */
+};
+
+enum scf_reason_kind {
+    SCF_NO_REASON = 0, /* the call didn't end with SCF_OK */
+    SCF_BY_DEFAULT = 1,
+    SCF_BY_ENTRY = 2,
+    SCF_FOREIGN = 3 /* a syscall of another ABI: KILL_PROCESS */
+};
+
+/* The profile's answer to a call, and why. */
+uint32_t scf_ask(const uint8_t *profile, size_t profile_len, const uint8_t *table, size_t table_len,
+                 const struct scf_call *call, uint32_t *answer, struct scf_reason *reason, struct scf_fault *fault);
+
+/* ---- comparisons */
+
+/* What the filters are compared with. Set what isn't used to 0. */
+struct scf_right_side {
+    uint32_t kind;                   /* enum scf_right_kind */
+    uint32_t reserved;               /* 0 */
+    const struct scf_bytes *filters; /* of SCF_FILTERS: a stack, the oldest first */
+    size_t filters_len;
+    struct scf_bytes profile;        /* of SCF_PROFILE */
+    struct scf_bytes table;          /* of SCF_PROFILE; of scf_compare_calls with either */
+};
+
+enum scf_right_kind { SCF_PROFILE = 1, SCF_FILTERS = 2 };
+
+struct scf_question {
+    uint32_t scope;       /* enum scf_scope */
+    uint32_t relation;    /* enum scf_relation */
+    uint32_t first;       /* of SCF_ONE_CALL its number, of SCF_NUMBERS the first */
+    uint32_t last;        /* of SCF_NUMBERS the last; a range that ends before it begins has no call */
+    uint64_t limit;       /* the most steps of a comparison, as SCF_LIMIT */
+    uint64_t total_limit; /* of scf_compare_calls: the most steps of all together; UINT64_MAX for no limit */
+    uint64_t reserved[2]; /* 0 */
+};
+
+/* The calls that are compared. */
+enum scf_scope {
+    SCF_ALL_CALLS = 0,    /* also of other ABIs */
+    SCF_NATIVE_CALLS = 1, /* of x86-64 */
+    SCF_ONE_CALL = 2,     /* of x86-64 with one number */
+    SCF_NUMBERS = 3       /* of x86-64 with a number of a range */
+};
+
+/* What is to hold of the filters' and the right side's answer to each of them. Denied < delegated < allowed. */
+enum scf_relation {
+    SCF_SAME = 0,    /* they are equal, all 32 bits */
+    SCF_NO_MORE = 1, /* the filters' is no more permissive */
+    SCF_NO_LESS = 2, /* the filters' is no less permissive */
+    SCF_SAME_DISPOSITION = 3
+};
+
+/* What scf takes without --limit. */
+#define SCF_LIMIT 1000000
+
+enum scf_verdict {
+    SCF_NO_VERDICT = 0, /* the call didn't end with SCF_OK */
+    SCF_HOLDS = 1,      /* proved for every call of the scope */
+    SCF_FAILS = 2,      /* `call` shows it, with both answers */
+    SCF_UNDECIDED = 3,  /* a filter computes too much */
+    SCF_UNFINISHED = 4  /* the limit was reached */
+};
+
+struct scf_comparison {
+    uint32_t verdict; /* enum scf_verdict */
+    uint32_t left;    /* of SCF_FAILS: the answer of the filters */
+    uint32_t right;   /* of SCF_FAILS: the answer of the right side */
+    uint32_t side;    /* of SCF_UNDECIDED: 1 by a filter of the left side, 2 by one of the right side */
+    uint64_t at;      /* of SCF_UNDECIDED: the index of an instruction */
+    struct scf_call call;
+};
+
+/* Compares a stack of filters, the oldest first, with the right side. The text is what `scf compare` prints. */
+uint32_t scf_compare(const struct scf_bytes *filters, size_t filters_len, const struct scf_right_side *right,
+                     const struct scf_question *question, struct scf_comparison *comparison, uint8_t *text, size_t room,
+                     size_t *needed, struct scf_fault *fault);
+
+struct scf_call_comparison {
+    uint32_t nr;
+    uint32_t reserved; /* 0 */
+    struct scf_comparison comparison;
+};
+
+/* Compares call by call of the table, in the order of their numbers, each by itself. The scope is SCF_NATIVE_CALLS. The
+ * text is what `scf compare --calls` prints. */
+uint32_t scf_compare_calls(const struct scf_bytes *filters, size_t filters_len, const struct scf_right_side *right,
+                           const struct scf_question *question, struct scf_call_comparison *calls, size_t calls_room,
+                           size_t *calls_needed, uint8_t *text, size_t room, size_t *needed, struct scf_fault *fault);
+
+#ifdef __cplusplus
+}
+#endif
+#endif

@@ -1,0 +1,276 @@
+/* Each call of libscf: its answers, each status, and that every result is set however the call ends. C99 and C++. */
+#include "parties.h"
+
+/* What isn't set keeps these bytes. */
+enum { UNSET = 0xa5 };
+
+static struct scf_fault fault;
+static struct scf_comparison found;
+static uint8_t text[4096];
+static size_t needed, count;
+static uint32_t answer, steps;
+
+static void unset(void) {
+    memset(&fault, UNSET, sizeof fault);
+    memset(&found, UNSET, sizeof found);
+    memset(text, UNSET, sizeof text);
+    memset(&needed, UNSET, sizeof needed);
+    memset(&count, UNSET, sizeof count);
+    memset(&answer, UNSET, sizeof answer);
+    memset(&steps, UNSET, sizeof steps);
+}
+
+/* Nothing was handed out. */
+static int is_nothing(void) { return needed == 0 && text[0] == UNSET; }
+
+static int is_text(const char *wanted) {
+    return needed == strlen(wanted) && memcmp(text, wanted, needed) == 0 && text[needed] == UNSET;
+}
+
+static void filters(void) {
+    struct scf_call read = call_of(0), write = call_of(1);
+    uint8_t cut[9];
+    memset(cut, 0, sizeof cut);
+    unset();
+    IS(scf_version() == SCF_VERSION);
+    IS(scf_check(positive, sizeof positive, &count, &fault) == SCF_OK);
+    IS(count == sizeof positive / 8 && is_zero(&fault, sizeof fault));
+    unset();
+    IS(scf_check(NULL, 0, &count, &fault) == SCF_REFUSED);
+    IS(count == 0 && is_fault(&fault, SCF_SOURCE_FILTER, SCF_KIND_EMPTY, 0));
+    IS(scf_check(cut, sizeof cut, &count, &fault) == SCF_REFUSED);
+    IS(is_fault(&fault, SCF_SOURCE_FILTER, SCF_KIND_TRUNCATED, 8));
+    IS(scf_run(positive, sizeof positive, &write, &answer, &steps, &fault) == SCF_OK);
+    IS(answer == RET_ALLOW && steps == 3 && is_zero(&fault, sizeof fault));
+    IS(scf_run(positive, sizeof positive, &read, &answer, &steps, &fault) == SCF_OK);
+    IS(answer == RET_EPERM && steps == 3);
+    unset();
+    IS(scf_run(positive, 8, &read, &answer, &steps, &fault) == SCF_REFUSED);
+    IS(answer == 0 && steps == 0 && is_fault(&fault, SCF_SOURCE_FILTER, SCF_KIND_LAST_NOT_RETURN, 0));
+}
+
+static void paths(void) {
+    struct scf_call read = call_of(0);
+    size_t path[4] = {7, 7, 7, 7};
+    unset();
+    IS(scf_trace(positive, sizeof positive, &read, &answer, path, 4, &needed, &fault) == SCF_OK);
+    IS(answer == RET_EPERM && needed == 3 && path[0] == 0 && path[1] == 1 && path[2] == 3 && path[3] == 7);
+    path[1] = 7;
+    IS(scf_trace(positive, sizeof positive, &read, &answer, path, 1, &needed, &fault) == SCF_OK);
+    IS(needed == 3 && path[0] == 0 && path[1] == 7);
+    unset();
+    IS(scf_trace(NULL, 0, &read, &answer, path, 4, &needed, &fault) == SCF_REFUSED);
+    IS(answer == 0 && needed == 0 && path[1] == 7 && is_fault(&fault, SCF_SOURCE_FILTER, SCF_KIND_EMPTY, 0));
+}
+
+static void stacks(void) {
+    struct scf_call read = call_of(0);
+    struct scf_bytes both[2], nine[9];
+    static uint8_t large[32768];
+    size_t i;
+    both[0] = bytes_of(deny, sizeof deny);
+    both[1] = bytes_of(allow, sizeof allow);
+    unset();
+    IS(scf_decide(both, 2, &read, &answer, &fault) == SCF_OK);
+    IS(answer == RET_EPERM && is_zero(&fault, sizeof fault));
+    IS(scf_decide(both + 1, 1, &read, &answer, &fault) == SCF_OK && answer == RET_ALLOW);
+    IS(scf_decide(NULL, 0, &read, &answer, &fault) == SCF_OK && answer == RET_ALLOW);
+    for (i = 0; i < sizeof large; i += sizeof allow) memcpy(large + i, allow, sizeof allow);
+    for (i = 0; i < 9; i++) nine[i] = bytes_of(large, sizeof large);
+    unset();
+    /* seven of 4096 and 4 each, and the eighth */
+    IS(scf_decide(nine, 8, &read, &answer, &fault) == SCF_REFUSED);
+    IS(answer == 0 && is_fault(&fault, SCF_SOURCE_STACK, SCF_KIND_TOO_MANY, 7 * 4100 + 4096));
+    IS(scf_decide(nine, 7, &read, &answer, &fault) == SCF_OK);
+    both[1] = bytes_of(allow, 3);
+    IS(scf_decide(both, 2, &read, &answer, &fault) == SCF_REFUSED);
+    IS(is_fault(&fault, SCF_SOURCE_FILTER, SCF_KIND_TRUNCATED, 0));
+}
+
+static void texts(void) {
+    static const char spelled[] = "ret #0x7fff0000\n", wrong[] = "ld [0]\nrat\n";
+    unset();
+    IS(scf_assemble((const uint8_t *)spelled, strlen(spelled), text, sizeof text, &needed, &fault) == SCF_OK);
+    IS(needed == sizeof allow && memcmp(text, allow, needed) == 0 && text[needed] == UNSET);
+    unset();
+    IS(scf_assemble((const uint8_t *)spelled, strlen(spelled), text, 3, &needed, &fault) == SCF_OK);
+    IS(needed == sizeof allow && memcmp(text, allow, 3) == 0 && text[3] == UNSET);
+    IS(scf_assemble((const uint8_t *)spelled, strlen(spelled), NULL, 0, &needed, &fault) == SCF_OK);
+    IS(needed == sizeof allow);
+    unset();
+    IS(scf_assemble((const uint8_t *)wrong, strlen(wrong), text, sizeof text, &needed, &fault) == SCF_REFUSED);
+    IS(is_nothing() && is_fault(&fault, SCF_SOURCE_TEXT, SCF_KIND_MNEMONIC, 2));
+    unset();
+    IS(scf_list(allow, sizeof allow, text, sizeof text, &needed, &fault) == SCF_OK);
+    IS(is_text("ret #0x7fff0000\n") && is_zero(&fault, sizeof fault));
+    unset();
+    IS(scf_list(allow, 7, text, sizeof text, &needed, &fault) == SCF_REFUSED);
+    IS(is_nothing() && is_fault(&fault, SCF_SOURCE_FILTER, SCF_KIND_TRUNCATED, 0));
+}
+
+static void profiles(void) {
+    static const char nothing[] = "{}", conflict[] =
+        "{\"defaultAction\": \"SCMP_ACT_LOG\", \"syscalls\": [{\"names\": [\"read\"], \"action\": \"SCMP_ACT_ALLOW\"}, "
+        "{\"names\": [\"write\"], \"action\": \"SCMP_ACT_ALLOW\"}, "
+        "{\"names\": [\"write\"], \"action\": \"SCMP_ACT_LOG\"}]}";
+    struct scf_bytes own = text_of(profile), names = text_of(table);
+    struct scf_call read = call_of(0), write = call_of(1), other = call_of(1);
+    struct scf_reason reason;
+    other.arch = 0x40000003; /* AUDIT_ARCH_I386 */
+    unset();
+    IS(scf_ask(own.at, own.len, names.at, names.len, &write, &answer, &reason, &fault) == SCF_OK);
+    IS(answer == RET_ALLOW && reason.kind == SCF_BY_ENTRY && reason.entry == 0 && is_zero(&fault, sizeof fault));
+    IS(scf_ask(own.at, own.len, names.at, names.len, &read, &answer, &reason, &fault) == SCF_OK);
+    IS(answer == RET_EPERM && reason.kind == SCF_BY_DEFAULT && reason.entry == 0);
+    IS(scf_ask(own.at, own.len, names.at, names.len, &other, &answer, &reason, &fault) == SCF_OK);
+    IS(answer == RET_KILL_PROCESS && reason.kind == SCF_FOREIGN && reason.entry == 0);
+    own = text_of(nothing);
+    unset();
+    IS(scf_ask(own.at, own.len, names.at, names.len, &read, &answer, &reason, &fault) == SCF_REFUSED);
+    IS(answer == 0 && is_zero(&reason, sizeof reason));
+    IS(is_fault(&fault, SCF_SOURCE_PROFILE, SCF_KIND_MISSING, SCF_NO_ENTRY));
+    unset();
+    IS(scf_compile(own.at, own.len, (const uint8_t *)"read", 4, text, sizeof text, &needed, &fault) == SCF_REFUSED);
+    IS(is_nothing() && is_fault(&fault, SCF_SOURCE_TABLE, SCF_KIND_FORM, 1));
+    own = text_of(conflict);
+    IS(scf_compile(own.at, own.len, names.at, names.len, text, sizeof text, &needed, &fault) == SCF_REFUSED);
+    IS(fault.kind == SCF_KIND_CONFLICT && fault.numbers[0] == 1 && fault.numbers[1] == 1 && fault.numbers[2] == 2);
+}
+
+static void comparisons(void) {
+    struct scf_bytes own = text_of(profile), names = text_of(table), filter = bytes_of(text, 0), other;
+    struct scf_right_side right = with_profile(profile);
+    struct scf_question question = asked(SCF_ALL_CALLS, SCF_SAME);
+    static uint8_t compiled[4096];
+    unset();
+    IS(scf_compile(own.at, own.len, names.at, names.len, compiled, sizeof compiled, &needed, &fault) == SCF_OK);
+    filter = bytes_of(compiled, needed);
+    unset();
+    IS(scf_compare(&filter, 1, &right, &question, &found, text, sizeof text, &needed, &fault) == SCF_OK);
+    IS(is_text("same\nskipped absent\n") && is_zero(&fault, sizeof fault));
+    IS(found.verdict == SCF_HOLDS && is_zero(&found.left, sizeof found - sizeof found.verdict));
+    question.limit = 0;
+    IS(scf_compare(&filter, 1, &right, &question, &found, text, sizeof text, &needed, &fault) == SCF_OK);
+    IS(found.verdict == SCF_UNFINISHED && is_zero(&found.left, sizeof found - sizeof found.verdict));
+    other = bytes_of(allow, sizeof allow);
+    question = asked(SCF_ONE_CALL, SCF_NO_MORE);
+    question.first = 0;
+    unset();
+    IS(scf_compare(&other, 1, &right, &question, &found, text, sizeof text, &needed, &fault) == SCF_OK);
+    IS(found.verdict == SCF_FAILS && found.left == RET_ALLOW && found.right == RET_EPERM && found.side == 0);
+    IS(found.at == 0 && found.call.nr == 0 && found.call.arch == SCF_ARCH_X86_64);
+    IS(memcmp(text, "more\ncall nr 0 arch 0xc000003e ", 31) == 0);
+    question.first = 1;
+    IS(scf_compare(&other, 1, &right, &question, &found, text, sizeof text, &needed, &fault) == SCF_OK);
+    IS(found.verdict == SCF_HOLDS);
+    question = asked(SCF_NUMBERS, SCF_SAME);
+    question.first = 1, question.last = 2;
+    IS(scf_compare(&other, 1, &right, &question, &found, text, sizeof text, &needed, &fault) == SCF_OK);
+    IS(found.verdict == SCF_FAILS && found.call.nr == 2);
+    question.last = 0;
+    IS(scf_compare(&other, 1, &right, &question, &found, text, sizeof text, &needed, &fault) == SCF_OK);
+    IS(found.verdict == SCF_HOLDS);
+    other = bytes_of(product, sizeof product);
+    question = asked(SCF_ONE_CALL, SCF_SAME);
+    IS(scf_compare(&other, 1, &right, &question, &found, text, sizeof text, &needed, &fault) == SCF_OK);
+    IS(found.verdict == SCF_UNDECIDED && found.side == 1 && found.at == 5 && is_zero(&found.call, sizeof found.call));
+}
+
+static void stacks_beside(void) {
+    struct scf_bytes left = bytes_of(positive, sizeof positive), beside[2];
+    struct scf_right_side right = with_filters(beside, 2);
+    struct scf_question question = asked(SCF_ALL_CALLS, SCF_NO_LESS);
+    beside[0] = bytes_of(allow, sizeof allow);
+    beside[1] = bytes_of(deny, sizeof deny);
+    unset();
+    IS(scf_compare(&left, 1, &right, &question, &found, text, sizeof text, &needed, &fault) == SCF_OK);
+    IS(found.verdict == SCF_HOLDS && is_text("no less\n"));
+    question.relation = SCF_SAME_DISPOSITION;
+    IS(scf_compare(&left, 1, &right, &question, &found, text, sizeof text, &needed, &fault) == SCF_OK);
+    IS(found.verdict == SCF_FAILS && found.left == RET_ALLOW && found.right == RET_EPERM && found.call.nr != 0);
+    beside[1].len = 1;
+    unset();
+    IS(scf_compare(&left, 1, &right, &question, &found, text, sizeof text, &needed, &fault) == SCF_REFUSED);
+    IS(is_nothing() && is_zero(&found, sizeof found));
+    IS(is_fault(&fault, SCF_SOURCE_BESIDE, SCF_KIND_TRUNCATED, 0));
+    left.len = 1;
+    IS(scf_compare(&left, 1, &right, &question, &found, text, sizeof text, &needed, &fault) == SCF_REFUSED);
+    IS(is_fault(&fault, SCF_SOURCE_FILTER, SCF_KIND_TRUNCATED, 0));
+    IS(scf_compare(NULL, 0, &right, &question, &found, text, sizeof text, &needed, &fault) == SCF_REFUSED);
+    right.filters_len = 0, right.filters = NULL;
+    IS(scf_compare(NULL, 0, &right, &question, &found, text, sizeof text, &needed, &fault) == SCF_OK);
+    IS(found.verdict == SCF_HOLDS);
+}
+
+static void call_by_call(void) {
+    struct scf_bytes left = bytes_of(allow, sizeof allow), beside = bytes_of(positive, sizeof positive);
+    struct scf_right_side right = with_profile(profile);
+    struct scf_question question = asked(SCF_NATIVE_CALLS, SCF_SAME);
+    struct scf_call_comparison calls[3];
+    memset(calls, UNSET, sizeof calls);
+    unset();
+    IS(scf_compare_calls(&left, 1, &right, &question, calls, 3, &count, text, sizeof text, &needed, &fault) == SCF_OK);
+    IS(count == 2 && calls[0].nr == 0 && calls[1].nr == 1 && calls[0].reserved == 0 && is_zero(&fault, sizeof fault));
+    IS(calls[0].comparison.verdict == SCF_FAILS && calls[0].comparison.left == RET_ALLOW
+       && calls[0].comparison.right == RET_EPERM && calls[0].comparison.call.nr == 0);
+    IS(calls[1].comparison.verdict == SCF_HOLDS && calls[2].nr == 0xa5a5a5a5);
+    IS(memcmp(text, "differs\n0 read differs args ", 28) == 0);
+    right = with_filters(&beside, 1);
+    memset(calls, UNSET, sizeof calls);
+    IS(scf_compare_calls(&left, 1, &right, &question, calls, 1, &count, text, sizeof text, &needed, &fault) == SCF_OK);
+    IS(count == 2 && calls[0].comparison.verdict == SCF_FAILS && calls[1].nr == 0xa5a5a5a5);
+    question.total_limit = 0;
+    IS(scf_compare_calls(&left, 1, &right, &question, calls, 3, &count, text, sizeof text, &needed, &fault) == SCF_OK);
+    IS(calls[0].comparison.verdict == SCF_UNFINISHED && calls[1].comparison.verdict == SCF_UNFINISHED);
+    memset(calls, UNSET, sizeof calls);
+    right.table = text_of("read 0\nread 1\n");
+    unset();
+    IS(scf_compare_calls(&left, 1, &right, &question, calls, 3, &count, text, sizeof text, &needed, &fault)
+       == SCF_REFUSED);
+    IS(is_nothing() && count == 0 && calls[0].nr == 0xa5a5a5a5);
+    IS(is_fault(&fault, SCF_SOURCE_TABLE, SCF_KIND_REPEATED, 2));
+}
+
+/* Each number without a meaning is a wrong argument; no input is looked at. */
+static void wrong_arguments(void) {
+    struct scf_right_side right = with_profile(profile);
+    struct scf_question question = asked(SCF_NATIVE_CALLS, SCF_SAME);
+    struct scf_bytes cut = bytes_of(allow, 1);
+    uint32_t *numbers[4];
+    size_t i;
+    numbers[0] = &question.scope, numbers[1] = &question.relation;
+    numbers[2] = &right.kind, numbers[3] = &right.reserved;
+    for (i = 0; i < 6; i++) {
+        uint32_t was = 0;
+        if (i < 4) was = *numbers[i], *numbers[i] = 99;
+        else question.reserved[i - 4] = 1;
+        unset();
+        IS(scf_compare(&cut, 1, &right, &question, &found, text, sizeof text, &needed, &fault) == SCF_WRONG_ARGUMENT);
+        IS(is_nothing() && is_zero(&found, sizeof found) && is_zero(&fault, sizeof fault));
+        IS(scf_compare_calls(&cut, 1, &right, &question, NULL, 0, &count, text, sizeof text, &needed, &fault)
+           == SCF_WRONG_ARGUMENT);
+        IS(is_nothing() && count == 0);
+        if (i < 4) *numbers[i] = was;
+        else question.reserved[i - 4] = 0;
+    }
+    IS(scf_compare(&cut, 1, &right, &question, &found, text, sizeof text, &needed, &fault) == SCF_REFUSED);
+    question.scope = SCF_ALL_CALLS;
+    IS(scf_compare_calls(&cut, 1, &right, &question, NULL, 0, &count, text, sizeof text, &needed, &fault)
+       == SCF_WRONG_ARGUMENT);
+    right.kind = 0;
+    IS(scf_compare(&cut, 1, &right, &question, &found, text, sizeof text, &needed, &fault) == SCF_WRONG_ARGUMENT);
+}
+
+int main(void) {
+    filters();
+    paths();
+    stacks();
+    texts();
+    profiles();
+    comparisons();
+    stacks_beside();
+    call_by_call();
+    wrong_arguments();
+    printf("%ld checks\n", checks);
+    return 0;
+}

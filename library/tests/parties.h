@@ -1,0 +1,98 @@
+/* Filters, profiles and tables for the tests, and what checks them. The answers are those of linux/seccomp.h and of the
+ * OCI specification. */
+#ifndef PARTIES_H
+#define PARTIES_H
+
+#include <scf.h>
+#include <stdio.h>
+#include <stdlib.h>
+#include <string.h>
+
+#define RET_ALLOW 0x7fff0000u
+#define RET_EPERM 0x00050001u
+#define RET_KILL_PROCESS 0x80000000u
+
+static const uint8_t allow[] = {6, 0, 0, 0, 0, 0, 0xff, 0x7f};
+static const uint8_t deny[] = {6, 0, 0, 0, 1, 0, 5, 0};
+/* a = word 0; a > 0 allows, a = 0 denies */
+static const uint8_t positive[] = {0x20, 0, 0, 0, 0, 0, 0, 0, 0x25, 0, 0, 1, 0, 0, 0, 0, 6, 0, 0, 0, 0, 0, 0xff, 0x7f,
+                                   6,    0, 0, 0, 1, 0, 5, 0};
+/* allows where the product of words 4 and 6 is 3, and else denies: which calls these are isn't decided */
+static const uint8_t product[] = {0x20, 0, 0, 0, 16, 0, 0,    0,    7, 0, 0, 0, 0, 0, 0, 0, 0x20, 0, 0, 0, 24, 0, 0, 0,
+                                  0x2c, 0, 0, 0, 0,  0, 0,    0,    0x15, 0, 0, 1, 3, 0, 0, 0,
+                                  6,    0, 0, 0, 0,  0, 0xff, 0x7f, 6,    0, 0, 0, 1, 0, 5, 0};
+static const char profile[] =
+    "{\"defaultAction\": \"SCMP_ACT_ERRNO\", \"syscalls\": [{\"names\": [\"write\", \"absent\"], \"action\": "
+    "\"SCMP_ACT_ALLOW\"}]}";
+static const char table[] = "read 0\nwrite 1\n";
+
+static long checks;
+
+#define IS(holds)                                                                                                      \
+    do {                                                                                                               \
+        checks++;                                                                                                      \
+        if (!(holds)) {                                                                                                \
+            fprintf(stderr, "%s:%d: %s\n", __FILE__, __LINE__, #holds);                                                \
+            exit(1);                                                                                                   \
+        }                                                                                                              \
+    } while (0)
+
+static struct scf_bytes bytes_of(const void *at, size_t len) {
+    struct scf_bytes bytes;
+    bytes.at = (const uint8_t *)at;
+    bytes.len = len;
+    return bytes;
+}
+
+static struct scf_bytes text_of(const char *text) { return bytes_of(text, strlen(text)); }
+
+static struct scf_call call_of(uint32_t nr) {
+    struct scf_call call;
+    memset(&call, 0, sizeof call);
+    call.nr = nr;
+    call.arch = SCF_ARCH_X86_64;
+    return call;
+}
+
+static struct scf_right_side with_profile(const char *text) {
+    struct scf_right_side right;
+    memset(&right, 0, sizeof right);
+    right.kind = SCF_PROFILE;
+    right.profile = text_of(text);
+    right.table = text_of(table);
+    return right;
+}
+
+static struct scf_right_side with_filters(const struct scf_bytes *filters, size_t count) {
+    struct scf_right_side right;
+    memset(&right, 0, sizeof right);
+    right.kind = SCF_FILTERS;
+    right.filters = filters;
+    right.filters_len = count;
+    right.table = text_of(table);
+    return right;
+}
+
+static struct scf_question asked(uint32_t scope, uint32_t relation) {
+    struct scf_question question;
+    memset(&question, 0, sizeof question);
+    question.scope = scope;
+    question.relation = relation;
+    question.limit = question.total_limit = SCF_LIMIT;
+    return question;
+}
+
+/* Whether these bytes are all 0. */
+static int is_zero(const void *at, size_t size) {
+    size_t i;
+    for (i = 0; i < size; i++)
+        if (((const uint8_t *)at)[i] != 0) return 0;
+    return 1;
+}
+
+static int is_fault(const struct scf_fault *fault, uint32_t source, uint32_t kind, uint64_t first) {
+    return fault->source == source && fault->kind == kind && fault->numbers[0] == first
+        && is_zero(fault->numbers + 1, 2 * sizeof fault->numbers[0]);
+}
+
+#endif
