@@ -159,7 +159,7 @@ class Believe(Case):
 
     def test_a_call_for_c(self):
         calls = "crates/top/src/calls.rt"
-        exported = FILES[calls].replace("pub fn made(n: u32)", '#[unsafe(no_mangle)]\npub extern "C" fn top_made(n: u32)')
+        exported = FILES[calls].replace("pub fn made(n", '#[unsafe(no_mangle)]\npub extern "C" fn top_made(n')
         status, out, err = self.believe("top_made", **{
             calls: exported, "crates/top/src/lib.rt": "mod calls;\n\npub use calls::{top_made, Store, stored};\n"})
         self.assertEqual((status, err), (0, ""))

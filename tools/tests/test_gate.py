@@ -37,6 +37,7 @@ class Gate(Case):
         os.makedirs(self.tree)
         shutil.copy2(os.path.join(TOP, "test"), self.tree)
         os.chmod(self.file("bin/rt", RT), 0o755)
+        os.chmod(self.file("tree/library/build", "#!/bin/sh\n"), 0o755)
 
     def gate(self, first=WELL, second=WELL, ci="7 passed, 0 failed", injection="print('4 passed, 0 failed')\n", **more):
         """The status and the lines of ./test, with these modules of tests."""
@@ -49,31 +50,31 @@ class Gate(Case):
 
     def test_all_are_counted(self):
         self.assertEqual(self.gate(ci="proved\n7 passed, 0 failed"),
-                         (0, ["proved", "7 passed, 0 failed", "2 passed, 0 failed", "4 passed, 0 failed",
-                              "13 passed, 0 failed"]))
+                         (0, ["proved", "7 passed, 0 failed", "2 passed, 0 failed", "2 passed, 0 failed",
+                              "4 passed, 0 failed", "15 passed, 0 failed"]))
 
     def test_modules_are_counted_together_and_a_failed_one_is_shown(self):
         status, lines = self.gate(WELL, WELL + MIXED)
-        self.assertEqual((status, lines[-1]), (1, "14 passed, 2 failed, 1 skipped"))
+        self.assertEqual((status, lines[-1]), (1, "16 passed, 2 failed, 1 skipped"))
         self.assertIn("AssertionError: 1 != 2", lines)
         self.assertTrue([it for it in lines if it.endswith("... skipped 'there is no such thing here'")])
 
     def test_a_skipped_test_is_no_failure(self):
         skipped = FIRST + "    def test_it(self):\n        self.skipTest('no such thing')\n"
         self.assertEqual(self.gate(WELL, skipped)[0], 0)
-        self.assertEqual(self.gate(WELL, skipped)[1][-1], "12 passed, 0 failed, 1 skipped")
+        self.assertEqual(self.gate(WELL, skipped)[1][-1], "14 passed, 0 failed, 1 skipped")
 
     def test_a_module_that_ends_early_or_has_no_test_is_a_failure(self):
         for text in ("", "x = 1 /\n", "import os\nos._exit(0)\n", "import os\nos.kill(os.getpid(), 9)\n"):
             status, lines = self.gate(WELL, text)
             self.assertEqual(status, 1, text)
-            self.assertRegex(lines[-1], "^1[12] passed, 1 failed$")
+            self.assertRegex(lines[-1], "^1[34] passed, 1 failed$")
 
     def test_failures_of_the_kit_and_of_injected_failures_are_counted(self):
         status, lines = self.gate(ci="5 passed, 2 failed", CI_STATUS="1")
         self.assertEqual((status, lines[-1]), (1, "5 passed, 3 failed"))
         status, lines = self.gate(injection="import sys\nprint('1 passed, 2 failed')\nsys.exit(1)\n")
-        self.assertEqual((status, lines[-1]), (1, "10 passed, 2 failed"))
+        self.assertEqual((status, lines[-1]), (1, "12 passed, 2 failed"))
 
     def test_a_status_without_a_count_is_a_failure(self):
         for ci, ended, last in (("7 passed, 0 failed", "3", "7 passed, 2 failed"),
@@ -81,14 +82,18 @@ class Gate(Case):
             status, lines = self.gate(ci=ci, CI_STATUS=ended)
             self.assertEqual(status, 1, ci)
             self.assertRegex(lines[-1], last if ended != "0" else r"^\d+ passed, 1 failed$")
-        self.assertEqual(self.gate(injection="import sys\nsys.exit(1)\n")[1][-1], "9 passed, 1 failed")
+        self.assertEqual(self.gate(injection="import sys\nsys.exit(1)\n")[1][-1], "11 passed, 1 failed")
+
+    def test_a_library_that_is_not_built_is_a_failure(self):
+        self.file("tree/library/build", "#!/bin/sh\n[ \"$1\" = llvm ]\n")
+        self.assertEqual(self.gate()[1][-1], "13 passed, 1 failed")
 
     def test_a_folder_for_temporary_files_with_another_name(self):
         for name in (b"a\xff", b"a\nb", b"a b:c"):
             room = os.path.join(os.fsencode(self.folder), name)
             os.mkdir(room)
             status, lines = self.gate(TMPDIR=os.fsdecode(room))
-            self.assertEqual((status, lines[-1]), (0, "13 passed, 0 failed"))
+            self.assertEqual((status, lines[-1]), (0, "15 passed, 0 failed"))
             self.assertEqual(os.listdir(room), [])
 
     def test_output_comes_as_it_is_printed(self):

@@ -1,0 +1,427 @@
+"""libscf, as library/build made it: its names and layouts, its bindings, what it does without memory, and that it
+answers as the program does."""
+import importlib.util
+import itertools
+import json
+import os
+import random
+import re
+import shutil
+import subprocess
+import sys
+import unittest
+from unittest import mock
+
+from common import (ALLOW, EPERM, PATIENCE, TOP, Case, filter_of, insn, jeq, load, part, profile_of, ret)
+
+LIBRARY = os.path.join(TOP, "library")
+OUT = os.path.join(LIBRARY, "out")
+PROGRAM = os.path.join(TOP, "crates", "scf", "out", "scf")
+CALLS = {f"scf_{name}" for name in ("check", "run", "trace", "decide", "assemble", "list", "compile", "ask", "compare",
+                                    "compare_calls", "version")}
+STRICT = ["-Wall", "-Wextra", "-Wpedantic", "-Werror", "-Wno-unused-function", "-Wno-unused-variable"]
+LINES = re.compile(r"`fault (\w+) (\w+)((?: \w+ N)*)( \[entry N\])?`")
+
+
+def read(*path):
+    with open(os.path.join(*path), encoding="utf-8") as file:
+        return file.read()
+
+
+def python_module(folder=OUT):
+    """The module scf, over the library of this folder."""
+    spec = importlib.util.spec_from_file_location("scf", os.path.join(LIBRARY, "python", "scf.py"))
+    module = importlib.util.module_from_spec(spec)
+    with mock.patch.dict(os.environ, LIBSCF=os.path.join(folder, "libscf.so.0")), \
+            mock.patch.dict(sys.modules, scf=module):
+        spec.loader.exec_module(module)
+    return module
+
+
+def snake(name):
+    """A name of docs/FAULTS.md as scf.h has it: NoX8664 is NO_X8664."""
+    return re.sub(r"(?<=[a-z])(?=[A-Z])", "_", name).upper()
+
+
+def header_numbers(prefix):
+    """The numbers of an enum of scf.h, by their names without the prefix."""
+    return {name: int(number) for name, number in
+            re.findall(rf"^ +SCF_{prefix}(\w+) = (\d+)", read(LIBRARY, "scf.h"), re.M)}
+
+
+def fault_lines():
+    """The faults of docs/FAULTS.md that the library may have: for a source and a kind, the names of the numbers."""
+    sources = {name.lower() for name in header_numbers("SOURCE_")}
+    return {(source, kind): numbers.replace(" N", "").split() or (["entry"] if entry else [])
+            for source, kind, numbers, entry in LINES.findall(read(TOP, "docs", "FAULTS.md")) if source in sources}
+
+
+class Built(Case):
+    """A test that compiles programs in its folder."""
+
+    def compiled(self, name, *words, compiler=("gcc", "-std=c99"), flags=STRICT, out=None):
+        out = os.path.join(self.folder, out or os.path.splitext(os.path.basename(name))[0])
+        done = self.run_words([*compiler, *flags, "-O1", "-g", f"-I{LIBRARY}", "-o", out, os.path.join(LIBRARY, name),
+                               *words])
+        self.assertEqual(done, (0, "", ""), name)
+        return out
+
+    def runs(self, *words, **env):
+        status, out, err = self.run_words(words, env={**os.environ, "LD_LIBRARY_PATH": OUT, **env})
+        self.assertEqual((status, err), (0, ""), words)
+        return out
+
+
+class Interface(Built):
+    def test_the_shared_object_has_the_calls_and_nothing_else(self):
+        shared = os.path.join(OUT, "libscf.so.0")
+        names = self.runs("nm", "-D", "--defined-only", shared).split("\n")
+        self.assertEqual({line.split()[-1] for line in names if line},
+                         {f"{name}@@SCF_0" for name in CALLS} | {"SCF_0"})
+        dynamic = self.runs("readelf", "-dW", shared)
+        self.assertEqual(re.findall(r"\((NEEDED|SONAME|TEXTREL)\).*?\[?(\S+?)\]?$", dynamic, re.M),
+                         [("NEEDED", "libc.so.6"), ("SONAME", "libscf.so.0")])
+        # what may be written before it is made read-only
+        sections = re.findall(r"^ +\[ *\d+\] (\S+) +\S+ +\S+ +\S+ +(\S+) +\S+ +([A-Z]*W[A-Z]*) ",
+                              self.runs("readelf", "-SW", shared), re.M)
+        written = {name for name, size, _ in sections if int(size, 16)}
+        self.assertEqual(written - {".dynamic", ".got", ".data.rel.ro"}, set())
+        self.assertNotIn("RWE", self.runs("readelf", "-lW", shared).replace(" ", ""))
+        undefined = {line.split()[-1].split("@")[0] for line in self.runs("nm", "-D", "-u", shared).split("\n") if line}
+        self.assertEqual(undefined - {"memcpy", "memmove", "memset", "memcmp", "bcmp", "strlen"},
+                         {"malloc", "realloc", "free"})
+
+    def test_the_archive_has_the_calls_and_nothing_else(self):
+        names = self.runs("nm", "-g", "--defined-only", os.path.join(OUT, "libscf.a")).split("\n")
+        self.assertEqual({line.split()[-1] for line in names if " T " in line}, CALLS)
+        self.assertEqual([line for line in names if re.match(r"[0-9a-f]+ [^T] ", line)], [])
+
+    def test_it_needs_no_newer_processor(self):
+        """The code has no instruction that the first processors of x86-64 lack, as popcnt and those of SSE3 and on."""
+        code = self.runs("objdump", "-d", "--no-show-raw-insn", os.path.join(OUT, "libscf.so.0"))
+        # (the first run tzcnt as bsf, and the compiler knows)
+        newer = (r"\t(popcnt|lzcnt|andn|bextr|bls\w+|pext|pdep|mulx|rorx|sarx|shlx|shrx|v\w+|pshufb|palignr|ptest|"
+                 r"crc32|movbe|p(?:min|max)(?:s[bd]|u[wd])|pabs\w|phadd\w+|pmulld|pinsr[bdq]|pextr[bdq]|pmov[sz]x\w+|"
+                 r"round\w+)\b")
+        self.assertEqual(set(re.findall(newer, code)), set())
+
+    def test_layouts(self):
+        module = python_module()
+        lines = self.runs(self.compiled("tests/layout.c", compiler=["gcc", "-std=c99"])).strip().split("\n")
+        for line in lines:
+            name, size, *fields = line.split()
+            kind = getattr(module, "_" + "".join(it.title() for it in name.split("_")))
+            import ctypes  # pylint: disable=import-outside-toplevel
+            self.assertEqual((ctypes.sizeof(kind), [it for field, _ in kind._fields_
+                                                    for it in (field, str(getattr(kind, field).offset))]),
+                             (int(size), fields), name)
+        self.assertEqual(len(lines), 8)
+
+    def test_faults_are_those_of_the_page(self):
+        sources, kinds = header_numbers("SOURCE_"), header_numbers("KIND_")
+        self.assertEqual(sorted(sources.values()), list(range(1, len(sources) + 1)))
+        self.assertEqual(sorted(kinds.values()), list(range(1, len(kinds) + 1)))
+        self.assertEqual({snake(kind) for _, kind in fault_lines()}, set(kinds))
+        self.assertEqual({source.upper() for source, _ in fault_lines()}, set(sources))
+        self.assertLessEqual(max(map(len, fault_lines().values())), 3)
+
+    def test_the_numbers_of_the_bindings_are_those_of_the_header(self):
+        module, rust = python_module(), read(LIBRARY, "rust", "src", "fault.rs")
+        for name in ("Source", "Kind"):
+            numbers = header_numbers(f"{name.upper()}_")
+            self.assertEqual({it.name: it.value for it in getattr(module, name)}, numbers)
+            variants = re.search(rf"\n    {name}: ([\w\s]+);", rust)[1].split()
+            self.assertEqual({snake(it): place for place, it in enumerate(variants, 1)}, numbers)
+        header = read(LIBRARY, "scf.h")
+        for enum, names in (("verdict", module.Verdict), ("relation", module.Relation), ("reason_kind", module.Reason)):
+            listed = re.search(rf"enum scf_{enum} {{(.*?)}};", header, re.S)[1]
+            numbers = {int(it) for it in re.findall(r"= (\d+)", listed)}
+            self.assertEqual({it.value for it in names} | ({0} & numbers), numbers, enum)
+
+    def test_it_is_found_by_pkg_config_where_it_is_installed(self):
+        prefix = os.path.join(self.folder, "a-prefix")
+        words = ["make", "-s", "-C", TOP, f"PREFIX={prefix}"]
+        self.runs(*words, "install-lib")
+        found = {os.path.relpath(os.path.join(at, name), prefix) for at, _, names in os.walk(prefix) for name in names}
+        self.assertEqual(found, {"include/scf.h", "lib/libscf.a", "lib/libscf.so", "lib/libscf.so.0",
+                                 "lib/pkgconfig/scf.pc", "lib/python3/dist-packages/scf.py"})
+        env = {"PKG_CONFIG_PATH": f"{prefix}/lib/pkgconfig"}
+        flags = self.runs("pkg-config", "--cflags", "--libs", "scf", **env).split()
+        self.assertEqual(flags, [f"-I{prefix}/include", f"-L{prefix}/lib", "-lscf"])
+        number = self.runs("pkg-config", "--modversion", "scf", **env).strip()
+        self.assertIn(number, self.runs(os.path.join(TOP, "scf"), "--version"))
+        self.assertEqual(number, ".".join(map(str, python_module().version())))
+        self.runs(*words, "uninstall-lib")
+        self.assertEqual([names for _, _, names in os.walk(prefix) if names], [])
+
+    @unittest.skipUnless(os.path.exists("/usr/include/seccomp.h"), "there is no libseccomp to compile with here")
+    def test_the_example(self):
+        program = self.compiled("example/engine.c", f"-L{OUT}", "-lscf", "-lseccomp", compiler=["gcc", "-std=gnu99"])
+        self.assertEqual(self.runs(program), "same\n")
+        env = {**os.environ, "LD_LIBRARY_PATH": OUT}
+        status, out, _ = self.run_words([program, "wrong"], env=env)
+        self.assertEqual((status, out.split(" arch")[0]), (1, "differs\ncall nr 0"))
+
+
+class Languages(Built):
+    """The same tests in each language, over the shared object or the archive."""
+
+    ARCHIVE, SHARED = [os.path.join(OUT, "libscf.a")], [f"-L{OUT}", "-lscf"]
+
+    def test_c_and_cpp(self):
+        for compiler in (["gcc", "-std=c99"], ["g++", "-x", "c++", "-std=c++11"], ["clang", "-std=c99"]):
+            if shutil.which(compiler[0]) is None:
+                continue
+            for kind, linked in (("archive", self.ARCHIVE), ("shared", self.SHARED)):
+                with self.subTest(compiler=compiler[0], linked=kind):
+                    before = ["-x", "none"] if compiler[0] == "g++" else []
+                    program = self.compiled("tests/calls.c", *before, *linked, compiler=compiler,
+                                            out=f"{compiler[0]}-{kind}")
+                    self.assertRegex(self.runs(program), r"^\d{3} checks\n$")
+
+    def test_by_the_kits_own_compiler(self):
+        program = self.compiled("tests/calls.c", os.path.join(OUT, "rattle", "libscf.a"))
+        self.assertRegex(self.runs(program), r"^\d{3} checks\n$")
+
+    @unittest.skipUnless(shutil.which("clang"), "there is no clang here")
+    def test_with_sanitizers(self):
+        flags = ["-fsanitize=address,undefined", "-fno-sanitize-recover=all"]
+        empty = self.file("empty.c", "int main(void) { return 0; }\n")
+        if self.run_words(["clang", *flags, "-o", os.path.join(self.folder, "empty"), empty])[0]:
+            self.skipTest("clang has no sanitizers here")
+        program = self.compiled("tests/calls.c", *self.ARCHIVE, compiler=["clang", "-std=c99", *flags])
+        self.assertRegex(self.runs(program), r"^\d{3} checks\n$")
+
+    def test_python(self):
+        env = {**os.environ, "LIBSCF": os.path.join(OUT, "libscf.so.0"), "PYTHONDONTWRITEBYTECODE": "1"}
+        done = self.run_words([sys.executable, "-m", "unittest", "test_scf"], env=env,
+                              cwd=os.path.join(LIBRARY, "python"))
+        self.assertEqual(done[0], 0, done)
+
+    @unittest.skipUnless(shutil.which("cargo"), "there is no cargo here")
+    def test_rust(self):
+        folder = os.path.join(self.folder, "rust")
+        shutil.copytree(os.path.join(LIBRARY, "rust"), folder)
+        done = self.run_words(["cargo", "test", "--offline", "--quiet"], cwd=folder,
+                              env={**os.environ, "SCF_LIB_DIR": OUT, "RUSTFLAGS": "-Dwarnings"})
+        self.assertEqual(done[0], 0, done)
+
+    @unittest.skipUnless(shutil.which("go") and shutil.which("pkg-config"), "there is no go here")
+    def test_go(self):
+        prefix, folder = os.path.join(self.folder, "prefix"), os.path.join(self.folder, "go")
+        self.runs("make", "-s", "-C", TOP, "install-lib", f"PREFIX={prefix}")
+        shutil.copytree(os.path.join(LIBRARY, "go"), folder)
+        done = self.run_words(["go", "test", "./..."], cwd=folder, env={
+            **os.environ, "PKG_CONFIG_PATH": f"{prefix}/lib/pkgconfig", "LD_LIBRARY_PATH": f"{prefix}/lib",
+            "GOFLAGS": "-mod=mod", "GOPROXY": "off", "GOCACHE": os.path.join(self.folder, "cache")})
+        self.assertEqual(done[0], 0, done)
+        self.assertEqual(self.runs("gofmt", "-l", folder), "")
+
+
+class Memory(Built):
+    def parties(self):
+        """A filter, a profile that it doesn't answer as, and a table."""
+        filters = self.file("own.bpf", filter_of([0, 1, 231]))
+        profile = self.file("own.json", profile_of("read", "write", "socket", "absent"))
+        return filters, profile, self.file("own.table", "read 0\nwrite 1\nsocket 41\nexit_group 231\nclone 56\n")
+
+    def test_each_allocation_fails_in_turn_and_calls_run_side_by_side(self):
+        wraps = [f"-Wl,--wrap={name}" for name in ("malloc", "realloc", "free")]
+        for folder in (OUT, os.path.join(OUT, "rattle")):
+            with self.subTest(folder):
+                program = self.compiled("tests/memory.c", os.path.join(folder, "libscf.a"), "-pthread", *wraps,
+                                        compiler=["gcc", "-std=gnu99"])
+                self.assertRegex(self.runs(program, *self.parties()), r"^\d{4,} checks\n$")
+
+
+# ---- the library beside the program
+
+ACTIONS = {0x80000000: "KILL_PROCESS", 0: "KILL_THREAD", 0x00030000: "TRAP", 0x00050000: "ERRNO",
+           0x7FC00000: "USER_NOTIF", 0x7FF00000: "TRACE", 0x7FFC0000: "LOG", 0x7FFF0000: "ALLOW"}
+RELATIONS = [[], ["--no-more"], ["--no-less"], ["--disposition"]]
+CLONE = (load(4) + jeq(0xC000003E, 1, 0) + ret(0x80000000) + load(0) + insn(0x35, 0x40000000, 0, 1) + ret(0x80000000)
+         + jeq(56, 0, 3) + load(16) + insn(0x54, 0x7E020000) + jeq(0, 1, 0) + ret(EPERM) + ret(ALLOW))
+SCRATCH = (load(0) + insn(2, 3) + insn(0x61, 3) + insn(0x0C, 0) + insn(0x64, 2) + insn(0x45, 4, 0, 1) + ret(ALLOW)
+           + insn(0x16, 0))
+SPELLED = b"ld [0]\njeq #41, no, yes\nyes: ret #0x7fff0000\nno: ret #0x50001\n"
+CONDITIONS = json.dumps({
+    "defaultAction": "SCMP_ACT_ERRNO", "defaultErrnoRet": 38, "architectures": ["SCMP_ARCH_X86_64", "SCMP_ARCH_X32"],
+    "syscalls": [{"names": ["read", "absent"], "action": "SCMP_ACT_ALLOW"},
+                 {"names": ["socket"], "action": "SCMP_ACT_LOG", "args": [
+                     {"index": 0, "value": 40, "op": "SCMP_CMP_NE"}]},
+                 {"names": ["clone"], "action": "SCMP_ACT_ALLOW", "args": [
+                     {"index": 0, "value": 2114060288, "valueTwo": 0, "op": "SCMP_CMP_MASKED_EQ"}]}]}).encode()
+NAMES = b"read 0\nwrite 1\nsocket 41\nclone 56\nexit_group 231\n"
+
+
+def answer_text(answer):
+    action = ACTIONS.get(answer & 0xFFFF0000)
+    return f"UNNAMED 0x{answer:08x}" if action is None else f"{action} {answer & 0xFFFF}"
+
+
+class Alike(Case):
+    """What the library answers to inputs that were changed at random, and what the program prints of them."""
+
+    COUNT = 4000
+
+    def setUp(self):
+        super().setUp()
+        self.random = random.Random(1)
+        self.names = fault_lines()
+
+    def changed(self, data):
+        """The bytes, most of the time with a few of them changed."""
+        data = bytearray(data)
+        for _ in range(self.random.choice((0, 1, 1, 2, 4))):
+            at = self.random.randrange(len(data) + 1)
+            how = self.random.randrange(6)
+            if how == 0:
+                del data[at:at + self.random.choice((1, 2, 8, 64))]
+            elif how == 1:
+                data[at:at] = data[self.random.randrange(len(data) + 1):][:self.random.choice((1, 8, 16))]
+            elif at < len(data):
+                data[at] = (data[at] ^ 1 << self.random.randrange(8) if how < 5
+                            else self.random.choice(b'0129"{}[],x \n\x00\xff'))
+        return bytes(data)
+
+    def filters(self, most=2):
+        made = (filter_of([0, 1, 231]), CLONE, SCRATCH, ret(ALLOW), ret(EPERM), filter_of([0], foreign=EPERM))
+        return [self.changed(self.random.choice(made)) for _ in range(self.random.randrange(1, most + 1))]
+
+    def profile(self):
+        return self.changed(self.random.choice((CONDITIONS, profile_of("read", "write", "exit_group"))))
+
+    def table(self):
+        return NAMES if self.random.randrange(4) else self.changed(NAMES)
+
+    def cases(self):
+        """Words of the program and its input, and what the library does instead: a function of its module that makes
+        the printed line and the status."""
+        pick = self.random
+        for kind in itertools.cycle(("check", "run", "path", "dis", "asm", "decide", "compile", "ask", "compare",
+                                     "beside", "calls", "beside calls", "compare", "beside")):
+            call = {"nr": pick.choice((0, 1, 41, 56, 1 << 31)), "args": (pick.choice((0, 16, 40, 0x7E020000)),)}
+            words = ["--nr", str(call["nr"]), "--a0", str(call["args"][0])]
+            yield getattr(self, f"case_{kind.replace(' ', '_')}")(call, words)
+
+    def case_check(self, _call, _words):
+        filter, = self.filters(1)
+        return ["check"], filter, lambda scf: (f"accepted {scf.check(filter)}\n", 0)
+
+    def case_run(self, call, words):
+        filter, = self.filters(1)
+
+        def made(scf):
+            answer, steps = scf.run(filter, scf.Call(**call))
+            return f"{answer_text(answer)} steps {steps}\n", 0
+        return ["run", *words], filter, made
+
+    def case_path(self, call, words):
+        filter, = self.filters(1)
+
+        def made(scf):
+            answer, path = scf.trace(filter, scf.Call(**call))
+            return f"{answer_text(answer)} steps {len(path)}\npath {' '.join(map(str, path))}\n", 0
+        return ["run", "--path", *words], filter, made
+
+    def case_dis(self, _call, _words):
+        filter, = self.filters(1)
+        return ["dis"], filter, lambda scf: (scf.listing(filter), 0)
+
+    def case_asm(self, _call, _words):
+        text = self.changed(SPELLED)
+        return ["asm"], text, lambda scf: (scf.assemble(text), 0)
+
+    def case_decide(self, call, words):
+        filters = self.filters()
+        return ["decide", *words], b"".join(part("filter", it) for it in filters), \
+            lambda scf: (f"{answer_text(scf.decide(filters, scf.Call(**call)))}\n", 0)
+
+    def case_compile(self, _call, _words):
+        profile, table = self.profile(), self.table()
+        return ["compile"], part("profile", profile) + part("table", table), \
+            lambda scf: (scf.compile(scf.Profile(profile, table)), 0)
+
+    def case_ask(self, call, words):
+        profile, table = self.profile(), self.table()
+
+        def made(scf):
+            answer, why, entry = scf.ask(scf.Profile(profile, table), scf.Call(**call))
+            return f"{answer_text(answer)} {why.name.lower()}{'' if entry is None else f' {entry}'}\n", 0
+        return ["ask", *words], part("profile", profile) + part("table", table), made
+
+    def scope(self):
+        """Words of a scope, and the same for the module."""
+        first, last = sorted(self.random.sample((0, 1, 41, 56, 231, 1 << 30), 2))
+        return self.random.choice((
+            ([], lambda scf: scf.ALL), (["--native"], lambda scf: scf.NATIVE),
+            (["--nr-from", str(first), "--nr-to", str(last)], lambda scf: scf.Scope.numbers(first, last))))
+
+    def compared(self, words, given, filters, right):
+        relation, limit = self.random.randrange(4), self.random.choice((1000000, 1000000, 3))
+        flags, scope = self.scope()
+
+        def made(scf):
+            found = scf.compare(filters, right(scf), scope(scf), scf.Relation(relation), limit)
+            return found.report, {"HOLDS": 0, "FAILS": 1}.get(found.verdict.name, 4)
+        return ["compare", *words, *flags, *RELATIONS[relation], "--limit", str(limit)], given, made
+
+    def case_compare(self, _call, _words):
+        filters, profile, table = self.filters(), self.profile(), self.table()
+        given = b"".join(part("filter", it) for it in filters) + part("profile", profile) + part("table", table)
+        return self.compared([], given, filters, lambda scf: scf.Profile(profile, table))
+
+    def case_beside(self, _call, _words):
+        filters, others = self.filters(), self.filters()
+        given = b"".join(part(kind, it) for kind, list in (("filter", filters), ("beside", others)) for it in list)
+        return self.compared(["--beside"], given, filters, lambda scf: scf.Filters(others))
+
+    def by_calls(self, words, given, filters, right):
+        relation, total = self.random.randrange(4), self.random.choice((1 << 63, 1 << 63, 40))
+
+        def made(scf):
+            found = scf.compare_calls(filters, right(scf), scf.Relation(relation), total_limit=total)
+            verdicts = [it.comparison.verdict.name for it in found.calls]
+            return found.report, 1 if "FAILS" in verdicts else 4 if set(verdicts) - {"HOLDS"} else 0
+        return ["compare", "--calls", *words, *RELATIONS[relation], "--total-limit", str(total)], given, made
+
+    def case_calls(self, _call, _words):
+        filters, profile, table = self.filters(), self.profile(), self.table()
+        given = b"".join(part("filter", it) for it in filters) + part("profile", profile) + part("table", table)
+        return self.by_calls([], given, filters, lambda scf: scf.Profile(profile, table))
+
+    def case_beside_calls(self, _call, _words):
+        filters, others, table = self.filters(), self.filters(), self.table()
+        given = b"".join(part(kind, it) for kind, list in (("filter", filters), ("beside", others)) for it in list)
+        given += part("table", table)
+        return self.by_calls(["--beside"], given, filters, lambda scf: scf.Filters(others, table))
+
+    def of_library(self, scf, made):
+        """What the program would print, and its status, as the library answers."""
+        try:
+            text, status = made(scf)
+        except scf.Refused as refused:
+            source = refused.source.name.lower()
+            kind = next(kind for _, kind in self.names if snake(kind) == refused.kind.name)
+            numbers = [] if refused.numbers[0] == scf.NO_ENTRY else zip(self.names[source, kind], refused.numbers)
+            words = ["fault", source, kind, *(it for name, number in numbers for it in (name, str(number)))]
+            text = " ".join(words) + "\n"
+            is_input = kind == "Truncated" or kind == "TooLong" and source != "text"
+            status = 3 if is_input else 1
+        return text.encode("utf-8", "surrogateescape") if isinstance(text, str) else text, status
+
+    def test_changed_inputs(self):
+        modules = [python_module(), python_module(os.path.join(OUT, "rattle"))]
+        refused = verdicts = 0
+        for words, given, made in itertools.islice(self.cases(), self.COUNT):
+            done = subprocess.run([PROGRAM, *words], input=given, stdout=subprocess.PIPE, timeout=PATIENCE, check=False)
+            for scf in modules:
+                self.assertEqual(self.of_library(scf, made), (done.stdout, done.returncode), (words, given))
+            refused += done.stdout.startswith(b"fault ")
+            verdicts += words[0] == "compare" and not done.stdout.startswith(b"fault ")
+        self.assertGreater(refused, self.COUNT // 8)
+        self.assertGreater(verdicts, self.COUNT // 8)
+
+
+if __name__ == "__main__":
+    unittest.main()
