@@ -1,9 +1,10 @@
-"""dev/package: the Debian package and the archive, which run where they are unpacked."""
+"""dev/package: the Debian packages and the archive, which run where they are unpacked."""
 import filecmp
 import os
 import re
 import shutil
 import subprocess
+import sys
 import tarfile
 import unittest
 
@@ -14,11 +15,11 @@ HAS_OBJECT = os.path.exists(os.path.join(TOP, "crates", "scf", "out", "scf.o"))
 
 class Package(Case):
     def made(self, what, folder="made"):
-        """The file that dev/package writes."""
+        """The files that dev/package writes."""
         env = {**os.environ, "SOURCE_DATE_EPOCH": "1700000000"}
         status, out, err = self.run_words([for_developers("package"), what, folder], env=env)
         self.assertEqual((status, err), (0, ""))
-        return out.splitlines()[0]
+        return out.splitlines()
 
     def example(self, folder):
         """A profile is compiled and compared, and one filter more is told from it, by what is unpacked in a folder."""
@@ -38,8 +39,10 @@ class Package(Case):
 
     @unittest.skipUnless(shutil.which("dpkg-deb"), "there is no dpkg-deb here")
     def test_the_debian_package(self):
-        made = self.made("deb")
-        self.assertTrue(filecmp.cmp(made, self.made("deb", "again"), shallow=False))
+        made, *library = self.made("deb")
+        for one, again in zip((made, *library), self.made("deb", "again")):
+            self.assertTrue(filecmp.cmp(one, again, shallow=False), one)
+        self.packages_of_the_library(library)
         fields = dict(line.split(": ", 1) for line in self.run_words(["dpkg-deb", "-f", made])[1].splitlines()
                       if re.match(r"\w", line))
         self.assertEqual((fields["Package"], fields["Architecture"]), ("scf", "amd64"))
@@ -56,9 +59,32 @@ class Package(Case):
             self.assertEqual(set(re.findall(r"(\S+) -IS", command.read())), {"/usr/bin/python3"})
         self.example(os.path.join(root, "usr"))
 
+    def packages_of_the_library(self, made):
+        """The packages of libscf have these files, and a program is compiled and run with what they unpack."""
+        lib, root = "usr/lib/x86_64-linux-gnu", os.path.join(self.folder, "library")
+        for package, needs, wanted in (
+                ("libscf0", "libc6 ", {f"{lib}/libscf.so.0"}),
+                ("libscf-dev", "libscf0 (= ", {f"{lib}/libscf.a", f"{lib}/libscf.so", f"{lib}/pkgconfig/scf.pc",
+                                               "usr/include/scf.h"}),
+                ("python3-scf", "libscf0, python3 ", {"usr/lib/python3/dist-packages/scf.py"})):
+            path, = (it for it in made if os.path.basename(it).startswith(f"{package}_"))
+            self.assertTrue(self.run_words(["dpkg-deb", "-f", path, "Depends"])[1].startswith(needs), package)
+            listed = self.run_words(["dpkg-deb", "-c", path])[1].splitlines()
+            names = {line.split()[5].removeprefix("./") for line in listed if not line.startswith("d")}
+            self.assertEqual({it for it in names if "/doc/" not in it}, wanted)
+            self.assertEqual(self.run_words(["dpkg-deb", "-x", path, root])[0], 0)
+        self.file("version.c", "#include <scf.h>\nint main(void) { return scf_version() != SCF_VERSION; }\n")
+        folder = os.path.join(root, lib)
+        self.assertEqual(self.run_words(["cc", "-o", "version", "version.c", f"-I{root}/usr/include", f"-L{folder}",
+                                         "-lscf"]), (0, "", ""))
+        env = {**os.environ, "LD_LIBRARY_PATH": folder, "PYTHONPATH": f"{root}/usr/lib/python3/dist-packages"}
+        self.assertEqual(self.run_words(["./version"], env=env), (0, "", ""))
+        words = [sys.executable, "-B", "-c", f"import scf; print(scf.check({ret(ALLOW)!r}))"]
+        self.assertEqual(self.run_words(words, env=env), (0, "1\n", ""))
+
     @unittest.skipUnless(HAS_OBJECT, "the object file of scf wasn't kept here")
     def test_the_archive(self):
-        made = self.made("dist")
+        made, = self.made("dist")
         with tarfile.open(made) as archive:
             self.assertEqual({(it.uid, it.gid, it.mtime) for it in archive}, {(0, 0, 1700000000)})
             archive.extractall(self.folder)
@@ -72,7 +98,10 @@ class Package(Case):
             listed = set(re.findall(r"^FileName: \./(.*)$", file.read(), re.M))
         self.assertEqual(listed | {"scf.spdx"}, summed)
         # (it has no dynamic section)
-        self.assertNotIn("NEEDED", self.run_words(["readelf", "-d", os.path.join(folder, "lib", "scf", "program", "scf")])[1])
+        program = os.path.join(folder, "lib", "scf", "program", "scf")
+        self.assertNotIn("NEEDED", self.run_words(["readelf", "-d", program])[1])
+        self.assertLessEqual({"include/scf.h", "lib/libscf.a", "lib/libscf.so.0", "lib/pkgconfig/scf.pc",
+                              "lib/python3/dist-packages/scf.py"}, listed)
         self.example(folder)
 
     def test_usage(self):
