@@ -52,8 +52,9 @@ def header_numbers(prefix):
 def fault_lines():
     """The faults of docs/FAULTS.md that the library may have: for a source and a kind, the names of the numbers."""
     sources = {name.lower() for name in header_numbers("SOURCE_")}
+    lines = " ".join(row.split("|")[1] for row in re.findall(r"^\| `fault .*$", read(TOP, "docs", "FAULTS.md"), re.M))
     return {(source, kind): numbers.replace(" N", "").split() or (["entry"] if entry else [])
-            for source, kind, numbers, entry in LINES.findall(read(TOP, "docs", "FAULTS.md")) if source in sources}
+            for source, kind, numbers, entry in LINES.findall(lines) if source in sources}
 
 
 class Built(Case):
@@ -272,7 +273,7 @@ class Alike(Case):
     def changed(self, data):
         """The bytes, most of the time with a few of them changed."""
         data = bytearray(data)
-        for _ in range(self.random.choice((0, 1, 1, 2, 4))):
+        for _ in range(self.random.choice((0, 0, 0, 0, 1, 1, 3))):
             at = self.random.randrange(len(data) + 1)
             how = self.random.randrange(6)
             if how == 0:

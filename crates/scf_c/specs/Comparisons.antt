@@ -61,8 +61,8 @@ IsCompared Filters filters right asked limit finding text =
     VerifiesBeside asked.relation (known filters) (known right.filters.now) asked.scope limit (Ok finding)
     × (text ≡ finding_text asked.relation beside_word finding)
 
--- Why they aren't compared: for the first fault of an input, or out of memory, which may come at any time. It isn't that
--- they can't be read.
+-- Why they aren't compared: for the first fault of an input, or out of memory, which may come at any time. It isn't
+-- that they can't be read.
 abbrev pub IsComparisonRefused : RightKind → List Bytes → RightSide → Refusal → Type 0
 IsComparisonRefused kind filters right (Verify Memory) = Unit {0}
 IsComparisonRefused Profile filters right (Verify why) =
