@@ -472,7 +472,8 @@ class Real(Confined):
         child, fifo = self.stuck([OLDEST])
         said = subprocess.run([sys.executable, "-c", TRY, os.path.dirname(os.path.dirname(processes.__file__)),
                                str(child.pid), "2"], stdout=subprocess.PIPE, text=True, check=True).stdout
-        self.assertEqual(said, f"process {child.pid} didn't stop within 1.8 seconds: its state is D (disk sleep)\n")
+        self.assertRegex(said, rf"\Aprocess {child.pid} didn't stop within 1\.[0-9]+ seconds: its state is D "
+                               r"\(disk sleep\)\n\Z")
         with open(fifo, "wb"):
             self.wait_for(child.pid, "S")
             self.runs_on(child)
