@@ -319,12 +319,12 @@ class Names(unittest.TestCase):
 
     def test_each_name_stands_in_the_sources(self):
         words = set()
-        for top in ("crates", "tools", "bench"):
+        for top in ("crates", "library", "tools", "bench"):
             for at, folders, files in os.walk(os.path.join(TOP, top)):
                 folders[:] = [name for name in folders if name not in ("out", "tests")]
                 words.update(re.findall(r"\w+", " ".join([at, *files])))
                 for name in files:
-                    if name.endswith((".rt", ".antt")) or name == "run":
+                    if name.endswith((".rt", ".antt", ".h")) or name == "run":
                         words.update(re.findall(r"\w+", text_of(at, name)))
         for page in ("TRUST.md", "ARCHITECTURE.md", "DECISIONS.md"):
             for name in re.findall(r"`([a-z]+(?:_[a-z0-9]+)+|[A-Z]\w+)`", text_of("docs", page)):
