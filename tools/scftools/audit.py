@@ -8,7 +8,6 @@ compared once, by scf.
 from __future__ import annotations
 
 import glob
-import hashlib
 import json
 import os
 import time
@@ -46,6 +45,12 @@ MOST_KNOWN = 2000
 STRICT = "it is in seccomp's strict mode, which no profile expresses"
 
 
+def _sha256(data: bytes) -> str:
+    import hashlib  # pylint: disable=import-outside-toplevel
+
+    return hashlib.sha256(data).hexdigest()
+
+
 @dataclass(frozen=True)
 class Expected:
     """What is expected of a row's processes: a profile, or nothing; and where that comes from."""
@@ -58,7 +63,7 @@ class Expected:
     @property
     def digest(self) -> str | None:
         """The SHA-256 of the profile as scf is given it."""
-        return hashlib.sha256(self.asked.profile).hexdigest() if self.asked is not None else None
+        return _sha256(self.asked.profile) if self.asked is not None else None
 
 
 @dataclass(frozen=True)
@@ -164,7 +169,7 @@ class Audit:
 
 def stack_digest(stack: Stack) -> str:
     """The SHA-256 of a stack, as the bundle of its filters."""
-    return hashlib.sha256(bundles.of_stack(stack.filters)).hexdigest()
+    return _sha256(bundles.of_stack(stack.filters))
 
 
 class Judge:

@@ -17,8 +17,8 @@ FOLDER = os.path.join(TOP, "tools", "scftools")
 # What is dear to import and rarely needed: each is imported where it is.
 # (what takes long is never imported at the start of a tool: Python's dataclasses import inspect)
 DEAR = {"dataclasses", "inspect", "typing"}
-LATE = {"ctypes", "difflib", "importlib", "json", "pickle", "resource", "shlex", "signal", "subprocess", "syslog",
-        "tempfile", "threading"}
+LATE = {"ctypes", "difflib", "hashlib", "importlib", "json", "pickle", "resource", "shlex", "signal", "subprocess",
+        "syslog", "tempfile", "threading"}
 
 
 def modules():
