@@ -76,7 +76,8 @@ class Asker:
         """The verdict on whether every syscall of a scope is denied but those with these names."""
         entries = [{"names": names, "action": "SCMP_ACT_ALLOW"}] if names else []
         profile = json.dumps({"defaultAction": "SCMP_ACT_KILL_PROCESS", "syscalls": entries}).encode()
-        done = client.compare([*SCOPES[scope], *RELATIONS[NO_MORE]], bundles.of_comparison(self.filters, profile, table), self.limit)
+        bundle = bundles.of_comparison(self.filters, profile, table)
+        done = client.compare([*SCOPES[scope], *RELATIONS[NO_MORE]], bundle, self.limit)
         return verdicts.report(done.text).verdict
 
     def decided(self, call: Call) -> Answer | None:
