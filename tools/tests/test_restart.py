@@ -21,29 +21,30 @@ DENIALS = (KILL_PROCESS, KILL_THREAD, EPERM, TRAP, USER_NOTIF, TRACE)
 # asm/unistd_64.h, asm/unistd_32.h
 NANOSLEEP, POLL, PAUSE, MKDIR, FUTEX, RESTART = 35, 7, 34, 83, 202, 219
 NANOSLEEP_32, POLL_32, FUTEX_32, CLOCK_NANOSLEEP_32, RESTART_32 = 162, 168, 240, 267, 0
-WAIT = 0.9
-# What a child waits with for 0.9 seconds: a timespec, a timeval, a word that is 0; and i386 calls, made by int 0x80:
+# Seconds that a child waits: long enough to be looked at on a machine that is busy.
+WAIT = 3
+# What it waits with: a timespec, a timeval, a word that is 0; and i386 calls, made by int 0x80:
 # (number, arguments ..) -> result, with a timespec of 32 bits, and the word behind it, below 4 GiB.
 MADE = """
 import mmap, struct, time
-ts, tv, word = struct.pack('qq', 0, 900000000), struct.pack('qq', 0, 900000), ctypes.create_string_buffer(4)
+ts, tv, word = struct.pack('qq', WAIT, 0), struct.pack('qq', WAIT, 0), ctypes.create_string_buffer(4)
 page = mmap.mmap(-1, 4096, mmap.MAP_PRIVATE | mmap.MAP_ANONYMOUS | 0x40, 7)
 page[:24] = bytes.fromhex('5355 89f8 89f3 4489c6 4489cf 87d1 31ed cd80 5d5b c3').ljust(24, b'\\\\0')
 place = ctypes.addressof(ctypes.c_char.from_buffer(page))
-page[2048:2060] = struct.pack('iii', 0, 900000000, 0)
+page[2048:2060] = struct.pack('iii', WAIT, 0, 0)
 made = ctypes.CFUNCTYPE(ctypes.c_int, *[ctypes.c_long] * 6)(place)
 i386 = lambda number, *words: made(number, *words, *[0] * (5 - len(words)))
 wait = library.syscall
-""".strip().replace("\n", "\\n")
+""".strip().replace("WAIT", str(WAIT)).replace("\n", "\\n")
 # The calls that go on by restart_syscall, with what each returns and its errno when its time is over.
 RESTARTED = {
     "nanosleep": (NANOSLEEP, f"wait({NANOSLEEP}, ts, None)", 0, 0),
     "clock_nanosleep": (230, "wait(230, 1, 0, ts, None)", 0, 0),
-    "poll": (POLL, f"wait({POLL}, None, 0, 900)", 0, 0),
+    "poll": (POLL, f"wait({POLL}, None, 0, {WAIT * 1000})", 0, 0),
     "futex": (FUTEX, f"wait({FUTEX}, word, 128, 0, ts, None, 0)", -1, errno.ETIMEDOUT),
     "nanosleep of i386": (NANOSLEEP_32, f"i386({NANOSLEEP_32}, place + 2048)", 0, 0),
     "clock_nanosleep of i386": (CLOCK_NANOSLEEP_32, f"i386({CLOCK_NANOSLEEP_32}, 1, 0, place + 2048)", 0, 0),
-    "poll of i386": (POLL_32, f"i386({POLL_32}, 0, 0, 900)", 0, 0),
+    "poll of i386": (POLL_32, f"i386({POLL_32}, 0, 0, {WAIT * 1000})", 0, 0),
     "futex of i386": (FUTEX_32, f"i386({FUTEX_32}, place + 2056, 128, 0, place + 2048)", -errno.ETIMEDOUT, 0),
 }
 # Those that begin anew, with the time that is left, whatever filters say; and those that end with EINTR.
@@ -52,7 +53,8 @@ BEGIN_ANEW = {
     "select": (23, "wait(23, 0, None, None, None, ctypes.create_string_buffer(tv))", 0, 0),
 }
 END = {
-    "epoll_wait": (232, "wait(232, library.epoll_create(1), ctypes.create_string_buffer(12), 1, 500)", -1, errno.EINTR),
+    "epoll_wait": (232, f"wait(232, library.epoll_create(1), ctypes.create_string_buffer(12), 1, {WAIT * 1000})", -1,
+                   errno.EINTR),
     "semtimedop": (220, "wait(220, library.semget(0, 1, 0o600), struct.pack('hhh', 0, -1, 0), 1, ts)", -1, errno.EINTR),
 }
 CALLS = {**RESTARTED, **BEGIN_ANEW, **END}
@@ -69,7 +71,7 @@ PROGRAM_32 = """
 int main(int argc, char **argv)
 {
     static struct sock_filter insns[4096];
-    struct timespec wanted = {0, 900000000};
+    struct timespec wanted = {WAIT, 0};
     if (argc < 2)
         return 0;
     struct sock_fprog program = {read(open(argv[1], O_RDONLY), insns, sizeof insns) / 8, insns};
@@ -177,8 +179,8 @@ class Restarts(Confined):
     def test_another_thread_than_the_main_one(self):
         for answer in (KILL_PROCESS, KILL_THREAD):
             child = self.child([denying(answer)])
-            self.do(child, "threading.Thread(target=lambda: print(threading.get_native_id(), library.usleep(900000), "
-                           "flush=True)).start()")
+            self.do(child, "threading.Thread(target=lambda: print(threading.get_native_id(), "
+                           f"library.usleep({WAIT * 1000000}), flush=True)).start()")
             self.assertTrue(comes(lambda child=child: len(os.listdir(f"/proc/{child.pid}/task")) == 2))
             other = next(int(it) for it in os.listdir(f"/proc/{child.pid}/task") if int(it) != child.pid)
             self.assertTrue(comes(lambda other=other: self.call_of(other) in (NANOSLEEP, 230)))
@@ -189,9 +191,10 @@ class Restarts(Confined):
     def test_a_filter_that_looks_at_arguments(self):
         """It allows restart_syscall behind one call, and not behind another: each thread goes on by its own."""
         # (the third argument's low half: linux/seccomp.h)
-        child = self.child([load(0) + jeq(RESTART, 1, 0) + ret(ALLOW) + load(32) + jeq(900, 0, 1) + ret(ALLOW)
+        child = self.child([load(0) + jeq(RESTART, 1, 0) + ret(ALLOW) + load(32) + jeq(WAIT * 1000, 0, 1) + ret(ALLOW)
                             + ret(KILL_PROCESS)])
-        self.do(child, "threading.Thread(target=lambda: print(library.syscall(7, None, 0, 901), flush=True)).start()")
+        self.do(child, f"threading.Thread(target=lambda: print(library.syscall({POLL}, None, 0, {WAIT * 1000 + 1}), "
+                       f"flush=True)).start()")
         self.assertTrue(comes(lambda child=child: len(os.listdir(f"/proc/{child.pid}/task")) == 2))
         other = next(int(it) for it in os.listdir(f"/proc/{child.pid}/task") if int(it) != child.pid)
         self.waits(child, *CALLS["poll"][1::-1])
@@ -204,8 +207,9 @@ class Restarts(Confined):
     def test_a_program_of_i386(self):
         source = self.file("sleep.c", PROGRAM_32)
         program, given = os.path.join(self.folder, "sleep"), self.file("f", denying(KILL_PROCESS))
-        if subprocess.run(["cc", "-m32", "-o", program, source], check=False, stderr=subprocess.DEVNULL,
-                          stdout=subprocess.DEVNULL).returncode or subprocess.run([program], check=False).returncode:
+        words = ["cc", "-m32", f"-DWAIT={WAIT}", "-o", program, source]
+        if subprocess.run(words, check=False, stderr=subprocess.DEVNULL, stdout=subprocess.DEVNULL).returncode \
+                or subprocess.run([program], check=False).returncode:
             self.skipTest("no program of i386 can be made and run here")
         with subprocess.Popen([program, given], stdout=subprocess.PIPE, text=True) as child:
             self.assertEqual(child.stdout.readline(), "begins\n")
