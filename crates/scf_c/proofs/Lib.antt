@@ -1,3 +1,4 @@
 mod ComparisonLemmas
 mod ReadingLemmas
 mod StackLemmas
+mod TableLemmas

@@ -1,5 +1,5 @@
 -- Comparisons from the caller's bytes: what they come to, and what is handed out of it.
-use Rattle.std.specs.Prelude.{◌≡◌, ℕ, List, Some, Ok}
+use Rattle.std.specs.Prelude.{◌≡◌, ℕ, List, Some, Ok, map}
 use Rattle.scf_profile.specs.declared.relation.Relation.{Relation}
 use Rattle.scf_compare.specs.Verdicts.{finding_of}
 use Rattle.scf_compare.specs.declared.finding.Finding.{Finding}
@@ -8,11 +8,12 @@ use Rattle.scf_compare.specs.declared.finding.Which.{Which}
 use Rattle.scf_compare.specs.declared.finding.Which.TheVariants.{Left, Right}
 use Rattle.scf_request.specs.declared.request.Limits.{Limits}
 use Rattle.scf_tool.specs.CallReports.{calls_text, findings_text}
-use Rattle.scf_tool.specs.Commands.{NoReadFailed}
+use Rattle.scf_tool.specs.Commands.{NoReadFailed, known_text}
 use Rattle.scf_tool.specs.Reports.{beside_word, finding_text, report_text}
+use Rattle.scf_tool.specs.VerifyingArchitectures.{AreProfilesRefused, VerifiesArchitectures}
 use Rattle.scf_tool.specs.VerifyingBeside.{AreVerifiedBeside, IsRefusedPair, IsTableFault, VerifiesBeside}
 use Rattle.scf_tool.specs.VerifyingCalls.{AreVerifiedCalls}
-use Rattle.scf_tool.specs.VerifyingStacks.{IsRefusedStack, IsVerifiedBy}
+use Rattle.scf_tool.specs.VerifyingStacks.{IsRefusedBehind, IsRefusedStack, IsVerifiedBy}
 use Rattle.scf_tool.specs.declared.call_verification.CallFinding.{CallFinding}
 use Rattle.scf_tool.specs.declared.call_verification.CallsOutcome.{CallsOutcome}
 use Rattle.scf_tool.specs.declared.verification.Outcome.{Outcome}
@@ -22,11 +23,13 @@ use Rattle.scf_c.specs.declared.layout.Bytes.{Bytes}
 use Rattle.scf_c.specs.declared.layout.CallComparison.{CallComparison}
 use Rattle.scf_c.specs.declared.layout.Comparison.{Comparison}
 use Rattle.scf_c.specs.declared.layout.RightSide.{RightSide}
+use Rattle.scf_c.specs.declared.layout.Table.{Table}
 use Rattle.scf_c.specs.declared.question.Asked.{Asked}
 use Rattle.scf_c.specs.declared.question.RightKind.{RightKind}
 use Rattle.scf_c.specs.declared.question.RightKind.TheVariants.{Profile, Filters}
 use Rattle.scf_c.specs.declared.refusal.Refusal.{Refusal}
 use Rattle.scf_c.specs.declared.refusal.Refusal.TheVariants.{Verify, Beside}
+use Rattle.scf_c.specs.Architectures.{texts_of}
 use Rattle.scf_c.specs.Layout.{call_of, known, no_call}
 
 -- ---- findings as numbers
@@ -74,6 +77,23 @@ IsComparisonRefused Filters filters right (Beside why) =
     IsRefusedPair (known filters) (known right.filters.now) (λ behind. behind ≡ Memory) (besides.Beside why)
     × NoReadFailed why
 IsComparisonRefused kind filters right why = ⊥
+
+-- ---- a comparison for several architectures
+
+-- The filters and the profile, from their bytes, come to this finding over the records of the architectures that have a
+-- table, and these are the printed lines of it.
+abbrev pub IsComparedEach : Relation → List Bytes → List ℕ → List Table → ℕ → Finding → List ℕ → Type 0
+IsComparedEach relation filters profile tables limit finding text = (outcome : Outcome)
+    × VerifiesArchitectures relation (known filters) (map known_text (texts_of tables)) (Some profile) limit (Ok outcome)
+    × (finding ≡ finding_of outcome.verdict) × (text ≡ report_text relation outcome)
+
+-- why they aren't compared
+abbrev pub IsEachRefused : List Bytes → List ℕ → List Table → Refusal → Type 0
+IsEachRefused filters profile tables (Verify Memory) = Unit {0}
+IsEachRefused filters profile tables (Verify why) =
+    IsRefusedBehind (known filters) (AreProfilesRefused (map known_text (texts_of tables)) (Some profile)) why
+    × NoReadFailed why
+IsEachRefused filters profile tables why = ⊥
 
 -- ---- a comparison call by call
 

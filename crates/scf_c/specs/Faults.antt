@@ -139,6 +139,7 @@ load_fault (loads.RepeatedIndex entry) = in_entry 31 entry
 load_fault (loads.Errno entry) = in_entry 32 entry
 load_fault (loads.ErrnoRange entry) = in_entry 33 entry
 load_fault (loads.NoX8664 entry) = in_entry 34 entry
+load_fault (loads.NotListed table) = at_index of_profile 39 table
 load_fault (loads.EngineForm entry) = in_entry 35 entry
 load_fault loads.TooMany = plain of_profile too_many_kind
 load_fault (loads.Conflict number first second) =

@@ -1,3 +1,4 @@
+pub mod Architectures
 pub mod Comparisons
 pub mod Faults
 pub mod Filters

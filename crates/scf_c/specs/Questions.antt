@@ -3,7 +3,7 @@ use Rattle.std.specs.Prelude.{◌≡◌, ℕ, [], ◌∷◌}
 use Rattle.scf_profile.specs.declared.relation.Relation.{Relation}
 use Rattle.scf_profile.specs.declared.relation.Relation.TheVariants.{Same, NoMore, NoLess, SameDisposition}
 use Rattle.scf_profile.specs.declared.scope.Scope.{Scope}
-use Rattle.scf_profile.specs.declared.scope.Scope.TheVariants.{All, Native, Call, Numbers}
+use Rattle.scf_profile.specs.declared.scope.Scope.TheVariants.{All, Native, Call, Numbers, Of}
 use Rattle.scf_request.specs.declared.request.Limits.{Limits}
 use Rattle.scf_c.specs.declared.layout.Question.{Question}
 use Rattle.scf_c.specs.declared.layout.RightSide.{RightSide}
@@ -15,11 +15,13 @@ abbrev pub native_calls : ℕ
 native_calls = 1
 
 -- A question is over the records of a scope: all, the x86-64 ones, those with one number, or with a number of a range.
+-- It is never over those of one other architecture.
 abbrev pub IsOver : Question → Scope → Type 0
 IsOver question All = question.scope ≡ 0
 IsOver question Native = question.scope ≡ native_calls
 IsOver question (Call number) = (question.scope ≡ 2) × (question.first ≡ number)
 IsOver question (Numbers first last) = (question.scope ≡ 3) × (question.first ≡ first) × (question.last ≡ last)
+IsOver question (Of architecture) = ⊥
 
 abbrev pub relation_number : Relation → ℕ
 relation_number Same = 0

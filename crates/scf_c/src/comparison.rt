@@ -36,7 +36,7 @@ pub(crate) struct Compared {
 }
 
 /// The finding that a verdict is.
-fn finding_of(verdict: &Verdict) -> Finding
+pub(crate) fn finding_of(verdict: &Verdict) -> Finding
     ensures { result ≡ finding_of verdict.now }
 {
     match verdict {

@@ -165,6 +165,7 @@ fn load_fault(fault: LoadFault) -> Fault
         LoadFault::Errno { entry } => in_entry(32, entry),
         LoadFault::ErrnoRange { entry } => in_entry(33, entry),
         LoadFault::NoX8664 { entry } => in_entry(34, entry),
+        LoadFault::NotListed { table } => at_index(OF_PROFILE, 39, table),
         LoadFault::EngineForm { entry } => in_entry(35, entry),
         LoadFault::TooMany => plain(OF_PROFILE, TOO_MANY),
         LoadFault::Conflict {

@@ -111,6 +111,17 @@ pub struct RightSide<'a> {
     pub table: &'a [u8],
 }
 
+/// A syscall table, and the architecture whose syscalls it numbers.
+#[repr(C)]
+pub struct Table<'a> {
+    /// 1 for x86-64, 2 for i386, 3 for x32, 4 for aarch64, 5 for arm.
+    pub architecture: u32,
+    /// 0, until it has a meaning.
+    pub reserved: u32,
+    /// x32's has its numbers without the bit 0x40000000.
+    pub bytes: &'a [u8],
+}
+
 /// What a comparison comes to.
 #[repr(C)]
 #[derive(Clone, Copy)]

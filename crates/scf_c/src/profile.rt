@@ -97,7 +97,14 @@ pub extern "C" fn scf_compile(
     }
 }
 
-fn numbered(reason: Reason) -> ProfileReason
+/// What is handed out where nothing is answered.
+pub(crate) fn no_reason() -> ProfileReason
+    ensures { result ≡ no_reason }
+{
+    ProfileReason { kind: 0, entry: 0 }
+}
+
+pub(crate) fn numbered(reason: Reason) -> ProfileReason
     ensures { result ≡ reason_of reason }
 {
     match reason {
@@ -126,7 +133,7 @@ pub extern "C" fn scf_ask(
         × (answer.new ≡ 0) × (reason.new ≡ no_reason) }
 {
     *answer = 0;
-    *reason = ProfileReason { kind: 0, entry: 0 };
+    *reason = no_reason();
     *fault = no_fault();
     match loaded(alloc, profile, table) {
         Ok(loaded) => {

@@ -52,7 +52,8 @@ fn scope_of(question: &Question) -> Option<Scope>
     }
 }
 
-fn relation_of(number: u32) -> Option<Relation>
+/// The relation with this number.
+pub(crate) fn relation_of(number: u32) -> Option<Relation>
     ensures { MatchOption result ((relation : Relation) → number ≢ relation_number relation)
         (λ relation. number ≡ relation_number relation) }
 {

@@ -23,3 +23,7 @@ at_least x v e = grind arith
 
 pub below : (x v : ℕ) → leb v x ≡ false → x < v
 below x v e = grind arith
+
+pub ruleset word_answers = (word_is, word_isnt, at_least, below)
+
+pub ruleset whole_words = (whole_word, word_below, word_is)

@@ -11,12 +11,15 @@ pub use Rattle.scf_facts.proofs.Common.{All-push, IsSameLevel, and_assoc, and_co
 pub use Rattle.scf_facts.proofs.HighMasks.{beyond_mask, of_multiple, one_more}
 pub use Rattle.scf_facts.proofs.MaskLaws.{beyond_rest}
 pub use Rattle.scf_facts.specs.declared.atom.Atom.{Atom}
-pub use Rattle.scf_facts.specs.declared.atom.Atom.TheVariants.{Eq, Ge, Gt}
 pub use Rattle.scf_facts.specs.declared.word_facts.WordFacts.{Ghosts as Store}
 pub use Rattle.scf_insn.proofs.CallWords.{IsRecord-call_of, IsWords-words_of, call_of-words_of, word_below, words_of-call_of}
-pub use Rattle.scf_insn.proofs.Common.{drop-drop, IsRecord, IsSimpleMask, IsWords, and_shr, argument, bpf_memwords, call_of, disposition_of, mul-le-mul_left, permissiveness_of, rank_of, words_of, x32_syscall_bit}
+pub use Rattle.scf_insn.proofs.Common.{drop-drop, IsRecord, IsSimpleMask, IsWords, and_shr, argument, bpf_memwords, call_of, disposition_of, mul-le-mul_left, permissiveness_of, rank_of, words_of}
 unfoldable pub use Rattle.scf_insn.proofs.Common.{operation_of}
 pub use Rattle.scf_insn.proofs.Halves.{argument_high, argument_low}
+pub use Rattle.scf_insn.specs.Architectures.{IsOf, argument_in, row_of, taken_of}
+pub use Rattle.scf_insn.specs.declared.architecture.Architecture.{Architecture}
+pub use Rattle.scf_insn.specs.declared.architecture.ArgumentBits.{ArgumentBits}
+pub use Rattle.scf_insn.specs.declared.architecture.ArgumentBits.TheVariants.{Bits32, Bits64}
 pub use Rattle.scf_insn.specs.declared.answer.Answer.{Answer}
 pub use Rattle.scf_insn.specs.declared.answer.Disposition.{Disposition}
 pub use Rattle.scf_insn.specs.declared.insn.Insn.{Insn}
@@ -31,7 +34,7 @@ pub use Rattle.scf_machine.proofs.Common.{Ends, Fault, Faults, Goes, IsFine, IsP
 pub use Rattle.scf_machine.proofs.Runs.{fine_of, run_length, runs_safely, same_insn}
 pub use Rattle.scf_machine.proofs.Stacks.{one_answers, stack_answer_once}
 pub use Rattle.scf_profile.proofs.Answering.{one_answer}
-pub use Rattle.scf_profile.proofs.Common.{All-from_recursion, IsNative, IsRule, get_or-take, AreNumbersOf, All-cons, All-contains, All-nil, AnswersRelated, HaveNoConflict, IfOk-weaker, IsPlainCondition, IsPlainRule, Profile, ProfileAnswers, SameAnswers, all_hold, and_le_l, by_default, by_rule, cases_Bool, le-ltb, meets, ne_eqb, or_comm, or_lt, rules_of}
+pub use Rattle.scf_profile.proofs.Common.{All-from_recursion, IsRule, get_or-take, AreNumbersOf, All-cons, All-contains, All-nil, AnswersRelated, HaveNoConflict, IfOk-weaker, IsPlainCondition, IsPlainRule, Profile, ProfileAnswers, SameAnswers, all_hold, and_le_l, by_default, by_rule, cases_Bool, le-ltb, meets, ne_eqb, or_comm, or_lt, rules_of}
 pub use Rattle.scf_profile.proofs.NumberLists.{number_among, numbers_rise, own_all, sum_of_own}
 pub use Rattle.scf_profile.proofs.Numbers.{contains_filtered}
 pub use Rattle.scf_profile.specs.declared.condition.Condition.{Condition}
@@ -43,8 +46,8 @@ pub use Rattle.scf_compare.specs.Paths.{size_of_insn, tree_size}
 unfoldable pub use Rattle.scf_compare.specs.Paths.{tree_sizes}
 pub use Rattle.scf_profile.specs.Relation.{IsRelated}
 pub use Rattle.scf_profile.specs.Scope.{IsInScope, RelatedAnswersIn, SameAnswersIn}
-pub use Rattle.scf_compare.specs.Findings.{AllRelated, Compared, IsFindingDecided, IsTrueFinding, WordsRelated, compared_in, compared_sides}
-pub use Rattle.scf_compare.specs.Sides.{Behavior, CanEndAt, StackCanEndAt, behavior_of, profile_behavior, stack_behavior}
+pub use Rattle.scf_compare.specs.Findings.{AllRelated, Compared, IsFindingDecided, IsTrueFinding, compared_in}
+pub use Rattle.scf_compare.specs.Sides.{CanEndAt, StackCanEndAt, behavior_of, profile_behavior, stack_behavior}
 pub use Rattle.scf_compare.specs.Verdicts.{IsDecided, IsTrueBy, IsTrueOf, IsTrueOfStackBy, finding_of}
 pub use Rattle.scf_compare.specs.declared.asking.Atoms.{Atoms}
 pub use Rattle.scf_compare.specs.declared.comparison.PairLeaf.{PairLeaf}
@@ -60,7 +63,6 @@ pub use Rattle.scf_compare.specs.declared.registers.KnownRegisters.{KnownRegiste
 pub use Rattle.scf_profile.specs.declared.relation.Relation.{Relation}
 pub use Rattle.scf_profile.specs.declared.relation.Relation.TheVariants.{NoLess, NoMore, Same}
 pub use Rattle.scf_profile.specs.declared.scope.Scope.{Scope}
-pub use Rattle.scf_profile.specs.declared.scope.Scope.TheVariants.{Call, Native, Numbers}
 pub use Rattle.scf_compare.specs.declared.side.Side.{Side}
 pub use Rattle.scf_compare.specs.declared.side_tree.SideLeaf.{SideLeaf}
 pub use Rattle.scf_compare.specs.declared.stack.StackNode.TheVariants.{At}
@@ -78,7 +80,6 @@ pub use Rattle.scf_compare.specs.internal.Laws.{paths_count, scaled_costs, side_
 pub use Rattle.scf_compare.specs.internal.NumberedProfiles.{IsNumbered, NumberedProfile}
 pub use Rattle.scf_compare.specs.internal.AffineTerms.{signed_sum}
 pub use Rattle.scf_compare.specs.internal.Profiles.{IsAtCondition, IsAtRule, IsFrom, numbers_size, own_conditions, own_rules, size_behind}
-pub use Rattle.scf_compare.specs.internal.ScopeWords.{AreWordsOf, AreWordsOfX86_64}
 pub use Rattle.scf_compare.specs.internal.Stacks.{IsStackLeaf, filter_at, stack_is_node, stack_is_plain, stack_reaches, stack_size}
 pub use Rattle.scf_compare.specs.internal.Stages.{GoesOver, IsTaken, LeadsTo, finding_of_all}
 pub use Rattle.scf_compare.specs.internal.Trees.{Costs, GoesOn, StaysPlain, Tree}

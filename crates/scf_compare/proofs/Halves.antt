@@ -1,36 +1,37 @@
--- A condition on a 64-bit number by the halves of the number.
-use Rattle.scf_compare.proofs.Common.{◌≡◌, ℕ, ◌+◌, ◌*◌, true, false, List, arith, IsWords, call_of, argument, words_of-call_of, argument_low, argument_high, Condition}
-use Rattle.scf_insn.proofs.CallWords.{IsRecord-call_of}
-use Rattle.scf_profile.specs.Condition.{condition_holds}
-use Rattle.scf_profile.specs.NumberTests.{comes_to, test_of}
-use Rattle.scf_profile.proofs.NumberTests.{decides}
-use Rattle.scf_compare.specs.declared.question.Successor.{Successor}
-use Rattle.scf_compare.specs.internal.Conditions.{HasHalves, TestLeadsTo, ConditionLeadsTo, opposite_successor, successor_size}
+-- A condition on an argument by the halves of the argument.
+use Rattle.scf_compare.proofs.Common.{◌≡◌, ◌∙◌, ℕ, ◌+◌, ◌*◌, ◌<◌, ◌^◌, true, false, List, ap, arith, slice_index, Atom, atom_answer, ArgumentBits, Bits32, Bits64, taken_of, IsWords, call_of, argument, words_of-call_of, argument_low, argument_high, IsRecord-call_of}
+use Rattle.scf_facts.specs.Atoms.{answer_at, word_of}
+use Rattle.scf_compare.specs.declared.question.ConditionPart.{ConditionPart}
+use Rattle.scf_compare.specs.declared.question.ConditionPart.TheVariants.{High, Low}
+use Rattle.scf_compare.specs.internal.Conditions.{asks_of_zero, half_asked, word_asked}
 
--- ---- the words of an argument
+-- ---- the halves of an argument
 
-pub halves_of : (words : List ℕ) (i : ℕ) → IsWords words → HasHalves words (2 * i + 4) (argument (call_of words) i)
-halves_of words i w = record {
-  low_there = rw (words_of-call_of words w) at (argument_low (call_of words) i);
-  high_there = rw (words_of-call_of words w) at (argument_high (call_of words) i);
-}
+pub argument_fits : (bits : ArgumentBits) (words : List ℕ) (i : ℕ) → IsWords words
+    → taken_of bits (argument (call_of words) i) < 2 ^ 64
+argument_fits Bits32 words i w = omega arith
+argument_fits Bits64 words i w = (IsRecord-call_of words w).args i
 
--- ---- a condition by its test
+-- the half that a part asks of is a word, unless it is 0 in every argument
+module _ (words : List ℕ) (i : ℕ) (w : IsWords words) where
+  low_there : slice_index words (2 * i + 4) ≡ half_asked Low (argument (call_of words) i)
+  low_there = rw (words_of-call_of words w) at (argument_low (call_of words) i)
 
-module _ (c : Condition) (successor : Successor) (words : List ℕ) (w : IsWords words) where
-  abbrev number : ℕ
-  number = argument (call_of words) c.index
+  high_there : slice_index words (2 * i + 4 + 1) ≡ half_asked High (argument (call_of words) i)
+  high_there = rw (words_of-call_of words w) at (argument_high (call_of words) i)
 
-  decided : comes_to (test_of c) number ≡ condition_holds c number
-  decided = decides c number ((IsRecord-call_of words w).args c.index)
+  pub half_there : (bits : ArgumentBits) (part : ConditionPart) → asks_of_zero bits part ≡ false
+      → slice_index words (word_asked part (2 * i + 4)) ≡ half_asked part (taken_of bits (argument (call_of words) i))
+  half_there bits part h = grind (arith, low_there, high_there)
 
-  -- where a condition holds if its test is met, its ways are the test's
-  pub leads_to : (test_of c).1 ≡ true → TestLeadsTo (test_of c).0 successor number → ConditionLeadsTo c successor number
-  leads_to e is = grind (arith, decided)
+pub half_is_zero : (bits : ArgumentBits) (part : ConditionPart) (register : ℕ) → asks_of_zero bits part ≡ true
+    → half_asked part (taken_of bits register) ≡ 0
+half_is_zero bits part register h = grind arith
 
-  -- and else the opposite ones
-  pub on_opposite : (test_of c).1 ≡ false → TestLeadsTo (test_of c).0 successor number → ConditionLeadsTo c (opposite_successor successor) number
-  on_opposite e is = grind (arith, decided)
+-- ---- where a question leads
 
-pub opposite_size : (successor : Successor) (holds fails : ℕ) → successor_size (opposite_successor successor) holds fails ≡ successor_size successor fails holds
-opposite_size successor holds fails = grind arith
+-- an atom about the word of a half answers as it does at the half
+pub answer_there : (bits : ArgumentBits) (part : ConditionPart) (atom : Atom) (words : List ℕ) (i : ℕ) → IsWords words
+    → asks_of_zero bits part ≡ false → word_of atom ≡ word_asked part (2 * i + 4)
+    → atom_answer atom words ≡ answer_at atom (half_asked part (taken_of bits (argument (call_of words) i)))
+answer_there bits part atom words i w h is = ap (answer_at atom) (ap (slice_index words) is ∙ half_there words i w bits part h)

@@ -11,7 +11,6 @@ pub mod Orders
 pub mod Relations
 pub mod Rules
 pub mod Saturated
-pub mod ScopeFacts
 pub mod Stacks
 pub mod Stages
 pub mod Steps

@@ -10,7 +10,7 @@ all_related relation filters p scope same = grind arith
 -- the relation holds of the two answers to a call, of which there are no others
 pub related_here : (relation : Relation) (filters : List (List Insn)) (p : Profile) (call : CallRecord)
     (filter profile : ℕ)
-    → HaveNoConflict p.rules → IsRecord call
+    → HaveNoConflict p.architecture p.rules → IsRecord call
     → AnswersRelated (IsRelated relation) (StackAnswers filters) p call
     → StackAnswers filters (words_of call) filter → ProfileAnswers p call profile → IsRelated relation filter profile
 related_here relation filters p call filter profile none is_record both of_words of_profile =

@@ -1,33 +1,33 @@
 -- The rules of a profile and their conditions, one after another.
-use Rattle.scf_compare.proofs.Common.{drop-cons, ◌≡◌, ◌≢◌, ℕ, zero, suc, ◌+◌, ◌*◌, ◌<◌, Bool, true, false, eqb, List, [], ◌∷◌, ◌++◌, Some, length, take, drop, get_or, ap, ◌∙◌, arith, slice_get, All, Contains, ne_eqb, All-push, get_or_from_slice_get, add-one, slice_get_read, slice_get_within, CallRecord, argument, Condition, Rule, all_hold, meets, conditions_size, rules_size}
+use Rattle.scf_compare.proofs.Common.{drop-cons, ◌≡◌, ◌≢◌, ℕ, suc, ◌+◌, ◌*◌, ◌<◌, Bool, true, false, eqb, List, [], ◌∷◌, ◌++◌, Some, length, take, drop, get_or, ap, ◌∙◌, arith, slice_get, All, Contains, ne_eqb, All-push, get_or_from_slice_get, add-one, slice_get_read, slice_get_within, Architecture, argument_in, CallRecord, Condition, Rule, all_hold, meets, conditions_size, rules_size}
 use Rattle.std.proofs.Math.Seq.{take-suc}
+use Rattle.std.proofs.lemmas.List.Folds.{list_all_at, list_all_more}
 use Rattle.scf_profile.specs.Condition.{condition_holds}
 
--- ---- which rules a call meets
+-- ---- which rules a call of an architecture meets
 
-pub unmet_apart : (call : CallRecord) (r : Rule) → call.nr ≢ r.number → meets r call ≡ false
-unmet_apart call r apart = rw (ne_eqb call.nr r.number apart)
+module _ (architecture : Architecture) (call : CallRecord) where
+  pub unmet_apart : (r : Rule) → call.nr ≢ r.number → meets architecture r call ≡ false
+  unmet_apart r apart = rw (ne_eqb call.nr r.number apart)
 
-pub unmet_failing : (call : CallRecord) (r : Rule) → all_hold call r.conditions ≡ false → meets r call ≡ false
-unmet_failing call r fails = grind arith
+  pub unmet_failing : (r : Rule) → all_hold architecture call r.conditions ≡ false → meets architecture r call ≡ false
+  unmet_failing r fails = grind arith
 
-pub met_by : (call : CallRecord) (r : Rule) → call.nr ≡ r.number → all_hold call r.conditions ≡ true
-    → meets r call ≡ true
-met_by call r same hold = grind arith
+  pub met_by : (r : Rule) → call.nr ≡ r.number → all_hold architecture call r.conditions ≡ true
+      → meets architecture r call ≡ true
+  met_by r same hold = grind arith
 
-pub held_more : (call : CallRecord) (conditions : List Condition) (i : ℕ) (c : Condition)
-    → slice_get conditions i ≡ Some c → all_hold call (take i conditions) ≡ true
-    → condition_holds c (argument call c.index) ≡ true → all_hold call (take (suc i) conditions) ≡ true
-held_more call [] i c here before h = absurd (cc)
-held_more call (x ∷ conditions) zero c here before h = grind arith
-held_more call (x ∷ conditions) (suc i) c here before h = grind (arith, held_more call conditions i c here)
+  module _ (conditions : List Condition) (i : ℕ) (c : Condition) (here : slice_get conditions i ≡ Some c) where
+    pub held_more : all_hold architecture call (take i conditions) ≡ true
+        → condition_holds c (argument_in architecture call c.index) ≡ true
+        → all_hold architecture call (take (i + 1) conditions) ≡ true
+    held_more before h =
+        let within = slice_get_within conditions i c here in
+        rw (list_all_more _ conditions i c within, get_or_from_slice_get conditions i c c here, before) h
 
-pub fails_by : (call : CallRecord) (conditions : List Condition) (i : ℕ) (c : Condition)
-    → slice_get conditions i ≡ Some c → condition_holds c (argument call c.index) ≡ false
-    → all_hold call conditions ≡ false
-fails_by call [] i c here h = absurd (cc)
-fails_by call (x ∷ conditions) zero c here h = grind arith
-fails_by call (x ∷ conditions) (suc i) c here h = grind (arith, fails_by call conditions i c here)
+    pub fails_by : condition_holds c (argument_in architecture call c.index) ≡ false
+        → all_hold architecture call conditions ≡ false
+    fails_by h = grind (arith, list_all_at, slice_get_within, get_or_from_slice_get conditions i c c here)
 
 -- ---- indices in lists
 

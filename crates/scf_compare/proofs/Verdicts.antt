@@ -1,5 +1,5 @@
 -- A finding on filters and a profile is a verdict on them.
-use Rattle.scf_compare.proofs.Common.{Finding, SideLeaf, ◌≡◌, ◌⊎◌, ℕ, zero, suc, List, Contains, sym, arith, Option, Answer, [], ◌∷◌, Insn, Operation, words_of, call_of-words_of, words_of-call_of, IsWords-words_of, IsRecord-call_of, Profile, SameAnswers, RunAnswers, StackAnswers, one_answers, Relation, Scope, Verdict, IsRelated, IsInScope, RelatedAnswersIn, SameAnswersIn, CanEndAt, StackCanEndAt, IsTrueBy, IsTrueOf, IsTrueOfStackBy, IsDecided, AllRelated, IsTrueFinding, EndsWith, IsFilterEnd, control_flow_at, compared_in, finding_of, profile_behavior, stack_behavior, IsStackLeaf}
+use Rattle.scf_compare.proofs.Common.{Finding, SideLeaf, ◌≡◌, ◌⊎◌, ℕ, zero, suc, List, Contains, sym, arith, Option, Answer, [], ◌∷◌, Insn, Operation, call_of-words_of, Profile, SameAnswers, RunAnswers, StackAnswers, one_answers, Relation, Scope, Verdict, RelatedAnswersIn, SameAnswersIn, CanEndAt, StackCanEndAt, IsTrueOf, IsTrueOfStackBy, IsDecided, AllRelated, IsTrueFinding, EndsWith, IsFilterEnd, control_flow_at, compared_in, finding_of, profile_behavior, stack_behavior, IsStackLeaf}
 use Rattle.scf_compare.specs.internal.Leaves.{IsOnTheLeft}
 use Rattle.scf_insn.specs.declared.operation.Arithmetic.TheVariants.{Div}
 use Rattle.scf_insn.specs.declared.operation.Operand.TheVariants.{Index}

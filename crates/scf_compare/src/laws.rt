@@ -35,7 +35,7 @@ pub fn same_is_no_more_and_no_less()
 /// each: denied, delegated or allowed.
 pub fn no_more_and_no_less_is_one_disposition()
     ensures { (filters : List (List Insn)) (p : Profile) (scope : Scope) (call : CallRecord) (filter profile : ℕ)
-        → HaveNoConflict p.rules
+        → HaveNoConflict p.architecture p.rules
         → RelatedAnswersIn Relation.NoMore scope (StackAnswers filters) p
         → RelatedAnswersIn Relation.NoLess scope (StackAnswers filters) p
         → IsRecord call → IsInScope scope call

@@ -2,10 +2,12 @@
 
 ghost use Rattle.std.specs.Prelude.{◌≡◌, ◌≢◌, ◌<◌, ◌≤◌, ℕ, List, All, Contains, Some, IsTrue, length, take, drop};
 ghost use Rattle.std.specs.Prelude.{slice_get, slice_index};
-ghost use Rattle.scf_insn.specs.Words.{IsWords, argument, call_of};
+ghost use Rattle.scf_insn.specs.Architectures.{argument_in};
+ghost use Rattle.scf_insn.specs.Words.{IsWords, call_of};
 ghost use Rattle.scf_profile.specs.declared.condition.Condition.{Condition};
+ghost use Rattle.scf_profile.specs.NumberTests.{test_of};
 ghost use Rattle.scf_profile.specs.Rule.{IsRule};
-ghost use Rattle.scf_compare.specs.internal.Conditions.{ConditionLeadsTo, successor_size};
+ghost use Rattle.scf_compare.specs.internal.Conditions.{LeadsTo, successor_size};
 ghost use Rattle.scf_compare.specs.Effort.{conditions_size, rules_size};
 ghost use Rattle.scf_compare.specs.Sides.{profile_behavior};
 ghost use Rattle.scf_compare.specs.internal.Leaves.{side_leaves};
@@ -20,7 +22,6 @@ use crate::question::{ConditionPart, Successor, question_of};
 use crate::side_tree::{SideLeaf, SideTree};
 use crate::step::Step;
 use scf_facts::{Atom, Tell, WordFacts};
-use scf_insn::kernel::{AUDIT_ARCH_X86_64, X32_SYSCALL_BIT};
 use scf_insn::{Answer, CallRecord};
 use scf_profile::{FOREIGN_ANSWER, Rule};
 
@@ -38,10 +39,12 @@ pub(crate) struct ConditionPosition {
 /// A node of a profile's tree.
 #[derive(Clone, Copy)]
 pub(crate) enum ProfileNode {
-    /// Is the architecture x86-64?
+    /// Is `arch` the audit value of the profile's architecture?
     Architecture,
-    /// Is the syscall number past those of x86-64 (x32's bit or above)?
-    Range,
+    /// Is the syscall number at least the architecture's first?
+    First,
+    /// Is the syscall number past the architecture's last?
+    Last,
     /// Is the syscall number the one at this index, or one behind it?
     Number(usize),
     /// Does this part of a condition hold?
@@ -92,22 +95,32 @@ impl SideTree for ByNumber<'_> {
 
 impl ByNumber<'_> {
     /// The step from a node, for the words that the store allows.
+    #[tactic(auto, using(crate::proofs::Bits::word_answers, scf_profile::specs::ProfileAnswers::foreign))]
     fn step_from<F: WordFacts>(&self, facts: &F, node: ProfileNode) -> Step<ProfileNode, SideLeaf>
         requires { profile_is_node self.now node }
         ensures { IsStep (side_leaves (profile_behavior self.now.profile))
             (λ words. IsWords words × F.allows facts.now (F.level facts.now) words)
             (profile_tree self.now) node (profile_tree self.now) result }
     {
+        let architecture = self.profile().architecture();
         match node {
             ProfileNode::Architecture => Step::Branch(
-                Some(Atoms::One(word_is(1, AUDIT_ARCH_X86_64))),
-                ProfileNode::Range,
+                Some(Atoms::One(word_is(1, architecture.audit()))),
+                self.at_first(),
                 ProfileNode::Answer(FOREIGN_ANSWER),
             ),
-            ProfileNode::Range => Step::Branch(
+            ProfileNode::First => Step::Branch(
                 Some(Atoms::One(Atom::Ge {
                     word: 0,
-                    value: X32_SYSCALL_BIT,
+                    value: architecture.first(),
+                })),
+                self.at_last(),
+                ProfileNode::Answer(FOREIGN_ANSWER),
+            ),
+            ProfileNode::Last => Step::Branch(
+                Some(Atoms::One(Atom::Ge {
+                    word: 0,
+                    value: architecture.last() + 1,
                 })),
                 ProfileNode::Answer(FOREIGN_ANSWER),
                 ProfileNode::Number(0),
@@ -115,6 +128,34 @@ impl ByNumber<'_> {
             ProfileNode::Number(index) => self.ask_number(facts, index),
             ProfileNode::Condition(at, part) => self.ask_condition(at, part),
             ProfileNode::Answer(answer) => Step::Leaf(SideLeaf::of_profile(answer)),
+        }
+    }
+
+    /// `First`, or the node behind it if no number is below the first.
+    fn at_first(&self) -> ProfileNode
+        ensures node { profile_is_node self.now result }
+        ensures reached { (words : List ℕ) → IsWords words → profile_reaches self.now ProfileNode.First words
+            → profile_reaches self.now result words }
+        ensures size { profile_size self.now result ≤ profile_size self.now ProfileNode.First }
+    {
+        if self.profile().architecture().first() > 0 {
+            ProfileNode::First
+        } else {
+            self.at_last()
+        }
+    }
+
+    /// `Last`, or the node behind it if no number is past the last.
+    fn at_last(&self) -> ProfileNode
+        ensures node { profile_is_node self.now result }
+        ensures reached { (words : List ℕ) → IsWords words → profile_reaches self.now ProfileNode.Last words
+            → profile_reaches self.now result words }
+        ensures size { profile_size self.now result ≤ profile_size self.now ProfileNode.Last }
+    {
+        if self.profile().architecture().last() < u32::MAX {
+            ProfileNode::Last
+        } else {
+            ProfileNode::Number(0)
         }
     }
 
@@ -191,10 +232,23 @@ impl ByNumber<'_> {
         requires { number < length self.now.numbers }
         ensures own { result.now ≡ own_rules self.now.numbers number }
         ensures known { All (λ r. Contains self.now.profile.rules r) result.now }
-        ensures valid { All IsRule result.now }
+        ensures valid { All (IsRule self.now.profile.architecture) result.now }
     {
         let own = &self.numbers()[number];
         &own.rules
+    }
+
+    /// The rule of a condition.
+    fn rule_at(&self, at: ConditionPosition) -> &Rule
+        requires number { at.number < length self.now.numbers }
+        requires rule { at.rule < length (own_rules self.now.numbers at.number) }
+        ensures index { at.rule < usize.MAX }
+        ensures stands { slice_get (own_rules self.now.numbers at.number) at.rule ≡ Some result.now }
+        ensures conditions { result.now.conditions ≡ own_conditions self.now.numbers at }
+        ensures known { Contains self.now.profile.rules result.now }
+        ensures valid { IsRule self.now.profile.architecture result.now }
+    {
+        &self.rules_at(at.number)[at.rule]
     }
 
     /// The node for the rules of a number from an index on, given that none before it is met: that rule's first
@@ -229,7 +283,7 @@ impl ByNumber<'_> {
             ≤ conditions_size (drop at.condition (own_conditions self.now.numbers at))
             (size_behind self.now.numbers at) }
     {
-        let rule = &self.rules_at(at.number)[at.rule];
+        let rule = self.rule_at(at);
         if at.condition < rule.conditions.as_slice().len() {
             ProfileNode::Condition(at, ConditionPart::High)
         } else {
@@ -247,14 +301,18 @@ impl ByNumber<'_> {
         ensures { IsStep (side_leaves (profile_behavior self.now.profile)) IsWords
             (profile_tree self.now) (ProfileNode.Condition at part) (profile_tree self.now) result }
     {
-        let rule = &self.rules_at(at.number)[at.rule];
-        let conditions = rule.conditions.as_slice();
+        let conditions = self.rule_at(at).conditions.as_slice();
         let question = question_of(conditions[at.condition], part);
-        Step::Branch(
-            Some(Atoms::One(question.atom)),
-            self.follow(at, question.if_true),
-            self.follow(at, question.if_false),
-        )
+        let bits = self.profile().architecture().argument_bits();
+        if part.asks_of_zero(bits) {
+            Step::Next(self.follow(at, question.successor_at_zero()))
+        } else {
+            Step::Branch(
+                Some(Atoms::One(question.atom)),
+                self.follow(at, question.if_true),
+                self.follow(at, question.if_false),
+            )
+        }
     }
 
     /// The node to which a successor of a condition leads.
@@ -263,20 +321,21 @@ impl ByNumber<'_> {
         requires rule { at.rule < usize.MAX }
         requires condition { at.condition < usize.MAX }
         ensures node { profile_is_node self.now result }
-        ensures reached { (words : List ℕ) (condition : Condition)
+        ensures reached { (words : List ℕ) (condition : Condition) → IsWords words
             → slice_get (own_conditions self.now.numbers at) at.condition ≡ Some condition
             → IsAtCondition self.now at (call_of words)
-            → ConditionLeadsTo condition successor (argument (call_of words) condition.index)
+            → LeadsTo (test_of condition) successor
+            (argument_in self.now.profile.architecture (call_of words) condition.index)
             → profile_reaches self.now result words }
         ensures size { profile_size self.now result
             ≤ successor_size successor (size_of_rest self.now.numbers at) (size_behind self.now.numbers at) }
     {
         match successor {
-            Successor::Holds => self.next_condition(ConditionPosition {
+            Successor::Decided(true) => self.next_condition(ConditionPosition {
                 condition: at.condition + 1,
                 ..at
             }),
-            Successor::Fails => self.next_rule(at.number, at.rule + 1),
+            Successor::Decided(false) => self.next_rule(at.number, at.rule + 1),
             Successor::Then(part) => ProfileNode::Condition(at, part),
         }
     }

@@ -1,20 +1,19 @@
-//! Conditions on 64-bit arguments as questions about 32-bit words.
+//! Conditions on arguments as questions about 32-bit words.
 
-ghost use Rattle.std.specs.Prelude.{◌≡◌, ◌<◌, ℕ, List};
+ghost use Rattle.std.specs.Prelude.{◌≡◌, ◌+◌, ◌*◌, ◌<◌, ◌^◌, ℕ};
 ghost use Rattle.scf_insn.specs.Kernel.{seccomp_data_args};
-ghost use Rattle.scf_insn.specs.Words.{IsWords};
 ghost use Rattle.scf_facts.specs.Atoms.{word_of};
-ghost use Rattle.scf_profile.specs.NumberTests.{IsPlainTest};
+ghost use Rattle.scf_profile.specs.NumberTests.{IsPlainTest, test_of};
 ghost use Rattle.scf_profile.specs.PlainProfile.{IsPlainCondition};
 ghost use Rattle.scf_compare.specs.declared.asking.Atoms.TheVariants.{One};
-ghost use Rattle.scf_compare.specs.internal.Conditions.{CostsAt, HasHalves, IsAtTest, SplitsAt, SplitsTest, opposite_successor};
+ghost use Rattle.scf_compare.specs.internal.Conditions.{CostsAt, IsAtTest, Splits, asks_of_zero, successor_at_zero, word_asked};
 ghost use Rattle.scf_compare.specs.internal.Asking.{KeepsEither};
 
 use crate::asking::word_is;
 use ConditionPart::{Above, Low};
-use Successor::{Fails, Holds, Then};
+use Successor::{Decided, Then};
 use scf_facts::Atom;
-use scf_insn::{high_half, low_half};
+use scf_insn::{ArgumentBits, high_half, low_half};
 use scf_profile::{Condition, NumberTest};
 
 /// Which part of a condition is asked.
@@ -28,13 +27,23 @@ pub(crate) enum ConditionPart {
     Low,
 }
 
+impl ConditionPart {
+    /// Whether it asks of the high half of an argument of 32 bits: that half is 0, whatever its word is.
+    pub(crate) fn asks_of_zero(self, bits: ArgumentBits) -> bool
+        ensures { result ≡ asks_of_zero bits self }
+    {
+        match self {
+            ConditionPart::High | ConditionPart::Above => bits == ArgumentBits::Bits32,
+            ConditionPart::Low => false,
+        }
+    }
+}
+
 /// Where the answer to a question leads.
 #[derive(Clone, Copy)]
 pub(crate) enum Successor {
-    /// The condition holds.
-    Holds,
-    /// The condition fails.
-    Fails,
+    /// It is decided whether the condition holds.
+    Decided(bool),
     /// Another part has to be asked.
     Then(ConditionPart),
 }
@@ -45,6 +54,19 @@ pub(crate) struct Question {
     pub(crate) atom: Atom,
     pub(crate) if_true: Successor,
     pub(crate) if_false: Successor,
+}
+
+impl Question {
+    /// Where the answer leads if the half is 0.
+    pub(crate) fn successor_at_zero(self) -> Successor
+        ensures { result ≡ successor_at_zero self }
+    {
+        if self.atom.answer(0) {
+            self.if_true
+        } else {
+            self.if_false
+        }
+    }
 }
 
 /// A question, and where its two answers lead.
@@ -58,16 +80,17 @@ fn ask(atom: Atom, if_true: Successor, if_false: Successor) -> Question
     }
 }
 
-/// The question of one part of a test about an argument whose low word has index `low`.
-fn ask_test(test: NumberTest, part: ConditionPart, low: u8) -> Question
+/// The question of one part of a test about an argument whose low word has index `low`. The condition holds if the test's
+/// result is `expected`.
+fn ask_test(test: NumberTest, expected: bool, part: ConditionPart, low: u8) -> Question
     requires { low < 15 }
-    ensures word { word_of result.atom < 16 }
-    ensures splits { (words : List ℕ) (n : ℕ) → IsWords words → HasHalves words low n → IsAtTest test part n
-        → SplitsTest test result words n }
+    ensures word { word_of result.atom ≡ word_asked part low }
+    ensures splits { (n : ℕ) → n < 2 ^ 64 → IsAtTest test part n → Splits (test, expected) part result n }
     ensures costs { CostsAt part result }
     ensures keeps { IsPlainTest test → KeepsEither (One result.atom) }
 {
     let high = low + 1;
+    let (met, unmet) = (Decided(expected), Decided(!expected));
     match (part, test) {
         (ConditionPart::High, NumberTest::Masked { mask, value }) => {
             let mask = high_half(mask);
@@ -79,7 +102,7 @@ fn ask_test(test: NumberTest, part: ConditionPart, low: u8) -> Question
                     value,
                 },
                 Then(Low),
-                Fails,
+                unmet,
             )
         }
         (ConditionPart::High, NumberTest::Greater(value) | NumberTest::GreaterOrEqual(value)) => {
@@ -92,7 +115,7 @@ fn ask_test(test: NumberTest, part: ConditionPart, low: u8) -> Question
             | NumberTest::GreaterOrEqual(value),
         ) => {
             let value = high_half(value);
-            ask(Atom::Gt { word: high, value }, Holds, Fails)
+            ask(Atom::Gt { word: high, value }, met, unmet)
         }
         (ConditionPart::Low, NumberTest::Masked { mask, value }) => {
             let mask = low_half(mask);
@@ -103,51 +126,32 @@ fn ask_test(test: NumberTest, part: ConditionPart, low: u8) -> Question
                     mask,
                     value,
                 },
-                Holds,
-                Fails,
+                met,
+                unmet,
             )
         }
         (ConditionPart::Low, NumberTest::Greater(value)) => {
             let value = low_half(value);
-            ask(Atom::Gt { word: low, value }, Holds, Fails)
+            ask(Atom::Gt { word: low, value }, met, unmet)
         }
         (ConditionPart::Low, NumberTest::GreaterOrEqual(value)) => {
             let value = low_half(value);
-            ask(Atom::Ge { word: low, value }, Holds, Fails)
-        }
-    }
-}
-
-impl Successor {
-    /// The successor for the negated condition.
-    fn opposite(self) -> Successor
-        ensures { result ≡ opposite_successor self }
-    {
-        match self {
-            Holds => Fails,
-            Fails => Holds,
-            Then(part) => Then(part),
+            ask(Atom::Ge { word: low, value }, met, unmet)
         }
     }
 }
 
 /// The question of one part of a condition.
+#[tactic(auto, using(scf_profile::proofs::NumberTests::plain_of))]
 pub(crate) fn question_of(condition: Condition, part: ConditionPart) -> Question
     requires { condition.index < seccomp_data_args }
-    ensures word { word_of result.atom < 16 }
-    ensures splits { SplitsAt condition part result }
+    ensures within { word_of result.atom < 16 }
+    ensures word { word_of result.atom ≡ word_asked part (2 * condition.index + 4) }
+    ensures splits { let test = test_of condition in
+        (n : ℕ) → n < 2 ^ 64 → IsAtTest test.0 part n → Splits test part result n }
     ensures costs { CostsAt part result }
     ensures keeps { IsPlainCondition condition → KeepsEither (One result.atom) }
 {
     let (test, expected) = condition.test();
-    let question = ask_test(test, part, 2 * condition.index + 4);
-    if expected {
-        question
-    } else {
-        ask(
-            question.atom,
-            question.if_true.opposite(),
-            question.if_false.opposite(),
-        )
-    }
+    ask_test(test, expected, part, 2 * condition.index + 4)
 }

@@ -1,16 +1,18 @@
 //! The scope of a comparison.
 
-ghost use Rattle.std.specs.Prelude.{◌≡◌, ◌↔◌, ℕ, List, IsTrue, IfOk};
-ghost use Rattle.scf_compare.specs.internal.ScopeWords.{AreWordsOf, AreWordsOfX86_64};
+ghost use Rattle.std.specs.Prelude.{◌≡◌, ◌≤◌, ◌↔◌, ℕ, List, IsTrue, IfOk, slice_index};
+ghost use Rattle.scf_insn.specs.Words.{IsWords};
+ghost use Rattle.scf_compare.specs.internal.ScopeWords.{AreWordsOf};
 
 use crate::asking::word_is;
 use scf_facts::{Atom, WordFacts};
-use scf_insn::Memory;
-use scf_insn::kernel::{AUDIT_ARCH_X86_64, X32_SYSCALL_BIT};
+use scf_insn::kernel::AUDIT_ARCH_X86_64;
+use scf_insn::{Architecture, Memory};
 use scf_profile::Scope;
 use std::alloc::Global;
 
 /// A store that allows exactly the words of the records in the scope.
+#[tactic(auto, using(crate::proofs::Bits::whole_words))]
 pub(crate) fn facts_of<F: WordFacts>(alloc: Global, scope: Scope) -> Result<F, Memory>
     ensures unmarked { IfOk result (λ facts. F.level facts ≡ 0) }
     ensures scope { IfOk result (λ facts. (words : List ℕ) → F.allows facts 0 words ↔ AreWordsOf scope words) }
@@ -18,23 +20,72 @@ pub(crate) fn facts_of<F: WordFacts>(alloc: Global, scope: Scope) -> Result<F, M
 {
     match scope {
         Scope::All => F::all(alloc),
-        Scope::Native => native_facts(alloc),
+        Scope::Native => facts_of_architecture(alloc, Architecture::X8664),
         Scope::Call(number) => {
             let is_number = word_is(0, number);
-            let mut of_call: F = facts_of_x86_64(alloc)?;
+            let mut of_call: F = facts_of_audit(alloc, AUDIT_ARCH_X86_64)?;
             of_call.learn(is_number, true)?;
             Ok(of_call)
         }
-        Scope::Numbers { first, last } => facts_of_numbers(alloc, first, last),
+        Scope::Numbers { first, last } => {
+            let native: F = facts_of_architecture(alloc, Architecture::X8664)?;
+            within_numbers(native, first, last)
+        }
+        Scope::Of(architecture) => facts_of_architecture(alloc, architecture),
     }
 }
 
-/// A store that allows exactly the words of the records of x86-64 syscalls with a number from `first` to `last`.
-fn facts_of_numbers<F: WordFacts>(alloc: Global, first: u32, last: u32) -> Result<F, Memory>
+/// A store that allows exactly the words of an architecture's records. It learns the answers to what a profile's tree
+/// asks first, so that every store knows them.
+#[tactic(auto, using(scf_insn::proofs::CallWords::word_below))]
+fn facts_of_architecture<F: WordFacts>(
+    alloc: Global,
+    architecture: Architecture,
+) -> Result<F, Memory>
     ensures unmarked { IfOk result (λ facts. F.level facts ≡ 0) }
     ensures scope { IfOk result (λ facts. (words : List ℕ)
-        → F.allows facts 0 words ↔ AreWordsOf (Scope.Numbers first last) words) }
+        → F.allows facts 0 words ↔ AreWordsOf (Scope.Of architecture) words) }
     ensures exact { IfOk result (λ facts. IsTrue F.starts_exact → IsTrue (F.is_exact facts 0)) }
+{
+    let reaches_first = Atom::Ge {
+        word: 0,
+        value: architecture.first(),
+    };
+    let last = architecture.last();
+    let mut facts: F = facts_of_audit(alloc, architecture.audit())?;
+    facts.learn(reaches_first, true)?;
+    if last == u32::MAX {
+        return Ok(facts);
+    }
+    let passes_last = Atom::Ge {
+        word: 0,
+        value: last + 1,
+    };
+    facts.learn(passes_last, false)?;
+    Ok(facts)
+}
+
+/// A store that allows exactly the words of the records with an audit value.
+fn facts_of_audit<F: WordFacts>(alloc: Global, audit: u32) -> Result<F, Memory>
+    ensures unmarked { IfOk result (λ facts. F.level facts ≡ 0) }
+    ensures scope { IfOk result (λ facts. (words : List ℕ)
+        → F.allows facts 0 words ↔ (IsWords words × (slice_index words 1 ≡ audit))) }
+    ensures exact { IfOk result (λ facts. IsTrue F.starts_exact → IsTrue (F.is_exact facts 0)) }
+{
+    let is_audit = word_is(1, audit);
+    let mut facts = F::all(alloc)?;
+    facts.learn(is_audit, true)?;
+    Ok(facts)
+}
+
+/// The store that allows, of the words that a store without marks allows, those with a syscall number from `first` to
+/// `last`.
+fn within_numbers<F: WordFacts>(facts: F, first: u32, last: u32) -> Result<F, Memory>
+    requires { F.level facts ≡ 0 }
+    ensures unmarked { IfOk result (λ kept. F.level kept ≡ 0) }
+    ensures kept { IfOk result (λ kept. (words : List ℕ) → F.allows kept 0 words
+        ↔ (F.allows facts 0 words × (first ≤ slice_index words 0) × (slice_index words 0 ≤ last))) }
+    ensures exact { IfOk result (λ kept. IsTrue (F.is_exact facts 0) → IsTrue (F.is_exact kept 0)) }
 {
     let reaches_first = Atom::Ge {
         word: 0,
@@ -44,35 +95,8 @@ fn facts_of_numbers<F: WordFacts>(alloc: Global, first: u32, last: u32) -> Resul
         word: 0,
         value: last,
     };
-    let mut numbered: F = native_facts(alloc)?;
-    numbered.learn(reaches_first, true)?;
-    numbered.learn(passes_last, false)?;
-    Ok(numbered)
-}
-
-/// A store that allows exactly the words of the records of x86-64 syscalls below those of x32.
-fn native_facts<F: WordFacts>(alloc: Global) -> Result<F, Memory>
-    ensures unmarked { IfOk result (λ facts. F.level facts ≡ 0) }
-    ensures scope { IfOk result (λ facts. (words : List ℕ) → F.allows facts 0 words ↔ AreWordsOf Scope.Native words) }
-    ensures exact { IfOk result (λ facts. IsTrue F.starts_exact → IsTrue (F.is_exact facts 0)) }
-{
-    let is_foreign = Atom::Ge {
-        word: 0,
-        value: X32_SYSCALL_BIT,
-    };
-    let mut native: F = facts_of_x86_64(alloc)?;
-    native.learn(is_foreign, false)?;
-    Ok(native)
-}
-
-/// A store that allows exactly the words of the records of x86-64 syscalls.
-fn facts_of_x86_64<F: WordFacts>(alloc: Global) -> Result<F, Memory>
-    ensures unmarked { IfOk result (λ facts. F.level facts ≡ 0) }
-    ensures scope { IfOk result (λ facts. (words : List ℕ) → F.allows facts 0 words ↔ AreWordsOfX86_64 words) }
-    ensures exact { IfOk result (λ facts. IsTrue F.starts_exact → IsTrue (F.is_exact facts 0)) }
-{
-    let is_x86_64 = word_is(1, AUDIT_ARCH_X86_64);
-    let mut facts = F::all(alloc)?;
-    facts.learn(is_x86_64, true)?;
-    Ok(facts)
+    let mut kept = facts;
+    kept.learn(reaches_first, true)?;
+    kept.learn(passes_last, false)?;
+    Ok(kept)
 }

@@ -1,5 +1,6 @@
 -- The distinct numbers of a profile's rules: how many there are, and the bounds that their search keeps.
-use Rattle.scf_compile.proofs.Common.{◌≡◌, ℕ, zero, suc, ◌/◌, ◌^◌, ◌<◌, ◌≤◌, List, [], ◌∷◌, length, map, All, ap, arith, inl, inr, sum_by, Contains, cases_eq, eq-eqb, ne_eqb, All-contains, x32_syscall_bit, Rule, IsPlainRule, Profile, IsProfile, IsRule, numbers_of, number_there, rules_of, Answer, NrRange, digits_within, binary_digits, greatest, rule_bound, AllRules, AreServed, AreRangesOf, IsSearchOf, IsSearchPut, Insn, Position, range_bound}
+use Rattle.scf_compile.proofs.Common.{◌≡◌, ℕ, zero, suc, ◌+◌, ◌/◌, ◌^◌, ◌<◌, ◌≤◌, List, [], ◌∷◌, length, map, All, ap, arith, inl, inr, sum_by, Contains, cases_eq, eq-eqb, ne_eqb, All-contains, row_of, refl, sum_by-cons, All-head, All-tail, Rule, IsPlainRule, IsPlainProfile, Profile, IsProfile, IsRule, numbers_of, number_there, rules_of, Answer, NrRange, digits_within, binary_digits, greatest, rule_bound, AllRules, AreServed, AreRangesOf, AreSearched, AreSearchesOf, IsSearchOf, IsSearchPut, Insn, Position, Search, code_from, range_bound, size_bound_of}
+use Rattle.scf_insn.proofs.Architectures.{some_number}
 use Rattle.scf_compile.proofs.Runs.{more}
 use Rattle.scf_compile.proofs.Sizes.{rules_valid, size_small}
 
@@ -36,38 +37,75 @@ sum_at_most rules nr =
       | inr none ↦ let nothing : sum_of rules nr ≡ 0 = ap (sum_by rule_bound) none in omega arith
     ]
 
--- ---- the filter of a profile
+-- ---- the search of a profile
 
-some_served : (default : Answer) (wanted : ℕ → List Rule) (ss : List NrRange)
-    → AreServed default wanted 0 ss x32_syscall_bit → 0 < length ss
-some_served default wanted [] serve = absurd (omega arith)
-some_served default wanted (s ∷ ss) serve = omega arith
+some_served : (default : Answer) (wanted : ℕ → List Rule) (low high : ℕ) (ss : List NrRange) → low < high
+    → AreServed default wanted low ss high → 0 < length ss
+some_served default wanted low high [] lt serve = absurd (omega arith)
+some_served default wanted low high (s ∷ ss) lt serve = omega arith
+
+-- where searches stand, they stay when code is put before them
+pub searches_stay : (before after : List Insn) → length before ≤ length after
+    → ((p : Position) → p.0 ≤ length before → code_from p after ≡ code_from p before) → (ps : List Profile)
+    → (ss : List Search) → AreSearchesOf before ps ss → AreSearchesOf after ps ss
+searches_stay before after longer stays [] [] each = tt
+searches_stay before after longer stays [] (s ∷ ss) each = each
+searches_stay before after longer stays (p ∷ ps) [] each = each
+searches_stay before after longer stays (p ∷ ps) (s ∷ ss) each =
+    let first = each.0 in (
+      record {
+        architecture = first.architecture;
+        some = first.some;
+        stands = omega (arith, first.stands);
+        ends = λ call fits own. rw (stays s.index first.stands) (first.ends call fits own);
+      },
+      searches_stay before after longer stays ps ss each.1,
+    )
 
 module _ (p : Profile) (valid : IsProfile p) (ss : List NrRange)
-    (laid : AreRangesOf p.default_answer ss p.rules) where
+    (laid : AreRangesOf p.architecture p.default_answer ss p.rules) where
   abbrev count : ℕ
   count = length (numbers_of p.rules)
 
   of_profile : (P : Rule → Type 0) → All P p.rules → AllRules P ss
   of_profile P all k d lt j r inside = All-contains P p.rules _ all (laid.own k d lt j r inside)
 
-  pub may_be_put : (0 < length ss) × AllRules IsRule ss × (sum_by range_bound ss < 2 ^ 32)
+  pub may_be_put : (0 < length ss) × AllRules (IsRule p.architecture) ss × (sum_by range_bound ss < 2 ^ 18)
   may_be_put = (
-    some_served _ _ ss laid.serve,
-    of_profile IsRule (rules_valid p valid),
+    some_served _ _ _ _ ss (omega (arith, some_number p.architecture)) laid.serve,
+    of_profile (IsRule p.architecture) (rules_valid p valid),
     omega (arith, laid.small, size_small p valid),
   )
 
   -- The search of the ranges is that of the profile.
-  pub search_of_profile : {code : List Insn} {index : Position} → IsSearchPut p.default_answer ss [] code index
-      → IsSearchOf p code index
+  pub search_of_profile : {before code : List Insn} {index : Position}
+      → IsSearchPut p.architecture p.default_answer ss before code index
+      → IsSearchOf p code (record { architecture = p.architecture; index = index })
   search_of_profile found = record {
+    architecture = refl;
     some = found.put.some;
-    near = found.put.near;
-    small = (omega (arith, found.small, laid.small), size_small p valid);
-    sound = λ asked is. found.put.sound asked (λ e. of_profile IsPlainRule (is e)) tt;
-    ends = λ call fits below.
+    stands = found.put.near.stands;
+    ends = λ call fits own.
         let few = below_digits count in
-        more (found.ends call (λ nr. rules_of nr p.rules) 0 x32_syscall_bit (suc (binary_digits count)) fits laid.serve
-        (omega arith) below (omega (arith, laid.few))) (omega (arith, sum_at_most p.rules call.nr));
+        more (found.ends call (λ nr. rules_of nr p.rules) (row_of p.architecture).first
+        ((row_of p.architecture).last + 1) (suc (binary_digits count)) fits laid.serve own.first
+        (omega (arith, own.last)) (omega (arith, laid.few))) (omega (arith, sum_at_most p.rules call.nr));
+  }
+
+  -- It is put before those of other profiles.
+  pub searched_more : {before code : List Insn} {index : Position} {others : List Profile} {searches : List Search}
+      → AreSearched others before searches → IsSearchPut p.architecture p.default_answer ss before code index
+      → AreSearched (p ∷ others) code (record { architecture = p.architecture; index = index } ∷ searches)
+  searched_more {others} {searches} before found = record {
+    each = (search_of_profile found, searches_stay _ _ found.put.longer found.put.stays others searches before.each);
+    small = omega (
+      arith,
+      found.small,
+      laid.small,
+      before.small,
+      sum_by-cons size_bound_of p others,
+    );
+    sound = λ asked is.
+        found.put.sound asked (λ e. of_profile IsPlainRule (All-head IsPlainProfile p others (is e)))
+        (before.sound asked (λ e. All-tail IsPlainProfile p others (is e)));
   }

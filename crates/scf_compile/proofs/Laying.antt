@@ -1,5 +1,6 @@
 -- Ranges are put one behind another until each number has its rules.
-use Rattle.scf_compile.proofs.Common.{◌≡◌, ℕ, get_or, take, ◌+◌, ◌-◌, ◌*◌, ◌<◌, ◌≤◌, All, List, [], ◌∷◌, ◌++◌, length, map, refl, sym, ap, ◌∙◌, subst, arith, inl, inr, eqb, length-append, length-map, get_or-map, get_or_default, sum_by, Contains, cases_eq, cases_lt, take_all, take_more, All-contains_itself, All-filter, All-push, sum_by-cons, sum_by-append, Answer, x32_syscall_bit, Rule, numbers_of, rules_of, NumberRules, AreNumbersOf, NrRange, rule_bound, StandsFor, AreEffective, rules_bound, range_bound, IsServed, AreServed, IsLaid, begins, continues, AreRangesUpTo, AreRangesOf, Contains-permutation, sum_by_more, number_there, number_in, own_some, rises, count_of_numbers, sum_of_rules}
+use Rattle.scf_compile.proofs.Common.{◌≡◌, ℕ, get_or, take, ◌+◌, ◌-◌, ◌*◌, ◌<◌, ◌≤◌, All, List, [], ◌∷◌, ◌++◌, length, map, refl, sym, ap, ◌∙◌, subst, arith, inl, inr, eqb, length-append, length-map, get_or-map, get_or_default, sum_by, Contains, cases_eq, cases_lt, take_all, take_more, All-contains_itself, All-filter, All-push, sum_by-cons, sum_by-append, Answer, Architecture, row_of, All-map, Rule, numbers_of, rules_of, NumberRules, AreNumbersOf, NrRange, rule_bound, StandsFor, AreEffective, rules_bound, range_bound, IsServed, AreServed, IsLaid, begins, continues, AreRangesUpTo, AreRangesOf, Contains-permutation, sum_by_more, number_there, number_in, own_some, rises, count_of_numbers, sum_of_rules}
+use Rattle.scf_insn.proofs.Architectures.{some_number}
 
 -- ---- one range more
 
@@ -19,9 +20,9 @@ module _ (default : Answer) (wanted : ℕ → List Rule) where
 
 -- ---- the ranges up to a number
 
-module _ {default : Answer} {rules : List Rule} {next most bound : ℕ} {before : List NrRange}
-    (laid : AreRangesUpTo next most bound default before rules) where
-  pub laid_within : {end m b : ℕ} → next ≡ end → most ≤ m → bound ≤ b → AreRangesUpTo end m b default before rules
+module _ {default : Answer} {rules : List Rule} {first next most bound : ℕ} {before : List NrRange}
+    (laid : AreRangesUpTo first next most bound default before rules) where
+  pub laid_within : {end m b : ℕ} → next ≡ end → most ≤ m → bound ≤ b → AreRangesUpTo first end m b default before rules
   laid_within same few small = record {
     serve = rw (← same) laid.serve;
     own = laid.own;
@@ -33,10 +34,10 @@ module _ {default : Answer} {rules : List Rule} {next most bound : ℕ} {before 
   laid_more : {after : List NrRange} {others : List Rule} (end : ℕ) → IsLaid before next others after → next < end
       → All (Contains rules) others
       → ((nr : ℕ) → next ≤ nr → nr < end → StandsFor default others (rules_of nr rules))
-      → AreRangesUpTo end (most + 1) (bound + rules_bound others) default after rules
-  laid_more end (begins s first is put) lt own stand = rw put (record {
-    serve = served_push default (λ nr. rules_of nr rules) 0 next end before s laid.serve
-        (record { first = first; some = lt; stand = λ nr from below. rw is (stand nr from below) });
+      → AreRangesUpTo first end (most + 1) (bound + rules_bound others) default after rules
+  laid_more end (begins s here is put) lt own stand = rw put (record {
+    serve = served_push default (λ nr. rules_of nr rules) first next end before s laid.serve
+        (record { first = here; some = lt; stand = λ nr from below. rw is (stand nr from below) });
     own = All-push (λ (t : NrRange). All (Contains rules) t.rules.now) before s laid.own (rw is own);
     few = omega (arith, laid.few, length-append before (s ∷ []));
     small = omega (
@@ -48,20 +49,20 @@ module _ {default : Answer} {rules : List Rule} {next most bound : ℕ} {before 
     );
   })
   laid_more end (continues earlier last is alike same) lt own stand =
-      let parts = served_parts default (λ nr. rules_of nr rules) 0 next earlier (last ∷ []) (rw is at laid.serve) in
+      let parts = served_parts default (λ nr. rules_of nr rules) first next earlier (last ∷ []) (rw is at laid.serve) in
       let old = parts.2.1 in
       let past = parts.2.2 in
       rw same (record {
-        serve = rw is (served_push default (λ nr. rules_of nr rules) 0 parts.0 end earlier last parts.1 (record {
+        serve = rw is (served_push default (λ nr. rules_of nr rules) first parts.0 end earlier last parts.1 (record {
           first = old.first;
           some = omega (arith, old.some);
           stand = λ nr from below. elim (cases_lt nr next) [
             | inl inside ↦ old.stand nr from (omega arith)
             | inr later ↦
-                let first = alike default in
+                let same = alike default in
                 let rest = stand nr later below in record {
-                  answers = λ call. first.answers call ∙ rest.answers call;
-                  small = omega (arith, first.small, rest.small);
+                  answers = λ a call. same.answers a call ∙ rest.answers a call;
+                  small = omega (arith, same.small, rest.small);
                 }
           ];
         }));
@@ -73,10 +74,10 @@ module _ {default : Answer} {rules : List Rule} {next most bound : ℕ} {before 
   -- no rules apply up to another number
   pub laid_gap : {after : List NrRange} (end : ℕ) → (next < end → IsLaid before next [] after)
       → (end ≤ next → after ≡ before) → next ≤ end → ((nr : ℕ) → next ≤ nr → nr < end → rules_of nr rules ≡ [])
-      → AreRangesUpTo end (most + 1) (bound + 3) default after rules
+      → AreRangesUpTo first end (most + 1) (bound + 3) default after rules
   laid_gap end some none le nothing = elim (cases_lt next end) [
     | inl lt ↦ laid_more end (some lt) lt (λ k d lt. absurd (omega arith))
-        (λ nr from below. rw (nothing nr from below) (record { answers = λ call. refl; small = omega arith }))
+        (λ nr from below. rw (nothing nr from below) (record { answers = λ a call. refl; small = omega arith }))
     | inr past ↦ rw (none past) (laid_within (omega arith) (omega arith) (omega arith))
   ]
 
@@ -105,21 +106,24 @@ telling_few rules (r ∷ rs) some is all = elim is.some [
   | inr none ↦ rw none (omega (arith, sum_by-cons rule_bound r rs), λ k d lt. absurd (omega arith))
 ]
 
--- The first `k` of the numbers are laid, no more than two ranges for each, and the next one is `next` or above it.
-pub record AreLaid (default : Answer) (numbers : List NumberRules) (rules : List Rule) (ss : List NrRange) (next k : ℕ)
-    : Type 0 where
-  pub laid : AreRangesUpTo next (2 * k) (4 * k + sum_by own_bound (take k numbers)) default ss rules
-  pub inside : next ≤ x32_syscall_bit
+-- The first `k` of an architecture's numbers are laid, no more than two ranges for each, and the next one is `next` or
+-- above it.
+pub record AreLaid (a : Architecture) (default : Answer) (numbers : List NumberRules) (rules : List Rule)
+    (ss : List NrRange) (next k : ℕ) : Type 0 where
+  pub laid : AreRangesUpTo (row_of a).first next (2 * k) (4 * k + sum_by own_bound (take k numbers)) default ss rules
+  pub inside : next ≤ (row_of a).last + 1
   pub above : (j : ℕ) → j < k → get_or (map number_in numbers) j 0 < next
   pub within : k < length numbers → next ≤ get_or (map number_in numbers) k 0
 
-pub laid_none : (default : Answer) (numbers : List NumberRules) (rules : List Rule)
-    → AreLaid default numbers rules [] 0 0
-laid_none default numbers rules = record {
+pub laid_none : (a : Architecture) (default : Answer) (numbers : List NumberRules) (rules : List Rule)
+    → All (λ own. (row_of a).first ≤ own.number) numbers → AreLaid a default numbers rules [] (row_of a).first 0
+laid_none a default numbers rules from = record {
   laid = record { serve = refl; own = λ k d lt. absurd (omega arith); few = omega arith; small = omega arith };
-  inside = omega arith;
+  inside = omega (arith, some_number a);
   above = λ j lt. absurd (omega arith);
-  within = λ lt. omega arith;
+  within = λ lt.
+      let len = length-map numbers number_in in
+      All-map (λ n. (row_of a).first ≤ n) number_in numbers from 0 0 (omega arith);
 }
 
 module _ (numbers : List NumberRules) (rules : List Rule) (are : AreNumbersOf numbers rules) where
@@ -132,7 +136,8 @@ module _ (numbers : List NumberRules) (rules : List Rule) (are : AreNumbersOf nu
   rise : (i j : ℕ) → i < j → j < length numbers → get_or ns i 0 < get_or ns j 0
   rise i j lt inside = rises ns are.rising i j lt (omega (arith, len))
 
-  module _ {default : Answer} {ss : List NrRange} {next k : ℕ} (laid : AreLaid default numbers rules ss next k) where
+  module _ {a : Architecture} {default : Answer} {ss : List NrRange} {next k : ℕ}
+      (laid : AreLaid a default numbers rules ss next k) where
     -- no rules have a number below the next one
     none_between : (nr : ℕ) → next ≤ nr → (k < length numbers → nr < get_or ns k 0)
         → rules_of nr rules ≡ []
@@ -150,19 +155,20 @@ module _ (numbers : List NumberRules) (rules : List Rule) (are : AreNumbersOf nu
       | inr none ↦ none
     ]
 
-    pub laid_all : {after : List NrRange} → k ≡ length numbers → (next < x32_syscall_bit → IsLaid ss next [] after)
-        → (x32_syscall_bit ≤ next → after ≡ ss) → AreRangesOf default after rules
+    pub laid_all : {after : List NrRange} → k ≡ length numbers
+        → (next < (row_of a).last + 1 → IsLaid ss next [] after) → ((row_of a).last + 1 ≤ next → after ≡ ss)
+        → AreRangesOf a default after rules
     laid_all all some none =
         let sums : sum_by own_bound (take k numbers) ≡ sum_by rule_bound rules =
         ap (sum_by own_bound) (take_all k numbers (omega arith)) ∙ sum_of_rules numbers rules are rule_bound in
         let count = count_of_numbers numbers rules are in
-        laid_within (laid_gap laid.laid x32_syscall_bit some none laid.inside
+        laid_within (laid_gap laid.laid ((row_of a).last + 1) some none laid.inside
         (λ nr from below. none_between nr from (λ lt. absurd (omega arith)))) refl (omega arith) (omega arith)
 
     pub laid_own : {mid telling after : _} (own : NumberRules) → own ≡ get_or numbers k own → k < length numbers
-        → own.number < x32_syscall_bit → (next < own.number → IsLaid ss next [] mid) → (own.number ≤ next → mid ≡ ss)
+        → own.number ≤ (row_of a).last → (next < own.number → IsLaid ss next [] mid) → (own.number ≤ next → mid ≡ ss)
         → AreEffective default telling own.rules.items → IsLaid mid own.number telling after
-        → AreLaid default numbers rules after (own.number + 1) (k + 1)
+        → AreLaid a default numbers rules after (own.number + 1) (k + 1)
     laid_own own is lt below some none tells put =
         let here : get_or ns k 0 ≡ own.number = get_or-map number_in numbers k own 0 lt ∙ ap number_in (sym is) in
         let its = rw (← is) at (are.own k own lt) in

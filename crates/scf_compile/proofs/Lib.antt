@@ -1,6 +1,7 @@
 pub mod Common
 pub mod Counts
 pub mod Filters
+pub mod Gates
 pub mod Laying
 pub mod RuleCode
 pub mod Runs

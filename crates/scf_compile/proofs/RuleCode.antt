@@ -1,5 +1,5 @@
 -- The code of rules, and what is put before some code.
-use Rattle.scf_compile.proofs.Common.{◌≡◌, ℕ, ◌+◌, ◌-◌, ◌*◌, ◌<◌, ◌≤◌, Bool, true, false, cond, leb, List, [], ◌∷◌, ◌++◌, drop, length, ap, ◌∙◌, arith, inl, inr, length-append, append_assoc, sum_by, length-drop, IsTrue, AllByRecursion, cases_Bool, recursion_from_All, sum_by-cons, drop-append-add, Insn, Answer, CallRecord, Test, JumpIf, Constant, words_of, IsRecord, test_holds, IsPlainOperation, Condition, Rule, IsPlainCondition, IsPlainRule, all_hold, IsCondition, IsRule, Position, rule_bound, jump_if, jump_over, return_with, branch_code, code_from, IsFirst, IsPut, conditions_code, behind_rule, rules_code, ArePut, EndsWithin, AreSound, first_answer, rules_bound}
+use Rattle.scf_compile.proofs.Common.{◌≡◌, ℕ, ◌+◌, ◌-◌, ◌*◌, ◌<◌, ◌≤◌, Bool, true, false, cond, leb, List, [], ◌∷◌, ◌++◌, drop, length, ap, ◌∙◌, arith, inl, inr, length-append, append_assoc, sum_by, length-drop, IsTrue, AllByRecursion, cases_Bool, recursion_from_All, sum_by-cons, drop-append-add, Insn, Answer, Architecture, CallRecord, Test, JumpIf, Constant, words_of, IsRecord, test_holds, IsPlainOperation, Condition, Rule, IsPlainCondition, IsPlainRule, all_hold, IsCondition, IsRule, Position, rule_bound, jump_if, jump_over, return_with, branch_code, code_from, IsFirst, IsPut, conditions_code, behind_rule, rules_code, ArePut, EndsWithin, AreSound, first_answer, rules_bound}
 use Rattle.scf_compile.proofs.Runs.{more, past, answers, jumps, passes, jump_sound, pass_sound, return_sound}
 use Rattle.scf_compile.proofs.Tests.{conditions_tests}
 
@@ -22,16 +22,17 @@ return_answers answer most plain lt = record {
 }
 
 -- A rule answers where its conditions hold, and else what stands behind it: nothing behind one without conditions.
-rule_answers : (cs : List Condition) (answer n most : ℕ) (others : List Insn) (p plain : Type 0) (f : CallRecord → ℕ)
+rule_answers : (a : Architecture) (cs : List Condition) (answer n most : ℕ) (others : List Insn) (p plain : Type 0)
+    (f : CallRecord → ℕ)
     → AllByRecursion IsCondition cs → Answers others n p f → (plain → AllByRecursion IsPlainCondition cs × p)
     → 8 * length cs + n ≤ most
-    → Answers ((conditions_code cs ++ return_with answer ∷ []) ++ behind_rule cs others) most plain
-    (λ call. cond (all_hold call cs) answer (f call))
-rule_answers [] answer n most others p plain f fine next parts le =
+    → Answers ((conditions_code a cs ++ return_with answer ∷ []) ++ behind_rule cs others) most plain
+    (λ call. cond (all_hold a call cs) answer (f call))
+rule_answers a [] answer n most others p plain f fine next parts le =
     return_answers answer most plain (omega (arith, next.some, next.len))
-rule_answers (c ∷ cs) answer n most others p plain f fine next parts le =
-    let t = conditions_tests (c ∷ cs) fine in
-    let conditions = conditions_code (c ∷ cs) in
+rule_answers a (c ∷ cs) answer n most others p plain f fine next parts le =
+    let t = conditions_tests a (c ∷ cs) fine in
+    let conditions = conditions_code a (c ∷ cs) in
     let own = return_with answer ∷ [] in
     let whole = length-append (conditions ++ own) others in
     record {
@@ -42,9 +43,9 @@ rule_answers (c ∷ cs) answer n most others p plain f fine next parts le =
           (t.sound asked (own ++ (others ++ rest)) (λ e. (parts (is e)).0) (omega arith)
           (omega (arith, next.some, length-append others rest))
           (return_sound answer, next.sound asked rest (λ e. (parts (is e)).1) s));
-      ends = λ call fits rest a.
+      ends = λ call fits rest acc.
           rw (append_assoc (conditions ++ own) others rest, append_assoc conditions own (others ++ rest))
-          (more (t.ends call fits (own ++ (others ++ rest)) _ (1 + n) a
+          (more (t.ends call fits (own ++ (others ++ rest)) _ (1 + n) acc
           (λ e b. rw e (more {m = 1} (answers answer b) (omega arith)))
           (λ e b. rw e (more (next.ends call fits rest b) (omega arith)))) (omega arith));
     }
@@ -55,20 +56,20 @@ rules_bounded (r ∷ rs) = (omega (arith, sum_by-cons rule_bound r rs), omega ar
 
 -- The code of rules answers as the first of them whose conditions hold. It is fewer instructions than the bound, since
 -- nothing stands behind a rule without conditions.
-pub rules_answer : (default : Answer) (rs : List Rule) → AllByRecursion IsRule rs
-    → Answers (rules_code default rs) (rules_bound rs - 2) (AllByRecursion IsPlainRule rs)
-    (λ call. first_answer call default rs)
-rules_answer default [] fine = return_answers default.0 _ _ (omega arith)
-rules_answer default (r ∷ rs) fine =
+pub rules_answer : (a : Architecture) (default : Answer) (rs : List Rule) → AllByRecursion (IsRule a) rs
+    → Answers (rules_code a default rs) (rules_bound rs - 2) (AllByRecursion IsPlainRule rs)
+    (λ call. first_answer a call default rs)
+rules_answer a default [] fine = return_answers default.0 _ _ (omega arith)
+rules_answer a default (r ∷ rs) fine =
     let sum = sum_by-cons rule_bound r rs in
     let bounded = rules_bounded rs in
-    rule_answers r.conditions r.answer.0 _ _ _ _ _ _ fine.0.conditions.each (rules_answer default rs fine.1)
+    rule_answers a r.conditions r.answer.0 _ _ _ _ _ _ fine.0.conditions.each (rules_answer a default rs fine.1)
     (λ plain. (recursion_from_All IsPlainCondition r.conditions plain.0.conditions, plain.1)) (omega arith)
 
 -- ---- what is put before some code
 
 -- what stands from an index on stays where more is put before it
-from_behind : (front code : List Insn) (index : Position) → index.0 ≤ length code
+pub from_behind : (front code : List Insn) (index : Position) → index.0 ≤ length code
     → code_from index (front ++ code) ≡ code_from index code
 from_behind front code index le =
     let passed : length (front ++ code) - index.0 ≡ length front + (length code - index.0) =

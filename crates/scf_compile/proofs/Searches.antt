@@ -1,5 +1,5 @@
 -- The search of ranges finds that of each number.
-use Rattle.scf_compile.proofs.Common.{◌≡◌, ℕ, zero, suc, ◌+◌, ◌-◌, ◌*◌, ◌^◌, ◌<◌, ◌≤◌, List, [], ◌∷◌, ◌++◌, length, get_or, get_or-append-add, get_or_append_left, sym, ap, ◌∙◌, arith, length-append, sum_by, nat_tests, recursion_from_All, sum_by-cons, sum_by-append, Answer, Insn, CallRecord, IsRecord, GreaterOrEqual, words_of, Rule, IsPlainRule, IsRule, Position, NrRange, rule_bound, branch_code, IsFirst, IsPut, rules_code, IsSearchPut, EndsWithin, AllRules, AreServed, first_answer, range_bound}
+use Rattle.scf_compile.proofs.Common.{◌≡◌, ℕ, zero, suc, ◌+◌, ◌-◌, ◌*◌, ◌^◌, ◌<◌, ◌≤◌, List, [], ◌∷◌, ◌++◌, length, get_or, get_or-append-add, get_or_append_left, sym, ap, ◌∙◌, arith, length-append, sum_by, nat_tests, recursion_from_All, sum_by-cons, sum_by-append, Answer, Architecture, Insn, CallRecord, IsRecord, GreaterOrEqual, words_of, Rule, IsPlainRule, IsRule, Position, NrRange, rule_bound, branch_code, IsFirst, IsPut, rules_code, IsSearchPut, EndsWithin, AllRules, AreServed, first_answer, range_bound}
 use Rattle.scf_compile.proofs.Laying.{served_parts}
 use Rattle.scf_compile.proofs.Runs.{more}
 use Rattle.scf_compile.proofs.RuleCode.{rules_answer, rules_bounded, branch_ends, branch_sound, branch_stays}
@@ -19,17 +19,17 @@ all_parts P low high all = (
   λ k d lt. rw (get_or-append-add low high k d) at (all (length low + k) d (omega (arith, length-append low high))),
 )
 
-module _ (default : Answer) (lower upper : List NrRange) (s : NrRange) (some : 0 < length lower)
+module _ (a : Architecture) (default : Answer) (lower upper : List NrRange) (s : NrRange) (some : 0 < length lower)
     (halves : (length lower ≤ length upper) × (length upper ≤ length lower + 1)) (is : s ≡ get_or upper 0 s)
     {before mid both after : List Insn} {to_miss to_hit index : Position}
-    (under : IsSearchPut default lower before mid to_miss) (over : IsSearchPut default upper mid both to_hit)
+    (under : IsSearchPut a default lower before mid to_miss) (over : IsSearchPut a default upper mid both to_hit)
     (first : IsFirst (branch_code GreaterOrEqual s.first (length both - to_hit.0) (length both - to_miss.0)) both after
     index) where
   -- a number is looked for in the upper ranges, or in the lower ones
   search_ends : (call : CallRecord) (wanted : ℕ → List Rule) (low high halvings : ℕ) → IsRecord call
       → AreServed default wanted low (lower ++ upper) high → low ≤ call.nr → call.nr < high
       → length lower + length upper ≤ 2 ^ halvings
-      → EndsWithin (words_of call) after call.nr (first_answer call default (wanted call.nr))
+      → EndsWithin (words_of call) after call.nr (first_answer a call default (wanted call.nr))
       (2 * halvings + (1 + sum_by rule_bound (wanted call.nr)))
   search_ends call wanted low high zero fits served from below few = absurd (omega arith)
   search_ends call wanted low high (suc n) fits served from below few =
@@ -41,7 +41,7 @@ module _ (default : Answer) (lower upper : List NrRange) (s : NrRange) (some : 0
       (under.ends call wanted low parts.0 n fits parts.1 from (grind (arith, nat_tests, e, middle)) (omega arith))))
       (omega arith)
 
-  pub search_branch : IsSearchPut default (lower ++ upper) before after index
+  pub search_branch : IsSearchPut a default (lower ++ upper) before after index
   search_branch =
       let branch = branch_stays GreaterOrEqual s.first to_hit to_miss first in
       let hit = over.put in
@@ -69,19 +69,19 @@ one_is [] s some one is = absurd (omega arith)
 one_is (t ∷ []) s some one is = ap (λ (u : NrRange). u ∷ []) (sym is)
 one_is (t ∷ u ∷ ss) s some one is = absurd (omega arith)
 
-pub search_one : (default : Answer) (s : NrRange) (before after : List Insn) (index : Position)
-    → AllRules IsRule (s ∷ []) → IsPut (rules_code default s.rules.now) before after index
-    → IsSearchPut default (s ∷ []) before after index
-search_one default s before after index fine put =
+pub search_one : (a : Architecture) (default : Answer) (s : NrRange) (before after : List Insn) (index : Position)
+    → AllRules (IsRule a) (s ∷ []) → IsPut (rules_code a default s.rules.now) before after index
+    → IsSearchPut a default (s ∷ []) before after index
+search_one a default s before after index fine put =
     let rs = s.rules.now in
-    let own = recursion_from_All IsRule rs (fine 0 s (omega arith)) in
+    let own = recursion_from_All (IsRule a) rs (fine 0 s (omega arith)) in
     let bounded = rules_bounded rs in
-    let code = rules_answer default rs own in
+    let code = rules_answer a default rs own in
     record {
       small = omega (arith, code.len, put.few, sum_by-cons range_bound s []);
       put = answers_put (AllRules IsPlainRule (s ∷ [])) code
           (λ all. recursion_from_All IsPlainRule rs (all 0 s (omega arith))) put;
       ends = λ call wanted low high n fits served from below few.
           let stand = served.1.stand call.nr from (omega (arith, served.2)) in
-          rw (← stand.answers call) (more (answers_there code put call fits call.nr) (omega (arith, stand.small)));
+          rw (← stand.answers a call) (more (answers_there code put call fits call.nr) (omega (arith, stand.small)));
     }

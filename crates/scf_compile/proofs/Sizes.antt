@@ -1,5 +1,5 @@
 -- How long the code of a filter is.
-use Rattle.scf_compile.proofs.Common.{◌≡◌, ℕ, ◌<◌, ◌≤◌, ◌^◌, Bool, true, false, not, eqb, List, [], ◌∷◌, length, map, get_or, refl, arith, inl, inr, All, AllByRecursion, list_any, cases_eq, ne_eqb, ◌≢◌, All-from_recursion, All-map, recursion_from_All, length-map, length-le_from_distinct_below, length-filter_both, sum_by-le, Condition, Rule, IsRule, IsCondition, AreConditions, HaveDistinctIndices, numbers_of, rule_bound, Profile, IsProfile, size_bound_of}
+use Rattle.scf_compile.proofs.Common.{◌≡◌, ℕ, ◌<◌, ◌≤◌, ◌^◌, Bool, true, false, not, eqb, List, [], ◌∷◌, length, map, get_or, refl, arith, inl, inr, All, AllByRecursion, list_any, cases_eq, ne_eqb, ◌≢◌, All-from_recursion, All-map, recursion_from_All, length-map, length-le_from_distinct_below, length-filter_both, sum_by-le, Condition, Rule, IsRule, IsCondition, AreConditions, HaveDistinctIndices, numbers_of, rule_bound, Profile, IsProfile, size_bound_of, size_bound_of_each, sum_by-cons}
 use Rattle.std.specs.List.{IsDistinct}
 
 -- ---- no more than six conditions
@@ -38,11 +38,16 @@ few_numbers (r ∷ rs) =
     let fewer = length-filter_both others (λ number. not (others number)) (λ number. refl) (numbers_of rs) in
     omega (arith, few_numbers rs)
 
-pub rules_valid : (p : Profile) → IsProfile p → All IsRule p.rules
-rules_valid p valid = All-from_recursion IsRule p.rules valid.each
+pub rules_valid : (p : Profile) → IsProfile p → All (IsRule p.architecture) p.rules
+rules_valid p valid = All-from_recursion (IsRule p.architecture) p.rules valid.each
 
-pub size_small : (p : Profile) → IsProfile p → size_bound_of p < 2 ^ 31
+pub size_small : (p : Profile) → IsProfile p → size_bound_of p < 2 ^ 18
 size_small p valid =
     let most = sum_by-le rule_bound 50 p.rules (λ k d lt.
     omega (arith, few_conditions (get_or p.rules k d).conditions (rules_valid p valid k d lt).conditions)) in
     omega (arith, few_numbers p.rules, valid.few)
+
+-- each profile's bound is more than one
+pub at_least_each : (ps : List Profile) → length ps ≤ size_bound_of_each ps
+at_least_each [] = omega arith
+at_least_each (p ∷ ps) = omega (arith, at_least_each ps, sum_by-cons size_bound_of p ps)

@@ -1,12 +1,12 @@
 -- The code of a condition: how long it is, that it is sound, and how it goes on.
-use Rattle.scf_compile.proofs.Common.{◌≡◌, ℕ, ◌+◌, ◌*◌, ◌<◌, ◌≤◌, ◌^◌, ◌≢◌, Bool, true, false, cond, eqb, ltb, not, List, [], ◌∷◌, ◌++◌, drop, length, refl, sym, ap, ◌∙◌, arith, append_assoc, bit_and, length-append, slice_index, IsTrue, AllByRecursion, eqb-true, eqb-false, nat_tests, and_mask, and_shr, and_mod, and_assoc, and_self, Insn, CallRecord, Test, SameWord, Above, AtLeast, CommonBit, JumpIf, Constant, MaskKind, Empty, OneBit, Full, Mixed, mask_kind, IsSimpleMask, low, high, words_of, argument, IsRecord, argument_low, argument_high, IsOfKind, is_of_kind, test_holds, IsPlainOperation, Operator, NotEqual, Less, LessOrEqual, Greater, MaskedEqual, Condition, IsPlainCondition, all_hold, IsCondition, jump_if, word_code, order_code, bit_code, half_code_of, half_code, masked_code, test_code, exits, condition_code, argument_word, conditions_code, EndsWithin, AreSound, ◌-◌, inl, inr, ◌⊎◌, IsPowerOfTwo, bit_at, and_zero_r, cases_eq, eq-eqb, and_pow, bit_at-lt}
+use Rattle.scf_compile.proofs.Common.{◌≡◌, ℕ, ◌+◌, ◌*◌, ◌<◌, ◌≤◌, ◌^◌, ◌≢◌, Bool, true, false, cond, eqb, ltb, not, List, [], ◌∷◌, ◌++◌, drop, length, refl, sym, ap, ◌∙◌, arith, append_assoc, bit_and, length-append, slice_index, IsTrue, AllByRecursion, eqb-true, eqb-false, nat_tests, and_mask, and_shr, and_mod, and_assoc, and_self, Insn, CallRecord, Test, SameWord, Above, AtLeast, CommonBit, JumpIf, Constant, MaskKind, Empty, OneBit, Full, Mixed, mask_kind, IsSimpleMask, low, high, words_of, argument, IsRecord, argument_low, argument_high, IsOfKind, is_of_kind, test_holds, IsPlainOperation, Operator, NotEqual, Less, LessOrEqual, Greater, MaskedEqual, Condition, IsPlainCondition, all_hold, IsCondition, jump_if, word_code, order_code, bit_code, half_code_of, half_code, masked_code, test_code, exits, condition_code, argument_word, conditions_code, wide_code, narrow_code, value_of, jump_over, Architecture, ArgumentBits, Bits32, Bits64, taken_of, argument_in, row_of, leb, ne_eqb, and_zero_l, EndsWithin, AreSound, ◌-◌, inl, inr, ◌⊎◌, IsPowerOfTwo, bit_at, and_zero_r, cases_eq, eq-eqb, and_pow, bit_at-lt}
 use Rattle.scf_profile.specs.Condition.{condition_holds}
 use Rattle.scf_profile.specs.declared.condition.Operator.TheVariants.{Equal, GreaterOrEqual}
 use Rattle.scf_profile.specs.declared.number_test.NumberTest.{NumberTest}
 use Rattle.scf_profile.specs.declared.number_test.NumberTest.TheVariants as tests
 use Rattle.scf_profile.specs.NumberTests.{IsPlainTest, comes_to, test_by, test_of, tree_answer}
 use Rattle.scf_profile.proofs.NumberTests.{decides, plain_of}
-use Rattle.scf_compile.proofs.Runs.{more, past, loads, masks, jumps, load_sound, mask_sound, jump_sound}
+use Rattle.scf_compile.proofs.Runs.{more, past, loads, masks, jumps, passes, load_sound, mask_sound, jump_sound, pass_sound}
 
 -- ---- what a word has under a mask, by the kind of the mask
 
@@ -173,6 +173,60 @@ module _ (word : ℕ) (n : CallRecord → ℕ) (lt : word < 16)
   unfolding half_code
   half_tests = by_kind (mask_kind mask) (is_of_kind mask)
 
+-- ---- no test
+
+-- what is never met is passed
+skip_tests : (hit miss : ℕ) (none : Bool) → eqb miss 0 ≡ none
+    → Tests (cond none [] (jump_over miss ∷ [])) hit miss 1 (Unit {0}) (λ _. false)
+skip_tests hit miss true none = record {
+  len = omega arith;
+  sound = λ asked rest is h m s. s;
+  ends = λ call fits rest answer left a over under.
+      more (rw (eqb-true miss 0 none) at (under refl a)) (omega arith);
+}
+skip_tests hit miss false some = record {
+  len = omega arith;
+  sound = λ asked rest is h m s. (pass_sound miss m, s);
+  ends = λ call fits rest answer left a over under. more (passes miss a (under refl a)) (omega arith);
+}
+
+-- ---- a number below 2^32
+
+-- its high half is nothing, so that a value that fits a word is compared with its low one
+narrow_masked : (mask value n : ℕ) → n < 2 ^ 32 → high value ≡ 0
+    → eqb (bit_and n (low mask)) (low value) ≡ tree_answer (tests.Masked mask value) n
+narrow_masked mask value n lt fits =
+    let none : high n ≡ 0 = omega arith in
+    let all : low n ≡ n = omega arith in
+    let nothing : bit_and (high n) (high mask) ≡ 0 = rw none (and_zero_l (high mask)) in
+    rw (all, nothing, fits) refl
+
+narrow_above : (value n : ℕ) → n < 2 ^ 32 → high value ≡ 0
+    → ltb (low value) n ≡ tree_answer (tests.Greater value) n
+narrow_above value n lt fits =
+    let none : high n ≡ 0 = omega arith in let all : low n ≡ n = omega arith in rw (all, none, fits) refl
+
+at_least_holds : (n value : ℕ) → test_holds AtLeast n value ≡ leb value n
+at_least_holds n value = grind (arith, nat_tests)
+
+narrow_at_least : (value n : ℕ) → n < 2 ^ 32 → high value ≡ 0
+    → leb (low value) n ≡ tree_answer (tests.GreaterOrEqual value) n
+narrow_at_least value n lt fits =
+    let none : high n ≡ 0 = omega arith in let all : low n ≡ n = omega arith in rw (all, none, fits) refl
+
+-- it reaches no value that needs more
+never_met : (test : NumberTest) (n : ℕ) → n < 2 ^ 32 → high (value_of test) ≢ 0 → false ≡ tree_answer test n
+never_met (tests.Masked mask value) n lt wide =
+    let none : high n ≡ 0 = omega arith in
+    let nothing : bit_and (high n) (high mask) ≡ 0 = rw none (and_zero_l (high mask)) in
+    rw (nothing, ne_eqb 0 (high value) (λ e. wide (sym e))) refl
+never_met (tests.Greater value) n lt wide =
+    let none : high n ≡ 0 = omega arith in
+    rw (none, ne_eqb 0 (high value) (λ e. wide (sym e))) (grind (arith, nat_tests))
+never_met (tests.GreaterOrEqual value) n lt wide =
+    let none : high n ≡ 0 = omega arith in
+    rw (none, ne_eqb 0 (high value) (λ e. wide (sym e))) (grind (arith, nat_tests))
+
 -- ---- a number in two words
 
 -- the number of a test has no bit outside its mask
@@ -228,13 +282,42 @@ module _ (index : ℕ) (lt : index < 6) where
       (half_tests word (λ call. low (n call)) (omega arith) (λ call. argument_low call index)
       (λ call fits. omega arith) (low mask) (low wanted) hit miss (sym (and_mod wanted mask 32) ∙ ap low within))
 
-  test_tests : (test : NumberTest) (hit miss : ℕ) → IsWithin test
-      → Tests (test_code test word hit miss) hit miss 6 (IsPlainTest test) (λ call. tree_answer test (n call))
-  test_tests (tests.Masked mask value) hit miss within = masked_tests mask value hit miss within
-  test_tests (tests.Greater value) hit miss within = order_tests Above value hit miss tt
-  test_tests (tests.GreaterOrEqual value) hit miss within =
+  wide_tests : (test : NumberTest) (hit miss : ℕ) → IsWithin test
+      → Tests (wide_code test word hit miss) hit miss 6 (IsPlainTest test) (λ call. tree_answer test (n call))
+  wide_tests (tests.Masked mask value) hit miss within = masked_tests mask value hit miss within
+  wide_tests (tests.Greater value) hit miss within = order_tests Above value hit miss tt
+  wide_tests (tests.GreaterOrEqual value) hit miss within =
       tests_as 6 6 _ _ (order_tests AtLeast value hit miss tt) (omega arith) (λ p. p)
       (λ call fits. grind (arith, nat_tests))
+
+  -- the number in the low word
+  narrow_tests : (test : NumberTest) (hit miss : ℕ) → IsWithin test → high (value_of test) ≡ 0
+      → Tests (narrow_code test word hit miss) hit miss 6 (IsPlainTest test) (λ call. tree_answer test (low (n call)))
+  narrow_tests (tests.Masked mask value) hit miss within fits =
+      tests_as 3 6 _ _ (half_tests word (λ call. low (n call)) (omega arith) (λ call. argument_low call index)
+      (λ call h. omega arith) (low mask) (low value) hit miss (sym (and_mod value mask 32) ∙ ap low within))
+      (omega arith) (λ p. p.1) (λ call h. narrow_masked mask value (low (n call)) (omega arith) fits)
+  narrow_tests (tests.Greater value) hit miss within fits =
+      tests_as 2 6 _ _ (word_tests word (λ call. low (n call)) Above (low value) hit miss (omega arith)
+      (λ call. argument_low call index)) (omega arith) (λ p. tt)
+      (λ call h. narrow_above value (low (n call)) (omega arith) fits)
+  narrow_tests (tests.GreaterOrEqual value) hit miss within fits =
+      tests_as 2 6 _ _ (word_tests word (λ call. low (n call)) AtLeast (low value) hit miss (omega arith)
+      (λ call. argument_low call index)) (omega arith) (λ p. tt)
+      (λ call h. at_least_holds (low (n call)) (low value) ∙ narrow_at_least value (low (n call)) (omega arith) fits)
+
+  -- a test of an argument of so many bits
+  test_tests : (bits : ArgumentBits) (test : NumberTest) (hit miss : ℕ) → IsWithin test
+      → Tests (test_code bits test word hit miss) hit miss 6 (IsPlainTest test)
+      (λ call. tree_answer test (taken_of bits (n call)))
+  test_tests Bits64 test hit miss within = wide_tests test hit miss within
+  test_tests Bits32 test hit miss within =
+      elim (cases_eq (high (value_of test)) 0) [
+        | inl fits ↦ rw (eq-eqb (high (value_of test)) 0 fits) (narrow_tests test hit miss within fits)
+        | inr wide ↦ rw (ne_eqb (high (value_of test)) 0 wide)
+            (tests_as 1 6 _ _ (skip_tests hit miss (eqb miss 0) refl) (omega arith) (λ p. tt)
+            (λ call h. never_met test (low (n call)) (omega arith) wide))
+      ]
 
 -- ---- a condition
 
@@ -251,23 +334,32 @@ within_of c fine = by_operator c.op c.value c.value_two fine.value
     by_operator MaskedEqual value value_two fits =
         and_assoc value value_two value ∙ ap (λ (m : ℕ). bit_and value_two m) (and_self value)
 
-condition_tests : (c : Condition) (out : ℕ) → IsCondition c
-    → Tests (condition_code c out) 0 out 6 (IsPlainCondition c) (λ call. condition_holds c (argument call c.index))
-condition_tests c out fine =
+-- what is taken of a register fits one
+taken_fits : (bits : ArgumentBits) (n : ℕ) → n < 2 ^ 64 → taken_of bits n < 2 ^ 64
+taken_fits Bits32 n fits = omega arith
+taken_fits Bits64 n fits = fits
+
+condition_tests : (a : Architecture) (c : Condition) (out : ℕ) → IsCondition c
+    → Tests (condition_code a c out) 0 out 6 (IsPlainCondition c)
+    (λ call. condition_holds c (argument_in a call c.index))
+condition_tests a c out fine =
     tests_as 6 6 _ _ (by_exits (test_of c).1) (omega arith) (plain_of c)
-    (λ call fits. decides c (argument call c.index) (fits.args c.index))
+    (λ call fits. decides c (argument_in a call c.index)
+    (taken_fits (row_of a).bits (argument call c.index) (fits.args c.index)))
   where
     by_exits : (expected : Bool)
-        → Tests (test_code (test_of c).0 (argument_word c.index) (exits expected out).0 (exits expected out).1) 0 out 6
-        (IsPlainTest (test_of c).0) (λ call. comes_to ((test_of c).0, expected) (argument call c.index))
-    by_exits true = test_tests c.index fine.index (test_of c).0 0 out (within_of c fine)
-    by_exits false = opposite _ (test_tests c.index fine.index (test_of c).0 out 0 (within_of c fine)) (λ call. refl)
+        → Tests (test_code (row_of a).bits (test_of c).0 (argument_word c.index) (exits expected out).0
+        (exits expected out).1) 0 out 6 (IsPlainTest (test_of c).0)
+        (λ call. comes_to ((test_of c).0, expected) (argument_in a call c.index))
+    by_exits true = test_tests c.index fine.index (row_of a).bits (test_of c).0 0 out (within_of c fine)
+    by_exits false =
+        opposite _ (test_tests c.index fine.index (row_of a).bits (test_of c).0 out 0 (within_of c fine)) (λ call. refl)
 
 -- Conditions one after another pass one instruction more where one of them fails.
-pub conditions_tests : (cs : List Condition) → AllByRecursion IsCondition cs
-    → Tests (conditions_code cs) 0 1 (6 * length cs) (AllByRecursion IsPlainCondition cs) (λ call. all_hold call cs)
-conditions_tests [] fine = no_tests 1 _
-conditions_tests (c ∷ cs) fine =
+pub conditions_tests : (a : Architecture) (cs : List Condition) → AllByRecursion IsCondition cs
+    → Tests (conditions_code a cs) 0 1 (6 * length cs) (AllByRecursion IsPlainCondition cs) (λ call. all_hold a call cs)
+conditions_tests a [] fine = no_tests 1 _
+conditions_tests a (c ∷ cs) fine =
     tests_as _ _ _ _
-    (both (condition_tests c (length (conditions_code cs) + 1) fine.0) (conditions_tests cs fine.1)) (omega arith)
+    (both (condition_tests a c (length (conditions_code a cs) + 1) fine.0) (conditions_tests a cs fine.1)) (omega arith)
     (λ p. p) (λ call h. grind (arith, nat_tests))

@@ -1,5 +1,5 @@
 -- The code of a filter keeps the rules of the checker, and answers within its bounds.
-use Rattle.scf_compile.proofs.Common.{◌≡◌, ℕ, zero, suc, ◌+◌, ◌-◌, ◌<◌, ◌≤◌, true, false, Bool, Some, List, [], ◌∷◌, length, refl, sym, ◌∙◌, arith, get_or, same_Some, slice_get, slice_get-get_or, Insn, Operation, return_with, LoadScratch, bpf_maxinsns, RunAnswers, IsPlainProgram, Stands, IsFine, IsFineAt, IsReturn, IsValidList, KeepsScratchRule, run_once, words_of, Profile, IsPlainProfile, SameAnswers, AnswersWithin, search_bound_of, IsFilterOf, Keeps, IsSound, AreSound}
+use Rattle.scf_compile.proofs.Common.{◌≡◌, ℕ, zero, suc, ◌+◌, ◌-◌, ◌<◌, ◌≤◌, true, false, Bool, Some, List, [], ◌∷◌, length, refl, sym, ◌∙◌, arith, get_or, same_Some, slice_get, slice_get-get_or, Insn, Operation, return_with, LoadScratch, bpf_maxinsns, RunAnswers, IsPlainProgram, Stands, IsFine, IsFineAt, IsReturn, IsValidList, KeepsScratchRule, run_once, words_of, subst, sum_by-cons, All, All-cons, CallRecord, Profile, AreOfApart, IsPlainProfile, ProfileAnswers, ProfilesAnswer, foreign, by_profile, by_none, SameAnswers, SameAnswersAsEach, AnswersWithin, search_bound_of, search_bound_of_each, size_bound_of, size_bound_of_each, IsFilterOf, Keeps, IsSound, AreSound}
 
 -- ---- the rules of the checker
 
@@ -39,7 +39,7 @@ returns_at_end operation i h = grind arith
 
 -- ---- what a filter promises
 
-module _ {p : Profile} {code : List Insn} (filter : IsFilterOf p code) where
+module _ {ps : List Profile} {code : List Insn} (filter : IsFilterOf ps code) where
   unasked : AreSound false code
   unasked = filter.sound false (λ e. absurd (cc))
 
@@ -60,24 +60,51 @@ module _ {p : Profile} {code : List Insn} (filter : IsFilterOf p code) where
   keeps_scratch_rule index n earlier loads path =
       absurd (kept_at code index loads.insn (LoadScratch loads.register) unasked loads.stands).2
 
-  pub is_plain : IsPlainProfile p → IsPlainProgram code
+  pub is_plain : All IsPlainProfile ps → IsPlainProgram code
   is_plain plain k d lt =
       let there = (sound_at code k _ (filter.sound true (λ _. plain)) (slice_get-get_or code k d lt)).2 in
       record { operation = there.operation; known = there.known; plain = there.is_plain refl }
 
-  pub answers_same : SameAnswers (RunAnswers code) p
+  pub answers_same : SameAnswersAsEach (RunAnswers code) ps
   answers_same call fits =
       let found = filter.answered call fits in
-      record {
-        filter = found.answer;
-        profile = found.answer;
-        of_words = (found.of_words.steps, found.of_words.run);
-        of_profile = found.of_profile;
-        are_related = refl;
-      }
+      (found.answer, (found.of_words.steps, found.of_words.run), found.of_profiles)
 
-  pub answers_within : AnswersWithin code (search_bound_of p)
+  pub answers_within : AnswersWithin code (search_bound_of_each ps)
   answers_within call fits answer steps run =
       let found = filter.answered call fits in
       let own = found.of_words in
       omega (arith, own.few, (run_once code (words_of call) found.answer answer own.steps steps own.run run).1)
+
+-- ---- one profile
+
+of_one : (p : Profile) (call : CallRecord) (answer : ℕ) → ProfilesAnswer (p ∷ []) call answer
+    → ProfileAnswers p call answer
+of_one p call answer (by_profile q (zero, lt, e) own _ is) =
+    subst (λ (r : Profile). ProfileAnswers r call answer) (sym e) is
+of_one p call answer (by_profile q (suc k, lt, e) own _ is) = absurd (omega arith)
+of_one p call _ (by_none none) = foreign (none p (0, omega arith, refl))
+
+module _ (p : Profile) where
+  pub one_same : (answers : List ℕ → ℕ → Type 0) → SameAnswersAsEach answers (p ∷ []) → SameAnswers answers p
+  one_same answers same call fits =
+      let found = same call fits in
+      record {
+        filter = found.0;
+        profile = found.0;
+        of_words = found.1;
+        of_profile = of_one p call found.0 found.2;
+        are_related = refl;
+      }
+
+  pub one_search_bound : search_bound_of_each (p ∷ []) ≡ search_bound_of p
+  one_search_bound = omega arith
+
+  pub one_size_bound : size_bound_of_each (p ∷ []) ≡ size_bound_of p
+  one_size_bound = omega (arith, sum_by-cons size_bound_of p [])
+
+  pub one_apart : AreOfApart (p ∷ [])
+  one_apart i j d lt within = absurd (omega arith)
+
+  pub one_plain : IsPlainProfile p → All IsPlainProfile (p ∷ [])
+  one_plain plain = All-cons IsPlainProfile p [] plain (λ k d lt. absurd (omega arith))

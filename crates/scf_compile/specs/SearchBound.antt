@@ -1,5 +1,5 @@
--- Within how many steps the filter of a profile answers each call.
-use Rattle.std.specs.Prelude.{ℕ, zero, suc, ◌+◌, ◌*◌, ◌/◌, ◌≤◌, ◌==◌, List, [], ◌∷◌, length, map, max, sum_by}
+-- Within how many steps the filter of a profile, or of several, answers each call.
+use Rattle.std.specs.Prelude.{ℕ, zero, suc, ◌+◌, ◌-◌, ◌*◌, ◌/◌, ◌≤◌, ◌==◌, List, [], ◌∷◌, length, map, max, sum_by}
 use Rattle.std.specs.Prelude.{if◌then◌else◌}
 use Rattle.scf_insn.specs.declared.insn.Insn.{Insn}
 use Rattle.scf_insn.specs.declared.record.CallRecord.{CallRecord}
@@ -23,12 +23,20 @@ abbrev pub greatest : List ℕ → ℕ
 greatest [] = 0
 greatest (n ∷ ns) = max n (greatest ns)
 
--- 8, and 2 for each binary digit of the count of distinct numbers, and the greatest sum over the rules of one number
--- of 2 and 8 for each condition
-abbrev pub search_bound_of : Profile → ℕ
-search_bound_of p =
-    8 + 2 * binary_digits (length (numbers_of p.rules))
+-- the steps for the rules of a profile: 2 for each binary digit of the count of distinct numbers, and the greatest sum
+-- over the rules of one number of 2 and 8 for each condition
+abbrev pub rules_steps : Profile → ℕ
+rules_steps p =
+    2 * binary_digits (length (numbers_of p.rules))
     + greatest (map (λ number. sum_by rule_bound (rules_of number p.rules)) (numbers_of p.rules))
+
+-- 8, and the steps for its rules
+abbrev pub search_bound_of : Profile → ℕ
+search_bound_of p = 8 + rules_steps p
+
+-- 8, and 2 for each profile but one, and the most steps for the rules of one of them
+abbrev pub search_bound_of_each : List Profile → ℕ
+search_bound_of_each profiles = 8 + 2 * (length profiles - 1) + greatest (map rules_steps profiles)
 
 -- Every run over a call record, of whatever architecture and number, ends within so many steps.
 abbrev pub AnswersWithin : List Insn → ℕ → Type 0

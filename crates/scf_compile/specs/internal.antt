@@ -5,3 +5,4 @@ pub mod Placing
 pub mod Runs
 pub mod Sound
 pub mod Filters
+pub mod Dispatch

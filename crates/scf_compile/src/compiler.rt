@@ -1,66 +1,94 @@
-//! From a profile to a filter.
+//! From profiles to a filter.
 
-ghost use Rattle.std.specs.Prelude.{◌≡◌, ◌<◌, IfOk, IfErr};
+ghost use Rattle.std.specs.Prelude.{◌≡◌, ◌+◌, ◌*◌, ◌^◌, ◌<◌, ◌≤◌, ◌∷◌, All, IfErr, IfOk, List, OnOk, length};
 ghost use Rattle.scf_machine.specs.Machine.{RunAnswers};
 ghost use Rattle.scf_machine.specs.Plain.{IsPlainProgram};
 ghost use Rattle.scf_profile.specs.PlainProfile.{IsPlainProfile};
 ghost use Rattle.scf_insn.specs.Kernel.{bpf_maxinsns};
-ghost use Rattle.scf_profile.specs.SameAnswers.{SameAnswers};
-ghost use Rattle.scf_compile.specs.SearchBound.{AnswersWithin, search_bound_of};
-ghost use Rattle.scf_compile.specs.SizeBound.{size_bound_of};
-ghost use Rattle.scf_compile.specs.internal.Filters.{IsFilterOf, IsSearchOf};
+ghost use Rattle.scf_profile.specs.Profile.{AreOfApart, Profile};
+ghost use Rattle.scf_profile.specs.SameAnswers.{SameAnswers, SameAnswersAsEach};
+ghost use Rattle.scf_compile.specs.SearchBound.{AnswersWithin, search_bound_of, search_bound_of_each};
+ghost use Rattle.scf_compile.specs.SizeBound.{size_bound_of, size_bound_of_each};
+ghost use Rattle.scf_compile.specs.internal.Filters.{AreSearched, IsFilterOf};
 
+use crate::dispatch::{Search, put_dispatch};
 use crate::fault::CompileFault;
-use crate::insns::{load_word, return_with};
-use crate::placing::{Position, put_block, put_branch};
+use crate::insns::load_word;
+use crate::placing::Position;
 use crate::ranges::ranges_of;
 use crate::search::put_search;
-use scf_insn::kernel::{AUDIT_ARCH_X86_64, BPF_MAXINSNS, X32_SYSCALL_BIT};
-use scf_insn::{Insn, Memory, Test};
+use scf_insn::kernel::BPF_MAXINSNS;
+use scf_insn::{Insn, Memory};
 use scf_machine::{CheckFault, Program, check};
-use scf_profile::{FOREIGN_ANSWER, Profile};
+use scf_profile::{Profile, Profiles};
 use std::alloc::Global;
 use std::collections::VecDeque;
 
-/// The binary search for a profile's rules, and the position where it begins.
-fn search_of(alloc: Global, profile: &Profile) -> Result<(VecDeque<Insn>, Position), Memory>
-    ensures { IfOk result (λ found. IsSearchOf profile.now found.0.items found.1) }
+/// Puts the binary search for a profile's rules in front of those of other profiles.
+fn put_profile(
+    alloc: Global,
+    code: &mut VecDeque<Insn>,
+    searches: &mut VecDeque<Search>,
+    profile: &Profile,
+) -> Result<(), Memory>
+    requires { length code.now.items < 2 ^ 31 }
+    ensures put { OnOk result ((ps : List Profile) → AreSearched ps code.old.items searches.old.items
+        → AreSearched (profile.now ∷ ps) code.new.items searches.new.items) }
+    ensures small { OnOk result (length code.new.items ≤ length code.old.items + 2 ^ 18) }
 {
+    let architecture = profile.architecture();
     let default = profile.default_answer();
-    let ranges = ranges_of(alloc, profile.numbers(), default)?;
-    let mut code = VecDeque::new(alloc);
-    let index = put_search(alloc, &mut code, &ranges, default)?;
-    Ok((code, index))
+    let ranges = ranges_of(alloc, architecture, profile.numbers(), default)?;
+    let earlier = Position(code.len());
+    let index = put_search(alloc, code, architecture, &ranges, default, earlier)?;
+    searches.push_front(Search {
+        architecture,
+        index,
+    })?;
+    Ok(())
 }
 
-/// The instructions of a profile's filter, however many there are.
-fn filter_of(alloc: Global, profile: &Profile) -> Result<Vec<Insn>, Memory>
-    ensures { IfOk result (λ code. IsFilterOf profile.now code.items) }
+/// The binary searches for the rules of profiles, and where each begins.
+fn searches_of(alloc: Global, profiles: &[Profile]) -> Result<(VecDeque<Insn>, Vec<Search>), Memory>
+    requires { length profiles.now ≤ bpf_maxinsns }
+    ensures put { IfOk result (λ found. AreSearched profiles.now found.0.items found.1.items) }
+    ensures small { IfOk result (λ found. length found.0.items ≤ 2 ^ 18 * length profiles.now) }
 {
-    let (mut code, calls) = search_of(alloc, profile)?;
-    let x32 = put_block(&mut code, &[return_with(FOREIGN_ANSWER)])?;
-    put_branch(&mut code, Test::GreaterOrEqual, X32_SYSCALL_BIT, x32, calls)?;
-    code.push_front(load_word(0))?;
-    let native = Position(code.len());
-    let foreign = put_block(&mut code, &[return_with(FOREIGN_ANSWER)])?;
-    put_branch(&mut code, Test::Equal, AUDIT_ARCH_X86_64, native, foreign)?;
+    let mut code = VecDeque::new(alloc);
+    let mut searches = VecDeque::new(alloc);
+    for i in (0..profiles.len()).rev() {
+        put_profile(alloc, &mut code, &mut searches, &profiles[i])?;
+    }
+    Ok((code, Vec::from(searches)))
+}
+
+/// The instructions of the filter of profiles, however many there are.
+fn filter_of(alloc: Global, profiles: &[Profile]) -> Result<Vec<Insn>, Memory>
+    requires few { length profiles.now ≤ bpf_maxinsns }
+    requires apart { AreOfApart profiles.now }
+    ensures { IfOk result (λ code. IsFilterOf profiles.now code.items) }
+{
+    let (mut code, searches) = searches_of(alloc, profiles)?;
+    put_dispatch(alloc, &mut code, &searches)?;
     code.push_front(load_word(1))?;
     Ok(Vec::from(code))
 }
 
-/// Compiles a profile to a filter that answers every call record as the profile does, in all 32 bits; also those of
-/// other architectures and of x32. Each run takes at most 8 steps, plus 2 for each binary digit of the count of
-/// distinct syscall numbers, plus, for the rules of one number, 2 for each rule and 8 for each condition. A plain
-/// profile gives a plain program. `TooLarge` comes only if `size_bound` exceeds `BPF_MAXINSNS`, and `Memory` only if an
-/// allocation failed.
+/// The filter of profiles, of which no two are for one record.
 #[tactic(auto, using(crate::proofs::Valid::answers_same, crate::proofs::Valid::is_plain))]
-pub fn compile(alloc: Global, profile: &Profile) -> Result<Program, CompileFault>
-    ensures same { IfOk result (λ program. SameAnswers (RunAnswers program) profile.now) }
-    ensures searched { IfOk result (λ program. AnswersWithin program (search_bound_of profile.now)) }
-    ensures plain { IsPlainProfile profile.now → IfOk result IsPlainProgram }
-    ensures large { IfErr result (λ fault. fault ≡ CompileFault.TooLarge → bpf_maxinsns < size_bound_of profile.now) }
+fn program_of(alloc: Global, profiles: &[Profile]) -> Result<Program, CompileFault>
+    requires { AreOfApart profiles.now }
+    ensures same { IfOk result (λ program. SameAnswersAsEach (RunAnswers program) profiles.now) }
+    ensures searched { IfOk result (λ program. AnswersWithin program (search_bound_of_each profiles.now)) }
+    ensures plain { All IsPlainProfile profiles.now → IfOk result IsPlainProgram }
+    ensures large { IfErr result
+        (λ fault. fault ≡ CompileFault.TooLarge → bpf_maxinsns < size_bound_of_each profiles.now) }
 {
-    let code = filter_of(alloc, profile)?;
+    // Each of them has a size bound of at least 8.
+    if profiles.len() > BPF_MAXINSNS {
+        return Err(CompileFault::TooLarge);
+    }
+    let code = filter_of(alloc, profiles)?;
     if code.as_slice().len() > BPF_MAXINSNS {
         return Err(CompileFault::TooLarge);
     }
@@ -71,4 +99,32 @@ pub fn compile(alloc: Global, profile: &Profile) -> Result<Program, CompileFault
             _ => unreachable!(),
         },
     }
+}
+
+/// Compiles a profile to a filter that answers every call record as the profile does, in all 32 bits; also those of
+/// other architectures. Each run takes at most 8 steps, plus 2 for each binary digit of the count of distinct syscall
+/// numbers, plus, for the rules of one number, 2 for each rule and 8 for each condition. A plain profile gives a plain
+/// program. `TooLarge` comes only if `size_bound` exceeds `BPF_MAXINSNS`, and `Memory` only if an allocation failed.
+pub fn compile(alloc: Global, profile: &Profile) -> Result<Program, CompileFault>
+    ensures same { IfOk result (λ program. SameAnswers (RunAnswers program) profile.now) }
+    ensures searched { IfOk result (λ program. AnswersWithin program (search_bound_of profile.now)) }
+    ensures plain { IsPlainProfile profile.now → IfOk result IsPlainProgram }
+    ensures large { IfErr result (λ fault. fault ≡ CompileFault.TooLarge → bpf_maxinsns < size_bound_of profile.now) }
+{
+    program_of(alloc, std::slice::from_ref(profile))
+}
+
+/// Compiles the profiles of several architectures to a filter that answers every call record as the profile of its
+/// architecture does, in all 32 bits, and with KILL_PROCESS if there is none. Each run takes at most as many steps as
+/// `compile` states for the profile that takes the most, plus 2 for each other profile. Plain profiles give a plain
+/// program. `TooLarge` comes only if the sum of their size bounds exceeds `BPF_MAXINSNS`, and `Memory` only if an
+/// allocation failed.
+pub fn compile_profiles(alloc: Global, profiles: &Profiles) -> Result<Program, CompileFault>
+    ensures same { IfOk result (λ program. SameAnswersAsEach (RunAnswers program) profiles.now) }
+    ensures searched { IfOk result (λ program. AnswersWithin program (search_bound_of_each profiles.now)) }
+    ensures plain { All IsPlainProfile profiles.now → IfOk result IsPlainProgram }
+    ensures large { IfErr result
+        (λ fault. fault ≡ CompileFault.TooLarge → bpf_maxinsns < size_bound_of_each profiles.now) }
+{
+    program_of(alloc, profiles.as_slice())
 }

@@ -1,8 +1,9 @@
-//! The compiler: from a profile to a filter with the same answers.
+//! The compiler: from a profile, or several, to a filter with the same answers.
 #![tactic(auto)]
 
 mod blocks;
 mod compiler;
+mod dispatch;
 mod fault;
 mod insns;
 mod placing;
@@ -11,6 +12,6 @@ mod rules;
 mod search;
 mod size;
 
-pub use compiler::compile;
+pub use compiler::{compile, compile_profiles};
 pub use fault::CompileFault;
-pub use size::size_bound;
+pub use size::{size_bound, size_bound_of_profiles};

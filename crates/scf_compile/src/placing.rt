@@ -1,7 +1,8 @@
 //! Emits code from its last instruction to its first, so that the target of each jump is already there.
 
-ghost use Rattle.std.specs.Prelude.{◌≡◌, ◌-◌, ◌^◌, ◌<◌, ◌≤◌, [], ◌∷◌, ◌++◌, IfNone, IfOk, IfSome, OnOk, length};
-ghost use Rattle.scf_compile.specs.internal.Placing.{branch_code, IsFirst, IsNear, IsOutOfReach, IsPut};
+ghost use Rattle.std.specs.Prelude.{◌≡◌, ◌-◌, ◌^◌, ◌<◌, ◌≤◌, [], ◌∷◌, ◌++◌, IfNone, IfOk, IfSome, IsTrue, OnOk, length};
+ghost use Rattle.scf_compile.specs.internal.Placing.{branch_code, skip_code, IsFirst, IsNear, IsOutOfReach, IsPut};
+ghost use Rattle.scf_compile.specs.internal.Placing.{StandsBehind};
 
 use crate::insns::{jump_if, jump_over};
 use scf_insn::{Insn, Test};
@@ -45,6 +46,66 @@ pub(crate) fn put_block(code: &mut VecDeque<Insn>, block: &[Insn]) -> Result<Pos
         }
     }
     put_front(code, block)?;
+    Ok(Position(code.len()))
+}
+
+/// Whether a block stands in the code behind `passed` instructions.
+fn stands_behind(code: &VecDeque<Insn>, passed: usize, block: &[Insn]) -> bool
+    requires { passed ≤ length code.now.items }
+    ensures { IsTrue result → StandsBehind passed block.now code.now.items }
+{
+    block.len() <= code.len() - passed
+        && block
+            .iter()
+            .zip(code.iter().skip(passed))
+            .all(|(insn, other)| insn == other)
+}
+
+/// The nearest position of a block, from `earlier` on, that a conditional jump, put in front of the code, can reach.
+fn find_block(code: &VecDeque<Insn>, block: &[Insn], earlier: Position) -> Option<Position>
+    ensures { IfSome result (IsPut block.now code.now.items code.now.items) }
+{
+    for passed in code.len().saturating_sub(earlier.0)..code.len().min(MAX_SKIP) {
+        if code.get(passed) == block.first() && stands_behind(code, passed, block) {
+            return Some(Position(code.len() - passed));
+        }
+    }
+    None
+}
+
+/// Puts a block in front of the code, unless it is there within a jump's reach: a single instruction anywhere, and a
+/// longer block from `earlier` on.
+pub(crate) fn put_shared(
+    code: &mut VecDeque<Insn>,
+    block: &[Insn],
+    earlier: Position,
+) -> Result<Position, AllocError>
+    ensures { IfOk result (IsPut block.now code.old.items code.new.items) }
+{
+    match find_block(code, block, earlier) {
+        Some(index) => Ok(index),
+        None => put_block(code, block),
+    }
+}
+
+/// Skips instructions, if there are any to skip.
+pub(crate) fn put_skip(code: &mut VecDeque<Insn>, count: u32) -> Result<(), AllocError>
+    ensures { OnOk result (code.new.items ≡ skip_code count ++ code.old.items) }
+{
+    if count > 0 {
+        code.push_front(jump_over(count))?;
+    }
+    Ok(())
+}
+
+/// Goes on at an index: by a `ja` in front of the code, unless the code begins there.
+pub(crate) fn put_jump(code: &mut VecDeque<Insn>, index: Position) -> Result<Position, AllocError>
+    requires stands { index.0 ≤ length code.now.items }
+    requires few { length code.now.items < 2 ^ 32 }
+    ensures { IfOk result (IsFirst (skip_code (length code.old.items - index.0)) code.old.items code.new.items) }
+{
+    let count = code.len() - index.0;
+    put_skip(code, count as u32)?;
     Ok(Position(code.len()))
 }
 

@@ -1,14 +1,13 @@
 //! Ranges of syscall numbers whose rules answer alike.
 
-ghost use Rattle.std.specs.Prelude.{◌≡◌, ◌<◌, ◌≤◌, [], All, IfOk, IsTrue, List, OnOk};
+ghost use Rattle.std.specs.Prelude.{◌≡◌, ◌<◌, ◌≤◌, ◌^◌, [], All, IfOk, IsTrue, List, OnOk};
+ghost use Rattle.scf_insn.specs.Architectures.{row_of};
 ghost use Rattle.scf_insn.specs.declared.answer.Answer.{Answer};
-ghost use Rattle.scf_insn.specs.Kernel.{x32_syscall_bit};
 ghost use Rattle.scf_profile.specs.declared.rule.Rule.{Rule};
 ghost use Rattle.scf_profile.specs.NumberRules.{AreNumbersOf};
 ghost use Rattle.scf_compile.specs.internal.NrRanges.{AreRangesOf, AreEffective, IsLaid, StandsFor};
 
-use scf_insn::Answer;
-use scf_insn::kernel::X32_SYSCALL_BIT;
+use scf_insn::{Answer, Architecture};
 use scf_profile::{NumberRules, Rule};
 use std::alloc::{AllocError, Global};
 
@@ -59,35 +58,38 @@ fn add_range<'a>(
 }
 
 /// Appends a range without rules for the numbers from `first` up to `end`, if there are any.
-fn fill_gap(ranges: &mut Vec<NrRange>, first: u32, end: u32) -> Result<(), AllocError>
+fn fill_gap(ranges: &mut Vec<NrRange>, first: u64, end: u64) -> Result<(), AllocError>
+    requires { end ≤ 2 ^ 32 }
     ensures some { OnOk result (first < end → IsLaid ranges.old.items first [] ranges.new.items) }
     ensures none { OnOk result (end ≤ first → ranges.new.items ≡ ranges.old.items) }
 {
     if first < end {
-        add_range(ranges, first, &[])?;
+        add_range(ranges, first as u32, &[])?;
     }
     Ok(())
 }
 
-/// The ranges of a profile's syscall numbers, in rising order, from 0 on: neighbours whose rules answer alike are one
-/// range, and so are the numbers between them that have no rules.
-#[tactic(auto, using(crate::proofs::Laying::laid_none))]
+/// The ranges of an architecture's syscall numbers, in rising order, from its first number on: neighbours whose rules
+/// answer alike are one range, and so are the numbers between them that have no rules.
 pub(crate) fn ranges_of<'a>(
     alloc: Global,
+    architecture: Architecture,
     numbers: &'a [NumberRules],
     default: Answer,
 ) -> Result<Vec<NrRange<'a>>, AllocError>
-    requires { All (λ own. own.number < x32_syscall_bit) numbers.now }
+    requires first { All (λ own. (row_of architecture).first ≤ own.number) numbers.now }
+    requires last { All (λ own. own.number ≤ (row_of architecture).last) numbers.now }
     ensures { IfOk result (λ ranges. (rules : List Rule) → AreNumbersOf numbers.now rules
-        → AreRangesOf default ranges.items rules) }
+        → AreRangesOf architecture default ranges.items rules) }
 {
     let mut ranges = Vec::new(alloc);
-    let mut next = 0;
+    let mut next = u64::from(architecture.first());
     for own in numbers {
-        fill_gap(&mut ranges, next, own.number)?;
+        let number = u64::from(own.number);
+        fill_gap(&mut ranges, next, number)?;
         add_range(&mut ranges, own.number, effective_rules(own, default))?;
-        next = own.number + 1;
+        next = number + 1;
     }
-    fill_gap(&mut ranges, next, X32_SYSCALL_BIT)?;
+    fill_gap(&mut ranges, next, u64::from(architecture.last()) + 1)?;
     Ok(ranges)
 }

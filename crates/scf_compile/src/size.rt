@@ -1,9 +1,9 @@
-//! The size bound of compiled filters.
+//! The size bounds of compiled filters.
 
-ghost use Rattle.std.specs.Prelude.{◌≡◌, ◌<◌, ◌^◌, sum_by};
-ghost use Rattle.scf_compile.specs.SizeBound.{rule_bound, size_bound_of};
+ghost use Rattle.std.specs.Prelude.{◌≡◌, ◌<◌, ◌^◌, min, sum_by};
+ghost use Rattle.scf_compile.specs.SizeBound.{rule_bound, size_bound_of, size_bound_of_each};
 
-use scf_profile::{Profile, Rule};
+use scf_profile::{Profile, Profiles, Rule};
 
 /// 2 for each of the rules, and 8 for each of its conditions.
 fn bound_of_rules(rules: &[Rule]) -> u64
@@ -24,4 +24,16 @@ pub fn size_bound(profile: &Profile) -> u64
     ensures { result ≡ size_bound_of profile.now }
 {
     8 + 4 * profile.numbers().len() as u64 + bound_of_rules(profile.rules())
+}
+
+/// The size bound of the filter of several profiles, in instructions: the sum of their size bounds, or `u64::MAX` if
+/// that is less. `compile_profiles` answers `TooLarge` only if the sum exceeds `BPF_MAXINSNS` (4096). Never allocates.
+pub fn size_bound_of_profiles(profiles: &Profiles) -> u64
+    ensures { result ≡ min (size_bound_of_each profiles.now) u64.MAX }
+{
+    let mut sum = 0u64;
+    for profile in profiles.as_slice() {
+        sum = sum.saturating_add(size_bound(profile));
+    }
+    sum
 }

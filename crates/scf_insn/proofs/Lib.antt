@@ -1,3 +1,4 @@
+pub mod Architectures
 pub mod Bijection
 pub mod CallWords
 pub mod Codes

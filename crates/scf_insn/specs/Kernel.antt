@@ -5,6 +5,16 @@ use Rattle.std.specs.Prelude.{ℕ, ◌*◌}
 abbrev pub audit_arch_x86_64 : ℕ
 audit_arch_x86_64 = 0xc000003e
 
+-- AUDIT_ARCH_I386, AUDIT_ARCH_AARCH64, AUDIT_ARCH_ARM (linux/audit.h): the architectures of their calls
+abbrev pub audit_arch_i386 : ℕ
+audit_arch_i386 = 0x40000003
+
+abbrev pub audit_arch_aarch64 : ℕ
+audit_arch_aarch64 = 0xc00000b7
+
+abbrev pub audit_arch_arm : ℕ
+audit_arch_arm = 0x40000028
+
 -- __X32_SYSCALL_BIT (asm/unistd.h): the first number of an x32 call
 abbrev pub x32_syscall_bit : ℕ
 x32_syscall_bit = 0x40000000

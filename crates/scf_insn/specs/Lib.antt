@@ -1,4 +1,5 @@
 pub mod Answers
+pub mod Architectures
 pub mod Codes
 pub mod Counted
 pub mod Faults

@@ -3,6 +3,15 @@
 /// `AUDIT_ARCH_X86_64` of linux/audit.h: the architecture of x86-64 syscalls, x32's among them.
 pub const AUDIT_ARCH_X86_64: u32 = 0xc000_003e;
 
+/// `AUDIT_ARCH_I386` of linux/audit.h: the architecture of i386 syscalls.
+pub const AUDIT_ARCH_I386: u32 = 0x4000_0003;
+
+/// `AUDIT_ARCH_AARCH64` of linux/audit.h: the architecture of aarch64 syscalls.
+pub const AUDIT_ARCH_AARCH64: u32 = 0xc000_00b7;
+
+/// `AUDIT_ARCH_ARM` of linux/audit.h: the architecture of 32-bit arm syscalls.
+pub const AUDIT_ARCH_ARM: u32 = 0x4000_0028;
+
 /// `__X32_SYSCALL_BIT` of asm/unistd.h: the bit of x32's syscall numbers.
 pub const X32_SYSCALL_BIT: u32 = 0x4000_0000;
 

@@ -2,6 +2,7 @@
 #![tactic(auto)]
 
 mod answer;
+mod architecture;
 mod digits;
 mod encoding;
 pub mod faults;
@@ -17,6 +18,7 @@ mod record;
 mod stream;
 
 pub use answer::{Action, Answer, Disposition};
+pub use architecture::{Architecture, ArgumentBits};
 pub use digits::{digit_byte, write_numeral};
 pub use encoding::{ReadFault, read_program, write_program};
 pub use input::{InputFault, read_input};

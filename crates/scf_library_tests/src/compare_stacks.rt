@@ -3,10 +3,10 @@
 
 use crate::fixtures::{holds_of, profile_of, stack_of};
 use scf_compare::Relation::{NoLess, NoMore, Same, SameDisposition};
-use scf_compare::Scope::{All, Call, Native, Numbers};
+use scf_compare::Scope::{All, Call, Native, Numbers, Of};
 use scf_compare::{Relation, Scope, Verdict, compare_by, compare_stack, effort_stack};
 use scf_facts::WordSets;
-use scf_insn::Answer;
+use scf_insn::{Answer, Architecture};
 use scf_machine::FilterStack;
 use scf_profile::Profile;
 use scf_test_fixtures::filters::{ALLOW_ALL, CLONE_BY_AND, GATE, WITHOUT_READ, WITHOUT_WRITE};
@@ -61,6 +61,9 @@ const ROWS: &[Row] = &[
             (Call(0), Same, None),
             (Call(1), Same, Some((ALLOW, ERRNO_1))),
             (Call(0x4000_0000), Same, FOREIGN),
+            (Of(Architecture::X86), Same, FOREIGN),
+            (Of(Architecture::X32), NoMore, FOREIGN),
+            (Of(Architecture::X32), NoLess, None),
             (Numbers { first: 0, last: 0 }, Same, None),
             (
                 Numbers { first: 0, last: 1 },
@@ -193,6 +196,9 @@ fn is_in_scope(scope: Scope, nr: u32, arch: u32) -> bool {
         Numbers { first, last } => {
             arch == X86_64 && nr < 0x4000_0000 && first <= nr && nr <= last
         }
+        Of(Architecture::X86) => arch == 0x4000_0003,
+        Of(Architecture::X32) => arch == X86_64 && nr >= 0x4000_0000,
+        Of(_) => false,
     }
 }
 

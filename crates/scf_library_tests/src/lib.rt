@@ -8,6 +8,8 @@
 #![tactic(auto)]
 
 #[cfg(test)]
+mod architectures;
+#[cfg(test)]
 mod compare;
 #[cfg(test)]
 mod compare_limits;

@@ -204,6 +204,10 @@ const PROFILES: &[(LoadFault, &str)] = &[
         "x86-64 is not among the architectures",
     ),
     (
+        LoadFault::NotListed { table: 1 },
+        "the architecture of table 1 is not among the architectures",
+    ),
+    (
         LoadFault::EngineForm { entry: Some(0) },
         "entry 0: a form of container engines",
     ),

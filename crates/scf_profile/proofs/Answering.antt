@@ -1,8 +1,8 @@
 -- A profile has an answer to every call, and one only.
-use Rattle.scf_profile.proofs.Common.{◌≡◌, ◌≢◌, ℕ, suc, ◌<◌, ◌⊎◌, Bool, true, false, cond, List, [], ◌∷◌, All, refl, Option, Some, None, sym, ap, arith, inl, inr, Contains, find, option_map_or, cases_eq, cases_lt, both_ways, All-contains, All-nil, All-cons, Answer, CallRecord, audit_arch_x86_64, seccomp_ret_kill_process, x32_syscall_bit, IsRecord, Rule, meets, Conflicts, Profile, IsNative, HaveNoConflict, ProfileAnswers, foreign, by_rule, by_default}
+use Rattle.scf_profile.proofs.Common.{◌<◌, ◌≡◌, ◌≢◌, ℕ, suc, ◌⊎◌, Bool, true, false, cond, List, [], ◌∷◌, All, refl, Option, Some, None, sym, ap, arith, inl, inr, Contains, find, option_map_or, cases_eq, cases_lt, cases_order, both_ways, get_or, get_or_default, length, AreOfApart, ◌∙◌, All-contains, All-nil, All-cons, Answer, Architecture, CallRecord, IsOf, row_of, seccomp_ret_kill_process, IsRecord, Rule, meets, Conflicts, Profile, HaveNoConflict, ProfileAnswers, ProfilesAnswer, by_none, by_profile, foreign, by_rule, by_default}
 
-pub conflicts_both_ways : (r s : Rule) → Conflicts r s → Conflicts s r
-conflicts_both_ways r s h =
+pub conflicts_both_ways : (a : Architecture) (r s : Rule) → Conflicts a r s → Conflicts a s r
+conflicts_both_ways a r s h =
     let differ : s.answer ≢ r.answer = λ e. h.answer (sym e) in
     record {
       call = h.call;
@@ -13,9 +13,9 @@ conflicts_both_ways r s h =
     }
 
 -- the answers of rules without conflict that one call meets
-pub same_answer : (r s : Rule) (call : CallRecord) → (Conflicts r s → ⊥) → IsRecord call → meets r call ≡ true
-    → meets s call ≡ true → r.answer.0 ≡ s.answer.0
-same_answer r s call none fits met met_too =
+pub same_answer : (a : Architecture) (r s : Rule) (call : CallRecord) → (Conflicts a r s → ⊥) → IsRecord call
+    → meets a r call ≡ true → meets a s call ≡ true → r.answer.0 ≡ s.answer.0
+same_answer a r s call none fits met met_too =
     elim (cases_eq r.answer.0 s.answer.0) [
       | inl e ↦ e
       | inr apart ↦
@@ -24,62 +24,105 @@ same_answer r s call none fits met met_too =
           (record { call = call; is_record = fits; meets_first = met; meets_second = met_too; answer = differ }))
     ]
 
-native_or_foreign : (call : CallRecord) → IsNative call ⊎ (IsNative call → ⊥)
-native_or_foreign call =
-    elim (cases_eq call.arch audit_arch_x86_64) [
-      | inl same ↦ elim (cases_lt call.nr x32_syscall_bit) [
-        | inl below ↦ inl (record { arch = same; nr = below })
-        | inr above ↦ inr (λ native. let below : call.nr < x32_syscall_bit = native.nr in omega arith)
+pub own_or_foreign : (a : Architecture) (call : CallRecord) → IsOf a call ⊎ (IsOf a call → ⊥)
+own_or_foreign a call =
+    elim (cases_eq call.arch (row_of a).audit) [
+      | inr other ↦ inr (λ own. other own.arch)
+      | inl same ↦ elim (cases_lt call.nr (row_of a).first) [
+        | inl below ↦ inr (λ own. let reached = own.first in omega arith)
+        | inr reached ↦ elim (cases_lt (row_of a).last call.nr) [
+          | inl past ↦ inr (λ own. let last = own.last in omega arith)
+          | inr within ↦ inl (record { arch = same; first = reached; last = within })
+        ]
       ]
-      | inr other ↦ inr (λ native. other native.arch)
     ]
 
 -- a rule among these that the call meets, and none only where it meets none
-abbrev IsFound : List Rule → CallRecord → Option Rule → Type 0
-IsFound rules call None = All (λ r. meets r call ≡ false) rules
-IsFound rules call (Some r) = Contains rules r × (meets r call ≡ true)
+abbrev IsFound : Architecture → List Rule → CallRecord → Option Rule → Type 0
+IsFound a rules call None = All (λ r. meets a r call ≡ false) rules
+IsFound a rules call (Some r) = Contains rules r × (meets a r call ≡ true)
 
-first_is_found : (rules : List Rule) (call : CallRecord) → IsFound rules call (find (λ r. meets r call) rules)
-first_is_found [] call = All-nil (λ s. meets s call ≡ false)
-first_is_found (r ∷ rs) call =
-    one_more (meets r call) refl (find (λ s. meets s call) rs) (first_is_found rs call) where
-      one_more : (b : Bool) → meets r call ≡ b → (o : Option Rule) → IsFound rs call o
-          → IsFound (r ∷ rs) call (cond b (Some r) o)
+first_is_found : (a : Architecture) (rules : List Rule) (call : CallRecord)
+    → IsFound a rules call (find (λ r. meets a r call) rules)
+first_is_found a [] call = All-nil (λ s. meets a s call ≡ false)
+first_is_found a (r ∷ rs) call =
+    one_more (meets a r call) refl (find (λ s. meets a s call) rs) (first_is_found a rs call) where
+      one_more : (b : Bool) → meets a r call ≡ b → (o : Option Rule) → IsFound a rs call o
+          → IsFound a (r ∷ rs) call (cond b (Some r) o)
       one_more true met o rest = ((0, omega arith, refl), met)
-      one_more false unmet None none = All-cons (λ s. meets s call ≡ false) r rs unmet none
+      one_more false unmet None none = All-cons (λ s. meets a s call ≡ false) r rs unmet none
       one_more false unmet (Some s) h = ((suc h.0.0, omega (arith, h.0.1), h.0.2), h.1)
 
--- the answer to a native call by the first rule that it meets
-pub answered : (p : Profile) (call : CallRecord) → IsNative call → (found : Option Rule)
-    → found ≡ find (λ r. meets r call) p.rules
+-- the answer to a call of its architecture by the first rule that it meets
+pub answered : (p : Profile) (call : CallRecord) → IsOf p.architecture call → (found : Option Rule)
+    → found ≡ find (λ r. meets p.architecture r call) p.rules
     → ProfileAnswers p call (option_map_or (λ (r : Rule). r.answer.0) found p.default_answer.0)
-answered p call native found is = by_found found (rw is (first_is_found p.rules call)) where
-  by_found : (o : Option Rule) → IsFound p.rules call o
+answered p call native found is = by_found found (rw is (first_is_found p.architecture p.rules call)) where
+  by_found : (o : Option Rule) → IsFound p.architecture p.rules call o
       → ProfileAnswers p call (option_map_or (λ (r : Rule). r.answer.0) o p.default_answer.0)
   by_found None none =
-      by_default native (λ r among. All-contains (λ s. meets s call ≡ false) p.rules r none among)
+      by_default native (λ r among. All-contains (λ s. meets p.architecture s call ≡ false) p.rules r none among)
   by_found (Some r) h = by_rule r native h.0 h.1
 
 -- every call has an answer
 pub some_answer : (p : Profile) (call : CallRecord) → (answer : ℕ) × ProfileAnswers p call answer
 some_answer p call =
-    elim (native_or_foreign call) [
-      | inl native ↦ (_, answered p call native (find (λ r. meets r call) p.rules) refl)
+    elim (own_or_foreign p.architecture call) [
+      | inl native ↦ (_, answered p call native (find (λ r. meets p.architecture r call) p.rules) refl)
       | inr not_native ↦ (seccomp_ret_kill_process, foreign not_native)
     ]
 
 -- where no two rules conflict, a call record has one answer only
-pub one_answer : (p : Profile) (call : CallRecord) → HaveNoConflict p.rules → IsRecord call → {a b : ℕ}
+pub one_answer : (p : Profile) (call : CallRecord) → HaveNoConflict p.architecture p.rules → IsRecord call → {a b : ℕ}
     → ProfileAnswers p call a → ProfileAnswers p call b → a ≡ b
 one_answer p call none fits (foreign h) (foreign k) = refl
 one_answer p call none fits (foreign h) (by_rule s native among met) = absurd (h native)
 one_answer p call none fits (foreign h) (by_default native unmet) = absurd (h native)
 one_answer p call none fits (by_rule r native among met) (foreign k) = absurd (k native)
 one_answer p call none fits (by_rule r native among met) (by_rule s native_too among_too met_too) =
-    same_answer r s call (none r s among among_too) fits met met_too
+    same_answer p.architecture r s call (none r s among among_too) fits met met_too
 one_answer p call none fits (by_rule r native among met) (by_default native_too unmet) =
     absurd (both_ways _ (unmet r among) met)
 one_answer p call none fits (by_default native unmet) (foreign k) = absurd (k native)
 one_answer p call none fits (by_default native unmet) (by_rule s native_too among met) =
     absurd (both_ways _ (unmet s among) met)
 one_answer p call none fits (by_default native unmet) (by_default native_too unmet_too) = refl
+
+-- ---- several profiles
+
+-- where a call is of the architectures of two profiles, the first isn't before the second
+not_before : (profiles : List Profile) (call : CallRecord) → AreOfApart profiles → (p q : Profile) (i j : ℕ)
+    → j < length profiles → get_or profiles i p ≡ p → get_or profiles j p ≡ q → IsOf p.architecture call
+    → IsOf q.architecture call → i < j → ⊥
+not_before profiles call apart p q i j inside first second own other before =
+    let follows = rw (first, second) at (apart i j p before inside) in
+    let one = own.arch in
+    let two = other.arch in
+    let past : (row_of p.architecture).last < (row_of q.architecture).first = follows (sym one ∙ two) in
+    let last = own.last in
+    let reached = other.first in
+    omega arith
+
+-- no two of them are for one call
+same_profile : (profiles : List Profile) (call : CallRecord) → AreOfApart profiles → (p q : Profile)
+    → Contains profiles p → Contains profiles q → IsOf p.architecture call → IsOf q.architecture call → p ≡ q
+same_profile profiles call apart p q (i, i_lt, i_is) (j, j_lt, j_is) own other =
+    let p_there = get_or_default profiles i q p i_lt ∙ i_is in
+    let q_there = get_or_default profiles j p q j_lt ∙ j_is in
+    elim (cases_order i j) [
+      | inl same ↦ sym i_is ∙ ap (λ (k : ℕ). get_or profiles k p) same ∙ q_there
+      | inr (inl before) ↦ absurd (not_before profiles call apart p q i j j_lt i_is q_there own other before)
+      | inr (inr after) ↦ absurd (not_before profiles call apart q p j i i_lt j_is p_there other own after)
+    ]
+
+pub one_answer_among : (profiles : List Profile) (call : CallRecord) → AreOfApart profiles
+    → All (λ p. HaveNoConflict p.architecture p.rules) profiles → IsRecord call → {a b : ℕ}
+    → ProfilesAnswer profiles call a → ProfilesAnswer profiles call b → a ≡ b
+one_answer_among profiles call apart none fits (by_none h) (by_none k) = refl
+one_answer_among profiles call apart none fits (by_none h) (by_profile p has own answer told) = absurd (h p has own)
+one_answer_among profiles call apart none fits (by_profile p has own answer told) (by_none h) = absurd (h p has own)
+one_answer_among profiles call apart none fits (by_profile p has own answer told)
+    (by_profile q has_too own_too answer_too told_too) =
+    let same = same_profile profiles call apart p q has has_too own own_too in
+    one_answer p call (All-contains (λ (r : Profile). HaveNoConflict r.architecture r.rules) profiles p none has) fits
+    told (rw same told_too)

@@ -9,9 +9,10 @@ pub use Rattle.std.proofs.lemmas.Bool.{both_ways, cases_Bool, cases_order, false
 pub use Rattle.std.proofs.lemmas.Bool.Decides.{Decides-eqb}
 pub use Rattle.std.proofs.lemmas.Cmp.{nat_cmp_total}
 pub use Rattle.std.proofs.lemmas.Iterator.{YieldsList-from_slice, cases_from_all}
-pub use Rattle.std.proofs.lemmas.Iterator.Search.{any_from_yields_List, true_from_All}
-pub use Rattle.std.proofs.lemmas.List.{get_or-map, get_or-take, get_or_past, length-map, length-take, map-append}
-pub use Rattle.std.proofs.lemmas.List.Elements.{All-append, All-cons, All-contains, All-contains_itself, All-filter, All-from_recursion, All-head, All-map, All-more, All-nil, All-same, All-tail, All-weaker, Contains-append_right, Contains-get_or, filter-append, filter_map-append, filter_passes, recursion_from_All}
+pub use Rattle.std.proofs.lemmas.Iterator.Search.{all_from_yields_List, any_from_yields_List, true_from_All}
+pub use Rattle.std.proofs.lemmas.List.{get_or_default, get_or-map, get_or-take, get_or_past, length-map, length-take, map-append}
+pub use Rattle.std.proofs.lemmas.List.Elements.{All-append, All-cons, All-contains, All-contains_itself, All-filter, All-from_recursion, All-head, All-map, All-more, All-nil, All-push, All-same, All-tail, All-weaker, Contains-append_right, Contains-get_or, filter-append, filter_map-append, filter_passes, recursion_from_All}
+pub use Rattle.std.proofs.lemmas.List.Folds.{list_all-map, list_any-append}
 pub use Rattle.std.proofs.lemmas.List.Kept.{AllPairs-cons, AllPairs-filter, AllPairs-from_increasing, IsStrictlySortedBy-filter}
 pub use Rattle.std.proofs.lemmas.List.Sorted.{All-permutation, Contains-permutation, IsPermutation-cons, IsPermutation-refl, IsPermutation-remove, IsPermutation-sym, IsPermutation-trans, length_permutation, sum_by-IsPermutation}
 pub use Rattle.std.proofs.lemmas.List.Splits.{length-slice_split, slice_split-cons_yes, slice_split_at, slice_split_none}
@@ -22,8 +23,9 @@ pub use Rattle.std.proofs.lemmas.Map.Lookups.{exact_bytes, exact_unsigned}
 pub use Rattle.std.proofs.lemmas.Map.Made.{Contains-tail, IsDistinct-from_AllPairs}
 pub use Rattle.std.proofs.lemmas.Map.Text.{btree_map_updates_text, is_eq-slice_cmp}
 pub use Rattle.std.proofs.lemmas.Map.Views.{All-found, Contains-keys_from_lookup, IsSome-lookup_from_Contains, btree_map_contains_key_iff, tells_apart}
-pub use Rattle.std.proofs.lemmas.Nat.{and-not, and_assoc, and_comm, and_le_l, and_or_apart, or_comm, or_lt}
+pub use Rattle.std.proofs.lemmas.Nat.{and-not, and_mask, and_assoc, and_comm, and_le_l, and_or_apart, or_comm, or_lt}
 pub use Rattle.std.proofs.lemmas.Nat.Bits.{bit_at_and, bit_at_or, same_from_bits}
+pub use Rattle.std.proofs.Math.Nat.{mod-eq_of_lt}
 pub use Rattle.std.proofs.lemmas.Result.{IfErr-at_err, IfOk-weaker, MatchResult-weaker}
 pub use Rattle.std.proofs.lemmas.Str.{IsUtf8-from_ascii}
 pub use Rattle.std.proofs.lemmas.Str.Ascii.{IsAscii-from_all}
@@ -34,33 +36,38 @@ pub use Rattle.std.specs.Cmp.Lexicographic.{nat_list_cmp_total, slice_cmp}
 pub use Rattle.std.specs.FinMap.{get, get-empty, get-from_entries, get-insert, insert, same_map}
 pub use Rattle.std.specs.Int.{bit_at}
 pub use Rattle.std.specs.Int.Bits.{and_self, or_add_and}
-pub use Rattle.std.specs.List.{cons_option, filter, find, fold, list_any, reduce, remove, slice_split, sum_by}
+pub use Rattle.std.specs.List.{cons_option, filter, find, fold, filter_map, list_all, list_any, reduce, remove, slice_split, sum_by}
 unfoldable pub use Rattle.std.specs.List.{IsDistinct}
 pub use Rattle.std.specs.List.Sorted.{IsPermutation, IsStrictlyIncreasing}
 pub use Rattle.std.specs.Map.{keys_of}
 pub use Rattle.std.specs.Option.{option_map_or}
 pub use Rattle.std.specs.Ordering.{eq_by_cmp, is_eq, nat_cmp}
 pub use Rattle.std.specs.Str.Lines.{lines, lines_of_parts, strip_carriage_return}
-pub use Rattle.scf_insn.proofs.Common.{AllByRecursion, IsRecord, and_parts, argument, audit_arch_x86_64, cases_eq, cases_lt, common_steps, drop_all, eq-eqb, eqb-false, eqb-true, err_from_is_err_and, lookup, lt-ltb, nat_tests, ne_eqb, seccomp_data_args, seccomp_ret_kill_process, take-append-drop, take_all, x32_syscall_bit}
+pub use Rattle.scf_insn.proofs.Common.{AllByRecursion, IsRecord, append-nil, append_assoc, and_parts, argument, cases_eq, cases_lt, common_steps, drop_all, eq-eqb, eqb-false, eqb-true, err_from_is_err_and, lookup, lt-ltb, nat_tests, ne_eqb, seccomp_data_args, seccomp_ret_kill_process, take-append-drop, take_all, x32_syscall_bit}
+pub use Rattle.scf_insn.specs.Architectures.{AreApart, IsOf, architectures, argument_in, greatest_argument, row_of, taken_of}
+pub use Rattle.scf_insn.specs.declared.architecture.Architecture.{Architecture}
+pub use Rattle.scf_insn.specs.declared.architecture.Architecture.TheVariants.{Aarch64, Arm, X32, X86, X8664}
+pub use Rattle.scf_insn.specs.declared.architecture.ArgumentBits.{ArgumentBits}
+pub use Rattle.scf_insn.specs.declared.architecture.ArgumentBits.TheVariants.{Bits32, Bits64}
 pub use Rattle.scf_insn.specs.declared.answer.Answer.{Answer}
 pub use Rattle.scf_insn.specs.declared.record.CallRecord.{CallRecord}
 pub use Rattle.scf_profile.specs.Condition.{compares, condition_holds}
 unfoldable pub use Rattle.scf_profile.specs.JsonMembers.{each}
 pub use Rattle.scf_profile.specs.Limits.{max_rules}
-pub use Rattle.scf_profile.specs.Loading.{EntriesConflict, IsText, Loads, Refuses, TestsGive}
+pub use Rattle.scf_profile.specs.Loading.{EntriesConflict, IsFirstConflict, IsLeastConflict, RefusesBy, IsText, Loads, LoadsEach, Refuses, RefusesEach, TestsGive}
 pub use Rattle.scf_profile.specs.NamedCalls.{AreCallsOf, HasItsNames}
 pub use Rattle.scf_profile.specs.Names.{named, names_of}
 pub use Rattle.scf_profile.specs.NumberRules.{AreNumbersOf}
 pub use Rattle.scf_profile.specs.PlainProfile.{IsPlainCondition, IsPlainProfile, IsPlainRule}
-pub use Rattle.scf_profile.specs.Profile.{Profile as Answering, HaveNoConflict, IsNative, IsProfile, Profile}
-pub use Rattle.scf_profile.specs.ProfileAnswers.{ProfileAnswers, by_default, by_rule, foreign}
+pub use Rattle.scf_profile.specs.Profile.{Profile as Answering, AreOfApart, HaveNoConflict, IsNative, IsProfile, Profile}
+pub use Rattle.scf_profile.specs.ProfileAnswers.{ProfileAnswers, ProfilesAnswer, by_none, by_profile, by_default, by_rule, foreign}
 pub use Rattle.scf_profile.specs.Reasons.{IsAnswerOf, IsReason, entries_met}
 pub use Rattle.scf_profile.specs.References.{texts_at}
 pub use Rattle.scf_profile.specs.Rule.{AreConditions, Conflicts, HaveDistinctIndices, IsCondition, IsRule, all_hold, meets}
 pub use Rattle.scf_profile.specs.RulesByNumber.{numbers_of, rules_of}
 pub use Rattle.scf_profile.specs.SameAnswers.{AnswersRelated, SameAnswers}
-pub use Rattle.scf_profile.specs.StatedProfile.{rules_from, rules_named, skipped_names, strings_of, x86_64}
-unfoldable pub use Rattle.scf_profile.specs.StatedProfile.{answer_in, condition_of, condition_of as condition_stated, entry_of, errno_of, no_engine_form, profile_of, seccomp_of}
+pub use Rattle.scf_profile.specs.StatedProfile.{Head, Tables, is_named, profile_for, listed_names, other_names, profiles_from, rules_from, rules_named, skipped_names, strings_of, table_for, tables_of}
+unfoldable pub use Rattle.scf_profile.specs.StatedProfile.{answer_in, condition_of, condition_of as condition_stated, entry_of, errno_of, no_engine_form, all_listed, entries_of, head_of, profile_of, profiles_of, seccomp_of}
 pub use Rattle.scf_profile.specs.Steps.{◌>>=◌}
 pub use Rattle.scf_profile.specs.Table.{AreCallNumbers, BeginWithCall, Names, entry_in, fields, is_separator, is_in_name, is_call_name, table_of, with_entry}
 unfoldable pub use Rattle.scf_profile.specs.Table.{with_lines}
@@ -69,6 +76,8 @@ pub use Rattle.scf_profile.specs.declared.conflict.Clash.{Clash}
 pub use Rattle.scf_profile.specs.declared.load_fault.LoadFault.{LoadFault}
 pub use Rattle.scf_profile.specs.declared.load_fault.LoadFault.TheVariants.{Kind}
 pub use Rattle.scf_profile.specs.declared.loaded.Loaded.{Loaded}
+pub use Rattle.scf_profile.specs.declared.loaded.LoadedProfiles.{LoadedProfiles}
+pub use Rattle.scf_profile.specs.declared.architecture_table.ArchitectureTable.{ArchitectureTable}
 pub use Rattle.scf_profile.specs.declared.named_call.NamedCall.{NamedCall}
 pub use Rattle.scf_profile.specs.declared.number_rules.NumberRules.{NumberRules}
 pub use Rattle.scf_profile.specs.declared.number_set.NumberSet.TheVariants.{Masked}
@@ -77,10 +86,10 @@ pub use Rattle.scf_profile.specs.declared.reason.Reason.TheVariants.{Default, En
 pub use Rattle.scf_profile.specs.declared.rule.Rule.{Rule}
 pub use Rattle.scf_profile.specs.declared.table_fault.TableFault.{TableFault}
 pub use Rattle.scf_profile.specs.internal.Clashes.{IsBoundedBy, IsClashBounded, IsClashOf, IsLeastClash}
-pub use Rattle.scf_profile.specs.internal.EntryRanges.{AreStatedRules, IsEntry}
+pub use Rattle.scf_profile.specs.internal.EntryRanges.{AreStatedRules, IsEntry, TellsOneTooMany, TellsTooMany}
 pub use Rattle.scf_profile.specs.internal.NamesByNumber.{AreByNumber, Named, named_call, names_under, names_with}
 pub use Rattle.scf_profile.specs.internal.NumberSets.{HaveCommonNumber, IsGreatestOf, IsLeastOf}
 pub use Rattle.scf_profile.specs.internal.Overlaps.{HoldAt, Overlap, OverlapAt}
-pub use Rattle.scf_profile.specs.internal.Refusals.{NamesLeastConflict}
+pub use Rattle.scf_profile.specs.internal.Refusals.{NamesFirstConflict, NamesLeastConflict}
 pub use Rattle.scf_profile.specs.internal.RulesUnder.{AreUnder, Under, number_rules, rules_under}
-pub use Rattle.scf_profile.specs.internal.Stated.{IsWithoutConflict, loaded_of}
+pub use Rattle.scf_profile.specs.internal.Stated.{head_stated, loaded_of, loaded_profiles_of, stated_profile}

@@ -1,5 +1,5 @@
 -- The least of clashes, rule by rule.
-use Rattle.scf_profile.proofs.Common.{◌≡◌, ℕ, length, List, Option, Some, None, All, ◌⊎◌, inl, inr, sym, eqb, arith, refl, get_or, Any, IfSome, Contains, eq-eqb, nat_tests, All-contains, All-contains_itself, Clash, NumberRules, AreNumbersOf, ap, ◌∙◌, Rule, IsBoundedBy, IsClashBounded, IsLeastClash, EntriesConflict, Conflicts, rules_of}
+use Rattle.scf_profile.proofs.Common.{◌≡◌, ℕ, length, List, Option, Some, None, All, ◌⊎◌, inl, inr, sym, eqb, arith, refl, get_or, Any, IfSome, Contains, eq-eqb, nat_tests, All-contains, All-contains_itself, Architecture, Clash, NumberRules, AreNumbersOf, ap, ◌∙◌, Rule, IsBoundedBy, IsClashBounded, IsLeastClash, EntriesConflict, Conflicts, rules_of}
 use Rattle.scf_profile.proofs.Numbers.{contains_filtered}
 use Rattle.scf_profile.proofs.NumberLists.{number_among, own_all, with_own}
 
@@ -10,8 +10,8 @@ one_of_two P Q first second one weaker h k (inl e) = rw e h
 one_of_two P Q first None one weaker h k (inr e) = rw e tt
 one_of_two P Q first (Some c) one weaker h k (inr e) = rw e (weaker c k)
 
-same_number : (r s : Rule) → Conflicts r s → r.number ≡ s.number
-same_number r s conflict = grind (arith, nat_tests, conflict.meets_first, conflict.meets_second)
+same_number : (a : Architecture) (r s : Rule) → Conflicts a r s → r.number ≡ s.number
+same_number a r s conflict = grind (arith, nat_tests, conflict.meets_first, conflict.meets_second)
 
 -- the least of one that was known and others
 pub one_more : (P Q : Clash → Type 0) (least more : Option Clash) → ((c : Clash) → Q c → P c) → IfSome least P
@@ -21,33 +21,33 @@ one_more P Q least (Some c) weaker had (inl e) = rw e at had
 one_more P Q least (Some c) weaker had (inr q) = weaker c q
 
 -- what is bounded stays so by a lesser clash
-pub still_bounded : (least more : Option Clash) → ((c : Clash) → IsBoundedBy least c → IsBoundedBy more c)
-    → (rules laters : List Rule) → All (λ later. All (IsClashBounded least later) rules) laters
-    → All (λ later. All (IsClashBounded more later) rules) laters
-still_bounded least more keeps rules laters all k d lt j e inside c is = keeps c (all k d lt j e inside c is)
+pub still_bounded : (a : Architecture) (least more : Option Clash) → ((c : Clash) → IsBoundedBy least c → IsBoundedBy more c)
+    → (rules laters : List Rule) → All (λ later. All (IsClashBounded a least later) rules) laters
+    → All (λ later. All (IsClashBounded a more later) rules) laters
+still_bounded a least more keeps rules laters all k d lt j e inside c is = keeps c (all k d lt j e inside c is)
 
-abbrev pub AreBounded : List Rule → Option Clash → Type 0
-AreBounded rules least = All (λ later. All (IsClashBounded least later) rules) rules
+abbrev pub AreBounded : Architecture → List Rule → Option Clash → Type 0
+AreBounded a rules least = All (λ later. All (IsClashBounded a least later) rules) rules
 
-bounded : (rules : List Rule) (least : Option Clash) → AreBounded rules least → (first second number : ℕ)
-    → EntriesConflict rules first second number
+bounded : (a : Architecture) (rules : List Rule) (least : Option Clash) → AreBounded a rules least → (first second number : ℕ)
+    → EntriesConflict a rules first second number
     → IsBoundedBy least (record { second = second; first = first; number = number })
-bounded rules least all first second number (i, rule, i_lt, rule_is, (j, later, j_lt, later_is, clash)) =
+bounded a rules least all first second number (i, rule, i_lt, rule_is, (j, later, j_lt, later_is, clash)) =
     let held = rw (later_is, rule_is) at (all j later j_lt i rule i_lt) in held _ clash
 
-pub least_found : (rules : List Rule) (least : Option Clash) → AreBounded rules least
-    → IfSome least (λ c. EntriesConflict rules c.first c.second c.number) → IsLeastClash rules least
-least_found rules None all found = bounded rules None all
-least_found rules (Some c) all found = record {
+pub least_found : (a : Architecture) (rules : List Rule) (least : Option Clash) → AreBounded a rules least
+    → IfSome least (λ c. EntriesConflict a rules c.first c.second c.number) → IsLeastClash a rules least
+least_found a rules None all found = bounded a rules None all
+least_found a rules (Some c) all found = record {
   conflict = found;
-  least_second = λ f s n e. (bounded rules (Some c) all f s n e).second;
-  least_first = λ f n e. (bounded rules (Some c) all f c.second n e).first refl;
-  least_number = λ n e. (bounded rules (Some c) all c.first c.second n e).number refl refl;
+  least_second = λ f s n e. (bounded a rules (Some c) all f s n e).second;
+  least_first = λ f n e. (bounded a rules (Some c) all f c.second n e).first refl;
+  least_number = λ n e. (bounded a rules (Some c) all c.first c.second n e).number refl refl;
 }
 
 -- ---- the rules of each number
 
-module _ (numbers : List NumberRules) (rules : List Rule) (are : AreNumbersOf numbers rules) where
+module _ (a : Architecture) (numbers : List NumberRules) (rules : List Rule) (are : AreNumbersOf numbers rules) where
   among : (own : NumberRules) → Contains numbers own → (r : Rule) → r.number ≡ own.number → Contains rules r
       → Contains own.rules.items r
   among own has r same inside =
@@ -55,19 +55,19 @@ module _ (numbers : List NumberRules) (rules : List Rule) (are : AreNumbersOf nu
       (contains_filtered (λ (s : Rule). eqb s.number own.number) rules r (eq-eqb r.number own.number same) inside)
 
   -- clashes among rules of one number are all
-  pub all_bounded : (least : Option Clash) → All (λ own. AreBounded own.rules.items least) numbers
-      → AreBounded rules least
+  pub all_bounded : (least : Option Clash) → All (λ own. AreBounded a own.rules.items least) numbers
+      → AreBounded a rules least
   all_bounded least bounds k d lt j e inside c clash =
       let later = get_or rules k d in
       let r = get_or rules j e in
       let here = All-contains_itself rules k d lt in
       elim (number_among numbers rules are later.number) [
         | inl (own, has, is) ↦
-            let same = same_number r later clash.conflict ∙ sym is in
+            let same = same_number a r later clash.conflict ∙ sym is in
             let one = among own has r same (All-contains_itself rules j e inside) in
             let two = among own has later (sym is) here in
-            bounded own.rules.items least
-            (All-contains (λ (o : NumberRules). AreBounded o.rules.items least) numbers own bounds has) _ _ _
+            bounded a own.rules.items least
+            (All-contains (λ (o : NumberRules). AreBounded a o.rules.items least) numbers own bounds has) _ _ _
             (one.0, r, one.1, one.2, (two.0, later, two.1, two.2, clash))
         | inr none ↦ absurd
             (let some = with_own rules k d lt in
@@ -75,8 +75,8 @@ module _ (numbers : List NumberRules) (rules : List Rule) (are : AreNumbersOf nu
       ]
 
   pub all_found : (least : Option Clash)
-      → IfSome least (λ c. Any (λ own. EntriesConflict own.rules.items c.first c.second c.number) numbers)
-      → IfSome least (λ c. EntriesConflict rules c.first c.second c.number)
+      → IfSome least (λ c. Any (λ own. EntriesConflict a own.rules.items c.first c.second c.number) numbers)
+      → IfSome least (λ c. EntriesConflict a rules c.first c.second c.number)
   all_found None h = tt
   all_found (Some c) (k, own, lt, is, (i, r, i_lt, i_is, (j, later, j_lt, j_is, clash))) =
       let all = rw is at (own_all numbers rules are (Contains rules) (All-contains_itself rules) k own lt) in

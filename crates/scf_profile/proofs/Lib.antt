@@ -2,6 +2,7 @@ pub mod Answering
 pub mod Common
 pub mod Cuts
 pub mod LeastClash
+pub mod Handed
 pub mod Loops
 pub mod Masks
 pub mod NamedCalls
@@ -11,5 +12,6 @@ pub mod NumberTests
 pub mod Numbers
 pub mod Overlaps
 pub mod Reasons
+pub mod Stated
 pub mod StatedRules
 pub mod TestFaults

@@ -1,5 +1,6 @@
--- Loops over the items of an array.
-use Rattle.scf_profile.proofs.Common.{common_steps, ◌≡◌, ℕ, suc, ◌+◌, ◌<◌, ◌≤◌, List, [], ◌∷◌, length, get_or, drop, refl, sym, ap, ◌∙◌, add-one, String, Global, Bool, map, ◌||◌, drop-cons, list_any, drop_all, Value, item, no_items, view, items_view, members_view, items_len, members_len}
+-- Loops over the items of an array, and over tables.
+use Rattle.scf_profile.specs.declared.load_fault.LoadFault.TheVariants.{NotListed}
+use Rattle.scf_profile.proofs.Common.{common_steps, ◌≡◌, ℕ, suc, ◌+◌, ◌<◌, ◌≤◌, List, [], ◌∷◌, length, get_or, drop, refl, sym, ap, ◌∙◌, add-one, String, Global, Bool, map, ◌||◌, drop-cons, list_any, drop_all, Architecture, ArchitectureTable, Names, Option, Some, None, option_map, cond, true, false, find, row_of, is_named, all_listed, Ok, Err, table_for, tables_of, Value, item, no_items, view, items_view, members_view, items_len, members_len}
 
 -- the items from an index on, in the words that a search finds
 pub items_at : (vs : List Value) (i : ℕ) (d : Value) → i < length vs
@@ -27,3 +28,50 @@ members_counted [] = refl
 members_counted (m ∷ ms) = ap suc (members_counted ms)
 
 pub ruleset lengths = (items_counted, members_counted)
+
+find-map : {A B : Type 0} (p : B → Bool) (f : A → B) (xs : List A)
+    → find p (map f xs) ≡ option_map f (find (λ x. p (f x)) xs)
+find-map p f [] = refl
+find-map p f (x ∷ xs) = by_test (p (f x)) (find-map p f xs) where
+  by_test : (b : Bool) → find p (map f xs) ≡ option_map f (find (λ y. p (f y)) xs)
+      → cond b (Some (f x)) (find p (map f xs)) ≡ option_map f (cond b (Some x) (find (λ y. p (f y)) xs))
+  by_test true rest = refl
+  by_test false rest = rest
+
+-- the table of an architecture, where one of its name was found
+pub table_found : (tables : List ArchitectureTable) (a : Architecture) (found : Option ArchitectureTable)
+    → found ≡ find (λ t. is_named (row_of a).name t.architecture) tables
+    → option_map (λ t. t.table.now) found ≡ table_for (tables_of tables) a
+table_found tables a found is =
+    let of_pairs = find-map (λ (t : Architecture × Names). is_named (row_of a).name t.0)
+    (λ (t : ArchitectureTable). (t.architecture, t.table.now)) tables in
+    rw (of_pairs, ← is) (by_found found) where
+      by_found : (o : Option ArchitectureTable) → option_map (λ t. t.table.now) o
+          ≡ option_map (λ (t : Architecture × Names). t.1)
+          (option_map (λ (t : ArchitectureTable). (t.architecture, t.table.now)) o)
+      by_found None = refl
+      by_found (Some t) = refl
+
+-- ---- tables whose architectures have to be listed
+
+listed_step : (names : List (List ℕ)) (tables : List ArchitectureTable) (i : ℕ) (d : ArchitectureTable) → i < length tables
+    → tables_of (drop i tables)
+    ≡ ((get_or tables i d).architecture, (get_or tables i d).table.now) ∷ tables_of (drop (i + 1) tables)
+listed_step names tables i d lt = rw (add-one, drop-cons tables i d lt) refl
+
+pub unlisted_here : (names : List (List ℕ)) (tables : List ArchitectureTable) (i : ℕ) (d : ArchitectureTable)
+    → i < length tables → list_any (λ name. is_named name (get_or tables i d).architecture) names ≡ false
+    → all_listed i names (tables_of (drop i tables)) ≡ Err (NotListed i)
+unfolding all_listed
+unlisted_here names tables i d lt none = rw (listed_step names tables i d lt, none) refl
+
+pub listed_here : (names : List (List ℕ)) (tables : List ArchitectureTable) (i : ℕ) (d : ArchitectureTable)
+    → i < length tables → list_any (λ name. is_named name (get_or tables i d).architecture) names ≡ true
+    → all_listed i names (tables_of (drop i tables)) ≡ all_listed (i + 1) names (tables_of (drop (i + 1) tables))
+unfolding all_listed
+listed_here names tables i d lt some = rw (listed_step names tables i d lt, some) refl
+
+pub listed_end : (names : List (List ℕ)) (tables : List ArchitectureTable) (i : ℕ) → length tables ≤ i
+    → all_listed i names (tables_of (drop i tables)) ≡ Ok tt
+unfolding all_listed
+listed_end names tables i past = rw (drop_all i tables past) refl

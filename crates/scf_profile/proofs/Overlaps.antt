@@ -1,5 +1,6 @@
 -- Conditions on one argument.
-use Rattle.scf_profile.proofs.Common.{◌≡◌, ◌≢◌, ℕ, zero, suc, ◌<◌, ◌^◌, ◌↔◌, Bool, true, ◌&&◌, List, [], ◌∷◌, eqb, get_or, Option, Some, None, refl, sym, ap, ◌∙◌, subst, arith, inl, inr, AllByRecursion, find, and_parts, cases_eq, cases_lt, eq-eqb, ne_eqb, get_or_past, All-cons, All-from_recursion, All-head, All-nil, All-tail, AllPass-from_list_all, list_all-from_AllPass, CallRecord, IsRecord, argument, Condition, Rule, condition_holds, seccomp_data_args, Conflicts, HaveDistinctIndices, IsCondition, IsRule, all_hold, HoldAt, Overlap}
+use Rattle.scf_profile.proofs.Common.{◌≡◌, ◌≢◌, ℕ, zero, suc, ◌<◌, ◌≤◌, ◌^◌, ◌↔◌, Bool, true, ◌&&◌, List, [], ◌∷◌, eqb, get_or, Option, Some, None, refl, sym, ap, ◌∙◌, arith, inl, inr, AllByRecursion, find, and_parts, cases_eq, cases_lt, eq-eqb, ne_eqb, get_or_past, All-cons, All-from_recursion, All-head, All-nil, All-tail, AllPass-from_list_all, list_all-from_AllPass, Architecture, ArgumentBits, Bits32, Bits64, greatest_argument, taken_of, row_of, argument_in, CallRecord, IsRecord, argument, Condition, Rule, condition_holds, seccomp_data_args, Conflicts, HaveDistinctIndices, IsCondition, IsRule, all_hold, HoldAt, Overlap}
+use Rattle.scf_insn.proofs.Architectures.{reach}
 
 -- what holds of a condition where it is on the argument
 abbrev HoldsOn : ℕ → ℕ → Condition → Type 0
@@ -37,19 +38,30 @@ hold_by_found cs index n h found is = rw is (hold_by_first cs index n h)
 -- ---- two rules
 
 -- the conditions of a rule that a call meets
-held_at : (call : CallRecord) (cs : List Condition) → all_hold call cs ≡ true → (i : ℕ) → HoldAt cs i (argument call i)
-held_at call cs all i k c below on =
-    rw (← on) (AllPass-from_list_all (λ d. condition_holds d (argument call d.index)) cs all k c below)
+held_at : (a : Architecture) (call : CallRecord) (cs : List Condition) → all_hold a call cs ≡ true → (i : ℕ)
+    → HoldAt cs i (argument_in a call i)
+held_at a call cs all i k c below on =
+    rw (← on) (AllPass-from_list_all (λ d. condition_holds d (argument_in a call d.index)) cs all k c below)
 
 -- a call of whose arguments the conditions hold
-all_held : (call : CallRecord) (cs : List Condition) → AllByRecursion IsCondition cs
-    → ((i : ℕ) → i < seccomp_data_args → HoldAt cs i (argument call i)) → all_hold call cs ≡ true
-all_held call cs each held =
-    list_all-from_AllPass (λ c. condition_holds c (argument call c.index)) cs
+all_held : (a : Architecture) (call : CallRecord) (cs : List Condition) → AllByRecursion IsCondition cs
+    → ((i : ℕ) → i < seccomp_data_args → HoldAt cs i (argument_in a call i)) → all_hold a call cs ≡ true
+all_held a call cs each held =
+    list_all-from_AllPass (λ c. condition_holds c (argument_in a call c.index)) cs
     (λ k c below. held (get_or cs k c).index (All-from_recursion IsCondition cs each k c below).index k c below refl)
 
+-- an argument is all that is taken of it
+taken_whole : (bits : ArgumentBits) (n : ℕ) → n ≤ greatest_argument bits → (taken_of bits n ≡ n) × (n < 2 ^ 64)
+taken_whole Bits32 n fits = (omega arith, omega arith)
+taken_whole Bits64 n fits = (refl, omega arith)
+
+argument_fits : (bits : ArgumentBits) (n : ℕ) → n < 2 ^ 64 → taken_of bits n ≤ greatest_argument bits
+argument_fits Bits32 n fits = omega arith
+argument_fits Bits64 n fits = omega arith
+
 -- a number for each argument makes a call that meets both rules
-module _ (r s : Rule) (rule : IsRule r) (other : IsRule s) (overlap : Overlap r.conditions s.conditions) where
+module _ (a : Architecture) (r s : Rule) (rule : IsRule a r) (other : IsRule a s)
+    (overlap : Overlap (row_of a).bits r.conditions s.conditions) where
   abbrev number : (i : ℕ) → i < seccomp_data_args → ℕ
   number i lt = (overlap i lt).number
 
@@ -74,37 +86,43 @@ module _ (r s : Rule) (rule : IsRule r) (other : IsRule s) (overlap : Overlap r.
   at_arguments P h (suc (suc (suc (suc (suc zero))))) lt = h 5 (omega arith)
   at_arguments P h (suc (suc (suc (suc (suc (suc i)))))) lt = absurd (omega arith)
 
+  -- and of what the architecture takes of them
+  at_taken : (cs : List Condition) → ((i : ℕ) (lt : i < seccomp_data_args) → HoldAt cs i (number i lt))
+      → (i : ℕ) → i < seccomp_data_args → HoldAt cs i (argument_in a call i)
+  at_taken cs h i lt = at_arguments (λ j n. HoldAt cs j (taken_of (row_of a).bits n))
+      (λ j lt. rw (taken_whole (row_of a).bits (number j lt) (overlap j lt).fits).0 (h j lt)) i lt
+
   fits : IsRecord call
   fits = record {
-    nr = let below = rule.number in omega arith;
+    nr = let below = rule.last in omega (arith, (reach a).small);
     arch = omega arith;
     ip = omega arith;
     count = refl;
     args = λ i. elim (cases_lt i seccomp_data_args) [
-      | inl lt ↦ at_arguments (λ j n. n < 2 ^ 64) (λ j lt. (overlap j lt).fits) i lt
+      | inl lt ↦ at_arguments (λ j n. n < 2 ^ 64)
+          (λ j lt. (taken_whole (row_of a).bits (number j lt) (overlap j lt).fits).1) i lt
       | inr past ↦ let none : argument call i ≡ 0 = get_or_past call.args i 0 past in omega arith
     ];
   }
 
-  pub conflict_from : r.number ≡ s.number → r.answer ≢ s.answer → Conflicts r s
+  pub conflict_from : r.number ≡ s.number → r.answer ≢ s.answer → Conflicts a r s
   conflict_from same apart = record {
     call = call;
     is_record = fits;
     meets_first =
-        ap (λ (b : Bool). b && all_hold call r.conditions) (eq-eqb r.number r.number refl)
-        ∙ all_held call r.conditions rule.conditions.each
-        (λ i lt. at_arguments (λ j n. HoldAt r.conditions j n) (λ j lt. (overlap j lt).first) i lt);
+        ap (λ (b : Bool). b && all_hold a call r.conditions) (eq-eqb r.number r.number refl)
+        ∙ all_held a call r.conditions rule.conditions.each (at_taken r.conditions (λ j lt. (overlap j lt).first));
     meets_second =
-        ap (λ (b : Bool). b && all_hold call s.conditions) (eq-eqb r.number s.number same)
-        ∙ all_held call s.conditions other.conditions.each
-        (λ i lt. at_arguments (λ j n. HoldAt s.conditions j n) (λ j lt. (overlap j lt).second) i lt);
+        ap (λ (b : Bool). b && all_hold a call s.conditions) (eq-eqb r.number s.number same)
+        ∙ all_held a call s.conditions other.conditions.each (at_taken s.conditions (λ j lt. (overlap j lt).second));
     answer = apart;
   }
 
-pub overlap_of_conflict : (r s : Rule) → Conflicts r s → Overlap r.conditions s.conditions
-overlap_of_conflict r s conflict i lt = record {
-  number = argument conflict.call i;
-  fits = conflict.is_record.args i;
-  first = held_at conflict.call r.conditions (and_parts _ _ conflict.meets_first).1 i;
-  second = held_at conflict.call s.conditions (and_parts _ _ conflict.meets_second).1 i;
+pub overlap_of_conflict : (a : Architecture) (r s : Rule) → Conflicts a r s
+    → Overlap (row_of a).bits r.conditions s.conditions
+overlap_of_conflict a r s conflict i lt = record {
+  number = argument_in a conflict.call i;
+  fits = argument_fits (row_of a).bits (argument conflict.call i) (conflict.is_record.args i);
+  first = held_at a conflict.call r.conditions (and_parts _ _ conflict.meets_first).1 i;
+  second = held_at a conflict.call s.conditions (and_parts _ _ conflict.meets_second).1 i;
 }

@@ -1,51 +1,60 @@
 -- The rules that entries state: their ranges, and one answer for each entry.
-use Rattle.scf_profile.proofs.Common.{◌≡◌, ℕ, suc, Bool, ◌+◌, ◌<◌, ◌≤◌, ◌^◌, List, [], ◌∷◌, ◌++◌, length, get_or, map, Some, None, Option, All, refl, sym, ap, ◌∙◌, arith, inl, inr, Contains, option_map, cons_option, filter, get, cases_order, recursion_from_All, All-nil, All-cons, All-append, All-head, All-tail, All-contains, All-same, All-weaker, filter-append, filter_map-append, Rule, IsEntry, AreStatedRules, Answer, EntriesConflict, max_rules, IsProfile, HaveNoConflict, Conflicts, IsRule, Names, AreCallNumbers, rules_named, rules_from}
+use Rattle.scf_profile.proofs.Common.{◌≡◌, ℕ, suc, Bool, ◌+◌, ◌<◌, ◌≤◌, ◌^◌, List, [], ◌∷◌, ◌++◌, length, get_or, map, Some, None, Option, All, refl, sym, ap, ◌∙◌, arith, inl, inr, Contains, option_map, cons_option, filter, get, cases_order, recursion_from_All, All-nil, All-cons, All-append, All-head, All-tail, All-contains, All-same, All-weaker, filter-append, filter_map-append, Architecture, row_of, Rule, IsEntry, AreStatedRules, Answer, EntriesConflict, max_rules, IsProfile, HaveNoConflict, Conflicts, IsRule, Names, AreCallNumbers, rules_named, rules_from}
+use Rattle.scf_insn.proofs.Architectures.{number_within}
 use Rattle.scf_profile.specs.declared.entry.Entry.{Entry}
 use Rattle.scf_profile.specs.Loading.{IsClash}
 use Rattle.scf_profile.proofs.Answering.{conflicts_both_ways}
 
 -- the rule that an entry at an index states for a number
-abbrev rule_for : ℕ → Entry → ℕ → Rule
-rule_for index e number = record { number = number; conditions = e.conditions; answer = e.answer; entry = index }
+abbrev rule_for : Architecture → ℕ → Entry → ℕ → Rule
+rule_for a index e number = record {
+  number = (row_of a).first + number;
+  conditions = e.conditions;
+  answer = e.answer;
+  entry = index;
+}
 
 -- what holds of the rule for each number that a name has
-module _ (P : Rule → Type 0) (table : Names) (index : ℕ) (e : Entry)
-    (each : (name : List ℕ) (number : ℕ) → get table name ≡ Some number → P (rule_for index e number)) where
-  all_named : (names : List (List ℕ)) → All P (rules_named table index e names)
+module _ (a : Architecture) (P : Rule → Type 0) (table : Names) (index : ℕ) (e : Entry)
+    (each : (name : List ℕ) (number : ℕ) → get table name ≡ Some number → P (rule_for a index e number)) where
+  all_named : (names : List (List ℕ)) → All P (rules_named a table index e names)
   all_named [] = All-nil P
   all_named (name ∷ names) = by_number (get table name) refl (all_named names) where
-    by_number : (o : Option ℕ) → get table name ≡ o → All P (rules_named table index e names)
-        → All P (cons_option (option_map (rule_for index e) o) (rules_named table index e names))
+    by_number : (o : Option ℕ) → get table name ≡ o → All P (rules_named a table index e names)
+        → All P (cons_option (option_map (rule_for a index e) o) (rules_named a table index e names))
     by_number None is rest = rest
-    by_number (Some number) is rest = All-cons P (rule_for index e number) _ (each name number is) rest
+    by_number (Some number) is rest = All-cons P (rule_for a index e number) _ (each name number is) rest
 
 -- a rule is within its ranges, and has the answer of the entry at its index, where these are those from an index on
-abbrev IsStated : ℕ → List Answer → Rule → Type 0
-IsStated index answers r =
-    (k : ℕ) × IsRule r × (r.entry ≡ index + k) × (r.answer ≡ get_or answers k (record { 0 = 0 }))
+abbrev IsStated : Architecture → ℕ → List Answer → Rule → Type 0
+IsStated a index answers r =
+    (k : ℕ) × IsRule a r × (r.entry ≡ index + k) × (r.answer ≡ get_or answers k (record { 0 = 0 }))
 
-all_stated : (table : Names) → AreCallNumbers table → (index : ℕ) (es : List Entry) → All IsEntry es
-    → All (IsStated index (map (λ e. e.answer) es)) (rules_from table index es)
-all_stated table below index [] h = All-nil (IsStated index [])
-all_stated table below index (e ∷ es) h =
+all_stated : (a : Architecture) (table : Names) → AreCallNumbers table → (index : ℕ) (es : List Entry) → All IsEntry es
+    → All (IsStated a index (map (λ e. e.answer) es)) (rules_from a table index es)
+all_stated a table below index [] h = All-nil (IsStated a index [])
+all_stated a table below index (e ∷ es) h =
     let here : IsEntry e = All-head IsEntry e es h in
     let answers = map (λ (x : Entry). x.answer) es in
-    let P = IsStated index (e.answer ∷ answers) in
-    All-append P (rules_named table index e e.names) (rules_from table (index + 1) es)
-    (all_named P table index e (λ name number is.
-    let fine : IsRule (rule_for index e number) =
-    record { number = below name number is; answer = here.answer; conditions = here.conditions } in
-    (0, fine, omega arith, refl)) e.names)
-    (All-weaker (IsStated (index + 1) answers) P (λ r h. (suc h.0, h.1, omega (arith, h.2), h.3))
-    (rules_from table (index + 1) es) (all_stated table below (index + 1) es (All-tail IsEntry e es h)))
+    let P = IsStated a index (e.answer ∷ answers) in
+    All-append P (rules_named a table index e e.names) (rules_from a table (index + 1) es)
+    (all_named a P table index e (λ name number is.
+    let fine : IsRule a (rule_for a index e number) = record {
+      first = omega arith;
+      last = number_within a number (below name number is);
+      answer = here.answer;
+      conditions = here.conditions;
+    } in (0, fine, omega arith, refl)) e.names)
+    (All-weaker (IsStated a (index + 1) answers) P (λ r h. (suc h.0, h.1, omega (arith, h.2), h.3))
+    (rules_from a table (index + 1) es) (all_stated a table below (index + 1) es (All-tail IsEntry e es h)))
 
 -- ---- one name after another
 
-pub rules_first : (table : Names) (index : ℕ) (e : Entry) (name : List ℕ) (names : List (List ℕ))
-    → rules_named table index e (name ∷ names)
-    ≡ rules_named table index e (name ∷ []) ++ rules_named table index e names
-rules_first table index e name names =
-    filter_map-append (λ n. option_map (rule_for index e) (get table n)) (name ∷ []) names
+pub rules_first : (a : Architecture) (table : Names) (index : ℕ) (e : Entry) (name : List ℕ) (names : List (List ℕ))
+    → rules_named a table index e (name ∷ names)
+    ≡ rules_named a table index e (name ∷ []) ++ rules_named a table index e names
+rules_first a table index e name names =
+    filter_map-append (λ n. option_map (rule_for a index e) (get table n)) (name ∷ []) names
 
 pub skipped_first : (lacks : List ℕ → Bool) (name : List ℕ) (names : List (List ℕ))
     → filter lacks (name ∷ names) ≡ filter lacks (name ∷ []) ++ filter lacks names
@@ -54,47 +63,48 @@ skipped_first lacks name names = filter-append lacks (name ∷ []) names
 pub ruleset names_first = (rules_first, skipped_first)
 
 -- the rules, where they are few enough
-pub stated_rules : (table : Names) (es : List Entry) (rules : List Rule) → AreCallNumbers table → All IsEntry es
-    → rules ≡ rules_from table 0 es → length rules ≤ max_rules → AreStatedRules rules
-stated_rules table es rules below each is few =
+pub stated_rules : (a : Architecture) (table : Names) (es : List Entry) (rules : List Rule) → AreCallNumbers table
+    → All IsEntry es → rules ≡ rules_from a table 0 es → length rules ≤ max_rules → AreStatedRules a rules
+stated_rules a table es rules below each is few =
     let answers = map (λ (e : Entry). e.answer) es in
-    let all = All-same (IsStated 0 answers) rules (rules_from table 0 es) is (all_stated table below 0 es each) in
+    let all = All-same (IsStated a 0 answers) rules (rules_from a table 0 es) is (all_stated a table below 0 es each) in
     record {
       few = few;
-      each = All-weaker (IsStated 0 answers) IsRule (λ r h. h.1) rules all;
+      each = All-weaker (IsStated a 0 answers) (IsRule a) (λ r h. h.1) rules all;
       one_answer = λ r s has_r has_s same.
-          let one = All-contains (IsStated 0 answers) rules r all has_r in
-          let two = All-contains (IsStated 0 answers) rules s all has_s in
+          let one = All-contains (IsStated a 0 answers) rules r all has_r in
+          let two = All-contains (IsStated a 0 answers) rules s all has_s in
           let at : one.0 ≡ two.0 = omega (arith, one.2, two.2) in
           one.3 ∙ ap (λ (k : ℕ). get_or answers k (record { 0 = 0 })) at ∙ sym two.3;
     }
 
 -- ---- conflicts
 
-module _ (rules : List Rule) (none : (first second number : ℕ) → EntriesConflict rules first second number → ⊥) where
-  not_before : (r s : Rule) → Contains rules r → Contains rules s → r.entry < s.entry → Conflicts r s → ⊥
+module _ (a : Architecture) (rules : List Rule)
+    (none : (first second number : ℕ) → EntriesConflict a rules first second number → ⊥) where
+  not_before : (r s : Rule) → Contains rules r → Contains rules s → r.entry < s.entry → Conflicts a r s → ⊥
   not_before r s (i, i_lt, i_is) (j, j_lt, j_is) before conflict =
-      let clash : IsClash r s r.entry s.entry r.number =
+      let clash : IsClash a r s r.entry s.entry r.number =
       record { entry = refl; later_entry = refl; order = before; rule_number = refl; conflict = conflict } in
       none r.entry s.entry r.number (i, r, i_lt, i_is, (j, s, j_lt, j_is, clash))
 
 -- rules of which no two entries conflict
-pub have_no_conflict : (rules : List Rule) → AreStatedRules rules
-    → ((first second number : ℕ) → EntriesConflict rules first second number → ⊥) → HaveNoConflict rules
-have_no_conflict rules stated none r s has_r has_s conflict =
+pub have_no_conflict : (a : Architecture) (rules : List Rule) → AreStatedRules a rules
+    → ((first second number : ℕ) → EntriesConflict a rules first second number → ⊥) → HaveNoConflict a rules
+have_no_conflict a rules stated none r s has_r has_s conflict =
     elim (cases_order r.entry s.entry) [
       | inl same ↦ conflict.answer (stated.one_answer r s has_r has_s same)
-      | inr (inl before) ↦ not_before rules none r s has_r has_s before conflict
-      | inr (inr after) ↦ not_before rules none s r has_s has_r after (conflicts_both_ways r s conflict)
+      | inr (inl before) ↦ not_before a rules none r s has_r has_s before conflict
+      | inr (inr after) ↦ not_before a rules none s r has_s has_r after (conflicts_both_ways a r s conflict)
     ]
 
-pub profile_of_rules : (default_answer : Answer) (rules : List Rule) → default_answer.0 < 2 ^ 32 → AreStatedRules rules
-    → ((first second number : ℕ) → EntriesConflict rules first second number → ⊥)
-    → IsProfile (record { default_answer = default_answer; rules = rules })
-profile_of_rules default_answer rules fits stated none =
+pub profile_of_rules : (a : Architecture) (default_answer : Answer) (rules : List Rule) → default_answer.0 < 2 ^ 32
+    → AreStatedRules a rules → ((first second number : ℕ) → EntriesConflict a rules first second number → ⊥)
+    → IsProfile (record { architecture = a; default_answer = default_answer; rules = rules })
+profile_of_rules a default_answer rules fits stated none =
     record {
       default_answer = fits;
       few = stated.few;
-      each = recursion_from_All IsRule rules stated.each;
-      no_conflict = have_no_conflict rules stated none;
+      each = recursion_from_All (IsRule a) rules stated.each;
+      no_conflict = have_no_conflict a rules stated none;
     }

@@ -1,5 +1,5 @@
 -- The tests of a value give neither `Json` nor `Conflict`, and not `Memory`.
-use Rattle.scf_profile.proofs.Common.{◌≡◌, ◌≢◌, ℕ, Bool, true, false, cond, List, [], ◌∷◌, ◌++◌, Option, Some, None, Result, Ok, Err, inr, IfErr, option_map_or, IfErr-at_err, Data, Items, no_items, item, LoadFault, Loaded, IsText, TestsGive, Refuses, NamesLeastConflict, Names, ◌>>=◌, ok_or, each, errno_of, answer_in, no_engine_form, condition_of, entry_of, seccomp_of, profile_of}
+use Rattle.scf_profile.proofs.Common.{◌≡◌, ◌≢◌, ℕ, Bool, true, false, cond, List, [], ◌∷◌, ◌++◌, Option, Some, None, Result, Ok, Err, inr, IfErr, option_map_or, IfErr-at_err, Data, Items, no_items, item, LoadFault, Loaded, IsText, TestsGive, Refuses, RefusesEach, IsFirstConflict, IsLeastConflict, RefusesBy, NamesFirstConflict, NamesLeastConflict, Names, Tables, LoadedProfiles, X8664, ◌+◌, ◌>>=◌, ok_or, each, errno_of, answer_in, no_engine_form, condition_of, entry_of, seccomp_of, head_of, entries_of, all_listed, profile_of, profiles_of}
 use Rattle.scf_profile.specs.declared.load_fault.LoadFault.TheVariants as faults
 
 abbrev pub IsTestFault : LoadFault → Type 0
@@ -55,24 +55,64 @@ entry_test : (entry : Option ℕ) (d : Data) → IsTest (entry_of entry d)
 unfolding entry_of no_engine_form condition_of
 entry_test entry d = search (tests, answer_test) depth 40 fits 4000
 
-profile_test : (table : Names) (root : Data) → IsTest (profile_of table root)
-unfolding profile_of seccomp_of no_engine_form
-profile_test table root = search (tests, answer_test, entry_test) depth 40 fits 4000
+head_test : (root : Data) → IsTest (head_of root)
+unfolding head_of seccomp_of
+head_test root = search (tests, answer_test) depth 40 fits 4000
 
--- what the value of a text fails first, or out of memory
+entries_test : (d : Data) → IsTest (entries_of d)
+unfolding entries_of no_engine_form
+entries_test d = search (tests, entry_test) depth 40 fits 4000
+
+profile_test : (table : Names) (root : Data) → IsTest (profile_of table root)
+unfolding profile_of
+profile_test table root = search (tests, head_test, entries_test) depth 40 fits 4000
+
+listed_test : (index : ℕ) (names : List (List ℕ)) (tables : Tables) → IsTest (all_listed index names tables)
+unfolding all_listed
+listed_test index names [] = ok_test tt
+listed_test index names (t ∷ tables) =
+    then_test _ _ (cond_test _ _ _ (err_test _ tt) (ok_test tt)) (λ _. listed_test (index + 1) names tables)
+
+profiles_test : (tables : Tables) (root : Data) → IsTest (profiles_of tables root)
+unfolding profiles_of
+profiles_test tables root = search (tests, head_test, entries_test, listed_test) depth 40 fits 4000
+
+-- ---- what the value of a text fails first, or out of memory
+
+module _ {A : Type 0} (tests : Data → Result A LoadFault) (is_test : (d : Data) → IsTest (tests d))
+    (HasConflict : A → ℕ → ℕ → ℕ → Type 0) (text : List ℕ) where
+  refused : (d : Data) (e : LoadFault) → IsText text d → (e ≢ faults.Memory → tests d ≡ Err e)
+      → RefusesBy tests HasConflict text e
+  refused d faults.Memory is_text fails = tt
+  refused d faults.Json is_text fails = absurd (IfErr-at_err IsTestFault (fails (λ h. cc)) (is_test d).fault)
+  refused d (faults.Conflict number first second) is_text fails =
+      absurd (IfErr-at_err IsTestFault (fails (λ h. cc)) (is_test d).fault)
+  refused d faults.TooMany is_text fails = inr (d, is_text, fails (λ h. cc))
+  refused d e is_text fails = (d, is_text, fails (λ h. cc))
+
 pub refuses_of_fault : (text : List ℕ) (table : Names) (d : Data) (e : LoadFault) → IsText text d
     → (e ≢ faults.Memory → profile_of table d ≡ Err e) → Refuses text table e
-refuses_of_fault text table d faults.Memory is_text fails = tt
-refuses_of_fault text table d faults.Json is_text fails =
-    absurd (IfErr-at_err IsTestFault (fails (λ h. cc)) (profile_test table d).fault)
-refuses_of_fault text table d (faults.Conflict number first second) is_text fails =
-    absurd (IfErr-at_err IsTestFault (fails (λ h. cc)) (profile_test table d).fault)
-refuses_of_fault text table d faults.TooMany is_text fails = inr (d, is_text, fails (λ h. cc))
-refuses_of_fault text table d e is_text fails = (d, is_text, fails (λ h. cc))
+refuses_of_fault text table d e is_text fails =
+    refused (profile_of table) (profile_test table) (λ loaded. IsLeastConflict X8664 loaded.profile.rules) text d e
+    is_text fails
+
+pub refuses_each_of_fault : (text : List ℕ) (tables : Tables) (d : Data) (e : LoadFault) → IsText text d
+    → (e ≢ faults.Memory → profiles_of tables d ≡ Err e) → RefusesEach text tables e
+refuses_each_of_fault text tables d e is_text fails =
+    refused (profiles_of tables) (profiles_test tables) (λ loaded. IsFirstConflict loaded.profiles) text d e
+    is_text fails
 
 -- the least conflict of what the value of a text states
-pub refuses_of_conflict : (text : List ℕ) (table : Names) (loaded : Loaded) → TestsGive text table (Ok loaded)
-    → (e : LoadFault) → NamesLeastConflict loaded.profile.rules e → Refuses text table e
+pub refuses_of_conflict : (text : List ℕ) (table : Names) (loaded : Loaded)
+    → TestsGive (profile_of table) text (Ok loaded) → (e : LoadFault)
+    → NamesLeastConflict X8664 loaded.profile.rules e → Refuses text table e
 refuses_of_conflict text table loaded gives (faults.Conflict number first second) k = (loaded, gives, k)
 refuses_of_conflict text table loaded gives faults.Memory k = tt
 refuses_of_conflict text table loaded gives e k = absurd k
+
+pub refuses_each_of_conflict : (text : List ℕ) (tables : Tables) (loaded : LoadedProfiles)
+    → TestsGive (profiles_of tables) text (Ok loaded) → (e : LoadFault)
+    → NamesFirstConflict loaded.profiles e → RefusesEach text tables e
+refuses_each_of_conflict text tables loaded gives (faults.Conflict number first second) k = (loaded, gives, k)
+refuses_each_of_conflict text tables loaded gives faults.Memory k = tt
+refuses_each_of_conflict text tables loaded gives e k = absurd k

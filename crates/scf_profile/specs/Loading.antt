@@ -1,16 +1,19 @@
--- What a text and a call table are loaded as, and when they are refused.
-use Rattle.std.specs.Prelude.{◌≡◌, ℕ, ◌<◌, ◌≤◌, ◌⊎◌, List, length, Some, Result, Ok, Err, IsUtf8, Any}
+-- What a text and call tables are loaded as, and when they are refused.
+use Rattle.std.specs.Prelude.{◌≡◌, ℕ, ◌<◌, ◌≤◌, ◌⊎◌, List, ◌∷◌, ◌++◌, length, All, Some, Result, Ok, Err, IsUtf8, Any}
+use Rattle.scf_insn.specs.declared.architecture.Architecture.{Architecture}
+use Rattle.scf_insn.specs.declared.architecture.Architecture.TheVariants.{X8664}
 use Rattle.serde_json.specs.Data.{Data}
 use Rattle.serde_json.specs.Read.{read}
 use Rattle.scf_profile.specs.declared.rule.Rule.{Rule}
 use Rattle.scf_profile.specs.declared.load_fault.LoadFault.{LoadFault}
 use Rattle.scf_profile.specs.declared.load_fault.LoadFault.TheVariants as faults
 use Rattle.scf_profile.specs.declared.loaded.Loaded.{Loaded}
+use Rattle.scf_profile.specs.declared.loaded.LoadedProfiles.{LoadedProfiles}
 use Rattle.scf_profile.specs.Rule.{Conflicts}
 use Rattle.scf_profile.specs.Limits.{max_text_len}
-use Rattle.scf_profile.specs.Profile.{HaveNoConflict}
+use Rattle.scf_profile.specs.Profile.{Profile, HaveNoConflict}
 use Rattle.scf_profile.specs.Table.{Names}
-use Rattle.scf_profile.specs.StatedProfile.{profile_of}
+use Rattle.scf_profile.specs.StatedProfile.{Tables, profile_of, profiles_of}
 
 -- the text is short enough, and JSON for the value, nested at most as deep as serde_json reads
 pub record IsText (text : List ℕ) (d : Data) : Type 0 where
@@ -19,37 +22,62 @@ pub record IsText (text : List ℕ) (d : Data) : Type 0 where
   pub value : read text ≡ Some d
 
 -- A rule and one of a later entry conflict: the indices of their entries, and the number of the calls on which they do.
-pub record IsClash (rule later : Rule) (first second number : ℕ) : Type 0 where
+pub record IsClash (architecture : Architecture) (rule later : Rule) (first second number : ℕ) : Type 0 where
   pub entry : rule.entry ≡ first
   pub later_entry : later.entry ≡ second
   pub order : first < second
   pub rule_number : rule.number ≡ number
-  pub conflict : Conflicts rule later
+  pub conflict : Conflicts architecture rule later
 
-abbrev pub EntriesConflict : List Rule → ℕ → ℕ → ℕ → Type 0
-EntriesConflict rules first second number =
-    Any (λ rule. Any (λ later. IsClash rule later first second number) rules) rules
+abbrev pub EntriesConflict : Architecture → List Rule → ℕ → ℕ → ℕ → Type 0
+EntriesConflict architecture rules first second number =
+    Any (λ rule. Any (λ later. IsClash architecture rule later first second number) rules) rules
 
 -- second is the least entry in conflict with an earlier one, first the least of these, number the least where they are
-pub record IsLeastConflict (rules : List Rule) (number first second : ℕ) : Type 0 where
-  pub conflict : EntriesConflict rules first second number
-  pub least_second : (f s n : ℕ) → EntriesConflict rules f s n → second ≤ s
-  pub least_first : (f n : ℕ) → EntriesConflict rules f second n → first ≤ f
-  pub least_number : (n : ℕ) → EntriesConflict rules first second n → number ≤ n
+pub record IsLeastConflict (architecture : Architecture) (rules : List Rule) (number first second : ℕ) : Type 0 where
+  pub conflict : EntriesConflict architecture rules first second number
+  pub least_second : (f s n : ℕ) → EntriesConflict architecture rules f s n → second ≤ s
+  pub least_first : (f n : ℕ) → EntriesConflict architecture rules f second n → first ≤ f
+  pub least_number : (n : ℕ) → EntriesConflict architecture rules first second n → number ≤ n
 
--- what the tests of the value of the text give, but for conflicts
-abbrev pub TestsGive : List ℕ → Names → Result Loaded LoadFault → Type 0
-TestsGive text table stated = (value : Data) × IsText text value × (profile_of table value ≡ stated)
+-- the profiles before one have no conflict, and this is the least one among its rules
+pub record IsFirstConflict (profiles : List Profile) (number first second : ℕ) : Type 0 where
+  pub before : List Profile
+  pub profile : Profile
+  pub behind : List Profile
+  pub split : profiles ≡ before ++ profile ∷ behind
+  pub none : All (λ p. HaveNoConflict p.architecture p.rules) before
+  pub least : IsLeastConflict profile.architecture profile.rules number first second
+
+-- what tests of the value of the text give
+abbrev pub TestsGive : {A : Type 0} → (Data → Result A LoadFault) → List ℕ → Result A LoadFault → Type 0
+TestsGive tests text stated = (value : Data) × IsText text value × (tests value ≡ stated)
 
 -- what the text and the table state, and no two rules conflict
 abbrev pub Loads : List ℕ → Names → Loaded → Type 0
-Loads text table loaded = TestsGive text table (Ok loaded) × HaveNoConflict loaded.profile.rules
+Loads text table loaded = TestsGive (profile_of table) text (Ok loaded) × HaveNoConflict X8664 loaded.profile.rules
 
--- When a text is refused with a fault, the first test that fails. Want of memory may come in place of anything.
+-- what the text and the tables state, and no two rules of one architecture conflict
+abbrev pub LoadsEach : List ℕ → Tables → LoadedProfiles → Type 0
+LoadsEach text tables loaded =
+    TestsGive (profiles_of tables) text (Ok loaded)
+    × All (λ p. HaveNoConflict p.architecture p.rules) loaded.profiles
+
+-- When a text is refused with a fault, the first test that fails, the last of which is that what is stated has no
+-- conflict. Want of memory may come in place of anything.
+abbrev pub RefusesBy : {A : Type 0} → (Data → Result A LoadFault) → (A → ℕ → ℕ → ℕ → Type 0) → List ℕ → LoadFault → Type 0
+RefusesBy tests HasConflict text faults.Memory = Unit {0}
+RefusesBy tests HasConflict text faults.Json = (length text ≤ max_text_len) × ((value : Data) → IsText text value → ⊥)
+RefusesBy tests HasConflict text faults.TooMany =
+    (max_text_len < length text) ⊎ TestsGive tests text (Err faults.TooMany)
+RefusesBy {A} tests HasConflict text (faults.Conflict number first second) =
+    (loaded : A) × TestsGive tests text (Ok loaded) × HasConflict loaded number first second
+RefusesBy tests HasConflict text fault = TestsGive tests text (Err fault)
+
 abbrev pub Refuses : List ℕ → Names → LoadFault → Type 0
-Refuses text table faults.Memory = Unit {0}
-Refuses text table faults.Json = (length text ≤ max_text_len) × ((value : Data) → IsText text value → ⊥)
-Refuses text table faults.TooMany = (max_text_len < length text) ⊎ TestsGive text table (Err faults.TooMany)
-Refuses text table (faults.Conflict number first second) =
-    (loaded : Loaded) × TestsGive text table (Ok loaded) × IsLeastConflict loaded.profile.rules number first second
-Refuses text table fault = TestsGive text table (Err fault)
+Refuses text table fault =
+    RefusesBy (profile_of table) (λ loaded. IsLeastConflict X8664 loaded.profile.rules) text fault
+
+abbrev pub RefusesEach : List ℕ → Tables → LoadFault → Type 0
+RefusesEach text tables fault =
+    RefusesBy (profiles_of tables) (λ loaded. IsFirstConflict loaded.profiles) text fault

@@ -1,30 +1,37 @@
 -- What a profile holds.
-use Rattle.std.specs.Prelude.{◌≡◌, ◌<◌, ◌≤◌, ◌^◌, List, length, Contains}
+use Rattle.std.specs.Prelude.{◌<◌, ◌≤◌, ◌^◌, List, length, AllPairs, Contains}
 use Rattle.std.specs.List.{AllByRecursion}
 use Rattle.scf_insn.specs.declared.answer.Answer.{Answer}
+use Rattle.scf_insn.specs.Architectures.{AreApart, IsOf}
+use Rattle.scf_insn.specs.declared.architecture.Architecture.{Architecture}
+use Rattle.scf_insn.specs.declared.architecture.Architecture.TheVariants.{X8664}
 use Rattle.scf_insn.specs.declared.record.CallRecord.{CallRecord}
-use Rattle.scf_insn.specs.Kernel.{audit_arch_x86_64, x32_syscall_bit}
 use Rattle.scf_profile.specs.declared.rule.Rule.{Rule}
 use Rattle.scf_profile.specs.Limits.{max_rules}
 use Rattle.scf_profile.specs.Rule.{Conflicts, IsRule}
 
--- a default answer, and rules in the order of the text
+-- an architecture, a default answer, and rules in the order of the text
 pub record Profile : Type 0 where
+  pub architecture : Architecture
   pub default_answer : Answer
   pub rules : List Rule
 
--- no call record meets two rules that answer it differently
-abbrev pub HaveNoConflict : List Rule → Type 0
-HaveNoConflict rules = (r s : Rule) → Contains rules r → Contains rules s → Conflicts r s → ⊥
+-- no call record of the architecture meets two rules that answer it differently
+abbrev pub HaveNoConflict : Architecture → List Rule → Type 0
+HaveNoConflict architecture rules =
+    (r s : Rule) → Contains rules r → Contains rules s → Conflicts architecture r s → ⊥
 
 -- what every loaded profile holds
 pub record IsProfile (p : Profile) : Type 0 where
   pub default_answer : p.default_answer.0 < 2 ^ 32
   pub few : length p.rules ≤ max_rules
-  pub each : AllByRecursion IsRule p.rules
-  pub no_conflict : HaveNoConflict p.rules
+  pub each : AllByRecursion (IsRule p.architecture) p.rules
+  pub no_conflict : HaveNoConflict p.architecture p.rules
+
+-- Profiles of which no two are for one call: those of architectures that are apart.
+abbrev pub AreOfApart : List Profile → Type 0
+AreOfApart profiles = AllPairs (λ p later. AreApart p.architecture later.architecture) profiles
 
 -- a call of x86-64 with a number that x32 calls don't have
-pub record IsNative (call : CallRecord) : Type 0 where
-  pub arch : call.arch ≡ audit_arch_x86_64
-  pub nr : call.nr < x32_syscall_bit
+abbrev pub IsNative : CallRecord → Type 0
+IsNative call = IsOf X8664 call

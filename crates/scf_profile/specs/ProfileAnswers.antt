@@ -1,16 +1,27 @@
--- What a profile answers to a call.
-use Rattle.std.specs.Prelude.{◌≡◌, ℕ, true, false, Contains}
+-- What a profile answers to a call, and what several answer, each for an architecture of its own.
+use Rattle.std.specs.Prelude.{◌≡◌, ℕ, List, true, false, Contains}
+use Rattle.scf_insn.specs.Architectures.{IsOf}
 use Rattle.scf_insn.specs.declared.record.CallRecord.{CallRecord}
 use Rattle.scf_insn.specs.Kernel.{seccomp_ret_kill_process}
 use Rattle.scf_profile.specs.declared.rule.Rule.{Rule}
 use Rattle.scf_profile.specs.Rule.{meets}
-use Rattle.scf_profile.specs.Profile.{Profile, IsNative}
+use Rattle.scf_profile.specs.Profile.{Profile}
 
--- KILL_PROCESS to a call that isn't native, the answer of any rule that a native call meets, and the default answer
--- where it meets none. The order of the rules plays no part.
+-- KILL_PROCESS to a call that isn't of its architecture, the answer of any rule that a call of it meets, and the default
+-- answer where it meets none. The order of the rules plays no part.
 pub data ProfileAnswers (p : Profile) (call : CallRecord) : ℕ → Type 0 where
-  foreign : (IsNative call → ⊥) → ProfileAnswers p call seccomp_ret_kill_process
-  by_rule : (r : Rule) → IsNative call → Contains p.rules r → meets r call ≡ true
+  foreign : (IsOf p.architecture call → ⊥) → ProfileAnswers p call seccomp_ret_kill_process
+  by_rule : (r : Rule) → IsOf p.architecture call → Contains p.rules r → meets p.architecture r call ≡ true
       → ProfileAnswers p call r.answer.0
-  by_default : IsNative call → ((r : Rule) → Contains p.rules r → meets r call ≡ false)
+  by_default : IsOf p.architecture call → ((r : Rule) → Contains p.rules r → meets p.architecture r call ≡ false)
       → ProfileAnswers p call p.default_answer.0
+
+-- the call is of none of the profiles' architectures
+abbrev pub IsOfNone : List Profile → CallRecord → Type 0
+IsOfNone profiles call = (p : Profile) → Contains profiles p → IsOf p.architecture call → ⊥
+
+-- the answer of the profile of the call's architecture, and KILL_PROCESS where there is none
+pub data ProfilesAnswer (profiles : List Profile) (call : CallRecord) : ℕ → Type 0 where
+  by_profile : (p : Profile) → Contains profiles p → IsOf p.architecture call → (answer : ℕ)
+      → ProfileAnswers p call answer → ProfilesAnswer profiles call answer
+  by_none : IsOfNone profiles call → ProfilesAnswer profiles call seccomp_ret_kill_process

@@ -3,7 +3,7 @@ use Rattle.std.specs.Prelude.{◌≡◌, ℕ, List}
 use Rattle.scf_insn.specs.declared.record.CallRecord.{CallRecord}
 use Rattle.scf_insn.specs.Words.{IsRecord, words_of}
 use Rattle.scf_profile.specs.Profile.{Profile}
-use Rattle.scf_profile.specs.ProfileAnswers.{ProfileAnswers}
+use Rattle.scf_profile.specs.ProfileAnswers.{ProfileAnswers, ProfilesAnswer}
 
 -- answers of the filter and of the profile to the call, of which a relation holds
 pub record AnswersRelated (related : ℕ → ℕ → Type 0) (answers : List ℕ → ℕ → Type 0) (p : Profile)
@@ -22,3 +22,8 @@ AreSame filter profile = filter ≡ profile
 -- gives one answer at most, and the profile has no conflict, the two answers to a record are equal.
 abbrev pub SameAnswers : (List ℕ → ℕ → Type 0) → Profile → Type 0
 SameAnswers answers p = (call : CallRecord) → IsRecord call → AnswersRelated AreSame answers p call
+
+-- every call record is answered as several profiles answer it
+abbrev pub SameAnswersAsEach : (List ℕ → ℕ → Type 0) → List Profile → Type 0
+SameAnswersAsEach answers profiles =
+    (call : CallRecord) → IsRecord call → (answer : ℕ) × answers (words_of call) answer × ProfilesAnswer profiles call answer

@@ -1,13 +1,16 @@
--- What a JSON value and a call table state as a profile (OCI runtime specification, config-linux.md, seccomp): the
+-- What a JSON value and call tables state as a profile (OCI runtime specification, config-linux.md, seccomp): the
 -- tests in their order, each a function to what is stated or to its fault. A fault carries the index of the entry of
 -- `syscalls` in which it stands, and none where it stands outside of them.
-use Rattle.std.specs.Prelude.{ℕ, ◌+◌, Bool, true, false, not, ◌&&◌, ◌==◌, List, [], ◌∷◌, ◌++◌, codes, length}
+use Rattle.std.specs.Prelude.{ℕ, ◌+◌, Bool, true, false, not, ◌&&◌, ◌==◌, List, [], ◌∷◌, ◌++◌, codes, length, map}
 use Rattle.std.specs.Prelude.{◌||◌, Option, Some, None, ok_or, Result, Ok, nat_lt, if◌then◌else◌, is_none, is_some, option_map, ⊤}
-use Rattle.std.specs.List.{list_any, filter, flat_map, filter_map}
+use Rattle.std.specs.List.{list_all, list_any, filter, find, flat_map, filter_map}
 use Rattle.std.specs.Map.{lookup}
 use Rattle.std.specs.Str.{bytes_eq}
 use Rattle.std.specs.FinMap.{get}
 use Rattle.std.specs.Option.{option_map_or}
+use Rattle.scf_insn.specs.Architectures.{architectures, row_of}
+use Rattle.scf_insn.specs.declared.architecture.Architecture.{Architecture}
+use Rattle.scf_insn.specs.declared.architecture.Architecture.TheVariants.{X8664, Aarch64}
 use Rattle.scf_insn.specs.Kernel.{seccomp_data_args}
 use Rattle.scf_insn.specs.declared.answer.Answer.{Answer}
 use Rattle.scf_insn.specs.declared.answer.Action.{Action}
@@ -16,6 +19,7 @@ use Rattle.scf_insn.specs.Answers.{answer_of}
 use Rattle.serde_json.specs.Data.{Data, Items, no_items}
 use Rattle.serde_json.specs.Events.{items_len, members_len}
 use Rattle.serde_json.specs.Find.{as_array, as_object, as_str}
+use Rattle.scf_profile.specs.declared.architecture_table.ArchitectureTable.{ArchitectureTable}
 use Rattle.scf_profile.specs.declared.condition.Operator.{Operator}
 use Rattle.scf_profile.specs.declared.condition.Operator.TheVariants as operators
 use Rattle.scf_profile.specs.declared.condition.Condition.{Condition}
@@ -24,6 +28,8 @@ use Rattle.scf_profile.specs.declared.entry.Entry.{Entry}
 use Rattle.scf_profile.specs.declared.load_fault.LoadFault.{LoadFault}
 use Rattle.scf_profile.specs.declared.load_fault.LoadFault.TheVariants as faults
 use Rattle.scf_profile.specs.declared.loaded.Loaded.{Loaded}
+use Rattle.scf_profile.specs.declared.loaded.LoadedProfiles.{LoadedProfiles}
+use Rattle.scf_profile.specs.Profile.{Profile}
 use Rattle.scf_profile.specs.Steps.{◌>>=◌, refused_if}
 use Rattle.scf_profile.specs.JsonMembers.{member, whole_number, unsigned_number, each}
 use Rattle.scf_profile.specs.Limits.{max_errno, max_rules, number_below}
@@ -133,38 +139,124 @@ seccomp_of root =
     then ok_or (object root) (faults.Kind None)
     else required None (codes "linux") object root >>= required None (codes "seccomp") object
 
--- ---- with the call table
+-- what stands before the test of the architectures: the object, its default answer and the names of its architectures
+pub record Head : Type 0 where
+  pub object : Data
+  pub default_answer : Answer
+  pub architectures : List (List ℕ)
 
--- the rules that an entry at an index states: one for each occurrence of a name that the table has
-abbrev pub rules_named : Names → ℕ → Entry → List (List ℕ) → List Rule
-rules_named table index e names = filter_map (λ name. option_map (λ number.
-    record { number = number; conditions = e.conditions; answer = e.answer; entry = index }) (get table name)) names
-
--- those of the entries from this index on
-abbrev pub rules_from : Names → ℕ → List Entry → List Rule
-rules_from table index [] = []
-rules_from table index (e ∷ es) = rules_named table index e e.names ++ rules_from table (index + 1) es
-
--- each occurrence of a name that the table lacks
-abbrev pub skipped_names : Names → List Entry → List (List ℕ)
-skipped_names table entries = filter (λ name. is_none (get table name)) (flat_map (λ e. e.names) entries)
-
-abbrev pub x86_64 : List ℕ
-x86_64 = codes "SCMP_ARCH_X86_64"
-
--- What the root states, but for conflicts among its rules. x86-64 has to be among the architectures, unless there are
--- none. Each entry is at its index, which is how many stand before it.
-unfoldable pub profile_of : Names → Data → Result Loaded LoadFault
-profile_of table root = do
+unfoldable pub head_of : Data → Result Head LoadFault
+head_of root = do
   d ← seccomp_of root
   default_answer ← answer_in None (codes "defaultAction") (codes "defaultErrnoRet") d
   names ← optional no_items None (codes "architectures") as_array d >>= strings_of None
-  _ ← refused_if (nat_lt 0 (length names) && not (list_any (bytes_eq x86_64) names)) (faults.NoX8664 None)
+  Ok (record { object = d; default_answer = default_answer; architectures = names })
+
+-- the entries, behind that test; each is at its index, which is how many stand before it
+unfoldable pub entries_of : Data → Result (List Entry) LoadFault
+entries_of d = do
   _ ← no_engine_form None (codes "archMap") d
-  entries ← optional no_items None (codes "syscalls") as_array d >>= each (λ before. entry_of (Some (length before))) []
-  _ ← refused_if (nat_lt max_rules (length (rules_from table 0 entries))) faults.TooMany
+  optional no_items None (codes "syscalls") as_array d >>= each (λ before. entry_of (Some (length before))) []
+
+-- ---- with call tables
+
+-- call tables, each with the architecture whose calls it names
+abbrev pub Tables : Type 0
+Tables = List (Architecture × Names)
+
+abbrev pub tables_of : List ArchitectureTable → Tables
+tables_of tables = map (λ t. (t.architecture, t.table.now)) tables
+
+-- the architecture of a name
+abbrev pub is_named : List ℕ → Architecture → Bool
+is_named name architecture = bytes_eq (row_of architecture).name name
+
+-- the first table of an architecture
+abbrev pub table_for : Tables → Architecture → Option Names
+table_for tables architecture =
+    option_map (λ t. t.1) (find (λ t. is_named (row_of architecture).name t.0) tables)
+
+-- the rules that an entry at an index states: one for each occurrence of a name that the table has
+abbrev pub rules_named : Architecture → Names → ℕ → Entry → List (List ℕ) → List Rule
+rules_named architecture table index e names = filter_map (λ name. option_map (λ number. record {
+  number = (row_of architecture).first + number;
+  conditions = e.conditions;
+  answer = e.answer;
+  entry = index;
+}) (get table name)) names
+
+-- those of the entries from this index on
+abbrev pub rules_from : Architecture → Names → ℕ → List Entry → List Rule
+rules_from architecture table index [] = []
+rules_from architecture table index (e ∷ es) =
+    rules_named architecture table index e e.names ++ rules_from architecture table (index + 1) es
+
+-- each occurrence of a name that no table has
+abbrev pub skipped_names : Tables → List Entry → List (List ℕ)
+skipped_names tables entries =
+    filter (λ name. list_all (λ t. is_none (get t.1 name)) tables) (flat_map (λ e. e.names) entries)
+
+-- the names of architectures that have no table
+abbrev pub other_names : Tables → List (List ℕ) → List (List ℕ)
+other_names tables names = filter (λ name. not (list_any (λ t. is_named name t.0) tables)) names
+
+-- the profile of an architecture that has a table
+abbrev pub profile_for : Tables → Answer → List Entry → Architecture → Option Profile
+profile_for tables default_answer entries architecture = option_map (λ table. record {
+  architecture = architecture;
+  default_answer = default_answer;
+  rules = rules_from architecture table 0 entries;
+}) (table_for tables architecture)
+
+-- those of all architectures, in their order
+abbrev pub profiles_from : Tables → Answer → List Entry → List Profile
+profiles_from tables default_answer entries = filter_map (profile_for tables default_answer entries) architectures
+
+-- ---- which architectures have to be listed
+
+-- no names stand for x86-64 where it has a table, and else for aarch64
+abbrev pub listed_names : Tables → List (List ℕ) → List (List ℕ)
+listed_names tables [] = (row_of (if is_some (table_for tables X8664) then X8664 else Aarch64)).name ∷ []
+listed_names tables (name ∷ names) = name ∷ names
+
+-- each table's architecture has to be among the names; the tables begin at this index
+unfoldable pub all_listed : ℕ → List (List ℕ) → Tables → Result ⊤ LoadFault
+all_listed index names [] = Ok tt
+all_listed index names ((architecture, table) ∷ tables) = do
+  _ ← refused_if (not (list_any (λ name. is_named name architecture) names)) (faults.NotListed index)
+  all_listed (index + 1) names tables
+
+-- ---- what the root states, but for conflicts among its rules
+
+-- With a table of x86-64 alone: x86-64 has to be among the architectures, unless there are none.
+unfoldable pub profile_of : Names → Data → Result Loaded LoadFault
+profile_of table root = do
+  head ← head_of root
+  _ ← refused_if (nat_lt 0 (length head.architectures) && not (list_any (λ name. is_named name X8664) head.architectures))
+      (faults.NoX8664 None)
+  entries ← entries_of head.object
+  _ ← refused_if (nat_lt max_rules (length (rules_from X8664 table 0 entries))) faults.TooMany
   Ok (record {
-    profile = record { default_answer = default_answer; rules = rules_from table 0 entries };
-    skipped = skipped_names table entries;
-    other_architectures = filter (λ name. not (bytes_eq x86_64 name)) names;
+    profile = record {
+      architecture = X8664;
+      default_answer = head.default_answer;
+      rules = rules_from X8664 table 0 entries;
+    };
+    skipped = skipped_names ((X8664, table) ∷ []) entries;
+    other_architectures = other_names ((X8664, table) ∷ []) head.architectures;
+  })
+
+-- with tables of several architectures
+unfoldable pub profiles_of : Tables → Data → Result LoadedProfiles LoadFault
+profiles_of tables root = do
+  head ← head_of root
+  _ ← all_listed 0 (listed_names tables head.architectures) tables
+  entries ← entries_of head.object
+  _ ← refused_if
+      (list_any (λ p. nat_lt max_rules (length p.rules)) (profiles_from tables head.default_answer entries))
+      faults.TooMany
+  Ok (record {
+    profiles = profiles_from tables head.default_answer entries;
+    skipped = skipped_names tables entries;
+    other_architectures = other_names tables head.architectures;
   })

@@ -1,16 +1,17 @@
 //! Conditions on syscall arguments (OCI runtime specification, config-linux.md, seccomp).
 
-ghost use Rattle.std.specs.Prelude.{◌≡◌, ◌<◌, ◌^◌, ◌↔◌, ℕ, IsTrue, All, IfOk, IfSome};
+ghost use Rattle.std.specs.Prelude.{◌≡◌, ◌≤◌, ◌↔◌, ℕ, IsTrue, All, IfOk, IfSome};
 ghost use Rattle.scf_profile.specs.Condition.{condition_holds};
 ghost use Rattle.scf_profile.specs.NumberTests.{test_of};
 ghost use Rattle.scf_profile.specs.internal.NumberSets.{IsNumberSet, is_in_some};
+ghost use Rattle.scf_insn.specs.Architectures.{greatest_argument};
 ghost use Rattle.scf_insn.specs.SimpleMask.{IsSimpleMask};
 ghost use Rattle.scf_insn.specs.Words.{low, high};
 ghost use Rattle.scf_profile.specs.PlainProfile.{IsPlainCondition};
 
 use crate::number_set::NumberSet;
 use crate::number_test::NumberTest;
-use scf_insn::{high_half, is_simple_mask, low_half};
+use scf_insn::{ArgumentBits, high_half, is_simple_mask, low_half};
 use std::alloc::{AllocError, Global};
 use std::marker::Model;
 
@@ -95,27 +96,21 @@ impl Condition {
         }
     }
 
-    /// The values for which the condition holds, if there are any.
+    /// The arguments for which the condition holds, if there are any.
     #[tactic(auto, using(crate::proofs::Masks::masked_twice))]
-    pub(crate) fn numbers(&self) -> Option<NumberSet>
-        ensures same { (n : ℕ) → n < 2 ^ 64 → is_in_some result n ≡ condition_holds self.now n }
-        ensures set { IfSome result IsNumberSet }
+    pub(crate) fn numbers(&self, bits: ArgumentBits) -> Option<NumberSet>
+        ensures same { (n : ℕ) → n ≤ greatest_argument bits → is_in_some result n ≡ condition_holds self.now n }
+        ensures set { IfSome result (IsNumberSet bits) }
     {
         let value = self.value;
         match self.op {
             Operator::NotEqual => Some(NumberSet::AllBut(value)),
             Operator::Less => value.checked_sub(1).map(NumberSet::AtMost),
             Operator::LessOrEqual => Some(NumberSet::AtMost(value)),
-            Operator::Equal => Some(NumberSet::Masked {
-                mask: u64::MAX,
-                value,
-            }),
-            Operator::GreaterOrEqual => Some(NumberSet::AtLeast(value)),
-            Operator::Greater => value.checked_add(1).map(NumberSet::AtLeast),
-            Operator::MaskedEqual => Some(NumberSet::Masked {
-                mask: value,
-                value: self.value_two & value,
-            }),
+            Operator::Equal => NumberSet::masked(bits, u64::MAX, value),
+            Operator::GreaterOrEqual => NumberSet::at_least(bits, value),
+            Operator::Greater => NumberSet::at_least(bits, value.checked_add(1)?),
+            Operator::MaskedEqual => NumberSet::masked(bits, value, self.value_two & value),
         }
     }
 }

@@ -10,6 +10,7 @@ ghost use Rattle.scf_profile.specs.Rule.{IsRule};
 
 use crate::number_rules::NumberRules;
 use crate::rule::Rule;
+use scf_insn::Architecture;
 
 /// Two entries that conflict, and the syscall number on which they do.
 ///
@@ -37,13 +38,13 @@ fn lesser(least: Option<Clash>, clash: Option<Clash>) -> Option<Clash>
 }
 
 /// The clash of a rule and a later one, if they are of different entries and conflict.
-fn clash_of(rule: &Rule, later: &Rule) -> Option<Clash>
-    requires rule { IsRule rule.now }
-    requires later { IsRule later.now }
-    ensures some { IfSome result (IsClashOf rule.now later.now) }
-    ensures all { (c : Clash) → IsClashOf rule.now later.now c → result ≡ Some c }
+fn clash_of(architecture: Architecture, rule: &Rule, later: &Rule) -> Option<Clash>
+    requires rule { IsRule architecture rule.now }
+    requires later { IsRule architecture later.now }
+    ensures some { IfSome result (IsClashOf architecture rule.now later.now) }
+    ensures all { (c : Clash) → IsClashOf architecture rule.now later.now c → result ≡ Some c }
 {
-    if rule.entry >= later.entry || !rule.conflicts_with(later) {
+    if rule.entry >= later.entry || !rule.conflicts_with(later, architecture) {
         return None;
     }
     Some(Clash {
@@ -54,42 +55,47 @@ fn clash_of(rule: &Rule, later: &Rule) -> Option<Clash>
 }
 
 /// The least of a clash and those of the rules with a later one.
-fn least_with(rules: &[Rule], later: &Rule, known: Option<Clash>) -> Option<Clash>
-    requires rules { All IsRule rules.now }
-    requires later { IsRule later.now }
-    ensures one { IfSome result (λ c. (known ≡ Some c) ⊎ Any (λ r. IsClashOf r later.now c) rules.now) }
-    ensures bounds { All (IsClashBounded result later.now) rules.now }
+fn least_with(
+    architecture: Architecture,
+    rules: &[Rule],
+    later: &Rule,
+    known: Option<Clash>,
+) -> Option<Clash>
+    requires rules { All (IsRule architecture) rules.now }
+    requires later { IsRule architecture later.now }
+    ensures one { IfSome result (λ c. (known ≡ Some c) ⊎ Any (λ r. IsClashOf architecture r later.now c) rules.now) }
+    ensures bounds { All (IsClashBounded architecture result later.now) rules.now }
     ensures keeps { (c : Clash) → IsBoundedBy known c → IsBoundedBy result c }
 {
     let mut least = known;
     for rule in rules {
-        least = lesser(least, clash_of(rule, later));
+        least = lesser(least, clash_of(architecture, rule, later));
     }
     least
 }
 
 /// The least of a clash and those among rules.
-fn least_among(rules: &[Rule], known: Option<Clash>) -> Option<Clash>
-    requires { All IsRule rules.now }
-    ensures one { IfSome result (λ c. (known ≡ Some c) ⊎ EntriesConflict rules.now c.first c.second c.number) }
-    ensures bounds { All (λ later. All (IsClashBounded result later) rules.now) rules.now }
+fn least_among(architecture: Architecture, rules: &[Rule], known: Option<Clash>) -> Option<Clash>
+    requires { All (IsRule architecture) rules.now }
+    ensures one { IfSome result (λ c. (known ≡ Some c) ⊎ EntriesConflict architecture rules.now c.first c.second c.number) }
+    ensures bounds { All (λ later. All (IsClashBounded architecture result later) rules.now) rules.now }
     ensures keeps { (c : Clash) → IsBoundedBy known c → IsBoundedBy result c }
 {
     let mut least = known;
     for later in rules {
-        least = least_with(rules, later, least);
+        least = least_with(architecture, rules, later, least);
     }
     least
 }
 
 /// The least conflict among rules, each of which is tested with those of its number.
-pub(crate) fn least_conflict(numbers: &[NumberRules]) -> Option<Clash>
-    requires { All (λ own. All IsRule own.rules.items) numbers.now }
-    ensures { (rules : List Rule) → AreNumbersOf numbers.now rules → IsLeastClash rules result }
+pub(crate) fn least_conflict(architecture: Architecture, numbers: &[NumberRules]) -> Option<Clash>
+    requires { All (λ own. All (IsRule architecture) own.rules.items) numbers.now }
+    ensures { (rules : List Rule) → AreNumbersOf numbers.now rules → IsLeastClash architecture rules result }
 {
     let mut least = None;
     for own in numbers {
-        least = least_among(&own.rules, least);
+        least = least_among(architecture, &own.rules, least);
     }
     least
 }

@@ -1,124 +1,160 @@
 //! From the names of entries to rules with syscall numbers.
 
-ghost use Rattle.std.specs.Prelude.{◌≡◌, ◌≤◌, ◌^◌, ◌++◌, ◌∷◌, [], length, vec_len, IfOk, IfErr, OnOk, is_none, not};
-ghost use Rattle.std.specs.List.{filter};
+ghost use Rattle.std.specs.Prelude.{◌≡◌, ◌≢◌, ◌≤◌, ◌^◌, ◌++◌, ◌∷◌, [], length, vec_len, IfOk, IfErr, OnOk, is_none};
+ghost use Rattle.std.specs.List.{filter, flat_map, list_all, list_any};
 ghost use Rattle.std.specs.FinMap.{get};
-ghost use Rattle.std.specs.Str.{bytes_eq};
 ghost use Rattle.scf_profile.specs.internal.EntryRanges.{TellsTooMany};
 ghost use Rattle.scf_profile.specs.Limits.{max_rules};
 ghost use Rattle.scf_profile.specs.References.{texts_at};
-ghost use Rattle.scf_profile.specs.StatedProfile.{rules_named, rules_from, skipped_names, x86_64};
+ghost use Rattle.scf_profile.specs.StatedProfile.{rules_named, rules_from, skipped_names, other_names, tables_of, is_named as named};
 
+use crate::architecture_table::ArchitectureTable;
 use crate::entry::Entry;
 use crate::limits::MAX_RULES;
 use crate::load_fault::LoadFault;
-use crate::object::is_x86_64;
+use crate::object::is_named;
 use crate::rule::Rule;
 use crate::table::CallTable;
 use crate::texts::{BorrowedTexts, Texts};
+use scf_insn::Architecture;
 use std::alloc::{AllocError, Global};
 
-/// The rules of entries under a table, and each occurrence of a name that the table lacks.
-#[derive(Drop)]
-pub(crate) struct Expanded {
-    pub(crate) rules: Vec<Rule>,
-    pub(crate) skipped: Texts,
-}
-
-impl Expanded {
-    /// Adds the rule of an entry for one name, or the name itself if the table lacks it.
-    fn add_name(
-        &mut self,
-        alloc: Global,
-        table: &CallTable,
-        index: u32,
-        entry: &Entry,
-        name: &str,
-    ) -> Result<(), LoadFault>
-        requires { vec_len self.old.rules ≤ max_rules }
-        ensures rules { OnOk result (self.new.rules.items
-            ≡ self.old.rules.items ++ rules_named table.now index entry.now (name.now ∷ [])) }
-        ensures skipped { OnOk result (self.new.skipped
-            ≡ self.old.skipped ++ filter (λ n. is_none (get table.now n)) (name.now ∷ [])) }
-        ensures few { OnOk result (vec_len self.new.rules ≤ max_rules) }
-        ensures err { IfErr result (TellsTooMany
-            (self.old.rules.items ++ rules_named table.now index entry.now (name.now ∷ []))) }
-    {
-        let Some(number) = table.number_of(name) else {
-            self.skipped.push(alloc, name)?;
-            return Ok(());
-        };
-        if self.rules.len() == MAX_RULES {
-            return Err(LoadFault::TooMany);
-        }
-        let conditions = entry.conditions.try_clone(alloc)?;
-        self.rules.push(Rule {
-            number,
-            conditions,
-            answer: entry.answer,
-            entry: index,
-        })?;
-        Ok(())
-    }
-
-    /// Adds the rules of an entry for all its names.
-    #[tactic(auto, using(std::proofs::lemmas::Grind::common_steps, crate::proofs::StatedRules::names_first))]
-    fn add_entry(
-        &mut self,
-        alloc: Global,
-        table: &CallTable,
-        index: u32,
-        entry: &Entry,
-    ) -> Result<(), LoadFault>
-        requires { vec_len self.old.rules ≤ max_rules }
-        ensures rules { OnOk result (self.new.rules.items
-            ≡ self.old.rules.items ++ rules_named table.now index entry.now entry.now.names) }
-        ensures skipped { OnOk result (self.new.skipped
-            ≡ self.old.skipped ++ filter (λ n. is_none (get table.now n)) entry.now.names) }
-        ensures few { OnOk result (vec_len self.new.rules ≤ max_rules) }
-        ensures err { IfErr result (TellsTooMany
-            (self.old.rules.items ++ rules_named table.now index entry.now entry.now.names)) }
-    {
-        for name in entry.names.as_slice() {
-            self.add_name(alloc, table, index, entry, name)?;
-        }
-        Ok(())
-    }
-}
-
-/// The rules of entries under a table, at most `MAX_RULES`.
-pub(crate) fn expand(
+/// Adds the rule of an entry for one name, if the table has it.
+fn add_name(
+    rules: &mut Vec<Rule>,
     alloc: Global,
-    table: &CallTable,
-    entries: &[Entry],
-) -> Result<Expanded, LoadFault>
-    requires { length entries.now ≤ 2 ^ 32 }
-    ensures rules { IfOk result (λ e. e.rules.items ≡ rules_from table.now 0 entries.now) }
-    ensures skipped { IfOk result (λ e. e.skipped ≡ skipped_names table.now entries.now) }
-    ensures few { IfOk result (λ e. vec_len e.rules ≤ max_rules) }
-    ensures err { IfErr result (TellsTooMany (rules_from table.now 0 entries.now)) }
+    table: &ArchitectureTable,
+    index: u32,
+    entry: &Entry,
+    name: &str,
+) -> Result<(), LoadFault>
+    requires { vec_len rules.old ≤ max_rules }
+    ensures rules { OnOk result (rules.new.items
+        ≡ rules.old.items ++ rules_named table.now.architecture table.now.table.now index entry.now (name.now ∷ [])) }
+    ensures few { OnOk result (vec_len rules.new ≤ max_rules) }
+    ensures err { IfErr result (TellsTooMany
+        (rules.old.items ++ rules_named table.now.architecture table.now.table.now index entry.now (name.now ∷ []))) }
 {
-    let mut expanded = Expanded {
-        rules: Vec::new(alloc),
-        skipped: Texts::new(alloc),
+    let Some(number) = table.table.number_of(name) else {
+        return Ok(());
     };
-    for (i, entry) in entries.iter().enumerate() {
-        expanded.add_entry(alloc, table, i as u32, entry)?;
+    if rules.len() == MAX_RULES {
+        return Err(LoadFault::TooMany);
     }
-    Ok(expanded)
+    let conditions = entry.conditions.try_clone(alloc)?;
+    rules.push(Rule {
+        number: table.architecture.first() + number,
+        conditions,
+        answer: entry.answer,
+        entry: index,
+    })?;
+    Ok(())
 }
 
-/// The architectures other than x86-64.
+/// Adds the rules of an entry for all its names.
+#[tactic(auto, using(std::proofs::lemmas::Grind::common_steps, crate::proofs::StatedRules::names_first))]
+fn add_entry(
+    rules: &mut Vec<Rule>,
+    alloc: Global,
+    table: &ArchitectureTable,
+    index: u32,
+    entry: &Entry,
+) -> Result<(), LoadFault>
+    requires { vec_len rules.old ≤ max_rules }
+    ensures rules { OnOk result (rules.new.items
+        ≡ rules.old.items ++ rules_named table.now.architecture table.now.table.now index entry.now entry.now.names) }
+    ensures few { OnOk result (vec_len rules.new ≤ max_rules) }
+    ensures err { IfErr result (TellsTooMany
+        (rules.old.items ++ rules_named table.now.architecture table.now.table.now index entry.now entry.now.names)) }
+{
+    for name in entry.names.as_slice() {
+        add_name(rules, alloc, table, index, entry, name)?;
+    }
+    Ok(())
+}
+
+/// The rules of entries under the table of an architecture, at most `MAX_RULES`.
+pub(crate) fn rules_under(
+    alloc: Global,
+    table: &ArchitectureTable,
+    entries: &[Entry],
+) -> Result<Vec<Rule>, LoadFault>
+    requires { length entries.now ≤ 2 ^ 32 }
+    ensures rules { IfOk result (λ rules. rules.items ≡ rules_from table.now.architecture table.now.table.now 0 entries.now) }
+    ensures few { IfOk result (λ rules. vec_len rules ≤ max_rules) }
+    ensures err { IfErr result (TellsTooMany (rules_from table.now.architecture table.now.table.now 0 entries.now)) }
+{
+    let mut rules = Vec::new(alloc);
+    for (i, entry) in entries.iter().enumerate() {
+        add_entry(&mut rules, alloc, table, i as u32, entry)?;
+    }
+    Ok(rules)
+}
+
+/// Whether no table has a name.
+fn is_in_none(tables: &[ArchitectureTable], name: &str) -> bool
+    ensures { result ≡ list_all (λ t. is_none (get t.1 name.now)) (tables_of tables.now) }
+{
+    tables
+        .iter()
+        .all(|table| table.table.number_of(name).is_none())
+}
+
+/// Adds the names of an entry that no table has.
+#[tactic(auto, using(std::proofs::lemmas::Grind::common_steps, crate::proofs::StatedRules::names_first))]
+fn add_skipped(
+    skipped: &mut Texts,
+    alloc: Global,
+    tables: &[ArchitectureTable],
+    entry: &Entry,
+) -> Result<(), AllocError>
+    ensures { OnOk result (skipped.new
+        ≡ skipped.old ++ filter (λ name. list_all (λ t. is_none (get t.1 name)) (tables_of tables.now)) entry.now.names) }
+{
+    for name in entry.names.as_slice() {
+        if is_in_none(tables, name) {
+            skipped.push(alloc, name)?;
+        }
+    }
+    Ok(())
+}
+
+/// Each occurrence of a name that no table has.
+pub(crate) fn skipped_under(
+    alloc: Global,
+    tables: &[ArchitectureTable],
+    entries: &[Entry],
+) -> Result<Texts, AllocError>
+    ensures { IfOk result (λ skipped. skipped ≡ skipped_names (tables_of tables.now) entries.now) }
+{
+    let mut skipped = Texts::new(alloc);
+    for entry in entries {
+        add_skipped(&mut skipped, alloc, tables, entry)?;
+    }
+    Ok(skipped)
+}
+
+/// Whether an architecture of this name has a table.
+fn has_table(tables: &[ArchitectureTable], name: &str) -> bool
+    ensures { result ≡ list_any (λ t. named name.now t.0) (tables_of tables.now) }
+{
+    tables
+        .iter()
+        .any(|table| is_named(name, table.architecture))
+}
+
+/// The architectures that have no table.
 #[tactic(auto, using(std::proofs::lemmas::Grind::common_steps, crate::proofs::StatedRules::names_first))]
 pub(crate) fn other_architectures(
     alloc: Global,
+    tables: &[ArchitectureTable],
     architectures: &BorrowedTexts,
 ) -> Result<Texts, AllocError>
-    ensures { IfOk result (λ texts. texts ≡ filter (λ name. not (bytes_eq x86_64 name)) architectures.now) }
+    ensures { IfOk result (λ others. others ≡ other_names (tables_of tables.now) architectures.now) }
 {
     let mut others = Texts::new(alloc);
     for name in architectures.as_slice() {
-        if !is_x86_64(name) {
+        if !has_table(tables, name) {
             others.push(alloc, name)?;
         }
     }

@@ -1,7 +1,7 @@
 //! Laws of conditions, of profiles' answers, of relations and of scopes. Each function does nothing: its contract is the
 //! law.
 
-ghost use Rattle.std.specs.Prelude.{◌≡◌, ◌↔◌, ◌-◌, ◌<◌, ◌≤◌, ◌^◌, ℕ};
+ghost use Rattle.std.specs.Prelude.{◌≡◌, ◌↔◌, ◌-◌, ◌<◌, ◌≤◌, ◌^◌, ℕ, List, All};
 ghost use Rattle.scf_insn.specs.declared.record.CallRecord.{CallRecord};
 ghost use Rattle.scf_insn.specs.Kernel.{x32_syscall_bit};
 ghost use Rattle.scf_insn.specs.Words.{IsRecord};
@@ -9,8 +9,8 @@ ghost use Rattle.scf_profile.specs.declared.condition.Condition.{Condition};
 ghost use Rattle.scf_profile.specs.declared.reason.Reason.{Reason};
 ghost use Rattle.scf_profile.specs.Condition.{condition_holds};
 ghost use Rattle.scf_profile.specs.NumberTests.{comes_to, test_of};
-ghost use Rattle.scf_profile.specs.Profile.{Profile, HaveNoConflict};
-ghost use Rattle.scf_profile.specs.ProfileAnswers.{ProfileAnswers};
+ghost use Rattle.scf_profile.specs.Profile.{AreOfApart, Profile, HaveNoConflict};
+ghost use Rattle.scf_profile.specs.ProfileAnswers.{ProfileAnswers, ProfilesAnswer};
 ghost use Rattle.scf_profile.specs.Reasons.{IsAnswerOf, IsReason};
 ghost use Rattle.scf_profile.specs.Relation.{IsRelated};
 ghost use Rattle.scf_profile.specs.Scope.{IsInScope};
@@ -34,14 +34,22 @@ pub fn some_answer()
 /// If no two rules conflict, a record has only one answer.
 #[tactic(auto, using(crate::proofs::Answering::one_answer))]
 pub fn one_answer()
-    ensures { (p : Profile) (call : CallRecord) (a b : ℕ) → HaveNoConflict p.rules → IsRecord call
+    ensures { (p : Profile) (call : CallRecord) (a b : ℕ) → HaveNoConflict p.architecture p.rules → IsRecord call
         → ProfileAnswers p call a → ProfileAnswers p call b → a ≡ b }
+{}
+
+/// If no two rules of one profile conflict, and no record is of two of the profiles, a record has only one answer.
+#[tactic(auto, using(crate::proofs::Answering::one_answer_among))]
+pub fn one_answer_among()
+    ensures { (profiles : List Profile) (call : CallRecord) (a b : ℕ) → AreOfApart profiles
+        → All (λ p. HaveNoConflict p.architecture p.rules) profiles → IsRecord call
+        → ProfilesAnswer profiles call a → ProfilesAnswer profiles call b → a ≡ b }
 {}
 
 /// If no two rules conflict, the answer to a record is its reason's.
 #[tactic(auto, using(crate::proofs::Reasons::answer_of_reason))]
 pub fn answer_of_reason()
-    ensures { (p : Profile) (call : CallRecord) (reason : Reason) (answer : ℕ) → HaveNoConflict p.rules
+    ensures { (p : Profile) (call : CallRecord) (reason : Reason) (answer : ℕ) → HaveNoConflict p.architecture p.rules
         → IsRecord call → IsReason p call reason → ProfileAnswers p call answer → IsAnswerOf p call reason answer }
 {}
 

@@ -2,6 +2,7 @@
 #![tactic(auto)]
 
 mod action;
+mod architecture_table;
 mod args;
 mod condition;
 mod conflict;
@@ -21,6 +22,7 @@ mod object;
 mod overlap;
 mod profile;
 mod profile_text;
+mod profiles;
 mod reason;
 mod relation;
 mod rule;
@@ -30,19 +32,21 @@ mod table_fault;
 mod table_line;
 mod texts;
 
+pub use architecture_table::ArchitectureTable;
 pub use condition::{Condition, Conditions, Operator};
 pub use laws::{
-    answer_of_reason, condition_by_halves, numbers_are_native, one_answer,
+    answer_of_reason, condition_by_halves, numbers_are_native, one_answer, one_answer_among,
     same_disposition_is_no_more_and_no_less, some_answer,
 };
 pub use limits::{MAX_RULES, MAX_TEXT_LEN};
 pub use load_fault::LoadFault;
-pub use loaded::Loaded;
+pub use loaded::{Loaded, LoadedProfiles};
 pub use named_call::NamedCall;
 pub use number_rules::NumberRules;
 pub use number_test::NumberTest;
 pub use profile::{FOREIGN_ANSWER, Profile};
-pub use profile_text::load;
+pub use profile_text::{load, load_profiles};
+pub use profiles::Profiles;
 pub use reason::Reason;
 pub use relation::Relation;
 pub use rule::Rule;

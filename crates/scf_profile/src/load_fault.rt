@@ -69,6 +69,11 @@ pub enum LoadFault {
     NoX8664 {
         entry: Option<u32>,
     },
+    /// The architecture of the table with this index, from 0 on, is not among the architectures.
+    #[error("the architecture of table {table} is not among the architectures")]
+    NotListed {
+        table: usize,
+    },
     /// A non-empty `archMap`, `includes` or `excludes`, whose meaning depends on a container engine.
     #[error("{place}a form of container engines", place = InEntry(*.entry))]
     EngineForm {

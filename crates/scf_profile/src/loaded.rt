@@ -1,6 +1,7 @@
-//! A loaded text.
+//! Loaded texts.
 
 use crate::profile::Profile;
+use crate::profiles::Profiles;
 use crate::texts::Texts;
 
 /// A profile, and what was left out of it.
@@ -10,5 +11,16 @@ pub struct Loaded {
     /// The names that the table lacks, each occurrence, in the order of the text.
     pub skipped: Texts,
     /// The architectures beside SCMP_ARCH_X86_64, each occurrence, in the order of the text.
+    pub other_architectures: Texts,
+}
+
+/// The profiles of several architectures, and what was left out of them.
+#[derive(Debug, Drop)]
+pub struct LoadedProfiles {
+    /// One for each table, in the order of `Architecture::all`.
+    pub profiles: Profiles,
+    /// The names that no table has, each occurrence, in the order of the text.
+    pub skipped: Texts,
+    /// The architectures without a table, each occurrence, in the order of the text.
     pub other_architectures: Texts,
 }

@@ -1,10 +1,14 @@
-//! Sets of 64-bit values: those for which a condition holds.
+//! Sets of arguments: those for which a condition holds.
 
-ghost use Rattle.std.specs.Prelude.{◌↔◌, IsTrue};
+ghost use Rattle.std.specs.Prelude.{◌≡◌, ◌==◌, ◌≤◌, ◌↔◌, ℕ, bit_and, nat_le, IfSome, IsTrue};
+ghost use Rattle.scf_insn.specs.Architectures.{greatest_argument};
 ghost use Rattle.scf_profile.specs.declared.number_set.NumberSet.TheVariants.{AtMost, AtLeast, AllBut, Masked};
 ghost use Rattle.scf_profile.specs.internal.NumberSets.{HaveCommonNumber, IsGreatestOf, IsLeastOf, IsNumberSet};
+ghost use Rattle.scf_profile.specs.internal.NumberSets.{is_in_some};
 
-/// A non-empty set of 64-bit values.
+use scf_insn::ArgumentBits;
+
+/// A non-empty set of arguments.
 #[derive(Clone, Copy)]
 pub(crate) enum NumberSet {
     AtMost(u64),
@@ -15,11 +19,36 @@ pub(crate) enum NumberSet {
 }
 
 impl NumberSet {
+    /// The arguments from `first` on, if there are any.
+    pub(crate) fn at_least(bits: ArgumentBits, first: u64) -> Option<NumberSet>
+        ensures same { (n : ℕ) → n ≤ greatest_argument bits → is_in_some result n ≡ nat_le first n }
+        ensures set { IfSome result (IsNumberSet bits) }
+    {
+        if first <= bits.greatest() {
+            Some(NumberSet::AtLeast(first))
+        } else {
+            None
+        }
+    }
+
+    /// The arguments `n` with `n & mask == value`, if there are any.
+    pub(crate) fn masked(bits: ArgumentBits, mask: u64, value: u64) -> Option<NumberSet>
+        requires { bit_and value mask ≡ value }
+        ensures same { (n : ℕ) → n ≤ greatest_argument bits → is_in_some result n ≡ (bit_and n mask == value) }
+        ensures set { IfSome result (IsNumberSet bits) }
+    {
+        if value <= bits.greatest() {
+            Some(NumberSet::Masked { mask, value })
+        } else {
+            None
+        }
+    }
+
     /// Its least value.
     #[tactic(auto, using(crate::proofs::Masks::least_masked))]
-    fn least(self) -> u64
-        requires { IsNumberSet self }
-        ensures { IsLeastOf self result }
+    fn least(self, bits: ArgumentBits) -> u64
+        requires { IsNumberSet bits self }
+        ensures { IsLeastOf bits self result }
     {
         match self {
             NumberSet::AtMost(_) => 0,
@@ -30,54 +59,54 @@ impl NumberSet {
     }
 
     /// Its greatest value.
-    #[tactic(auto, using(crate::proofs::Masks::greatest_masked))]
-    fn greatest(self) -> u64
-        requires { IsNumberSet self }
-        ensures { IsGreatestOf self result }
+    fn greatest(self, bits: ArgumentBits) -> u64
+        requires { IsNumberSet bits self }
+        ensures { IsGreatestOf bits self result }
     {
+        let greatest = bits.greatest();
         match self {
-            NumberSet::AtMost(last) => last,
-            NumberSet::AtLeast(_) => u64::MAX,
-            NumberSet::AllBut(other) => u64::MAX - u64::from(other == u64::MAX),
-            NumberSet::Masked { mask, value } => value | !mask,
+            NumberSet::AtMost(last) => last.min(greatest),
+            NumberSet::AtLeast(_) => greatest,
+            NumberSet::AllBut(other) => greatest - u64::from(other == greatest),
+            NumberSet::Masked { mask, value } => value | (greatest & !mask),
         }
     }
 
     /// Whether it has a value up to `last`.
-    fn has_at_most(self, last: u64) -> bool
-        requires { IsNumberSet self }
-        ensures { IsTrue result ↔ HaveCommonNumber self (AtMost last) }
+    fn has_at_most(self, bits: ArgumentBits, last: u64) -> bool
+        requires { IsNumberSet bits self }
+        ensures { IsTrue result ↔ HaveCommonNumber bits self (AtMost last) }
     {
-        self.least() <= last
+        self.least(bits) <= last
     }
 
     /// Whether it has a value from `first` on.
-    fn has_at_least(self, first: u64) -> bool
-        requires { IsNumberSet self }
-        ensures { IsTrue result ↔ HaveCommonNumber self (AtLeast first) }
+    fn has_at_least(self, bits: ArgumentBits, first: u64) -> bool
+        requires { IsNumberSet bits self }
+        ensures { IsTrue result ↔ HaveCommonNumber bits self (AtLeast first) }
     {
-        self.greatest() >= first
+        self.greatest(bits) >= first
     }
 
     /// Whether it has a value other than `one`.
-    fn has_other_than(self, one: u64) -> bool
-        requires { IsNumberSet self }
-        ensures { IsTrue result ↔ HaveCommonNumber self (AllBut one) }
+    fn has_other_than(self, bits: ArgumentBits, one: u64) -> bool
+        requires { IsNumberSet bits self }
+        ensures { IsTrue result ↔ HaveCommonNumber bits self (AllBut one) }
     {
-        self.least() != one || self.greatest() != one
+        self.least(bits) != one || self.greatest(bits) != one
     }
 
     /// Whether it has a value `n` with `n & mask == value`.
-    fn has_masked(self, mask: u64, value: u64) -> bool
-        requires own { IsNumberSet self }
-        requires masked { IsNumberSet (Masked mask value) }
-        ensures { IsTrue result ↔ HaveCommonNumber self (Masked mask value) }
+    fn has_masked(self, bits: ArgumentBits, mask: u64, value: u64) -> bool
+        requires own { IsNumberSet bits self }
+        requires masked { IsNumberSet bits (Masked mask value) }
+        ensures { IsTrue result ↔ HaveCommonNumber bits self (Masked mask value) }
     {
         let masked = NumberSet::Masked { mask, value };
         match self {
-            NumberSet::AtMost(last) => masked.has_at_most(last),
-            NumberSet::AtLeast(first) => masked.has_at_least(first),
-            NumberSet::AllBut(one) => masked.has_other_than(one),
+            NumberSet::AtMost(last) => masked.has_at_most(bits, last),
+            NumberSet::AtLeast(first) => masked.has_at_least(bits, first),
+            NumberSet::AllBut(one) => masked.has_other_than(bits, one),
             NumberSet::Masked {
                 mask: own_mask,
                 value: own_value,
@@ -86,16 +115,16 @@ impl NumberSet {
     }
 
     /// Whether two sets intersect.
-    pub(crate) fn has_common_with(self, other: NumberSet) -> bool
-        requires own { IsNumberSet self }
-        requires other { IsNumberSet other }
-        ensures { IsTrue result ↔ HaveCommonNumber self other }
+    pub(crate) fn has_common_with(self, bits: ArgumentBits, other: NumberSet) -> bool
+        requires own { IsNumberSet bits self }
+        requires other { IsNumberSet bits other }
+        ensures { IsTrue result ↔ HaveCommonNumber bits self other }
     {
         match other {
-            NumberSet::AtMost(last) => self.has_at_most(last),
-            NumberSet::AtLeast(first) => self.has_at_least(first),
-            NumberSet::AllBut(one) => self.has_other_than(one),
-            NumberSet::Masked { mask, value } => self.has_masked(mask, value),
+            NumberSet::AtMost(last) => self.has_at_most(bits, last),
+            NumberSet::AtLeast(first) => self.has_at_least(bits, first),
+            NumberSet::AllBut(one) => self.has_other_than(bits, one),
+            NumberSet::Masked { mask, value } => self.has_masked(bits, mask, value),
         }
     }
 }

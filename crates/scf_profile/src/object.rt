@@ -3,7 +3,7 @@
 ghost use Rattle.std.specs.Prelude.{◌≡◌, ◌≤◌, ◌^◌, ◌&&◌, not, nat_lt, [], IfOk, All, length, vec_len};
 ghost use Rattle.std.specs.Prelude.{Some, None, ok_or, codes};
 ghost use Rattle.std.specs.List.{list_any};
-ghost use Rattle.std.specs.Str.{bytes_eq};
+ghost use Rattle.scf_insn.specs.declared.architecture.Architecture.TheVariants.{X8664};
 ghost use Rattle.serde_json.specs.Data.{no_items};
 ghost use Rattle.serde_json.specs.Find.{as_array};
 ghost use Rattle.serde_json.specs.View.{view, items_view};
@@ -12,15 +12,18 @@ ghost use Rattle.scf_profile.specs.internal.EntryRanges.{IsEntry};
 ghost use Rattle.scf_profile.specs.JsonMembers.{each};
 ghost use Rattle.scf_profile.specs.References.{texts_at};
 ghost use Rattle.scf_profile.specs.StatedProfile.{required, optional, strings_of as strings_stated, entry_of};
-ghost use Rattle.scf_profile.specs.StatedProfile.{object as object_stated, seccomp_of, x86_64};
+ghost use Rattle.scf_profile.specs.StatedProfile.{object as object_stated, seccomp_of, is_named as named};
+ghost use Rattle.scf_profile.specs.StatedProfile.{all_listed as all_are_listed, listed_names, tables_of};
 ghost use Rattle.scf_profile.specs.Steps.{◌>>=◌ as and_then, refused_if, Gives};
 ghost use Rattle.scf_profile.specs.internal.Results.{result_map};
 
+use crate::architecture_table::{ArchitectureTable, table_for};
 use crate::entry::Entry;
 use crate::forms::{find_items, strings_of};
 use crate::json_members::member_of;
 use crate::load_fault::LoadFault;
 use crate::texts::BorrowedTexts;
+use scf_insn::Architecture;
 use serde_json::Value;
 use std::alloc::Global;
 
@@ -54,30 +57,64 @@ pub(crate) fn find_seccomp(root: &Value) -> Result<&Value, LoadFault>
     find_object(find_object(root, "linux")?, "seccomp")
 }
 
-/// Whether an architecture is x86-64.
-pub(crate) fn is_x86_64(name: &str) -> bool
-    ensures { result ≡ bytes_eq x86_64 name.now }
+/// Whether an architecture has this name.
+pub(crate) fn is_named(name: &str, architecture: Architecture) -> bool
+    ensures { result ≡ named name.now architecture }
 {
-    "SCMP_ARCH_X86_64" == name
+    architecture.name() == name
 }
 
-fn has_x86_64(names: &[&str]) -> bool
-    ensures { result ≡ list_any (bytes_eq x86_64) (texts_at names.now) }
+/// Whether an architecture is among those of these names.
+fn is_listed(names: &[&str], architecture: Architecture) -> bool
+    ensures { result ≡ list_any (λ name. named name architecture) (texts_at names.now) }
 {
-    names.iter().any(|name| is_x86_64(name))
+    names.iter().any(|name| is_named(name, architecture))
 }
 
 /// Refuses architectures without x86-64, unless there are none.
 pub(crate) fn check_architectures(architectures: &BorrowedTexts) -> Result<(), LoadFault>
     ensures { result ≡ refused_if
-        (nat_lt 0 (length architectures.now) && not (list_any (bytes_eq x86_64) architectures.now))
+        (nat_lt 0 (length architectures.now) && not (list_any (λ name. named name X8664) architectures.now))
         (faults.NoX8664 None) }
 {
     let names = architectures.as_slice();
-    if names.len() > 0 && !has_x86_64(names) {
+    if names.len() > 0 && !is_listed(names, Architecture::X8664) {
         return Err(LoadFault::NoX8664 { entry: None });
     }
     Ok(())
+}
+
+/// Refuses the first table whose architecture isn't among the names.
+fn all_listed(names: &[&str], tables: &[ArchitectureTable]) -> Result<(), LoadFault>
+    ensures { result ≡ all_are_listed 0 (texts_at names.now) (tables_of tables.now) }
+{
+    for (i, table) in tables.iter().enumerate() {
+        if !is_listed(names, table.architecture) {
+            return Err(LoadFault::NotListed { table: i });
+        }
+    }
+    Ok(())
+}
+
+/// Refuses the first table whose architecture isn't listed. No names stand for x86-64 if it has a table, else for
+/// aarch64.
+pub(crate) fn check_listed(
+    tables: &[ArchitectureTable],
+    architectures: &BorrowedTexts,
+) -> Result<(), LoadFault>
+    ensures { result ≡ all_are_listed 0 (listed_names (tables_of tables.now) architectures.now)
+        (tables_of tables.now) }
+{
+    let names = architectures.as_slice();
+    if names.len() > 0 {
+        return all_listed(names, tables);
+    }
+    let default = if table_for(tables, Architecture::X8664).is_some() {
+        Architecture::X8664
+    } else {
+        Architecture::Aarch64
+    };
+    all_listed(&[default.name()], tables)
 }
 
 /// The architectures of the object; none if they are absent.

@@ -2,8 +2,9 @@
 
 ghost use Rattle.std.specs.Prelude.{◌≡◌, ◌<◌, ◌↔◌, IsTrue, All, min, option_map};
 ghost use Rattle.std.specs.List.{find, reduce};
+ghost use Rattle.scf_insn.specs.Architectures.{IsOf};
 ghost use Rattle.scf_insn.specs.Kernel.{seccomp_data_args};
-ghost use Rattle.scf_profile.specs.Profile.{IsProfile, IsNative};
+ghost use Rattle.scf_profile.specs.Profile.{IsProfile};
 ghost use Rattle.scf_profile.specs.NumberRules.{AreNumbersOf};
 ghost use Rattle.scf_profile.specs.PlainProfile.{IsPlainProfile, IsPlainRule};
 ghost use Rattle.scf_profile.specs.ProfileAnswers.{ProfileAnswers};
@@ -13,18 +14,19 @@ ghost use Rattle.scf_profile.specs.Rule.{meets};
 use crate::number_rules::NumberRules;
 use crate::reason::Reason;
 use crate::rule::Rule;
-use scf_insn::kernel::{AUDIT_ARCH_X86_64, SECCOMP_RET_KILL_PROCESS, X32_SYSCALL_BIT};
-use scf_insn::{Answer, CallRecord};
+use scf_insn::kernel::SECCOMP_RET_KILL_PROCESS;
+use scf_insn::{Answer, Architecture, CallRecord};
 use std::marker::Model;
 
-/// The answer to records of other ABIs: KILL_PROCESS.
+/// The answer to records of other architectures: KILL_PROCESS.
 pub const FOREIGN_ANSWER: Answer = Answer(SECCOMP_RET_KILL_PROCESS);
 
-/// A loaded profile: a default answer, and at most `MAX_RULES` rules in the order of the text. No record meets two
-/// rules with different answers. Syscall numbers are below `X32_SYSCALL_BIT`; argument indices are below 6, none twice
-/// in a rule.
+/// A loaded profile for an architecture: a default answer, and at most `MAX_RULES` rules in the order of the text. No
+/// record meets two rules with different answers. Syscall numbers are those of the architecture; argument indices are
+/// below 6, none twice in a rule.
 #[derive(Debug, Drop)]
 pub struct Profile {
+    architecture: Architecture,
     default_answer: Answer,
     rules: Vec<Rule>,
     numbers: Vec<NumberRules>,
@@ -36,32 +38,47 @@ impl Model for Profile {
 
     ghost Value = { Profile };
 
-    ghost view = { λ p. record { default_answer = p.default_answer; rules = p.rules.items } };
+    ghost view = { λ p. record {
+      architecture = p.architecture;
+      default_answer = p.default_answer;
+      rules = p.rules.items;
+    } };
 
     ghost invariant = { λ p. IsProfile
-        (record { default_answer = p.default_answer; rules = p.rules.items })
+        (record { architecture = p.architecture; default_answer = p.default_answer; rules = p.rules.items })
         × AreNumbersOf p.numbers.items p.rules.items };
 }
 
 impl Profile {
     /// The profile with a default answer, rules that don't conflict, and the same rules by number.
     pub(crate) fn new(
+        architecture: Architecture,
         default_answer: Answer,
         rules: Vec<Rule>,
         numbers: Vec<NumberRules>,
     ) -> Profile
-        requires profile { IsProfile (record { default_answer = default_answer; rules = rules.items }) }
+        requires profile { IsProfile
+            (record { architecture = architecture; default_answer = default_answer; rules = rules.items }) }
         requires numbers { AreNumbersOf numbers.items rules.items }
-        ensures { result ≡ record { default_answer = default_answer; rules = rules.items } }
+        ensures { result
+            ≡ record { architecture = architecture; default_answer = default_answer; rules = rules.items } }
     {
         Profile {
+            architecture,
             default_answer,
             rules,
             numbers,
         }
     }
 
-    /// The answer to an x86-64 syscall that meets no rule.
+    /// The architecture whose records it answers.
+    pub fn architecture(&self) -> Architecture
+        ensures { result ≡ self.now.architecture }
+    {
+        self.architecture
+    }
+
+    /// The answer to a record of its architecture that meets no rule.
     pub fn default_answer(&self) -> Answer
         ensures { result ≡ self.now.default_answer }
     {
@@ -91,26 +108,26 @@ impl Profile {
         are_plain(self.rules())
     }
 
-    /// The profile's answer to a record: KILL_PROCESS for other ABIs, else that of any rule it meets, else the default.
+    /// The profile's answer to a record: KILL_PROCESS for other architectures, else that of any rule it meets, else the default.
     #[tactic(auto, using(crate::specs::ProfileAnswers::foreign))]
     pub fn answer(&self, call: &CallRecord) -> Answer
         ensures { ProfileAnswers self.now call.now result.0 }
     {
-        if !is_native(call) {
+        if !self.architecture.has(call) {
             return FOREIGN_ANSWER;
         }
-        answer_of(self.default_answer, &self.rules, call)
+        answer_of(self.architecture, self.default_answer, &self.rules, call)
     }
 
-    /// Why a record gets its answer: another ABI, the first entry of which it meets a rule, or no rule.
+    /// Why a record gets its answer: another architecture, the first entry of which it meets a rule, or no rule.
     #[tactic(auto, using(std::proofs::lemmas::Grind::common_steps, crate::proofs::Reasons::least_of))]
     pub fn reason(&self, call: &CallRecord) -> Reason
         ensures { IsReason self.now call.now result }
     {
-        if !is_native(call) {
+        if !self.architecture.has(call) {
             return Reason::Foreign;
         }
-        match first_entry_met(self.rules(), call) {
+        match first_entry_met(self.architecture, self.rules(), call) {
             Some(entry) => Reason::Entry(entry),
             None => Reason::Default,
         }
@@ -124,42 +141,46 @@ fn are_plain(rules: &[Rule]) -> bool
     rules.iter().all(|rule| rule.is_plain())
 }
 
-/// Whether a record is one of x86-64's own: below x32's numbers.
-fn is_native(call: &CallRecord) -> bool
-    ensures { IsTrue result ↔ IsNative call.now }
-{
-    call.arch == AUDIT_ARCH_X86_64 && call.nr < X32_SYSCALL_BIT
-}
-
-/// The answer of a rule that an x86-64 record meets, else the default.
-fn answer_of(default_answer: Answer, rules: &[Rule], call: &CallRecord) -> Answer
-    requires native { IsNative call.now }
-    requires profile { IsProfile (record { default_answer = default_answer; rules = rules.now }) }
-    ensures { ProfileAnswers (record { default_answer = default_answer; rules = rules.now })
+/// The answer of a rule that a record of an architecture meets, else the default.
+fn answer_of(
+    architecture: Architecture,
+    default_answer: Answer,
+    rules: &[Rule],
+    call: &CallRecord,
+) -> Answer
+    requires own { IsOf architecture call.now }
+    requires profile { IsProfile
+        (record { architecture = architecture; default_answer = default_answer; rules = rules.now }) }
+    ensures { ProfileAnswers
+        (record { architecture = architecture; default_answer = default_answer; rules = rules.now })
         call.now result.0 }
 {
-    match first_met(rules, call) {
+    match first_met(architecture, rules, call) {
         Some(rule) => rule.answer,
         None => default_answer,
     }
 }
 
-/// The first rule that a record meets.
-fn first_met<'r>(rules: &'r [Rule], call: &CallRecord) -> Option<&'r Rule>
+/// The first rule that a record of an architecture meets.
+fn first_met<'r>(
+    architecture: Architecture,
+    rules: &'r [Rule],
+    call: &CallRecord,
+) -> Option<&'r Rule>
     requires { All (λ r. All (λ c. c.index < seccomp_data_args) r.conditions) rules.now }
-    ensures { option_map (λ r. r.now) result ≡ find (λ r. meets r call.now) rules.now }
+    ensures { option_map (λ r. r.now) result ≡ find (λ r. meets architecture r call.now) rules.now }
 {
-    rules.iter().find(|rule| rule.is_met(call))
+    rules.iter().find(|rule| rule.is_met(architecture, call))
 }
 
-/// The least index of an entry of which a record meets a rule.
-fn first_entry_met(rules: &[Rule], call: &CallRecord) -> Option<u32>
+/// The least index of an entry of which a record of an architecture meets a rule.
+fn first_entry_met(architecture: Architecture, rules: &[Rule], call: &CallRecord) -> Option<u32>
     requires { All (λ r. All (λ c. c.index < seccomp_data_args) r.conditions) rules.now }
-    ensures { result ≡ reduce min (entries_met rules.now call.now) }
+    ensures { result ≡ reduce min (entries_met architecture rules.now call.now) }
 {
     rules
         .iter()
-        .filter(|rule| rule.is_met(call))
+        .filter(|rule| rule.is_met(architecture, call))
         .map(|rule| rule.entry)
         .min()
 }

@@ -1,31 +1,39 @@
-//! From a text and a syscall table to a profile.
+//! From a text and syscall tables to profiles.
 
-ghost use Rattle.std.specs.Prelude.{◌≡◌, ◌<◌, ◌^◌, length, Err, IfOk, IfErr};
+ghost use Rattle.std.specs.Prelude.{◌≡◌, ◌<◌, ◌≤◌, ◌^◌, ◌∷◌, [], All, filter_map, length, map, option_map, vec_len, Err, IfOk, IfErr, IfSome};
 ghost use Rattle.serde_json.specs.View.{view};
+ghost use Rattle.scf_insn.specs.declared.answer.Answer.{Answer};
+ghost use Rattle.scf_insn.specs.declared.architecture.Architecture.TheVariants.{X8664};
 ghost use Rattle.scf_profile.specs.declared.load_fault.LoadFault.TheVariants.{Memory, TooMany};
-ghost use Rattle.scf_profile.specs.internal.EntryRanges.{AreStatedRules};
+ghost use Rattle.scf_profile.specs.internal.EntryRanges.{AreStatedRules, IsEntry, TellsOneTooMany, TellsTooMany};
 ghost use Rattle.scf_profile.specs.Limits.{max_text_len};
-ghost use Rattle.scf_profile.specs.Loading.{IsText, Loads, Refuses};
-ghost use Rattle.scf_profile.specs.internal.Refusals.{NamesLeastConflict, ParseRefuses};
+ghost use Rattle.scf_profile.specs.Loading.{IsText, Loads, LoadsEach, Refuses, RefusesEach};
+ghost use Rattle.scf_profile.specs.internal.Refusals.{NamesFirstConflict, NamesLeastConflict, ParseRefuses};
 ghost use Rattle.scf_profile.specs.internal.Results.{result_map};
-ghost use Rattle.scf_profile.specs.internal.Stated.{loaded_of, IsWithoutConflict};
+ghost use Rattle.scf_profile.specs.internal.Stated.{head_stated, loaded_of, loaded_profiles_of, stated_profile};
+ghost use Rattle.scf_profile.specs.Profile.{AreOfApart, HaveNoConflict};
 ghost use Rattle.scf_profile.specs.Steps.{Gives};
-ghost use Rattle.scf_profile.specs.StatedProfile.{profile_of};
+ghost use Rattle.scf_profile.specs.StatedProfile.{entries_of, head_of, profile_for, profile_of, profiles_from, profiles_of, rules_from, tables_of};
 
 use crate::action::find_answer;
+use crate::architecture_table::{ArchitectureTable, table_for};
 use crate::conflict::least_conflict;
-use crate::expand::{Expanded, expand, other_architectures};
+use crate::entry::Entry;
+use crate::expand::{other_architectures, rules_under, skipped_under};
 use crate::forms::check_no_engine_form;
 use crate::limits::MAX_TEXT_LEN;
 use crate::load_fault::LoadFault;
-use crate::loaded::Loaded;
+use crate::loaded::{Loaded, LoadedProfiles};
 use crate::number_rules::by_number;
-use crate::object::{check_architectures, find_architectures, find_entries, find_seccomp};
+use crate::object::{
+    check_architectures, check_listed, find_architectures, find_entries, find_seccomp,
+};
 use crate::profile::Profile;
+use crate::profiles::Profiles;
 use crate::rule::Rule;
 use crate::table::CallTable;
-use crate::texts::Texts;
-use scf_insn::Answer;
+use crate::texts::{BorrowedTexts, Texts};
+use scf_insn::{Answer, Architecture};
 use serde_json::Value;
 use std::alloc::Global;
 
@@ -45,58 +53,125 @@ fn parse(alloc: Global, text: &[u8]) -> Result<Value, LoadFault>
     }
 }
 
-/// A profile before the test for conflicts.
+/// What stands before the test of the architectures.
 #[derive(Drop)]
-struct Stated {
+struct Head<'v> {
+    object: &'v Value,
     default_answer: Answer,
-    rules: Vec<Rule>,
-    skipped: Texts,
-    other_architectures: Texts,
+    architectures: BorrowedTexts<'v>,
 }
 
-/// Parses the root under a table, or the first test that fails.
-#[tactic(auto, unfolding(crate::specs::StatedProfile::profile_of))]
-fn read_root(alloc: Global, table: &CallTable, root: &Value) -> Result<Stated, LoadFault>
-    ensures value { Gives Memory (result_map loaded_of result) (profile_of table.now (view root.now)) }
-    ensures range { IfOk result (λ s. AreStatedRules s.rules.items) }
-    ensures default_range { IfOk result (λ s. s.default_answer.0 < 2 ^ 32) }
+/// Parses the root up to its architectures.
+#[tactic(auto, unfolding(crate::specs::StatedProfile::head_of))]
+fn read_head(alloc: Global, root: &Value) -> Result<Head<'_>, LoadFault>
+    ensures value { Gives Memory (result_map head_stated result) (head_of (view root.now)) }
+    ensures range { IfOk result (λ head. head.default_answer.0 < 2 ^ 32) }
 {
     let object = find_seccomp(root)?;
     let default_answer = find_answer(None, "defaultAction", "defaultErrnoRet", object)?;
     let architectures = find_architectures(alloc, object)?;
-    check_architectures(&architectures)?;
-    check_no_engine_form(None, "archMap", object)?;
-    let entries = find_entries(alloc, object)?;
-    let Expanded { rules, skipped } = expand(alloc, table, &entries)?;
-    let other_architectures = other_architectures(alloc, &architectures)?;
-    table.within_range();
-    Ok(Stated {
+    Ok(Head {
+        object,
         default_answer,
+        architectures,
+    })
+}
+
+/// Parses the entries.
+#[tactic(auto, unfolding(crate::specs::StatedProfile::entries_of))]
+fn read_entries(alloc: Global, object: &Value) -> Result<Vec<Entry<'_>>, LoadFault>
+    ensures value { Gives Memory (result_map (λ v. v.items) result) (entries_of (view object.now)) }
+    ensures range { IfOk result (λ v. All IsEntry v.items) }
+    ensures count { IfOk result (λ v. vec_len v ≤ 2 ^ 32) }
+{
+    check_no_engine_form(None, "archMap", object)?;
+    find_entries(alloc, object)
+}
+
+/// Rules of an architecture before the test for conflicts.
+#[derive(Drop)]
+struct StatedRules {
+    architecture: Architecture,
+    rules: Vec<Rule>,
+}
+
+/// The rules of entries under the table of an architecture.
+fn stated_rules(
+    alloc: Global,
+    table: &ArchitectureTable,
+    entries: &[Entry],
+) -> Result<StatedRules, LoadFault>
+    requires count { length entries.now ≤ 2 ^ 32 }
+    requires range { All IsEntry entries.now }
+    ensures rules { IfOk result (λ stated. stated.rules.items
+        ≡ rules_from table.now.architecture table.now.table.now 0 entries.now) }
+    ensures architecture { IfOk result (λ stated. stated.architecture ≡ table.now.architecture) }
+    ensures range { IfOk result (λ stated. AreStatedRules stated.architecture stated.rules.items) }
+    ensures err { IfErr result (TellsTooMany (rules_from table.now.architecture table.now.table.now 0 entries.now)) }
+{
+    let rules = rules_under(alloc, table, entries)?;
+    table.table.within_range();
+    Ok(StatedRules {
+        architecture: table.architecture,
+        rules,
+    })
+}
+
+/// A profile before the test for conflicts.
+#[derive(Drop)]
+struct Stated {
+    default_answer: Answer,
+    rules: StatedRules,
+    skipped: Texts,
+    other_architectures: Texts,
+}
+
+/// Parses the root under a table of x86-64, or the first test that fails.
+#[tactic(auto, unfolding(crate::specs::StatedProfile::profile_of))]
+fn read_root(alloc: Global, table: &CallTable, root: &Value) -> Result<Stated, LoadFault>
+    ensures value { Gives Memory (result_map loaded_of result) (profile_of table.now (view root.now)) }
+    ensures architecture { IfOk result (λ s. s.rules.architecture ≡ X8664) }
+    ensures range { IfOk result (λ s. AreStatedRules s.rules.architecture s.rules.rules.items) }
+    ensures default_range { IfOk result (λ s. s.default_answer.0 < 2 ^ 32) }
+{
+    let head = read_head(alloc, root)?;
+    check_architectures(&head.architectures)?;
+    let entries = read_entries(alloc, head.object)?;
+    let tables = [ArchitectureTable {
+        architecture: Architecture::X8664,
+        table,
+    }];
+    let rules = stated_rules(alloc, &tables[0], &entries)?;
+    let skipped = skipped_under(alloc, &tables, &entries)?;
+    let other_architectures = other_architectures(alloc, &tables, &head.architectures)?;
+    Ok(Stated {
+        default_answer: head.default_answer,
         rules,
         skipped,
         other_architectures,
     })
 }
 
-/// The profile, unless two of its rules conflict or an allocation fails.
-fn without_conflict(alloc: Global, stated: Stated) -> Result<Loaded, LoadFault>
-    requires rules { AreStatedRules stated.rules.items }
-    requires default_answer { stated.default_answer.0 < 2 ^ 32 }
-    ensures ok { IfOk result (IsWithoutConflict stated) }
-    ensures err { IfErr result (NamesLeastConflict stated.rules.items) }
+/// The profile of rules, unless two of them conflict or an allocation fails.
+fn without_conflict(
+    alloc: Global,
+    default_answer: Answer,
+    stated: StatedRules,
+) -> Result<Profile, LoadFault>
+    requires rules { AreStatedRules stated.architecture stated.rules.items }
+    requires default_answer { default_answer.0 < 2 ^ 32 }
+    ensures ok { IfOk result (λ profile. profile ≡ stated_profile default_answer stated) }
+    ensures no_conflict { IfOk result (λ profile. HaveNoConflict profile.architecture profile.rules) }
+    ensures err { IfErr result (NamesLeastConflict stated.architecture stated.rules.items) }
 {
     let numbers = by_number(alloc, &stated.rules)?;
-    match least_conflict(&numbers) {
+    match least_conflict(stated.architecture, &numbers) {
         Some(clash) => Err(LoadFault::Conflict {
             number: clash.number,
             first: clash.first,
             second: clash.second,
         }),
-        None => Ok(Loaded {
-            profile: Profile::new(stated.default_answer, stated.rules, numbers),
-            skipped: stated.skipped,
-            other_architectures: stated.other_architectures,
-        }),
+        None => Ok(Profile::new(stated.architecture, default_answer, stated.rules, numbers)),
     }
 }
 
@@ -110,5 +185,138 @@ pub fn load(alloc: Global, text: &[u8], table: &CallTable) -> Result<Loaded, Loa
     ensures long { max_text_len < length text.now → result ≡ Err TooMany }
 {
     let value = parse(alloc, text)?;
-    without_conflict(alloc, read_root(alloc, table, &value)?)
+    let stated = read_root(alloc, table, &value)?;
+    Ok(Loaded {
+        profile: without_conflict(alloc, stated.default_answer, stated.rules)?,
+        skipped: stated.skipped,
+        other_architectures: stated.other_architectures,
+    })
+}
+
+/// Profiles of several architectures before the test for conflicts.
+#[derive(Drop)]
+struct StatedProfiles {
+    default_answer: Answer,
+    rules: Vec<StatedRules>,
+    skipped: Texts,
+    other_architectures: Texts,
+}
+
+/// The rules of entries for an architecture, if it has a table.
+fn rules_for(
+    alloc: Global,
+    tables: &[ArchitectureTable],
+    entries: &[Entry],
+    architecture: Architecture,
+) -> Result<Option<StatedRules>, LoadFault>
+    requires count { length entries.now ≤ 2 ^ 32 }
+    requires range { All IsEntry entries.now }
+    ensures rules { IfOk result (λ found. (default : Answer) → option_map (stated_profile default) found
+        ≡ profile_for (tables_of tables.now) default entries.now architecture) }
+    ensures range { IfOk result (λ found. IfSome found (λ s. AreStatedRules s.architecture s.rules.items)) }
+    ensures err { IfErr result (λ fault. (default : Answer) → TellsOneTooMany
+        (filter_map (profile_for (tables_of tables.now) default entries.now) (architecture ∷ [])) fault) }
+{
+    let Some(table) = table_for(tables, architecture) else {
+        return Ok(None);
+    };
+    let own = ArchitectureTable {
+        architecture,
+        table,
+    };
+    Ok(Some(stated_rules(alloc, &own, entries)?))
+}
+
+/// The rules of entries for each architecture that has a table.
+fn stated_for(
+    alloc: Global,
+    tables: &[ArchitectureTable],
+    entries: &[Entry],
+) -> Result<Vec<StatedRules>, LoadFault>
+    requires count { length entries.now ≤ 2 ^ 32 }
+    requires range { All IsEntry entries.now }
+    ensures rules { IfOk result (λ stated. (default : Answer)
+        → map (stated_profile default) stated.items ≡ profiles_from (tables_of tables.now) default entries.now) }
+    ensures range { IfOk result (λ stated. All (λ s. AreStatedRules s.architecture s.rules.items) stated.items) }
+    ensures err { IfErr result (λ fault. (default : Answer)
+        → TellsOneTooMany (profiles_from (tables_of tables.now) default entries.now) fault) }
+{
+    let mut stated = Vec::new(alloc);
+    let architectures = Architecture::all();
+    for architecture in &architectures {
+        if let Some(own) = rules_for(alloc, tables, entries, *architecture)? {
+            stated.push(own)?;
+        }
+    }
+    Ok(stated)
+}
+
+/// Parses the root under tables of several architectures, or the first test that fails.
+#[tactic(auto, unfolding(crate::specs::StatedProfile::profiles_of))]
+fn read_root_for(
+    alloc: Global,
+    tables: &[ArchitectureTable],
+    root: &Value,
+) -> Result<StatedProfiles, LoadFault>
+    ensures value { Gives Memory (result_map loaded_profiles_of result) (profiles_of (tables_of tables.now) (view root.now)) }
+    ensures range { IfOk result (λ s. All (λ r. AreStatedRules r.architecture r.rules.items) s.rules.items) }
+    ensures default_range { IfOk result (λ s. s.default_answer.0 < 2 ^ 32) }
+    ensures apart { IfOk result (λ s. AreOfApart (map (stated_profile s.default_answer) s.rules.items)) }
+{
+    let head = read_head(alloc, root)?;
+    check_listed(tables, &head.architectures)?;
+    let entries = read_entries(alloc, head.object)?;
+    let rules = stated_for(alloc, tables, &entries)?;
+    let skipped = skipped_under(alloc, tables, &entries)?;
+    let other_architectures = other_architectures(alloc, tables, &head.architectures)?;
+    Ok(StatedProfiles {
+        default_answer: head.default_answer,
+        rules,
+        skipped,
+        other_architectures,
+    })
+}
+
+/// The profiles, unless two rules of one conflict or an allocation fails.
+fn all_without_conflict(
+    alloc: Global,
+    default_answer: Answer,
+    stated: Vec<StatedRules>,
+) -> Result<Profiles, LoadFault>
+    requires rules { All (λ s. AreStatedRules s.architecture s.rules.items) stated.items }
+    requires default_answer { default_answer.0 < 2 ^ 32 }
+    requires apart { AreOfApart (map (stated_profile default_answer) stated.items) }
+    ensures ok { IfOk result (λ profiles. profiles ≡ map (stated_profile default_answer) stated.items) }
+    ensures no_conflict { IfOk result (λ profiles.
+        All (λ p. HaveNoConflict p.architecture p.rules) profiles) }
+    ensures err { IfErr result (NamesFirstConflict (map (stated_profile default_answer) stated.items)) }
+{
+    let mut profiles = Vec::new(alloc);
+    for own in stated {
+        profiles.push(without_conflict(alloc, default_answer, own)?)?;
+    }
+    Ok(Profiles::from_vec(profiles))
+}
+
+/// Loads the profile of each architecture that has a table, from JSON text (at most 4194304 bytes). The architecture of
+/// each table has to be listed. An error is the first test that fails, the last being that no two rules of one
+/// architecture conflict, or `Memory` if an allocation failed.
+#[tactic(auto, using(crate::proofs::TestFaults::refuses_each_of_fault))]
+pub fn load_profiles(
+    alloc: Global,
+    text: &[u8],
+    tables: &[ArchitectureTable],
+) -> Result<LoadedProfiles, LoadFault>
+    ensures ok { IfOk result (λ loaded. LoadsEach text.now (tables_of tables.now) loaded) }
+    ensures err { IfErr result (λ fault. RefusesEach text.now (tables_of tables.now) fault) }
+    // A text that is too long is refused before anything is allocated.
+    ensures long { max_text_len < length text.now → result ≡ Err TooMany }
+{
+    let value = parse(alloc, text)?;
+    let stated = read_root_for(alloc, tables, &value)?;
+    Ok(LoadedProfiles {
+        profiles: all_without_conflict(alloc, stated.default_answer, stated.rules)?,
+        skipped: stated.skipped,
+        other_architectures: stated.other_architectures,
+    })
 }

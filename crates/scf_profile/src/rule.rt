@@ -7,11 +7,11 @@ ghost use Rattle.scf_profile.specs.Rule.{Conflicts, IsRule, all_hold as all_cond
 
 use crate::condition::{Condition, Conditions};
 use crate::overlap::conditions_overlap;
-use scf_insn::{Answer, CallRecord};
+use scf_insn::{Answer, Architecture, CallRecord};
 use std::alloc::{AllocError, Global};
 use std::default::MadeWith;
 
-/// A rule answers the records with its syscall number for which all its conditions hold.
+/// A rule answers the records of an architecture with its syscall number for which all its conditions hold.
 #[derive(Debug, Drop)]
 pub struct Rule {
     pub number: u32,
@@ -41,24 +41,28 @@ impl Rule {
         self.conditions.are_plain()
     }
 
-    /// Whether a record meets the rule.
-    pub(crate) fn is_met(&self, call: &CallRecord) -> bool
+    /// Whether a record of an architecture meets the rule.
+    pub(crate) fn is_met(&self, architecture: Architecture, call: &CallRecord) -> bool
         requires { All (λ c. c.index < seccomp_data_args) self.now.conditions }
-        ensures { result ≡ meets self.now call.now }
+        ensures { result ≡ meets architecture self.now call.now }
     {
-        call.nr == self.number && all_hold(self.conditions.as_slice(), call)
+        call.nr == self.number && all_hold(architecture, self.conditions.as_slice(), call)
     }
 
-    /// Whether some record meets both rules and their answers differ.
+    /// Whether some record of an architecture meets both rules and their answers differ.
     #[tactic(auto, using(crate::proofs::Overlaps::conflict_from, crate::proofs::Overlaps::overlap_of_conflict))]
-    pub(crate) fn conflicts_with(&self, other: &Rule) -> bool
-        requires own { IsRule self.now }
-        requires other { IsRule other.now }
-        ensures { IsTrue result ↔ Conflicts self.now other.now }
+    pub(crate) fn conflicts_with(&self, other: &Rule, architecture: Architecture) -> bool
+        requires own { IsRule architecture self.now }
+        requires other { IsRule architecture other.now }
+        ensures { IsTrue result ↔ Conflicts architecture self.now other.now }
     {
         self.number == other.number
             && self.answer != other.answer
-            && conditions_overlap(self.conditions.as_slice(), other.conditions.as_slice())
+            && conditions_overlap(
+                architecture.argument_bits(),
+                self.conditions.as_slice(),
+                other.conditions.as_slice(),
+            )
     }
 }
 
@@ -75,11 +79,10 @@ impl MadeWith<Global> for Rule {
 }
 
 /// Whether each condition holds of the argument at its index.
-fn all_hold(conditions: &[Condition], call: &CallRecord) -> bool
+fn all_hold(architecture: Architecture, conditions: &[Condition], call: &CallRecord) -> bool
     requires { All (λ c. c.index < seccomp_data_args) conditions.now }
-    ensures { result ≡ all_conditions_hold call.now conditions.now }
+    ensures { result ≡ all_conditions_hold architecture call.now conditions.now }
 {
-    conditions
-        .iter()
-        .all(|c| c.holds_of(call.args[usize::from(c.index)]))
+    let bits = architecture.argument_bits();
+    conditions.iter().all(|c| c.holds_of(bits.taken(call.args[usize::from(c.index)])))
 }

@@ -1,5 +1,7 @@
 //! The records over which sides are compared.
 
+use scf_insn::Architecture;
+
 /// A set of call records.
 #[derive(Clone, Copy, Debug, PartialEq, Eq)]
 pub enum Scope {
@@ -11,4 +13,6 @@ pub enum Scope {
     Call(u32),
     /// x86-64's own with a syscall number from `first` to `last`, both included; none if `first` is above `last`.
     Numbers { first: u32, last: u32 },
+    /// Those of an architecture.
+    Of(Architecture),
 }

@@ -1,5 +1,5 @@
 -- Parts of a bundle: one list of them at most is spelled, and a fault stands where none is.
-use Rattle.scf_request.proofs.Common.{◌≡◌, ◌≢◌, ℕ, zero, suc, get_or, Option, ◌+◌, ◌-◌, ◌<◌, ◌≤◌, List, [], ◌∷◌, ◌++◌, length, take, drop, refl, sym, ap, ◌∙◌, append_assoc, append-nil, arith, length-append, length-drop, append_cancel_left, take_all, take-append-drop, length-take-le, take-append_seam, take-add, IfNone, Part, BundleFault, Header, Short, Memory, IsHeader, PartKind, Contains, IsBundlePart, SpellsParts, IsPartFault, AreNoParts}
+use Rattle.scf_request.proofs.Common.{◌≡◌, ◌≢◌, ℕ, zero, suc, get_or, Option, ◌+◌, ◌-◌, ◌<◌, ◌≤◌, List, [], ◌∷◌, ◌++◌, length, take, drop, refl, sym, ap, ◌∙◌, append_assoc, append-nil, arith, length-append, length-drop, append_cancel_left, take_all, take-append-drop, length-take-le, take-append_seam, take-add, IfNone, Part, BundleFault, Header, Short, Memory, IsHeader, PartKind, Contains, IsBundlePart, SpellsParts, IsPartFault, AreNoParts, kind_word, profile_kinds}
 use Rattle.scf_request.proofs.HeaderLemmas.{same_header, header_some}
 
 same_front : (a b r s : List ℕ) → length a ≡ length b → a ++ r ≡ b ++ s → a ≡ b
@@ -10,7 +10,9 @@ same_fields : (p q : Part) → p.kind ≡ q.kind → p.start ≡ q.start → p.l
 same_fields p q h1 h2 h3 = grind arith
 
 pub record SamePart (p q : Part) (a b r s : List ℕ) : Type 0 where
-  pub part : p ≡ q
+  pub word : kind_word p.kind ≡ kind_word q.kind
+  pub start : p.start ≡ q.start
+  pub size : p.length ≡ q.length
   pub bytes : a ≡ b
   pub rest : r ≡ s
 
@@ -22,6 +24,13 @@ some_left o bs lt e = omega (arith, length-drop o bs, ap length e)
 
 pub tail : (o : ℕ) (bs : List ℕ) → take (length bs - o) (drop o bs) ≡ drop o bs
 tail o bs = take_all (length bs - o) (drop o bs) (omega (arith, length-drop o bs))
+
+-- the kinds have words of their own
+abbrev pub AreToldApart : List PartKind → Type 0
+AreToldApart kinds = (k l : PartKind) → Contains kinds k → Contains kinds l → kind_word k ≡ kind_word l → k ≡ l
+
+pub profile_kinds_told_apart : AreToldApart profile_kinds
+profile_kinds_told_apart k l of_k of_l same = grind arith
 
 module _ (kinds : List PartKind) where
   -- ---- one part
@@ -37,7 +46,9 @@ module _ (kinds : List PartKind) where
       let content : h.front.rest ≡ g.front.rest = same_front _ _ r s (cc) same.rest in
       let bytes : a ≡ b = cc in
       record {
-        part = same_fields p q same.kind (cc) same.count;
+        word = same.word;
+        start = cc;
+        size = same.count;
         bytes = bytes;
         rest = append_cancel_left a r s (cc);
       }
@@ -47,16 +58,18 @@ module _ (kinds : List PartKind) where
   nothing_more : (o : ℕ) (p : Part) (a r : List ℕ) → IsBundlePart kinds o p a → a ++ r ≡ [] → ⊥
   nothing_more o p a r h1 h2 = grind (arith, part_some)
 
-  pub one_spelling : (o : ℕ) (bs : List ℕ) (ps qs : List Part) → SpellsParts kinds o bs ps → SpellsParts kinds o bs qs
-      → ps ≡ qs
-  one_spelling o bs [] [] h g = refl
-  one_spelling o bs [] (q ∷ qs) h g = absurd (nothing_more o q g.0 g.1 g.3 (sym g.2 ∙ h))
-  one_spelling o bs (p ∷ ps) [] h g = absurd (nothing_more o p h.0 h.1 h.3 (sym h.2 ∙ g))
-  one_spelling o bs (p ∷ ps) (q ∷ qs) h g =
+  pub one_spelling : AreToldApart kinds → (o : ℕ) (bs : List ℕ) (ps qs : List Part) → SpellsParts kinds o bs ps
+      → SpellsParts kinds o bs qs → ps ≡ qs
+  one_spelling told o bs [] [] h g = refl
+  one_spelling told o bs [] (q ∷ qs) h g = absurd (nothing_more o q g.0 g.1 g.3 (sym g.2 ∙ h))
+  one_spelling told o bs (p ∷ ps) [] h g = absurd (nothing_more o p h.0 h.1 h.3 (sym h.2 ∙ g))
+  one_spelling told o bs (p ∷ ps) (q ∷ qs) h g =
       let same = same_part o p q h.0 g.0 h.1 g.1 h.3 g.3 (sym h.2 ∙ g.2) in
+      let kind : p.kind ≡ q.kind = told p.kind q.kind h.3.is_kind g.3.is_kind same.word in
+      let part : p ≡ q = same_fields p q kind same.start same.size in
       let rest : SpellsParts kinds (o + length h.0) h.1 qs = rw (same.bytes, same.rest) g.4 in
-      let others : ps ≡ qs = one_spelling (o + length h.0) h.1 ps qs h.4 rest in
-      rw (same.part, others) refl
+      let others : ps ≡ qs = one_spelling told (o + length h.0) h.1 ps qs h.4 rest in
+      rw (part, others) refl
 
   -- one more part behind the others
   pub one_more : (o : ℕ) (bs own : List ℕ) (ps : List Part) (p : Part) → SpellsParts kinds o bs ps

@@ -23,9 +23,12 @@ pub use Rattle.std.specs.List.{filter_map}
 pub use Rattle.std.specs.Option.{IfNone, MatchOption}
 pub use Rattle.std.specs.Str.Parse.{AllDigits}
 pub use Rattle.scf_insn.proofs.Common.{ReadsNumber, and_from, and_parts, digits_value, drop_more, eqb-false, is_digit, list_all, ne_eqb, numeral, take-append-drop, take_all, take_more}
+pub use Rattle.scf_insn.specs.Architectures.{row_of}
+pub use Rattle.scf_insn.specs.declared.architecture.Architecture.{Architecture}
+pub use Rattle.scf_insn.specs.declared.architecture.Architecture.TheVariants.{X8664, X86, X32, Aarch64, Arm}
 pub use Rattle.scf_insn.specs.declared.number.NumeralFault.{NumeralFault}
 pub use Rattle.scf_profile.proofs.Common.{All-contains, All-more, IfOk-weaker, err_from_is_err_and, false≢true, filter_map-append, map-append, option_map_or, nat_tests}
-pub use Rattle.scf_request.specs.Bundle.{AreNoParts, HasHeader, IsBundlePart, IsHeader, IsPartFault, SpellsParts, content_of, held_by, is_of, kind_word}
+pub use Rattle.scf_request.specs.Bundle.{AreNoParts, HasHeader, IsBundlePart, IsHeader, IsPartFault, SpellsParts, architecture_of, content_of, held_by, is_of, kind_word, profile_kinds, tables_held_by}
 pub use Rattle.scf_request.specs.Options.{NumberOption, choice_in, first_wrong, given_of, is_given, number_by, number_in, one_of}
 pub use Rattle.scf_request.specs.Requests.{Command as Asked, command_word}
 pub use Rattle.scf_request.specs.Requests.Command.{Ask, Asm, Check, Compare, Compile, Decide, Dis, Run}
@@ -34,8 +37,10 @@ pub use Rattle.scf_request.specs.declared.bundle.BundleFault.{BundleFault}
 pub use Rattle.scf_request.specs.declared.bundle.BundleFault.TheVariants.{Header, Memory, Short}
 pub use Rattle.scf_request.specs.declared.bundle.Part.{Part}
 pub use Rattle.scf_request.specs.declared.bundle.PartKind.{PartKind}
-pub use Rattle.scf_request.specs.declared.bundle.PartKind.TheVariants.{Beside, Filter, Profile, Table}
+pub use Rattle.scf_request.specs.declared.bundle.PartKind.TheVariants.{Beside, Filter, Profile, Table, TableOf}
 pub use Rattle.scf_request.specs.declared.options.NumberOption.{NumberOption as Kept}
-pub use Rattle.scf_request.specs.Contents.{of_kind}
-pub use Rattle.scf_request.specs.internal.Contents.{with_one}
+pub use Rattle.scf_request.specs.Contents.{of_architectures, of_kind, rest_of_table, texts_for}
+pub use Rattle.scf_request.specs.declared.contents.Contents.{Contents}
+pub use Rattle.scf_profile.specs.StatedProfile.{is_named}
+pub use Rattle.scf_request.specs.internal.Contents.{HasAdded, with_one, with_table}
 pub use Rattle.scf_request.specs.internal.Parsing.{MakesNamed, ReadsAsProgram, flags_in, option_of, options_kept, scf_with}

@@ -1,5 +1,5 @@
 -- A header ends at the first line end, so bytes begin with at most one.
-use Rattle.scf_request.proofs.Common.{nat_tests, ◌≡◌, ◌≢◌, ℕ, zero, suc, ◌+◌, ◌<◌, ◌≤◌, ◌^◌, true, List, [], ◌∷◌, ◌++◌, not, eqb, length, get_or, take, drop, codes, Option, Some, Err, refl, sym, ap, ◌∙◌, append_assoc, arith, length-append, list_all, MatchOption, list_all-append, is_digit, digits_value, AllDigits, and_from, and_parts, false≢true, ltb-true, ne_eqb, cond_some, append_cancel_left, append_cancel_right, drop_more, take-append-drop, digits_value-lt, pow-le-pow_right, numeral, ReadsNumber, NumeralFault, PartKind, kind_word, IsHeader, HasHeader}
+use Rattle.scf_request.proofs.Common.{nat_tests, ◌≡◌, ◌≢◌, ℕ, zero, suc, ◌+◌, ◌<◌, ◌≤◌, ◌^◌, true, List, [], ◌∷◌, ◌++◌, not, eqb, length, get_or, take, drop, codes, Option, Some, Err, refl, sym, ap, ◌∙◌, append_assoc, arith, length-append, list_all, MatchOption, list_all-append, is_digit, digits_value, AllDigits, and_from, and_parts, false≢true, ltb-true, ne_eqb, cond_some, append_cancel_left, append_cancel_right, drop_more, take-append-drop, digits_value-lt, pow-le-pow_right, numeral, ReadsNumber, NumeralFault, PartKind, Beside, Filter, Profile, Table, TableOf, Architecture, X8664, X86, X32, Aarch64, Arm, row_of, kind_word, IsHeader, HasHeader}
 
 -- ---- the digits of a header
 
@@ -21,9 +21,13 @@ count_is_small ds n h = grind (arith, all_digits, digits_value-lt, numeral_parts
 
 -- ---- lines
 
+-- no byte is this one
+abbrev pub HasNo : ℕ → List ℕ → Type 0
+HasNo end bs = list_all (λ b. not (eqb b end)) bs ≡ true
+
 -- no byte is a line end
 abbrev pub IsLine : List ℕ → Type 0
-IsLine bs = list_all (λ b. not (eqb b 10)) bs ≡ true
+IsLine bs = HasNo 10 bs
 
 pub line_join : (xs ys : List ℕ) → IsLine xs → IsLine ys → IsLine (xs ++ ys)
 line_join xs ys h k = list_all-append (λ b. not (eqb b 10)) xs ys ∙ and_from _ _ h k
@@ -32,19 +36,31 @@ digits_are_line : (ds : List ℕ) → list_all (λ d. is_digit d 10) ds ≡ true
 digits_are_line [] h = refl
 digits_are_line (d ∷ ds) h = grind (arith, nat_tests, and_parts, and_from, digits_are_line ds)
 
-word_is_line : (kind : PartKind) → IsLine (kind_word kind)
-word_is_line kind = grind arith
+part_has_no : (architecture : Architecture) → IsLine (row_of architecture).part × HasNo 32 (row_of architecture).part
+part_has_no X8664 = (refl, refl)
+part_has_no X86 = (refl, refl)
+part_has_no X32 = (refl, refl)
+part_has_no Aarch64 = (refl, refl)
+part_has_no Arm = (refl, refl)
+
+-- a kind's word has no line end and no blank
+word_has_no : (kind : PartKind) → IsLine (kind_word kind) × HasNo 32 (kind_word kind)
+word_has_no Filter = (refl, refl)
+word_has_no Profile = (refl, refl)
+word_has_no Table = (refl, refl)
+word_has_no Beside = (refl, refl)
+word_has_no (TableOf architecture) = part_has_no architecture
 
 header_is_line : (kind : PartKind) (digits : List ℕ) (n : ℕ) → IsCount digits n
     → IsLine (kind_word kind ++ (codes " " ++ digits))
-header_is_line kind digits n h = grind (arith, digits_are_line, line_join, numeral_parts, word_is_line)
+header_is_line kind digits n h = grind (arith, digits_are_line, line_join, numeral_parts, word_has_no)
 
--- bytes begin with at most one line
-pub same_line : (a b r s : List ℕ) → IsLine a → IsLine b → a ++ 10 ∷ r ≡ b ++ 10 ∷ s → a ≡ b
-same_line [] [] r s h k e = refl
-same_line [] (y ∷ b) r s h k e = grind (arith, nat_tests, and_parts)
-same_line (x ∷ a) [] r s h k e = grind (arith, nat_tests, and_parts)
-same_line (x ∷ a) (y ∷ b) r s h k e = grind (arith, nat_tests, and_parts, same_line a b r s)
+-- bytes begin with at most one list that ends before this byte
+pub same_before : (end : ℕ) (a b r s : List ℕ) → HasNo end a → HasNo end b → a ++ end ∷ r ≡ b ++ end ∷ s → a ≡ b
+same_before end [] [] r s h k e = refl
+same_before end [] (y ∷ b) r s h k e = grind (arith, nat_tests, and_parts)
+same_before end (x ∷ a) [] r s h k e = grind (arith, nat_tests, and_parts)
+same_before end (x ∷ a) (y ∷ b) r s h k e = grind (arith, nat_tests, and_parts, same_before end a b r s)
 
 -- the bytes in front of the first line end are a line
 pub line_before : (bs : List ℕ) (n : ℕ) → n ≤ length bs → ((k : ℕ) → k < n → get_or bs k 0 ≢ 10) → IsLine (take n bs)
@@ -56,13 +72,19 @@ line_before (b ∷ bs) (suc n) le h =
 -- ---- headers
 
 same_word : (k l : PartKind) (a b : List ℕ) → kind_word k ++ (codes " " ++ a) ≡ kind_word l ++ (codes " " ++ b)
-    → (k ≡ l) × (a ≡ b)
-same_word k l a b h = grind (arith, append_cancel_left, false≢true)
+    → (kind_word k ≡ kind_word l) × (a ≡ b)
+same_word k l a b h =
+    let word : kind_word k ≡ kind_word l =
+    same_before 32 (kind_word k) (kind_word l) a b (word_has_no k).1 (word_has_no l).1 h in
+    let behind : codes " " ++ a ≡ codes " " ++ b =
+    append_cancel_left (kind_word l) (codes " " ++ a) (codes " " ++ b)
+    (ap (λ (w : List ℕ). w ++ (codes " " ++ a)) (sym word) ∙ h) in
+    (word, append_cancel_left (codes " ") a b behind)
 
--- What two headers in front of the same bytes have in common: everything.
+-- What two headers in front of the same bytes have in common: everything, but for kinds with the same word.
 pub record SameHeader (h g : List ℕ) (k l : PartKind) (m n : ℕ) (r s : List ℕ) : Type 0 where
   pub header : h ≡ g
-  pub kind : k ≡ l
+  pub word : kind_word k ≡ kind_word l
   pub count : m ≡ n
   pub rest : r ≡ s
 
@@ -76,13 +98,13 @@ same_header h g k l m n r s a b e =
     let right : g ++ s ≡ (kind_word l ++ (codes " " ++ b.digits)) ++ 10 ∷ s =
     rw b.text (append_assoc (kind_word l ++ (codes " " ++ b.digits)) (codes "\n") s) in
     let line : kind_word k ++ (codes " " ++ a.digits) ≡ kind_word l ++ (codes " " ++ b.digits) =
-    same_line _ _ r s first second (sym left ∙ e ∙ right) in
+    same_before 10 _ _ r s first second (sym left ∙ e ∙ right) in
     let parts = same_word k l a.digits b.digits line in
     let header : h ≡ g = a.text ∙ ap (λ (xs : List ℕ). xs ++ codes "\n") line ∙ sym b.text in
     let numbers : numeral 10 a.digits ≡ numeral 10 b.digits = ap (λ (ds : List ℕ). numeral 10 ds) parts.1 in
     record {
       header = header;
-      kind = parts.0;
+      word = parts.0;
       count = let some : Some m ≡ Some n = sym a.is_count.1 ∙ numbers ∙ b.is_count.1 in cc;
       rest = append_cancel_left h r s (e ∙ ap (λ (xs : List ℕ). xs ++ s) (sym header));
     }
@@ -102,11 +124,16 @@ header_by_line bs k n end inside here before found =
     let right : bs ≡ take end bs ++ 10 ∷ drop (end + 1) bs =
     sym (take-append-drop end bs) ∙ ap (λ (xs : List ℕ). take end bs ++ xs)
     (drop_more bs end 0 inside ∙ ap (λ (b : ℕ). b ∷ drop (end + 1) bs) here) in
-    let same : line ≡ take end bs = same_line line (take end bs) found.rest (drop (end + 1) bs)
+    let same : line ≡ take end bs = same_before 10 line (take end bs) found.rest (drop (end + 1) bs)
     (header_is_line k a.digits n a.is_count) (line_before bs end (omega arith) before) (sym left ∙ right) in
     record { digits = a.digits; is_count = a.is_count; text = ap (λ (xs : List ℕ). xs ++ codes "\n") (sym same) }
 
 -- ---- what a header's reader asks
+
+-- a prefix of two pieces
+pub after_both : (line word first digits : List ℕ) (whole : line ≡ word ++ first) → first ≡ codes " " ++ digits
+    → line ≡ word ++ (codes " " ++ digits)
+after_both line word first digits whole rest = rw whole (ap (λ (xs : List ℕ). word ++ xs) rest)
 
 pub no_count : (ds : List ℕ) (n : ℕ) (e : NumeralFault) → ReadsNumber (numeral 10 ds) (Err e) → IsCount ds n → ⊥
 no_count ds n e h1 h2 = grind (arith, count_is_small)

@@ -1,9 +1,12 @@
 -- Files one after another, each behind a header.
-use Rattle.std.specs.Prelude.{Contains, ◌≡◌, ◌≢◌, ℕ, ◌+◌, ◌<◌, ◌≤◌, Bool, true, false, List, [], ◌∷◌, ◌++◌, length, take, drop, codes, Some, None, if◌then◌else◌}
+use Rattle.std.specs.Prelude.{Contains, ◌≡◌, ◌≢◌, ℕ, ◌+◌, ◌<◌, ◌≤◌, Bool, true, false, List, [], ◌∷◌, ◌++◌, length, take, drop, codes, map, Option, Some, None, option_map, if◌then◌else◌}
 use Rattle.std.specs.List.{filter_map}
+use Rattle.scf_insn.specs.Architectures.{architectures, row_of}
 use Rattle.scf_insn.specs.Numbers.{numeral}
+use Rattle.scf_insn.specs.declared.architecture.Architecture.{Architecture}
+use Rattle.scf_profile.specs.StatedProfile.{is_named}
 use Rattle.scf_request.specs.declared.bundle.PartKind.{PartKind}
-use Rattle.scf_request.specs.declared.bundle.PartKind.TheVariants.{Beside, Filter, Profile, Table}
+use Rattle.scf_request.specs.declared.bundle.PartKind.TheVariants.{Beside, Filter, Profile, Table, TableOf}
 use Rattle.scf_request.specs.declared.bundle.Part.{Part}
 use Rattle.scf_request.specs.declared.bundle.BundleFault.{BundleFault}
 use Rattle.scf_request.specs.declared.bundle.BundleFault.TheVariants.{Header, Short, Memory}
@@ -15,6 +18,7 @@ kind_word Filter = codes "filter"
 kind_word Profile = codes "profile"
 kind_word Table = codes "table"
 kind_word Beside = codes "beside"
+kind_word (TableOf architecture) = (row_of architecture).part
 
 -- the kinds that parts have beside a profile
 abbrev pub profile_kinds : List PartKind
@@ -24,6 +28,10 @@ profile_kinds = Filter ∷ Profile ∷ Table ∷ []
 abbrev pub beside_kinds : Scopes → List PartKind
 beside_kinds EachCall = Filter ∷ Beside ∷ Table ∷ []
 beside_kinds over = Filter ∷ Beside ∷ []
+
+-- and those that they have beside a profile of several architectures, each of which may have a table
+abbrev pub architecture_kinds : List PartKind
+architecture_kinds = Filter ∷ Profile ∷ map (λ architecture. TableOf architecture) architectures
 
 -- The header of a part: the word of its kind, one space, one to eight decimal digits that write the count of the bytes
 -- that follow, LF.
@@ -91,11 +99,22 @@ is_of Filter Filter = true
 is_of Profile Profile = true
 is_of Table Table = true
 is_of Beside Beside = true
+is_of (TableOf architecture) (TableOf other) = is_named (row_of architecture).name other
 is_of kind other = false
 
 -- what the parts of a kind hold, in their order
 abbrev pub held_by : PartKind → List ℕ → List Part → List (List ℕ)
 held_by kind bytes parts = filter_map (λ part. if is_of kind part.kind then Some (content_of bytes part) else None) parts
+
+-- the architecture of a kind, where it is one of a table of several
+abbrev pub architecture_of : PartKind → Option Architecture
+architecture_of (TableOf architecture) = Some architecture
+architecture_of kind = None
+
+-- what the tables of several architectures hold, each with its architecture, in their order
+abbrev pub tables_held_by : List ℕ → List Part → List (Architecture × List ℕ)
+tables_held_by bytes parts = filter_map
+    (λ part. option_map (λ architecture. (architecture, content_of bytes part)) (architecture_of part.kind)) parts
 
 -- Bytes are a bundle whose parts hold these filters, these profiles and these tables, those of each kind in order.
 pub record IsBundle (bytes : List ℕ) (filters profiles tables : List (List ℕ)) : Type 0 where
@@ -113,3 +132,13 @@ pub record IsBesideBundle (over : Scopes) (bytes : List ℕ) (filters beside tab
   pub filters_held : filters ≡ held_by Filter bytes parts
   pub beside_held : beside ≡ held_by Beside bytes parts
   pub tables_held : tables ≡ held_by Table bytes parts
+
+-- Bytes are a bundle for several architectures, whose parts hold these filters, these profiles and these tables, each with
+-- its architecture, those of each kind in order.
+pub record IsArchitecturesBundle (bytes : List ℕ) (filters profiles : List (List ℕ))
+    (tables : List (Architecture × List ℕ)) : Type 0 where
+  pub parts : List Part
+  pub spelled : SpellsParts architecture_kinds 0 bytes parts
+  pub filters_held : filters ≡ held_by Filter bytes parts
+  pub profiles_held : profiles ≡ held_by Profile bytes parts
+  pub tables_held : tables ≡ tables_held_by bytes parts

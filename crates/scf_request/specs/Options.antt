@@ -1,5 +1,5 @@
 -- The options of the program, and the numbers that they spell.
-use Rattle.std.specs.Prelude.{◌≡◌, ◌⊎◌, ◌||◌, ℕ, Bool, true, false, ◌-◌, ◌^◌, List, [], ◌∷◌, ◌++◌, codes, bytes_eq, map, find, nat_le, is_none, is_some, Option, Some, None, Result, Ok, Err, option_map, if◌then◌else◌}
+use Rattle.std.specs.Prelude.{◌≡◌, ◌≢◌, ◌⊎◌, ◌||◌, ℕ, Bool, true, false, ◌-◌, ◌^◌, List, [], ◌∷◌, ◌++◌, codes, bytes_eq, map, find, nat_le, is_none, is_some, Option, Some, None, Result, Ok, Err, option_map, if◌then◌else◌}
 use Rattle.std.specs.List.{filter_map}
 use Rattle.std.specs.Option.{option_and_then, option_map_or}
 use Rattle.clap.specs.Words.{Row, first_of}
@@ -117,6 +117,10 @@ flag_names group = map (λ flag. flag.0) group.1
 abbrev pub beside_flag : List ℕ
 beside_flag = codes "beside"
 
+-- the flag by which a profile is taken for each architecture that has a table
+abbrev pub architectures_flag : List ℕ
+architectures_flag = codes "architectures"
+
 -- an end of a range is given
 abbrev pub has_range : List Row → Bool
 has_range rows = is_some (first_of (codes "nr-from") rows) || is_some (first_of (codes "nr-to") rows)
@@ -133,11 +137,17 @@ pub record AsksToCompare (rows : List Row) (comparison : Comparison) : Type 0 wh
   pub scopes : SelectsCalls rows comparison.scopes
   pub relation : choice_in rows relation_flags ≡ Some comparison.relation
 
--- Flags exclude each other, two of a group, or that of single calls a range.
+-- a flag or a range selects some calls
+abbrev pub SelectsSomeCalls : List Row → Type 0
+SelectsSomeCalls rows = (over : Scopes) × SelectsCalls rows over × (over ≢ AtOnce scopes.All)
+
+-- Flags exclude each other: two of a group, that of single calls a range, and that of architectures whatever selects
+-- some calls, and other filters in place of a profile.
 abbrev pub AreExclusive : List Row → Type 0
 AreExclusive rows =
     (choice_in rows scope_flags ≡ None) ⊎ (choice_in rows relation_flags ≡ None)
     ⊎ ((has_range rows ≡ true) × (choice_in rows scope_flags ≡ Some EachCall))
+    ⊎ ((is_given rows architectures_flag ≡ true) × (SelectsSomeCalls rows ⊎ (is_given rows beside_flag ≡ true)))
 
 -- the flag that has the path of a run shown
 abbrev pub path_flag : List ℕ

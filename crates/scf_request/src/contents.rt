@@ -6,14 +6,17 @@ ghost use Rattle.scf_request.specs.Bundle.{
   IsBundleFault,
   IsFaultAt,
   IsPartFault,
+  architecture_kinds,
   beside_kinds,
 };
-ghost use Rattle.scf_request.specs.Contents.{IsHeldBeside, IsHeldBy, rest_of};
+ghost use Rattle.scf_request.specs.Contents.{IsHeldBeside, IsHeldBy, IsHeldForArchitectures, rest_of};
 ghost use Rattle.scf_request.specs.internal.Contents.{AddsPart, HoldParts};
 
-use crate::bundle::{BundleFault, PROFILE_KINDS, PartKind, content_of, split_by};
+use crate::bundle::{
+    BundleFault, PROFILE_KINDS, PartKind, architecture_kinds, content_of, split_by,
+};
 use crate::request::Scopes;
-use scf_insn::{Failed, Source};
+use scf_insn::{Architecture, Failed, Source};
 use std::alloc::Global;
 
 /// The contents of a bundle, by kind, each kind in order.
@@ -25,6 +28,8 @@ pub struct Contents<'a> {
     pub tables: Vec<PartReader<'a>>,
     /// Readers of the filters beside these, the oldest first.
     pub beside: Vec<PartReader<'a>>,
+    /// Readers of the tables of several architectures.
+    pub architecture_tables: Vec<TableReader<PartReader<'a>>>,
 }
 
 impl<'a> Contents<'a> {
@@ -37,6 +42,10 @@ impl<'a> Contents<'a> {
             PartKind::Profile => self.profiles.push(PartReader::new(bytes))?,
             PartKind::Table => self.tables.push(PartReader::new(bytes))?,
             PartKind::Beside => self.beside.push(PartReader::new(bytes))?,
+            PartKind::TableOf(architecture) => self.architecture_tables.push(TableReader {
+                architecture,
+                reader: PartReader::new(bytes),
+            })?,
         }
         Ok(())
     }
@@ -69,6 +78,17 @@ impl<'a> Contents<'a> {
         }
     }
 
+    /// The contents of the bundle with tables of several architectures. Errors are those of `split`, where the kind of a
+    /// table is that of its architecture.
+    pub fn of_architectures(alloc: Global, bytes: &'a [u8]) -> Result<Contents<'a>, BundleFault>
+        ensures bundle { IfOk result (IsHeldForArchitectures bytes.now) }
+        ensures fault { IfErr result (AreNoParts architecture_kinds bytes.now) }
+        ensures first { (fault : BundleFault) → IsPartFault architecture_kinds bytes.now 0 fault
+            → result ≡ Err fault }
+    {
+        Contents::of_kinds(alloc, bytes, &architecture_kinds())
+    }
+
     /// The contents of the bundle that the bytes spell, with parts of these kinds.
     #[tactic(auto, using(crate::proofs::BundleLemmas::part_inside))]
     fn of_kinds(
@@ -86,12 +106,20 @@ impl<'a> Contents<'a> {
             profiles: Vec::new(alloc),
             tables: Vec::new(alloc),
             beside: Vec::new(alloc),
+            architecture_tables: Vec::new(alloc),
         };
         for part in &parts {
             contents.add(part.kind, content_of(bytes, *part))?;
         }
         Ok(contents)
     }
+}
+
+/// A reader of a syscall table, and the architecture whose syscalls it names.
+#[derive(Drop)]
+pub struct TableReader<R> {
+    pub architecture: Architecture,
+    pub reader: R,
 }
 
 /// A reader of a part's contents. Never fails.

@@ -10,7 +10,7 @@ mod request_fault;
 
 pub use bundle::{BundleFault, Part, PartKind, split};
 pub use command_line::parse;
-pub use contents::{Contents, PartReader};
+pub use contents::{Contents, PartReader, TableReader};
 pub use options::{NumberFault, record_of};
 pub use request::{Comparison, Limits, Request, Scopes, request_of};
 pub use request_fault::RequestFault;

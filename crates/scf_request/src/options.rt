@@ -121,6 +121,9 @@ pub(crate) const DISPOSITION_FLAG: &str = "disposition";
 /// The flag by which other filters stand in place of a profile.
 pub(crate) const BESIDE_FLAG: &str = "beside";
 
+/// The flag by which a profile is taken for each architecture that has a table.
+pub(crate) const ARCHITECTURES_FLAG: &str = "architectures";
+
 /// The flag that prints the path of a run.
 pub(crate) const PATH_FLAG: &str = "path";
 

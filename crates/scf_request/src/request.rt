@@ -1,6 +1,6 @@
 //! Requests: a command with the values of its options.
 
-ghost use Rattle.std.specs.Prelude.{◌≡◌, ◌∷◌, [], Err, IfErr, IfOk, Some, codes, map};
+ghost use Rattle.std.specs.Prelude.{◌≡◌, ◌↔◌, IsTrue, ◌∷◌, [], Err, IfErr, IfOk, Ok, Some, codes, map};
 ghost use Rattle.clap.specs.Words.{found_of, rows_of, subcommand_rows_of};
 ghost use Rattle.scf_request.specs.Options.{
   AreExclusive,
@@ -15,8 +15,8 @@ ghost use Rattle.scf_request.specs.Options.{
 ghost use Rattle.scf_request.specs.Requests.{AsksFor};
 
 use crate::options::{
-    BESIDE_FLAG, PATH_FLAG, RELATION_FLAGS, SCOPE_FLAGS, chosen_flag, comparison_numbers,
-    has_range, is_given, record_of,
+    ARCHITECTURES_FLAG, BESIDE_FLAG, PATH_FLAG, RELATION_FLAGS, SCOPE_FLAGS, chosen_flag,
+    comparison_numbers, has_range, is_given, record_of,
 };
 use crate::request_fault::RequestFault;
 use clap::ArgMatches;
@@ -53,13 +53,19 @@ pub struct Comparison {
 #[derive(Clone, Copy)]
 pub enum Request {
     Ask(CallRecord),
+    /// `ask --architectures`: ask the profile of the call's architecture.
+    AskArchitectures(CallRecord),
     Assemble,
     Check,
     /// `compare`: compare filters with a profile.
     Compare(Comparison),
     /// `compare --beside`: compare filters with other filters.
     CompareBeside(Comparison),
+    /// `compare --architectures`: compare filters with a profile, over the calls of each architecture that has a table.
+    CompareArchitectures { limits: Limits, relation: Relation },
     Compile,
+    /// `compile --architectures`: compile the profiles of the architectures that have a table.
+    CompileArchitectures,
     Decide(CallRecord),
     List,
     Run(CallRecord),
@@ -106,15 +112,55 @@ fn comparison_of(options: &ArgMatches<'_>) -> Result<Comparison, RequestFault>
     })
 }
 
+/// Whether a comparison goes over all records.
+fn is_over_all(scopes: &Scopes) -> bool
+    ensures { IsTrue result ↔ (scopes.now ≡ Scopes.AtOnce Scope.All) }
+{
+    matches!(scopes, Scopes::AtOnce(Scope::All))
+}
+
 /// The request of `compare` with these options.
 fn compare_request(options: &ArgMatches<'_>) -> Result<Request, RequestFault>
     ensures { AsksFor (Some (codes "compare", rows_of (found_of options.now))) result }
 {
     let comparison = comparison_of(options)?;
-    if is_given(options, BESIDE_FLAG) {
+    let has_beside = is_given(options, BESIDE_FLAG);
+    if is_given(options, ARCHITECTURES_FLAG) {
+        if has_beside || !is_over_all(&comparison.scopes) {
+            return Err(RequestFault::Flags);
+        }
+        return Ok(Request::CompareArchitectures {
+            limits: comparison.limits,
+            relation: comparison.relation,
+        });
+    }
+    if has_beside {
         Ok(Request::CompareBeside(comparison))
     } else {
         Ok(Request::Compare(comparison))
+    }
+}
+
+/// The request of `ask` with these options.
+fn ask_request(options: &ArgMatches<'_>) -> Result<Request, RequestFault>
+    ensures { AsksFor (Some (codes "ask", rows_of (found_of options.now))) result }
+{
+    let call = record_of(options)?;
+    if is_given(options, ARCHITECTURES_FLAG) {
+        Ok(Request::AskArchitectures(call))
+    } else {
+        Ok(Request::Ask(call))
+    }
+}
+
+/// The request of `compile` with these options.
+fn compile_request(options: &ArgMatches<'_>) -> Request
+    ensures { AsksFor (Some (codes "compile", rows_of (found_of options.now))) (Ok result) }
+{
+    if is_given(options, ARCHITECTURES_FLAG) {
+        Request::CompileArchitectures
+    } else {
+        Request::Compile
     }
 }
 
@@ -136,11 +182,11 @@ pub fn request_of(matches: &ArgMatches<'_>) -> Result<Request, RequestFault>
     ensures { AsksFor (subcommand_rows_of matches.now) result }
 {
     match matches.subcommand() {
-        Some(("ask", options)) => Ok(Request::Ask(record_of(options)?)),
+        Some(("ask", options)) => ask_request(options),
         Some(("asm", _)) => Ok(Request::Assemble),
         Some(("check", _)) => Ok(Request::Check),
         Some(("compare", options)) => compare_request(options),
-        Some(("compile", _)) => Ok(Request::Compile),
+        Some(("compile", options)) => Ok(compile_request(options)),
         Some(("decide", options)) => Ok(Request::Decide(record_of(options)?)),
         Some(("dis", _)) => Ok(Request::List),
         Some(("run", options)) => run_request(options),

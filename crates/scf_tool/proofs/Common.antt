@@ -1,8 +1,9 @@
 -- The names that proofs of this crate cite, passed on from one place. Declares nothing.
-pub use Rattle.std.proofs.Common.{Err, IfErr, IfSome, List, None, Ok, Option, Result, Some, String, [], add-one, ap, append-nil, append_assoc, arith, codes, drop, get_or, inl, inr, length, length-drop, map, refl, set, string_bytes, subst, sym, take, ℕ, ◌++◌, ◌+◌, ◌<◌, ◌∙◌, ◌∷◌, ◌≡◌, ◌≢◌, ◌≤◌, ◌⊎◌}
+pub use Rattle.std.proofs.Common.{Bool, Contains, Err, IfErr, IfSome, List, None, Ok, Option, Result, Some, String, [], add-one, ap, append-nil, append_assoc, arith, codes, drop, false, find, get_or, if◌then◌else◌, inl, inr, length, length-append, length-drop, map, not, refl, set, string_bytes, subst, suc, sym, take, true, zero, ℕ, ◌++◌, ◌+◌, ◌<◌, ◌∙◌, ◌∷◌, ◌≡◌, ◌≢◌, ◌≤◌, ◌⊎◌}
 pub use Rattle.clap.specs.Words.{IsAmong, Row, Text, fault_of}
 pub use Rattle.clap.specs.declared.error.kind.ErrorKind.{ErrorKind}
 pub use Rattle.clap.specs.declared.error.kind.ErrorKind.TheVariants.{OutOfMemory}
+pub use Rattle.std.proofs.lemmas.List.Elements.{Contains-append_right, filter_map-append}
 pub use Rattle.std.proofs.lemmas.List.{drop-set-lt, set_split, take_more_set}
 pub use Rattle.std.proofs.lemmas.List.Folds.{flat_map-map}
 pub use Rattle.std.proofs.lemmas.List.Sums.{sum_by_push}
@@ -15,9 +16,13 @@ pub use Rattle.scf_compile.proofs.Common.{drop_more, take_more}
 pub use Rattle.scf_facts.proofs.Common.{take-append-drop}
 pub use Rattle.scf_insn.proofs.Common.{TakesAll, max_filter_len, max_insns_per_path, program_bytes}
 pub use Rattle.scf_insn.proofs.Written.{fails_then, takes_then}
+pub use Rattle.scf_compare.specs.declared.verdict.Verdict.{Verdict}
+pub use Rattle.scf_compare.specs.declared.verdict.Verdict.TheVariants.{Same, Differs, Undecided, Unfinished}
+pub use Rattle.scf_insn.specs.Words.{IsRecord}
 pub use Rattle.scf_insn.specs.declared.insn.Insn.{Insn}
+pub use Rattle.scf_machine.specs.Precedence.{StackAnswers}
 pub use Rattle.scf_machine.proofs.Common.{IsPush, cost_of}
-pub use Rattle.scf_profile.proofs.Common.{Answering, Names, Refuses, err_from_is_err_and, map-append, option_map_or, texts_at}
+pub use Rattle.scf_profile.proofs.Common.{Answering, IfOk-weaker, Names, Refuses, err_from_is_err_and, map-append, option_map_or, texts_at}
 pub use Rattle.scf_profile.specs.declared.load_fault.LoadFault.{LoadFault}
 pub use Rattle.scf_text.proofs.Common.{each_fails, fails_first, flat_map, flat_map-append, writes_then}
 pub use Rattle.scf_tool.specs.CallReports.{joint_of, named_line}

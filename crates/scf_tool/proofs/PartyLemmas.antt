@@ -1,5 +1,5 @@
 -- The parties of a comparison.
-use Rattle.scf_tool.proofs.Common.{inr, refl, ℕ, List, Option, Insn, Answering, Names, Inputs, AreComparedParties, IsRefusedStack, AreInputs, LeftOut, left_out_of}
+use Rattle.scf_tool.proofs.Common.{inr, refl, sym, subst, ◌≡◌, ◌≤◌, length, Some, None, Ok, Err, Result, IfSome, IfErr, LoadFault, VerifyFault, ℕ, List, Option, Insn, Answering, Names, Inputs, AreComparedParties, IsRefusedStack, AreInputs, LeftOut, left_out_of}
 use Rattle.scf_tool.specs.declared.verify_fault.VerifyFault.TheVariants.{Memory}
 
 module _ (filters : List (Option (List ℕ))) (table profile : Option (List ℕ)) where
@@ -35,3 +35,17 @@ module _ (filters : List (Option (List ℕ))) (table profile : Option (List ℕ)
     compared.has_stack,
     inr (compared.names, compared.is_table, inr (compared.loaded, compared.is_loaded, refl)),
   )
+
+-- a text that a limit lets through, and why it is refused
+pub refused_text : (refuses : List ℕ → LoadFault → Type 0) (bytes : Option (List ℕ)) (text : List ℕ) (fault : LoadFault)
+    → IfSome bytes (λ input. (input ≡ text) × (length input ≤ 4194304)) → refuses text fault
+    → IfSome bytes (λ input. (length input ≤ 4194304) × refuses input fault)
+refused_text refuses None text fault h refused = tt
+refused_text refuses (Some input) text fault h refused =
+    (h.1, subst (λ (t : List ℕ). refuses t fault) (sym h.0) refused)
+
+-- a fault that is out of memory
+pub memory_fault : {T : Type 0} (holds : VerifyFault → Type 0) (result : Result T VerifyFault)
+    → IfErr result (λ fault. fault ≡ Memory) → holds Memory → IfErr result holds
+memory_fault holds (Ok value) is here = tt
+memory_fault holds (Err fault) is here = subst holds (sym is) here

@@ -4,6 +4,10 @@ use Rattle.scf_tool.specs.VerifyingBeside.{IsTableFault}
 use Rattle.scf_tool.proofs.Common.{inl, inr}
 use Rattle.scf_tool.specs.declared.verify_fault.VerifyFault.TheVariants.{Memory, ProfileRead, TableRead}
 use Rattle.scf_insn.specs.declared.encoding.ReadFault.TheVariants as reads
+use Rattle.scf_insn.specs.declared.input.InputFault.TheVariants as inputs
+use Rattle.scf_request.specs.declared.contents.TableReader.{TableReader}
+use Rattle.scf_tool.specs.FilterStacks.{HaveStoppedBy}
+use Rattle.scf_tool.specs.VerifyingArchitectures.{LeavesTableReaders}
 
 -- one more on both sides
 pub AllZip-more : {A B : Type 0} (R : A → B → Type 0) (xs : List A) (ys : List B) (x : A) (y : B) → AllZip R xs ys
@@ -37,56 +41,33 @@ module _ {R : Type 0} (i : ℕ) (olds news : List R) (old : R) (from : SameFrom 
   olds_taken : take (i + 1) olds ≡ take i olds ++ old ∷ []
   olds_taken = take_more olds i old within_olds ∙ ap (λ x. take i olds ++ x ∷ []) (sym old_here)
 
--- what is known once the readers before an index had filters
-pub record IsStackUpTo {R : Type 0} (remaining : R → Option (List ℕ)) (failures : R → ℕ) (i : ℕ) (olds news : List R)
-    (stack : List (List Insn)) : Type 0 where
-  pub has_stack : HasStack (map remaining (take i olds)) stack
-  pub ended : HaveEnded remaining failures (take i olds) (take i news)
+-- what is known once the readers before an index are read
+pub record IsReadUpTo {R A B : Type 0} (input : R → A) (Taken : List A → B → Type 0) (Ended : R → R → Type 0) (i : ℕ)
+    (olds news : List R) (so_far : B) : Type 0 where
+  pub taken : Taken (map input (take i olds)) so_far
+  pub ended : AllZip Ended (take i olds) (take i news)
   pub same : drop i news ≡ drop i olds
 
--- one more filter is pushed
-pub stack_grows : {R : Type 0} (remaining : R → Option (List ℕ)) (failures : R → ℕ) (i : ℕ) (olds news : List R)
-    (old new : R) (stack pushed : List (List Insn)) → SameFrom i olds news old
-    → IsStackUpTo remaining failures i olds news stack
-    → ((insns : List Insn) × IsAcceptedFilter (remaining old) insns × IsPush stack insns (Ok tt) pushed)
-    → HasEnded remaining failures old new → IsStackUpTo remaining failures (i + 1) olds (set news i new) pushed
-stack_grows remaining failures i olds news old new stack pushed from upto push end =
-    let accepted = AllZip-more IsAcceptedFilter (map remaining (take i olds)) stack (remaining old) push.0
-    upto.has_stack.accepted push.1 in
-    let total : cost_of (stack ++ push.0 ∷ []) ≤ max_insns_per_path + 4 =
-    omega (arith, push.2.0, sum_by_push (λ filter. length filter + 4) stack push.0) in
-    let input : map remaining (take (i + 1) olds) ≡ map remaining (take i olds) ++ remaining old ∷ [] =
-    ap (map remaining) (olds_taken i olds news old from) ∙ map-append remaining (take i olds) (old ∷ []) in
+-- one more is read
+pub one_more_read : {R A B : Type 0} (input : R → A) (Taken : List A → B → Type 0) (Ended : R → R → Type 0) (i : ℕ)
+    (olds news : List R) (old new : R) (before after : B) → SameFrom i olds news old
+    → IsReadUpTo input Taken Ended i olds news before → Taken (map input (take i olds) ++ input old ∷ []) after
+    → Ended old new → IsReadUpTo input Taken Ended (i + 1) olds (set news i new) after
+one_more_read input Taken Ended i olds news old new before after from upto taken end =
+    let texts : map input (take (i + 1) olds) ≡ map input (take i olds) ++ input old ∷ [] =
+    ap (map input) (olds_taken i olds news old from) ∙ map-append input (take i olds) (old ∷ []) in
     record {
-      has_stack = rw (input, push.2.1) record { accepted = accepted; total = total };
+      taken = rw texts taken;
       ended = rw (olds_taken i olds news old from, take_more_set news i new from.within)
-          (AllZip-more (HasEnded remaining failures) (take i olds) (take i news) old new upto.ended end);
+          (AllZip-more Ended (take i olds) (take i news) old new upto.ended end);
       same = drop-set-lt (i + 1) news i new (omega arith) ∙ same_behind i olds news old from;
     }
 
--- a filter isn't pushed
-pub no_stack : {R : Type 0} (remaining : R → Option (List ℕ)) (failures : R → ℕ) (i : ℕ) (olds news : List R) (old : R)
-    (stack : List (List Insn)) (fault : VerifyFault) → SameFrom i olds news old
-    → IsStackUpTo remaining failures i olds news stack → IsNotPushed stack (remaining old) fault
-    → HasNoStack (map remaining olds) fault
-no_stack remaining failures i olds news old stack fault from upto refused = record {
-  before = map remaining (take i olds);
-  own = remaining old;
-  behind = map remaining (drop (i + 1) news);
-  whole = ap (map remaining) (olds_split i olds news old from)
-      ∙ map-append remaining (take i olds) (old ∷ drop (i + 1) news);
-  stack = stack;
-  has_stack = upto.has_stack;
-  why = refused;
-}
-
--- and its reader is the last that was asked
-pub readers_stop : {R : Type 0} (remaining : R → Option (List ℕ)) (failures : R → ℕ) (i : ℕ) (olds news : List R)
-    (old new : R) (stack : List (List Insn)) (fault : VerifyFault) → SameFrom i olds news old
-    → IsStackUpTo remaining failures i olds news stack
-    → LeavesFilterReader {T = List Insn} remaining failures old (Err fault) new
-    → HaveStopped remaining failures fault olds (set news i new)
-readers_stop remaining failures i olds news old new stack fault from upto left = record {
+-- it is the last that is asked
+pub readers_stop : {R A B : Type 0} (input : R → A) (Taken : List A → B → Type 0) (Ended Left : R → R → Type 0) (i : ℕ)
+    (olds news : List R) (old new : R) (taken : B) → SameFrom i olds news old
+    → IsReadUpTo input Taken Ended i olds news taken → Left old new → HaveStoppedBy Ended Left olds (set news i new)
+readers_stop input Taken Ended Left i olds news old new taken from upto left = record {
   before = take i olds;
   before_new = take i news;
   old = old;
@@ -97,6 +78,60 @@ readers_stop remaining failures i olds news old new stack fault from upto left =
   ended = upto.ended;
   left = left;
 }
+
+-- what they have, with one that isn't taken
+pub texts_split : {R A : Type 0} (input : R → A) (i : ℕ) (olds news : List R) (old : R) → SameFrom i olds news old
+    → map input olds ≡ map input (take i olds) ++ input old ∷ map input (drop (i + 1) news)
+texts_split input i olds news old from =
+    ap (map input) (olds_split i olds news old from) ∙ map-append input (take i olds) (old ∷ drop (i + 1) news)
+
+-- ---- filters
+
+-- what is known once the readers before an index had filters
+abbrev pub IsStackUpTo : {R : Type 0} → (R → Option (List ℕ)) → (R → ℕ) → ℕ → List R → List R → List (List Insn)
+    → Type 0
+IsStackUpTo remaining failures i olds news stack =
+    IsReadUpTo remaining HasStack (HasEnded remaining failures) i olds news stack
+
+-- one more filter is pushed
+pub stack_grows : {R : Type 0} (remaining : R → Option (List ℕ)) (failures : R → ℕ) (i : ℕ) (olds news : List R)
+    (old new : R) (stack pushed : List (List Insn)) → SameFrom i olds news old
+    → IsStackUpTo remaining failures i olds news stack
+    → ((insns : List Insn) × IsAcceptedFilter (remaining old) insns × IsPush stack insns (Ok tt) pushed)
+    → HasEnded remaining failures old new → IsStackUpTo remaining failures (i + 1) olds (set news i new) pushed
+stack_grows remaining failures i olds news old new stack pushed from upto push end =
+    let accepted = AllZip-more IsAcceptedFilter (map remaining (take i olds)) stack (remaining old) push.0
+    upto.taken.accepted push.1 in
+    let total : cost_of (stack ++ push.0 ∷ []) ≤ max_insns_per_path + 4 =
+    omega (arith, push.2.0, sum_by_push (λ filter. length filter + 4) stack push.0) in
+    one_more_read remaining HasStack (HasEnded remaining failures) i olds news old new stack pushed from upto
+    (rw push.2.1 record { accepted = accepted; total = total }) end
+
+-- a filter isn't pushed
+pub no_stack : {R : Type 0} (remaining : R → Option (List ℕ)) (failures : R → ℕ) (i : ℕ) (olds news : List R) (old : R)
+    (stack : List (List Insn)) (fault : VerifyFault) → SameFrom i olds news old
+    → IsStackUpTo remaining failures i olds news stack → IsNotPushed stack (remaining old) fault
+    → HasNoStack (map remaining olds) fault
+no_stack remaining failures i olds news old stack fault from upto refused = record {
+  before = map remaining (take i olds);
+  own = remaining old;
+  behind = map remaining (drop (i + 1) news);
+  whole = texts_split remaining i olds news old from;
+  stack = stack;
+  has_stack = upto.taken;
+  why = refused;
+}
+
+-- and its reader is the last that was asked
+pub filters_stop : {R : Type 0} (remaining : R → Option (List ℕ)) (failures : R → ℕ) (i : ℕ) (olds news : List R)
+    (old new : R) (stack : List (List Insn)) (fault : VerifyFault) → SameFrom i olds news old
+    → IsStackUpTo remaining failures i olds news stack
+    → LeavesFilterReader {T = List Insn} remaining failures old (Err fault) new
+    → HaveStopped remaining failures fault olds (set news i new)
+filters_stop remaining failures i olds news old new stack fault from upto left =
+    readers_stop remaining HasStack (HasEnded remaining failures)
+    (λ old new. LeavesFilterReader {T = List Insn} remaining failures old (Err fault) new) i olds news old new stack
+    from upto left
 
 -- the readers of parts tell what the parts hold
 pub told_of_parts : (readers : List PartReader) → map (λ reader. Some (rest_of reader)) readers
@@ -117,29 +152,51 @@ input reader = Some (rest_of reader)
 abbrev none : PartReader → ℕ
 none reader = 0
 
--- no read of one is why nothing is compared
+-- no read of one is why nothing is compared, where none of a table is
+pub all_read_well : (T : Type 0) (fault : VerifyFault) (olds news : List PartReader) (profile profile_new : PartReader)
+    → LeavesFilterReaders {T = T} input none olds (Err fault) news → fault ≢ TableRead inputs.Read
+    → LeavesProfileReader {T = T} input none profile (Err fault) profile_new → NoReadFailed fault
+all_read_well T (FilterRead fault) olds news profile profile_new of_filters of_table of_profile = record {
+  of_filter = never_fails input (FilterRead fault) olds news of_filters;
+  of_table = of_table;
+  of_profile = λ is. cc;
+}
+all_read_well T (ProfileRead fault) olds news profile profile_new of_filters of_table of_profile = record {
+  of_filter = λ is. cc;
+  of_table = of_table;
+  of_profile = λ is. absurd (omega (arith, of_profile.0 (cc)));
+}
+all_read_well T fault olds news profile profile_new of_filters of_table of_profile =
+    record { of_filter = λ is. cc; of_table = of_table; of_profile = λ is. cc }
+
+table_reads : (T : Type 0) (fault : VerifyFault) (table table_new : PartReader)
+    → LeavesTableReader {T = T} input none table (Err fault) table_new → fault ≢ TableRead inputs.Read
+table_reads T (TableRead fault) table table_new left = λ is. absurd (omega (arith, left.0 (cc)))
+table_reads T fault table table_new left = λ is. cc
+
 pub reads_well : (T : Type 0) (fault : VerifyFault) (olds news : List PartReader)
     (table table_new profile profile_new : PartReader)
     → LeavesFilterReaders {T = T} input none olds (Err fault) news
     → LeavesTableReader {T = T} input none table (Err fault) table_new
     → LeavesProfileReader {T = T} input none profile (Err fault) profile_new → NoReadFailed fault
-reads_well T (FilterRead fault) olds news table table_new profile profile_new of_filters of_table of_profile = record {
-  of_filter = never_fails input (FilterRead fault) olds news of_filters;
-  of_table = λ is. cc;
-  of_profile = λ is. cc;
-}
-reads_well T (TableRead fault) olds news table table_new profile profile_new of_filters of_table of_profile = record {
-  of_filter = λ is. cc;
-  of_table = λ is. absurd (omega (arith, of_table.0 (cc)));
-  of_profile = λ is. cc;
-}
-reads_well T (ProfileRead fault) olds news table table_new profile profile_new of_filters of_table of_profile = record {
-  of_filter = λ is. cc;
-  of_table = λ is. cc;
-  of_profile = λ is. absurd (omega (arith, of_profile.0 (cc)));
-}
 reads_well T fault olds news table table_new profile profile_new of_filters of_table of_profile =
-    record { of_filter = λ is. cc; of_table = λ is. cc; of_profile = λ is. cc }
+    all_read_well T fault olds news profile profile_new of_filters (table_reads T fault table table_new of_table)
+    of_profile
+
+-- nor where there are tables of several architectures
+tables_read : (T : Type 0) (fault : VerifyFault) (olds news : List (TableReader PartReader))
+    → LeavesTableReaders {T = T} input none olds (Err fault) news → fault ≢ TableRead inputs.Read
+tables_read T (TableRead fault) olds news left = λ is. absurd (omega (arith, left.left.1.0 (cc)))
+tables_read T fault olds news left = λ is. cc
+
+pub read_well_each : (T : Type 0) (fault : VerifyFault) (olds news : List PartReader)
+    (tables tables_new : List (TableReader PartReader)) (profile profile_new : PartReader)
+    → LeavesFilterReaders {T = T} input none olds (Err fault) news
+    → LeavesTableReaders {T = T} input none tables (Err fault) tables_new
+    → LeavesProfileReader {T = T} input none profile (Err fault) profile_new → NoReadFailed fault
+read_well_each T fault olds news tables tables_new profile profile_new of_filters of_tables of_profile =
+    all_read_well T fault olds news profile profile_new of_filters (tables_read T fault tables tables_new of_tables)
+    of_profile
 
 pub memory_is_no_read : NoReadFailed Memory
 memory_is_no_read = record { of_filter = λ is. cc; of_table = λ is. cc; of_profile = λ is. cc }

@@ -1,12 +1,15 @@
 -- What is true of standard input where a command ends with a reply or a fault. The bytes of the input count where its
 -- reader tells them.
-use Rattle.std.specs.Prelude.{◌≡◌, ◌≢◌, ◌<◌, ◌≤◌, ℕ, List, [], ◌∷◌, length, map, Option, Some, Result, Ok, Err}
+use Rattle.std.specs.Prelude.{◌≡◌, ◌≢◌, ◌<◌, ◌≤◌, ◌++◌, ℕ, Bool, true, false, List, [], ◌∷◌, length, map, All, Option, Some, Result, Ok, Err}
+use Rattle.std.specs.List.{AllZip}
 use Rattle.std.specs.Option.{option_map_or}
 use Rattle.scf_insn.specs.declared.encoding.ReadFault.TheVariants as reads
 use Rattle.scf_insn.specs.declared.input.InputFault.{InputFault}
 use Rattle.scf_insn.specs.declared.input.InputFault.TheVariants as inputs
 use Rattle.scf_insn.specs.declared.insn.Insn.{Insn}
 use Rattle.scf_insn.specs.declared.record.CallRecord.{CallRecord}
+use Rattle.scf_insn.specs.Architectures.{architectures}
+use Rattle.scf_insn.specs.declared.architecture.Architecture.{Architecture}
 use Rattle.scf_insn.specs.Kernel.{bpf_maxinsns}
 use Rattle.scf_insn.specs.Insn.{program_bytes}
 use Rattle.scf_insn.specs.Words.{words_of}
@@ -17,14 +20,16 @@ use Rattle.scf_text.specs.Faults.{IsFault, fault_of}
 use Rattle.scf_text.specs.Listing.{text_of}
 use Rattle.scf_text.specs.Spelling as spelling
 use Rattle.scf_profile.specs.declared.loaded.Loaded.{Loaded}
+use Rattle.scf_profile.specs.declared.loaded.LoadedProfiles.{LoadedProfiles}
 use Rattle.scf_profile.specs.declared.table_fault.TableFault.TheVariants as tables
-use Rattle.scf_profile.specs.Loading.{Loads, Refuses}
-use Rattle.scf_profile.specs.ProfileAnswers.{ProfileAnswers}
-use Rattle.scf_profile.specs.Reasons.{IsReason}
-use Rattle.scf_profile.specs.SameAnswers.{SameAnswers}
+use Rattle.scf_profile.specs.Loading.{Loads, LoadsEach, Refuses, RefusesEach}
+use Rattle.scf_profile.specs.ProfileAnswers.{ProfileAnswers, ProfilesAnswer}
+use Rattle.scf_profile.specs.Reasons.{IsReason, IsReasonAmong}
+use Rattle.scf_profile.specs.SameAnswers.{SameAnswers, SameAnswersAsEach}
+use Rattle.scf_profile.specs.StatedProfile.{Tables}
 use Rattle.scf_profile.specs.Table.{Names, table_of}
 use Rattle.scf_compile.specs.declared.fault.CompileFault.TheVariants as compiles
-use Rattle.scf_compile.specs.SizeBound.{size_bound_of}
+use Rattle.scf_compile.specs.SizeBound.{size_bound_of, size_bound_of_each}
 use Rattle.scf_tool.specs.declared.fault.Fault.{Fault}
 use Rattle.scf_tool.specs.declared.fault.Fault.TheVariants as faults
 use Rattle.scf_profile.specs.declared.relation.Relation.{Relation}
@@ -45,12 +50,15 @@ use Rattle.scf_tool.specs.declared.call_verification.CallFinding.{CallFinding}
 use Rattle.scf_tool.specs.declared.call_verification.CallsOutcome.{CallsOutcome}
 use Rattle.scf_tool.specs.declared.verification.Outcome.{Outcome}
 use Rattle.scf_tool.specs.declared.status.Status.TheVariants.{Well}
-use Rattle.scf_request.specs.Bundle.{AreNoParts, IsBesideBundle, IsBundle, IsBundleFault, beside_kinds}
+use Rattle.scf_request.specs.Bundle.{AreNoParts, IsArchitecturesBundle, IsBesideBundle, IsBundle, architecture_kinds, beside_kinds, profile_kinds}
+use Rattle.scf_request.specs.Contents.{texts_for}
+use Rattle.scf_request.specs.declared.bundle.PartKind.{PartKind}
 use Rattle.scf_tool.specs.CallReports.{calls_text, findings_text, joint_of}
 use Rattle.scf_tool.specs.Lines.{traced_text}
 use Rattle.scf_tool.specs.FilterStacks.{HasStack, HasNoStack}
 use Rattle.scf_tool.specs.Reports.{beside_word, finding_status, finding_text, report_text, verdict_status}
 use Rattle.scf_tool.specs.Verifying.{IsAcceptedFilter, IsNoFilter, ReadsFilter, ReadsUnder}
+use Rattle.scf_tool.specs.VerifyingArchitectures.{VerifiesArchitectures}
 use Rattle.scf_tool.specs.VerifyingBeside.{AreVerifiedBeside, IsRefusedPair, IsTableFault, VerifiesBeside}
 use Rattle.scf_tool.specs.VerifyingCalls.{AreVerifiedCalls}
 use Rattle.scf_tool.specs.VerifyingStacks.{IsRefusedStack, IsVerifiedBy}
@@ -70,17 +78,22 @@ abbrev pub HoldsBundle : Option (List ℕ) → List (List ℕ) → List (List �
 HoldsBundle input filters profiles tables =
     (bytes : List ℕ) × ReadsInput input (Ok bytes) × IsBundle bytes filters profiles tables
 
--- What a command ends with that takes a bundle: the input isn't read, it is no bundle, the counts of its filters,
--- profiles and tables aren't such, or this holds of the end.
+-- What a command ends with that takes parts of these kinds: the input isn't read, it is no bundle of them, they are other
+-- parts than the command takes, or this holds of the end.
+abbrev pub EndsOnParts : List PartKind → Option (List ℕ) → Type 0 → (Result Reply Fault → Type 0)
+    → Result Reply Fault → Type 0
+EndsOnParts kinds input others holds (Err (faults.Input fault)) = ReadsInput input (Err fault)
+EndsOnParts kinds input others holds (Err (faults.Bundle fault)) =
+    (bytes : List ℕ) × ReadsInput input (Ok bytes) × AreNoParts kinds bytes fault
+EndsOnParts kinds input others holds (Err faults.Parts) = others
+EndsOnParts kinds input others holds ending = holds ending
+
+-- A command takes a bundle with such counts of filters, profiles and tables.
 abbrev pub EndsOnBundle : Option (List ℕ) → (ℕ → ℕ → ℕ → Type 0) → (Result Reply Fault → Type 0)
     → Result Reply Fault → Type 0
-EndsOnBundle input counts holds (Err (faults.Input fault)) = ReadsInput input (Err fault)
-EndsOnBundle input counts holds (Err (faults.Bundle fault)) =
-    (bytes : List ℕ) × ReadsInput input (Ok bytes) × IsBundleFault bytes fault
-EndsOnBundle input counts holds (Err faults.Parts) =
-    (filters profiles tables : List (List ℕ)) × HoldsBundle input filters profiles tables
-    × (counts (length filters) (length profiles) (length tables) → ⊥)
-EndsOnBundle input counts holds ending = holds ending
+EndsOnBundle input counts holds = EndsOnParts profile_kinds input
+    ((filters profiles tables : List (List ℕ)) × HoldsBundle input filters profiles tables
+    × (counts (length filters) (length profiles) (length tables) → ⊥)) holds
 
 -- ---- one filter
 
@@ -176,14 +189,20 @@ GivesReason call profile table ending = ⊥
 
 -- ---- a comparison
 
+-- the report of an outcome, and the status of its verdict
+abbrev pub IsReport : Relation → Outcome → Reply → Type 0
+IsReport relation outcome (Compared text status) =
+    (text.items ≡ report_text relation outcome) × (status ≡ verdict_status outcome.verdict)
+IsReport relation outcome reply = ⊥
+
 -- What filters, a profile and a table come to: why they aren't compared; or the report of an outcome over the calls of
 -- a scope, or call by call, and the status of its verdict, where None is that all calls are the same.
 abbrev pub ComparesParts : Scopes → Relation → Limits → List (List ℕ) → List ℕ → List ℕ → Result Reply Fault → Type 0
 ComparesParts over relation limits filters profile table (Err (faults.Verify fault)) =
     NoReadFailed fault × IsRefusedStack (map Some filters) (Some table) (Some profile) fault
-ComparesParts (AtOnce scope) relation limits filters profile table (Ok (Compared text status)) = (outcome : Outcome)
+ComparesParts (AtOnce scope) relation limits filters profile table (Ok reply) = (outcome : Outcome)
     × IsVerifiedBy relation (map Some filters) (Some table) (Some profile) scope limits.each outcome
-    × (text.items ≡ report_text relation outcome) × (status ≡ verdict_status outcome.verdict)
+    × IsReport relation outcome reply
 ComparesParts EachCall relation limits filters profile table (Ok (Compared text status)) = (outcome : CallsOutcome)
     × AreVerifiedCalls relation (map Some filters) (Some table) (Some profile) limits outcome
     × (text.items ≡ calls_text relation outcome)
@@ -235,24 +254,114 @@ ComparesStacks over relation limits filters beside tables ending = ⊥
 -- `compare --beside`: the report of the comparison of the filters with those beside them, any number of either; call by
 -- call the bundle holds a table, too
 abbrev pub ComparesBeside : Comparison → Option (List ℕ) → Result Reply Fault → Type 0
-ComparesBeside comparison input (Err (faults.Input fault)) = ReadsInput input (Err fault)
-ComparesBeside comparison input (Err (faults.Bundle fault)) =
-    (bytes : List ℕ) × ReadsInput input (Ok bytes) × AreNoParts (beside_kinds comparison.scopes) bytes fault
-ComparesBeside comparison input (Err faults.Parts) = (filters beside tables : List (List ℕ))
-    × HoldsBeside comparison.scopes input filters beside tables × (comparison.scopes ≡ EachCall) × (length tables ≢ 1)
-ComparesBeside comparison input ending = (filters beside tables : List (List ℕ))
-    × HoldsBeside comparison.scopes input filters beside tables
-    × ComparesStacks comparison.scopes comparison.relation comparison.limits filters beside tables ending
+ComparesBeside comparison input = EndsOnParts (beside_kinds comparison.scopes) input
+    ((filters beside tables : List (List ℕ)) × HoldsBeside comparison.scopes input filters beside tables
+    × (comparison.scopes ≡ EachCall) × (length tables ≢ 1))
+    (λ ending. (filters beside tables : List (List ℕ)) × HoldsBeside comparison.scopes input filters beside tables
+    × ComparesStacks comparison.scopes comparison.relation comparison.limits filters beside tables ending)
+
+-- ---- several architectures
+
+-- The input is a bundle for several architectures, whose parts hold these filters, these profiles and these tables.
+abbrev pub HoldsArchitectures : Option (List ℕ) → List (List ℕ) → List (List ℕ) → List (Architecture × List ℕ) → Type 0
+HoldsArchitectures input filters profiles tables =
+    (bytes : List ℕ) × ReadsInput input (Ok bytes) × IsArchitecturesBundle bytes filters profiles tables
+
+-- one filter or more, or none, by whether there have to be some
+abbrev pub IsFilterCount : Bool → ℕ → Type 0
+IsFilterCount true count = 1 ≤ count
+IsFilterCount false count = count ≡ 0
+
+-- these filters, one profile, and one table or more, at most one of each architecture
+pub record AreTaken (has_filters : Bool) (filters profiles : List (List ℕ)) (tables : List (Architecture × List ℕ))
+    : Type 0 where
+  pub filter_count : IsFilterCount has_filters (length filters)
+  pub one_profile : length profiles ≡ 1
+  pub some_table : 1 ≤ length tables
+  pub each_once : All (λ architecture. length (texts_for architecture tables) ≤ 1) architectures
+
+abbrev pub HoldsOtherParts : Bool → Option (List ℕ) → Type 0
+HoldsOtherParts has_filters input = (filters profiles : List (List ℕ)) × (tables : List (Architecture × List ℕ))
+    × HoldsArchitectures input filters profiles tables × (AreTaken has_filters filters profiles tables → ⊥)
+
+-- A command takes filters, or none, a profile and tables of several architectures.
+abbrev pub EndsOnArchitectures : Bool → Option (List ℕ)
+    → (List (List ℕ) → List ℕ → List (Architecture × List ℕ) → Result Reply Fault → Type 0)
+    → Result Reply Fault → Type 0
+EndsOnArchitectures has_filters input holds = EndsOnParts architecture_kinds input (HoldsOtherParts has_filters input)
+    (λ ending. (filters : List (List ℕ)) × (profile : List ℕ) × (tables : List (Architecture × List ℕ))
+    × HoldsArchitectures input filters (profile ∷ []) tables × AreTaken has_filters filters (profile ∷ []) tables
+    × holds filters profile tables ending)
+
+-- the text of a table, which its reader tells
+abbrev pub known_text : Architecture × List ℕ → Architecture × Option (List ℕ)
+known_text table = (table.0, Some table.1)
+
+-- `compare --architectures`: why filters and a profile aren't compared, or the report of an outcome over the calls of the
+-- architectures that have a table
+abbrev pub ComparesArchitectures : Relation → Limits → List (List ℕ) → List ℕ → List (Architecture × List ℕ)
+    → Result Reply Fault → Type 0
+ComparesArchitectures relation limits filters profile tables (Err (faults.Verify fault)) = NoReadFailed fault
+    × VerifiesArchitectures relation (map Some filters) (map known_text tables) (Some profile) limits.each (Err fault)
+ComparesArchitectures relation limits filters profile tables (Ok reply) = (outcome : Outcome)
+    × VerifiesArchitectures relation (map Some filters) (map known_text tables) (Some profile) limits.each (Ok outcome)
+    × IsReport relation outcome reply
+ComparesArchitectures relation limits filters profile tables ending = ⊥
+
+-- a call table of an architecture, however long its text is
+abbrev pub SpellsTable : Architecture × List ℕ → Architecture × Names → Type 0
+SpellsTable text table = (text.0 ≡ table.0) × (table_of text.1 ≡ Ok table.1)
+
+-- The tables and the profile are read, and state this for each architecture.
+pub record AreStated (profile : List ℕ) (texts : List (Architecture × List ℕ)) (loaded : LoadedProfiles) : Type 0 where
+  pub tables : Tables
+  pub are_tables : AllZip SpellsTable texts tables
+  pub loads : LoadsEach profile tables loaded
+
+-- why a profile and tables state nothing: the first that is no table, or all are, and the profile is refused
+abbrev pub CantLoadEach : List ℕ → List (Architecture × List ℕ) → VerifyFault → Type 0
+CantLoadEach profile texts (verifies.Table fault) = fault ≢ tables.Memory
+    → (before : List (Architecture × List ℕ)) × (own : Architecture × List ℕ) × (behind : List (Architecture × List ℕ))
+    × (texts ≡ before ++ own ∷ behind) × (read : Tables) × AllZip SpellsTable before read × (table_of own.1 ≡ Err fault)
+CantLoadEach profile texts (verifies.Profile fault) =
+    (read : Tables) × AllZip SpellsTable texts read × RefusesEach profile read fault
+CantLoadEach profile texts fault = ⊥
+
+-- `compile --architectures`: the bytes of an accepted filter that answers every call record as the profiles of all
+-- architectures that have a table do
+abbrev pub CompilesEach : List (List ℕ) → List ℕ → List (Architecture × List ℕ) → Result Reply Fault → Type 0
+CompilesEach filters profile texts (Ok (Bytes bytes)) = (loaded : LoadedProfiles) × AreStated profile texts loaded
+    × (insns : List Insn) × IsAcceptedFilter (Some bytes.items) insns
+    × SameAnswersAsEach (RunAnswers insns) loaded.profiles
+CompilesEach filters profile texts (Err (faults.Verify fault)) = CantLoadEach profile texts fault
+CompilesEach filters profile texts (Err (faults.Compile fault)) = (loaded : LoadedProfiles)
+    × AreStated profile texts loaded
+    × (fault ≡ compiles.TooLarge → bpf_maxinsns < size_bound_of_each loaded.profiles)
+CompilesEach filters profile texts ending = ⊥
+
+-- `ask --architectures`: the answer of the profile of the call's architecture, and why
+abbrev pub GivesReasonAmong : CallRecord → List (List ℕ) → List ℕ → List (Architecture × List ℕ) → Result Reply Fault
+    → Type 0
+GivesReasonAmong call filters profile texts (Ok (Asked answer reason)) = (loaded : LoadedProfiles)
+    × AreStated profile texts loaded × ProfilesAnswer loaded.profiles call answer.0
+    × IsReasonAmong loaded.profiles call reason
+GivesReasonAmong call filters profile texts (Err (faults.Verify fault)) = CantLoadEach profile texts fault
+GivesReasonAmong call filters profile texts ending = ⊥
 
 -- ---- all commands
 
 -- what a request ends with is true of the input
 abbrev pub IsTrueReply : Request → Option (List ℕ) → Result Reply Fault → Type 0
 IsTrueReply (requests.Ask call) input = EndsOnProfile input (GivesReason call)
+IsTrueReply (requests.AskArchitectures call) input =
+    EndsOnArchitectures false input (GivesReasonAmong call)
 IsTrueReply requests.Assemble input = Assembles input
 IsTrueReply (requests.Compare comparison) input = Compares comparison input
 IsTrueReply (requests.CompareBeside comparison) input = ComparesBeside comparison input
+IsTrueReply (requests.CompareArchitectures limits relation) input =
+    EndsOnArchitectures true input (ComparesArchitectures relation limits)
 IsTrueReply requests.Compile input = EndsOnProfile input Compiles
+IsTrueReply requests.CompileArchitectures input = EndsOnArchitectures false input CompilesEach
 IsTrueReply (requests.Decide call) input = EndsOnFilters input (DecidesCall call)
 IsTrueReply requests.List input = Lists input
 IsTrueReply request input = EndsOnFilter request input

@@ -101,6 +101,7 @@ load_kind (loads.RepeatedIndex entry) = (Refused, codes "RepeatedIndex", in_entr
 load_kind (loads.Errno entry) = (Refused, codes "Errno", in_entry entry)
 load_kind (loads.ErrnoRange entry) = (Refused, codes "ErrnoRange", in_entry entry)
 load_kind (loads.NoX8664 entry) = (Refused, codes "NoX8664", in_entry entry)
+load_kind (loads.NotListed table) = (Refused, codes "NotListed", (codes "table", table) ∷ [])
 load_kind (loads.EngineForm entry) = (Refused, codes "EngineForm", in_entry entry)
 load_kind loads.TooMany = (Refused, codes "TooMany", [])
 load_kind (loads.Conflict number first second) =

@@ -38,8 +38,7 @@ abbrev pub HaveEnded : {R : Type 0} → (R → Option (List ℕ)) → (R → ℕ
 HaveEnded remaining failures olds news = AllZip (HasEnded remaining failures) olds news
 
 -- The readers before one have ended, this one is left so, and those behind it aren't asked.
-pub record HaveStopped {R : Type 0} (remaining : R → Option (List ℕ)) (failures : R → ℕ) (fault : VerifyFault)
-    (olds news : List R) : Type 0 where
+pub record HaveStoppedBy {R : Type 0} (Ended Left : R → R → Type 0) (olds news : List R) : Type 0 where
   pub before : List R
   pub before_new : List R
   pub old : R
@@ -47,5 +46,10 @@ pub record HaveStopped {R : Type 0} (remaining : R → Option (List ℕ)) (failu
   pub behind : List R
   pub olds_are : olds ≡ before ++ old ∷ behind
   pub news_are : news ≡ before_new ++ new ∷ behind
-  pub ended : HaveEnded remaining failures before before_new
-  pub left : LeavesFilterReader {T = List Insn} remaining failures old (Err fault) new
+  pub ended : AllZip Ended before before_new
+  pub left : Left old new
+
+-- those of filters, where this is the fault of one
+abbrev pub HaveStopped : {R : Type 0} → (R → Option (List ℕ)) → (R → ℕ) → VerifyFault → List R → List R → Type 0
+HaveStopped remaining failures fault olds news = HaveStoppedBy (HasEnded remaining failures)
+    (λ old new. LeavesFilterReader {T = List Insn} remaining failures old (Err fault) new) olds news

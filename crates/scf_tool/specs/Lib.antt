@@ -3,6 +3,7 @@ pub mod Commands
 pub mod Comparisons
 pub mod Faults
 pub mod FilterStacks
+pub mod JointVerdicts
 pub mod Lines
 pub mod Numerals
 pub mod Replies
@@ -10,6 +11,7 @@ pub mod Reports
 pub mod Runs
 pub mod Statuses
 pub mod Verifying
+pub mod VerifyingArchitectures
 pub mod VerifyingBeside
 pub mod VerifyingCalls
 pub mod VerifyingFilters

@@ -59,10 +59,14 @@ IsVerifiedBy relation filters table profile scope limit outcome =
     AreComparedParties filters table profile (outcome_left_out outcome)
     (λ stack names p. IsComparison relation stack p scope limit outcome.verdict)
 
--- Why nothing is compared: the filters are no stack, or they are, and the table and the profile state nothing.
+-- Why nothing is compared: the filters are no stack, or they are, and this is why.
+abbrev pub IsRefusedBehind : List (Option (List ℕ)) → (VerifyFault → Type 0) → VerifyFault → Type 0
+IsRefusedBehind filters behind fault =
+    HasNoStack filters fault ⊎ ((stack : List (List Insn)) × HasStack filters stack × behind fault)
+
+-- the table and the profile state nothing
 abbrev pub IsRefusedStack : List (Option (List ℕ)) → Option (List ℕ) → Option (List ℕ) → VerifyFault → Type 0
-IsRefusedStack filters table profile fault =
-    HasNoStack filters fault ⊎ ((stack : List (List Insn)) × HasStack filters stack × IsProfileFault table profile fault)
+IsRefusedStack filters table profile fault = IsRefusedBehind filters (IsProfileFault table profile) fault
 
 -- What the comparison of a stack with a profile by a relation, from the bytes of their readers, answers.
 abbrev pub VerifiesBy : Relation → List (Option (List ℕ)) → Option (List ℕ) → Option (List ℕ) → Scope → ℕ

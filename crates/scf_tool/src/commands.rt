@@ -6,6 +6,7 @@ ghost use Rattle.scf_tool.specs.Runs.{Ends, IsRunOfProgram};
 ghost use Rattle.scf_tool.specs.Statuses.{LeavesInput};
 ghost use Rattle.scf_tool.specs.Verifying.{HasEnded, HasFailedWhere};
 
+mod architectures;
 mod beside;
 mod compare;
 mod filter;
@@ -18,6 +19,7 @@ use crate::command_line::{explain, refuse_memory};
 use crate::fault::Fault;
 use crate::reply::{LINE_ROOM, Reply, print_ending, status_of};
 use crate::status::Status;
+use architectures::{ask_architectures, compare_architectures, compile_architectures};
 use beside::compare_beside;
 use compare::compare_bundle;
 use filter::{check_filter, list_filter, run_filter, trace_filter};
@@ -61,11 +63,16 @@ fn answer<R: Source>(alloc: Global, request: &Request, input: &mut R) -> Result<
 {
     match request {
         Request::Ask(call) => ask_profile(alloc, call, input),
+        Request::AskArchitectures(call) => ask_architectures(alloc, call, input),
         Request::Assemble => assemble_text(alloc, input),
         Request::Check => check_filter(alloc, input),
         Request::Compare(comparison) => compare_bundle(alloc, *comparison, input),
         Request::CompareBeside(comparison) => compare_beside(alloc, *comparison, input),
+        Request::CompareArchitectures { limits, relation } => compare_architectures(
+            alloc, *limits, *relation, input,
+        ),
         Request::Compile => compile_profile(alloc, input),
+        Request::CompileArchitectures => compile_architectures(alloc, input),
         Request::Decide(call) => decide_stack(alloc, call, input),
         Request::List => list_filter(alloc, input),
         Request::Run(call) => run_filter(alloc, call, input),

@@ -177,6 +177,7 @@ fn load_kind(fault: LoadFault) -> FaultKind
         LoadFault::Errno { entry } => refused_in("Errno", entry),
         LoadFault::ErrnoRange { entry } => refused_in("ErrnoRange", entry),
         LoadFault::NoX8664 { entry } => refused_in("NoX8664", entry),
+        LoadFault::NotListed { table } => numbered(Refused, "NotListed", "table", table),
         LoadFault::EngineForm { entry } => refused_in("EngineForm", entry),
         LoadFault::TooMany => plain(Refused, "TooMany"),
         LoadFault::Conflict {

@@ -1,6 +1,7 @@
 //! The program `scf`: its commands, what they read and what they print.
 #![tactic(auto)]
 
+mod architecture_verification;
 mod beside_verification;
 mod buffer;
 mod call_reporting;
@@ -13,8 +14,10 @@ mod filter;
 mod filter_stack;
 mod fragments;
 mod inputs;
+mod joint_verdict;
 mod left_out;
 mod lines;
+mod owned_table;
 mod reply;
 mod reporting;
 mod stack_verification;
@@ -22,6 +25,7 @@ mod status;
 mod verification;
 mod verify_fault;
 
+pub use architecture_verification::verify_architectures;
 pub use beside_verification::{verify_beside, verify_calls_beside};
 pub use call_reporting::{report_calls, report_calls_beside};
 pub use call_verification::{CallFinding, CallsOutcome, verify_calls};
@@ -29,7 +33,9 @@ pub use command_line::refuse_words;
 pub use commands::run_command;
 pub use left_out::LeftOut;
 pub use reporting::{report, report_beside, report_by};
-pub use scf_request::{BundleFault, Limits, NumberFault, Part, PartKind, record_of, split};
+pub use scf_request::{
+    BundleFault, Limits, NumberFault, Part, PartKind, TableReader, record_of, split,
+};
 pub use stack_verification::{verify_by, verify_stack};
 pub use verification::{Outcome, verify};
 pub use verify_fault::{BesideFault, VerifyFault};

@@ -7,16 +7,17 @@
 use crate::lines::{Lines, tell_twice, twice};
 use crate::{facts, rows};
 use scf_compare::{Relation, Scope, Side, Verdict, compare, compare_sides_within, compare_stack};
-use scf_compile::compile;
+use scf_compile::{compile, compile_profiles};
 use scf_facts::WordSets;
-use scf_insn::{Answer, CallRecord, Counted, Insn, Memory, read_input, read_program};
+use scf_insn::{Answer, Architecture, CallRecord, Counted, Insn, Memory, read_input, read_program};
 use scf_machine::{CheckFault, FilterStack, Program, check, trace};
-use scf_profile::{CallTable, Loaded, Profile, Texts, load};
-use scf_request::{Contents, parse};
+use scf_profile::{ArchitectureTable, CallTable, Loaded, Profile, Texts, load, load_profiles};
+use scf_request::{Contents, TableReader, parse};
 use scf_text::{assemble, tokens};
 use scf_tool::{
     Limits, Outcome, report, report_beside, report_by, report_calls, report_calls_beside, split,
-    verify, verify_beside, verify_by, verify_calls, verify_calls_beside, verify_stack,
+    verify, verify_architectures, verify_beside, verify_by, verify_calls, verify_calls_beside,
+    verify_stack,
 };
 use std::alloc::Global;
 use std::io;
@@ -194,6 +195,32 @@ fn try_with_table<R: Print>(lines: &mut Lines<R>, alloc: Global, table: &CallTab
     }
 }
 
+/// The calls that take the tables of several architectures.
+fn try_with_tables<R: Print>(lines: &mut Lines<R>, alloc: Global, table: &CallTable) {
+    let tables = [
+        ArchitectureTable {
+            architecture: Architecture::X86,
+            table,
+        },
+        ArchitectureTable {
+            architecture: Architecture::X8664,
+            table,
+        },
+    ];
+    let loaded = twice!(
+        lines,
+        "load_profiles",
+        load_profiles(alloc, rows::config(), &tables)
+    );
+    if let Some(loaded) = loaded {
+        tell_twice!(
+            lines,
+            "compile_profiles",
+            compile_profiles(alloc, &loaded.profiles)
+        );
+    }
+}
+
 fn try_profiles<R: Print>(lines: &mut Lines<R>, alloc: Global) {
     let read = twice!(
         lines,
@@ -202,6 +229,7 @@ fn try_profiles<R: Print>(lines: &mut Lines<R>, alloc: Global) {
     );
     if let Some(table) = read {
         try_with_table(lines, alloc, &table);
+        try_with_tables(lines, alloc, &table);
     }
 }
 
@@ -257,6 +285,32 @@ fn try_verify_by<R: Print>(lines: &mut Lines<R>, alloc: Global) {
             report_by(alloc, Relation::NoMore, &outcome)
         );
     }
+}
+
+/// A reader of the table of an architecture.
+fn table_reader(architecture: Architecture) -> TableReader<Counted<&'static [u8]>> {
+    TableReader {
+        architecture,
+        reader: Counted::new(rows::table()),
+    }
+}
+
+fn try_verify_architectures<R: Print>(lines: &mut Lines<R>, alloc: Global) {
+    tell_twice!(
+        lines,
+        "verify_architectures",
+        verify_architectures(
+            alloc,
+            &mut [Counted::new(rows::clone())],
+            &mut Counted::new(rows::config()),
+            &mut [
+                table_reader(Architecture::X8664),
+                table_reader(Architecture::X86),
+            ],
+            Relation::Same,
+            LIMIT,
+        )
+    );
 }
 
 fn try_verify_stack<R: Print>(lines: &mut Lines<R>, alloc: Global) {
@@ -371,6 +425,7 @@ pub(crate) fn make_all(rt: &HostRuntime) -> io::Result<()> {
     try_verify(&mut lines, alloc);
     try_verify_stack(&mut lines, alloc);
     try_verify_by(&mut lines, alloc);
+    try_verify_architectures(&mut lines, alloc);
     try_verify_calls(&mut lines, alloc);
     try_verify_beside(&mut lines, alloc);
     try_verify_calls_beside(&mut lines, alloc);

@@ -1,22 +1,35 @@
--- Conditions on 64-bit arguments as questions about the two words of an argument.
-use Rattle.std.specs.Prelude.{◌≡◌, ◌≢◌, ◌+◌, ◌*◌, ◌≤◌, ℕ, List, true, false, bit_and, slice_index}
-use Rattle.scf_insn.specs.Words.{IsWords, argument, call_of, low, high}
-use Rattle.scf_facts.specs.Atoms.{atom_answer}
-use Rattle.scf_profile.specs.declared.condition.Condition.{Condition}
+-- Conditions on arguments as questions about the halves of an argument.
+use Rattle.std.specs.Prelude.{◌≡◌, ◌≢◌, ◌+◌, ◌*◌, ◌≤◌, ℕ, Bool, true, false, bit_and, if◌then◌else◌}
+use Rattle.scf_insn.specs.declared.architecture.ArgumentBits.{ArgumentBits}
+use Rattle.scf_insn.specs.declared.architecture.ArgumentBits.TheVariants.{Bits32}
+use Rattle.scf_insn.specs.Words.{low, high}
+use Rattle.scf_facts.specs.Atoms.{answer_at}
 use Rattle.scf_profile.specs.declared.number_test.NumberTest.{NumberTest}
 use Rattle.scf_profile.specs.declared.number_test.NumberTest.TheVariants.{Masked, Greater, GreaterOrEqual}
-use Rattle.scf_profile.specs.Condition.{condition_holds}
-use Rattle.scf_profile.specs.NumberTests.{test_of, tree_answer}
+use Rattle.scf_profile.specs.NumberTests.{comes_to}
 use Rattle.scf_compare.specs.declared.question.ConditionPart.{ConditionPart}
 use Rattle.scf_compare.specs.declared.question.ConditionPart.TheVariants.{High, Above, Low}
 use Rattle.scf_compare.specs.declared.question.Successor.{Successor}
-use Rattle.scf_compare.specs.declared.question.Successor.TheVariants.{Holds, Fails, Then}
+use Rattle.scf_compare.specs.declared.question.Successor.TheVariants.{Decided, Then}
 use Rattle.scf_compare.specs.declared.question.Question.{Question}
 
--- a number's halves are two words, the low one first
-pub record HasHalves (words : List ℕ) (word n : ℕ) : Type 0 where
-  pub low_there : slice_index words word ≡ low n
-  pub high_there : slice_index words (word + 1) ≡ high n
+-- the half of a number that a part asks of
+abbrev pub half_asked : ConditionPart → ℕ → ℕ
+half_asked High n = high n
+half_asked Above n = high n
+half_asked Low n = low n
+
+-- the word of that half, where the word of the low half is given
+abbrev pub word_asked : ConditionPart → ℕ → ℕ
+word_asked High low = low + 1
+word_asked Above low = low + 1
+word_asked Low low = low
+
+-- a part asks of the high half of an argument of 32 bits: that half is 0, whatever its word is
+abbrev pub asks_of_zero : ArgumentBits → ConditionPart → Bool
+asks_of_zero Bits32 High = true
+asks_of_zero Bits32 Above = true
+asks_of_zero bits part = false
 
 -- a number has the high half that a test wants
 abbrev pub HasSameHigh : NumberTest → ℕ → Type 0
@@ -36,36 +49,20 @@ IsAtTest test High n = Unit {0}
 IsAtTest test Above n = HasOtherHigh test n
 IsAtTest test Low n = HasSameHigh test n
 
-abbrev pub IsAtPart : Condition → ConditionPart → ℕ → Type 0
-IsAtPart c part n = IsAtTest (test_of c).0 part n
+-- what is known of a number at a successor, by a test and the result that it has where the condition holds
+abbrev pub LeadsTo : NumberTest × Bool → Successor → ℕ → Type 0
+LeadsTo test (Decided holds) n = comes_to test n ≡ holds
+LeadsTo test (Then part) n = IsAtTest test.0 part n
 
--- what is known of a number at a successor
-abbrev pub TestLeadsTo : NumberTest → Successor → ℕ → Type 0
-TestLeadsTo test Holds n = tree_answer test n ≡ true
-TestLeadsTo test Fails n = tree_answer test n ≡ false
-TestLeadsTo test (Then part) n = IsAtTest test part n
+-- a part's question, as the half of a number answers it, leads to its successors
+abbrev pub Splits : NumberTest × Bool → ConditionPart → Question → ℕ → Type 0
+Splits test part question n =
+    (answer_at question.atom (half_asked part n) ≡ true → LeadsTo test question.if_true n)
+    × (answer_at question.atom (half_asked part n) ≡ false → LeadsTo test question.if_false n)
 
-abbrev pub ConditionLeadsTo : Condition → Successor → ℕ → Type 0
-ConditionLeadsTo c Holds n = condition_holds c n ≡ true
-ConditionLeadsTo c Fails n = condition_holds c n ≡ false
-ConditionLeadsTo c (Then part) n = IsAtPart c part n
-
--- the successor of the opposite
-abbrev pub opposite_successor : Successor → Successor
-opposite_successor Holds = Fails
-opposite_successor Fails = Holds
-opposite_successor (Then part) = Then part
-
--- the successors behind an atom, over the words of a call with this number
-abbrev pub SplitsTest : NumberTest → Question → List ℕ → ℕ → Type 0
-SplitsTest test question words n =
-    (atom_answer question.atom words ≡ true → TestLeadsTo test question.if_true n)
-    × (atom_answer question.atom words ≡ false → TestLeadsTo test question.if_false n)
-
-abbrev pub Splits : Condition → Question → List ℕ → ℕ → Type 0
-Splits c question words n =
-    (atom_answer question.atom words ≡ true → ConditionLeadsTo c question.if_true n)
-    × (atom_answer question.atom words ≡ false → ConditionLeadsTo c question.if_false n)
+-- the successor of a question about a half that is 0
+abbrev pub successor_at_zero : Question → Successor
+successor_at_zero question = (if answer_at question.atom 0 then question.if_true else question.if_false)
 
 -- the size of the tree from a part on, where those behind a condition that holds and one that fails have sizes
 abbrev pub part_size : ConditionPart → ℕ → ℕ → ℕ
@@ -74,15 +71,8 @@ part_size Above holds fails = 1 + holds + fails
 part_size Low holds fails = 1 + holds + fails
 
 abbrev pub successor_size : Successor → ℕ → ℕ → ℕ
-successor_size Holds holds fails = holds
-successor_size Fails holds fails = fails
+successor_size (Decided result) holds fails = (if result then holds else fails)
 successor_size (Then part) holds fails = part_size part holds fails
-
--- over the words of a call the successors behind a part's question
-abbrev pub SplitsAt : Condition → ConditionPart → Question → Type 0
-SplitsAt c part question =
-    (words : List ℕ) → IsWords words → IsAtPart c part (argument (call_of words) c.index)
-    → Splits c question words (argument (call_of words) c.index)
 
 -- a part's question, and what both successors ask, are within its size
 abbrev pub CostsAt : ConditionPart → Question → Type 0

@@ -18,7 +18,7 @@ use Rattle.scf_compare.specs.declared.stack.StackNode.{StackNode}
 use Rattle.scf_compare.specs.declared.stack.StackNode.TheVariants.{Empty, At as InStack}
 use Rattle.scf_compare.specs.internal.Stacks.{filter_at, stack_tree}
 use Rattle.scf_compare.specs.declared.profile.ProfileNode.{ProfileNode}
-use Rattle.scf_compare.specs.declared.profile.ProfileNode.TheVariants.{Architecture, Range, Number, Condition as OfCondition, Answer as Answers}
+use Rattle.scf_compare.specs.declared.profile.ProfileNode.TheVariants.{Architecture, First, Last, Number, Condition as OfCondition, Answer as Answers}
 use Rattle.scf_compare.specs.declared.question.ConditionPart.{ConditionPart}
 use Rattle.scf_compare.specs.declared.question.ConditionPart.TheVariants.{High, Above, Low}
 use Rattle.scf_profile.specs.declared.rule.Rule.{Rule}
@@ -88,7 +88,8 @@ part_counts Low holds fails = omega arith
 -- each node of a profile's tree counts
 pub profile_node_counts : (s : NumberedProfile) (node : ProfileNode) → 0 < (profile_tree s).size node
 profile_node_counts s Architecture = omega arith
-profile_node_counts s Range = omega arith
+profile_node_counts s First = omega arith
+profile_node_counts s Last = omega arith
 profile_node_counts s (Number index) = omega arith
 profile_node_counts s (OfCondition at part) = part_counts part _ _
 profile_node_counts s (Answers answer) = omega arith

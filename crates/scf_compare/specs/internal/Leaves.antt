@@ -1,9 +1,9 @@
 -- What the leaves of trees tell.
-use Rattle.std.specs.Prelude.{◌≡◌, ◌⊎◌, ℕ, List, Option, Some, IfNone, IfSome, IsSome}
+use Rattle.std.specs.Prelude.{◌≡◌, ◌⊎◌, ℕ, List, Option, IfNone, IfSome, IsSome}
 use Rattle.scf_insn.specs.Words.{IsWords, call_of}
 use Rattle.scf_compare.specs.declared.comparison.PairLeaf.{PairLeaf}
 use Rattle.scf_compare.specs.declared.finding.Finding.{Finding}
-use Rattle.scf_compare.specs.declared.finding.Finding.TheVariants.{Holds, Fails, Undecided, Unfinished}
+use Rattle.scf_compare.specs.declared.finding.Finding.TheVariants.{Undecided}
 use Rattle.scf_compare.specs.declared.finding.Which.{Which}
 use Rattle.scf_compare.specs.declared.finding.Which.TheVariants.{Right}
 use Rattle.scf_compare.specs.declared.side_tree.SideLeaf.{SideLeaf}

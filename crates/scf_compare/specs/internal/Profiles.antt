@@ -1,21 +1,21 @@
 -- A profile as a tree of questions, whose numbers are asked in their order, and the rules of one in theirs.
-use Rattle.std.specs.Prelude.{◌≡◌, ◌≢◌, ◌+◌, ◌<◌, ℕ, List, [], true, false, All, Some, length, map, take, drop, slice_get, slice_index_or, sum_by}
+use Rattle.std.specs.Prelude.{◌≡◌, ◌≢◌, ◌+◌, ◌-◌, ◌<◌, ◌≤◌, ◌^◌, ℕ, List, [], true, false, All, Some, length, map, take, drop, slice_get, slice_index_or, sum_by}
+use Rattle.scf_insn.specs.Architectures.{IsOf, argument_in, row_of}
 use Rattle.scf_insn.specs.declared.record.CallRecord.{CallRecord}
-use Rattle.scf_insn.specs.Kernel.{audit_arch_x86_64}
-use Rattle.scf_insn.specs.Words.{call_of, argument}
+use Rattle.scf_insn.specs.Words.{call_of}
 use Rattle.scf_profile.specs.declared.condition.Condition.{Condition}
 use Rattle.scf_profile.specs.declared.number_rules.NumberRules.{NumberRules}
+use Rattle.scf_profile.specs.NumberTests.{test_of}
 use Rattle.scf_profile.specs.Rule.{all_hold, meets}
-use Rattle.scf_profile.specs.Profile.{IsNative}
 use Rattle.scf_profile.specs.PlainProfile.{IsPlainRule}
 use Rattle.scf_profile.specs.ProfileAnswers.{ProfileAnswers}
 use Rattle.scf_profile.specs.declared.rule.Rule.{Rule}
 use Rattle.scf_profile.specs.RulesByNumber.{rules_of}
 use Rattle.scf_compare.specs.declared.profile.ConditionPosition.{ConditionPosition}
 use Rattle.scf_compare.specs.declared.profile.ProfileNode.{ProfileNode}
-use Rattle.scf_compare.specs.declared.profile.ProfileNode.TheVariants.{Architecture, Range, Number, Condition as OfCondition, Answer as Answers}
+use Rattle.scf_compare.specs.declared.profile.ProfileNode.TheVariants.{Architecture, First, Last, Number, Condition as OfCondition, Answer as Answers}
 use Rattle.scf_compare.specs.declared.question.ConditionPart.{ConditionPart}
-use Rattle.scf_compare.specs.internal.Conditions.{IsAtPart, part_size}
+use Rattle.scf_compare.specs.internal.Conditions.{IsAtTest, part_size}
 use Rattle.scf_compare.specs.Effort.{conditions_size, rules_size}
 use Rattle.scf_compare.specs.internal.NumberedProfiles.{NumberedProfile}
 use Rattle.scf_compare.specs.internal.Trees.{Tree}
@@ -34,16 +34,17 @@ pub record StandsAt (numbers : List NumberRules) (at : ConditionPosition) : Type
   pub rule : at.rule < length (own_rules numbers at.number)
   pub condition : at.condition < length (own_conditions numbers at)
 
--- A native call's number has the rules of the number at an index, and the call meets none of them before one.
+-- A call is of the profile's architecture, its number has the rules of the number at an index, and it meets none of
+-- them before one.
 pub record IsAtRule (s : NumberedProfile) (number rule : ℕ) (call : CallRecord) : Type 0 where
-  pub native : IsNative call
+  pub is_of : IsOf s.profile.architecture call
   pub own : rules_of call.nr s.profile.rules ≡ own_rules s.numbers number
-  pub unmet : All (λ earlier. meets earlier call ≡ false) (take rule (own_rules s.numbers number))
+  pub unmet : All (λ earlier. meets s.profile.architecture earlier call ≡ false) (take rule (own_rules s.numbers number))
 
 -- The call is at a rule of a number, and the rule's conditions before one hold of it.
 pub record IsAtCondition (s : NumberedProfile) (at : ConditionPosition) (call : CallRecord) : Type 0 where
   pub at_rule : IsAtRule s at.number at.rule call
-  pub held : all_hold call (take at.condition (own_conditions s.numbers at)) ≡ true
+  pub held : all_hold s.profile.architecture call (take at.condition (own_conditions s.numbers at)) ≡ true
 
 -- The call is at a condition, and this much is known of the argument when a part of it is asked.
 pub record KnowsPart (s : NumberedProfile) (at : ConditionPosition) (part : ConditionPart) (call : CallRecord)
@@ -51,23 +52,29 @@ pub record KnowsPart (s : NumberedProfile) (at : ConditionPosition) (part : Cond
   pub at_condition : IsAtCondition s at call
   pub condition : Condition
   pub here : slice_get (own_conditions s.numbers at) at.condition ≡ Some condition
-  pub known : IsAtPart condition part (argument call condition.index)
+  pub known : IsAtTest (test_of condition).0 part (argument_in s.profile.architecture call condition.index)
 
 -- the call has none of the numbers before an index
 abbrev pub IsFrom : ℕ → List NumberRules → CallRecord → Type 0
 IsFrom index numbers call = All (λ own. call.nr ≢ own.number) (take index numbers)
 
+-- whether a number is past the last one is asked only where there is such a number
 abbrev pub profile_is_node : NumberedProfile → ProfileNode → Type 0
 profile_is_node s Architecture = Unit {0}
-profile_is_node s Range = Unit {0}
+profile_is_node s First = Unit {0}
+profile_is_node s Last = (row_of s.profile.architecture).last < 2 ^ 32 - 1
 profile_is_node s (Number index) = Unit {0}
 profile_is_node s (OfCondition at part) = StandsAt s.numbers at
 profile_is_node s (Answers answer) = Unit {0}
 
 abbrev pub profile_reaches : NumberedProfile → ProfileNode → List ℕ → Type 0
 profile_reaches s Architecture words = Unit {0}
-profile_reaches s Range words = (call_of words).arch ≡ audit_arch_x86_64
-profile_reaches s (Number index) words = IsNative (call_of words) × IsFrom index s.numbers (call_of words)
+profile_reaches s First words = (call_of words).arch ≡ (row_of s.profile.architecture).audit
+profile_reaches s Last words =
+    ((call_of words).arch ≡ (row_of s.profile.architecture).audit)
+    × ((row_of s.profile.architecture).first ≤ (call_of words).nr)
+profile_reaches s (Number index) words =
+    IsOf s.profile.architecture (call_of words) × IsFrom index s.numbers (call_of words)
 profile_reaches s (OfCondition at part) words = KnowsPart s at part (call_of words)
 profile_reaches s (Answers answer) words = ProfileAnswers s.profile (call_of words) answer.0
 
@@ -86,7 +93,8 @@ numbers_size numbers = sum_by (λ own. 1 + rules_size own.rules.items) numbers
 
 abbrev pub profile_size : NumberedProfile → ProfileNode → ℕ
 profile_size s Architecture = 8 + numbers_size s.numbers
-profile_size s Range = 3 + numbers_size s.numbers
+profile_size s First = 5 + numbers_size s.numbers
+profile_size s Last = 3 + numbers_size s.numbers
 profile_size s (Number index) = 1 + numbers_size (drop index s.numbers)
 profile_size s (OfCondition at part) = part_size part (size_of_rest s.numbers at) (size_behind s.numbers at)
 profile_size s (Answers answer) = 1

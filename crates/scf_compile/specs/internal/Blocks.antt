@@ -1,6 +1,10 @@
 -- The instructions that test one condition. Where it holds the filter goes on behind them, and where it fails it passes
 -- `out` more instructions.
 use Rattle.std.specs.Prelude.{ℕ, Bool, ◌+◌, ◌*◌, ◌==◌, List, [], ◌∷◌, ◌++◌, length, if◌then◌else◌}
+use Rattle.scf_insn.specs.Architectures.{row_of}
+use Rattle.scf_insn.specs.declared.architecture.Architecture.{Architecture}
+use Rattle.scf_insn.specs.declared.architecture.ArgumentBits.{ArgumentBits}
+use Rattle.scf_insn.specs.declared.architecture.ArgumentBits.TheVariants.{Bits32, Bits64}
 use Rattle.scf_insn.specs.declared.insn.Insn.{Insn}
 use Rattle.scf_insn.specs.declared.operation.Test.{Test}
 use Rattle.scf_insn.specs.declared.operation.Test.TheVariants.{Equal as SameWord, Greater as Above}
@@ -14,6 +18,7 @@ use Rattle.scf_profile.specs.NumberTests.{test_of}
 use Rattle.scf_insn.specs.declared.mask.MaskKind.{MaskKind}
 use Rattle.scf_insn.specs.declared.mask.MaskKind.TheVariants.{Empty, OneBit, Full, Mixed}
 use Rattle.scf_compile.specs.internal.Insns.{load_word, and_with, jump_if}
+use Rattle.scf_compile.specs.internal.Placing.{skip_code}
 
 -- tests a word against a constant: `hit` and `miss` are passed behind the two instructions
 abbrev pub word_code : Test → ℕ → ℕ → ℕ → ℕ → List Insn
@@ -49,10 +54,28 @@ masked_code word mask wanted hit miss =
     half_code (word + 1) (high mask) (high wanted) 0 (length low_code + miss) ++ low_code
 
 -- a test of the number in two words
-abbrev pub test_code : NumberTest → ℕ → ℕ → ℕ → List Insn
-test_code (Masked mask value) word hit miss = masked_code word mask value hit miss
-test_code (Greater value) word hit miss = order_code Above word value hit miss
-test_code (GreaterOrEqual value) word hit miss = order_code AtLeast word value hit miss
+abbrev pub wide_code : NumberTest → ℕ → ℕ → ℕ → List Insn
+wide_code (Masked mask value) word hit miss = masked_code word mask value hit miss
+wide_code (Greater value) word hit miss = order_code Above word value hit miss
+wide_code (GreaterOrEqual value) word hit miss = order_code AtLeast word value hit miss
+
+-- a test of the number in one word, against a value that fits a word
+abbrev pub narrow_code : NumberTest → ℕ → ℕ → ℕ → List Insn
+narrow_code (Masked mask value) word hit miss = half_code word (low mask) (low value) hit miss
+narrow_code (Greater value) word hit miss = word_code Above word (low value) hit miss
+narrow_code (GreaterOrEqual value) word hit miss = word_code AtLeast word (low value) hit miss
+
+-- the value that a test compares with
+abbrev pub value_of : NumberTest → ℕ
+value_of (Masked mask value) = value
+value_of (Greater value) = value
+value_of (GreaterOrEqual value) = value
+
+-- a test of an argument of so many bits: one of 32 never reaches a value that needs more
+abbrev pub test_code : ArgumentBits → NumberTest → ℕ → ℕ → ℕ → List Insn
+test_code Bits64 test word hit miss = wide_code test word hit miss
+test_code Bits32 test word hit miss =
+    (if high (value_of test) == 0 then narrow_code test word hit miss else skip_code miss)
 
 -- the low word of an argument
 abbrev pub argument_word : ℕ → ℕ
@@ -62,7 +85,8 @@ argument_word index = 2 * index + 4
 abbrev pub exits : Bool → ℕ → ℕ × ℕ
 exits expected out = (if expected then (0, out) else (out, 0))
 
-abbrev pub condition_code : Condition → ℕ → List Insn
-condition_code c out =
+-- a condition on an argument of the architecture
+abbrev pub condition_code : Architecture → Condition → ℕ → List Insn
+condition_code a c out =
     let test = test_of c in let goes = exits test.1 out in
-    test_code test.0 (argument_word c.index) goes.0 goes.1
+    test_code (row_of a).bits test.0 (argument_word c.index) goes.0 goes.1

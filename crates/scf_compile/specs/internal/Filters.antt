@@ -1,20 +1,23 @@
--- The instructions of rules, and what is put together of them: a search of the call number, and the whole filter.
-use Rattle.std.specs.Prelude.{◌≡◌, ℕ, ◌+◌, ◌-◌, ◌*◌, ◌^◌, ◌<◌, ◌≤◌, Bool, List, [], ◌∷◌, ◌++◌, length, sum_by, IsTrue}
+-- The instructions of rules, and what is put together of them: searches of the call number, and the whole filter.
+use Rattle.std.specs.Prelude.{◌≡◌, ℕ, ◌+◌, ◌*◌, ◌^◌, ◌<◌, ◌≤◌, All, Bool, List, [], ◌∷◌, ◌++◌, length, sum_by, IsTrue}
+use Rattle.scf_insn.specs.Architectures.{IsOf}
+use Rattle.scf_insn.specs.declared.architecture.Architecture.{Architecture}
 use Rattle.scf_insn.specs.declared.insn.Insn.{Insn}
 use Rattle.scf_insn.specs.declared.answer.Answer.{Answer}
 use Rattle.scf_insn.specs.declared.record.CallRecord.{CallRecord}
-use Rattle.scf_insn.specs.Kernel.{x32_syscall_bit}
+use Rattle.scf_insn.specs.Kernel.{bpf_maxinsns}
 use Rattle.scf_insn.specs.Words.{IsRecord, words_of}
 use Rattle.scf_profile.specs.declared.condition.Condition.{Condition}
 use Rattle.scf_profile.specs.declared.rule.Rule.{Rule}
 use Rattle.scf_profile.specs.PlainProfile.{IsPlainProfile, IsPlainRule}
 use Rattle.scf_profile.specs.Profile.{Profile}
-use Rattle.scf_profile.specs.ProfileAnswers.{ProfileAnswers}
+use Rattle.scf_profile.specs.ProfileAnswers.{ProfilesAnswer}
 use Rattle.scf_profile.specs.RulesByNumber.{rules_of}
+use Rattle.scf_compile.specs.declared.dispatch.Search.{Search}
 use Rattle.scf_compile.specs.declared.placing.Position.{Position}
 use Rattle.scf_compile.specs.declared.ranges.NrRange.{NrRange}
-use Rattle.scf_compile.specs.SearchBound.{search_bound_of}
-use Rattle.scf_compile.specs.SizeBound.{rule_bound, size_bound_of}
+use Rattle.scf_compile.specs.SearchBound.{rules_steps, search_bound_of_each}
+use Rattle.scf_compile.specs.SizeBound.{rule_bound, size_bound_of_each}
 use Rattle.scf_compile.specs.internal.Insns.{return_with}
 use Rattle.scf_compile.specs.internal.Blocks.{condition_code}
 use Rattle.scf_compile.specs.internal.Placing.{code_from, IsNear}
@@ -23,13 +26,13 @@ use Rattle.scf_compile.specs.internal.Sound.{AreSound}
 use Rattle.scf_compile.specs.internal.NrRanges.{AllRules, AreServed, first_answer, range_bound}
 
 -- the conditions of a rule, each of which passes what is left of them and one instruction more where it fails
-abbrev pub conditions_code : List Condition → List Insn
-conditions_code [] = []
-conditions_code (c ∷ cs) = condition_code c (length (conditions_code cs) + 1) ++ conditions_code cs
+abbrev pub conditions_code : Architecture → List Condition → List Insn
+conditions_code a [] = []
+conditions_code a (c ∷ cs) = condition_code a c (length (conditions_code a cs) + 1) ++ conditions_code a cs
 
 -- answers where the conditions hold, else goes on behind
-abbrev pub rule_code : Rule → List Insn
-rule_code r = conditions_code r.conditions ++ return_with r.answer.0 ∷ []
+abbrev pub rule_code : Architecture → Rule → List Insn
+rule_code a r = conditions_code a r.conditions ++ return_with r.answer.0 ∷ []
 
 -- what stands behind a rule with these conditions: nothing where there are none, since then it answers each call
 abbrev pub behind_rule : List Condition → List Insn → List Insn
@@ -37,9 +40,9 @@ behind_rule [] others = []
 behind_rule (c ∷ cs) others = others
 
 -- rules one after another, up to one without conditions, and where there is none the default answer behind them
-abbrev pub rules_code : Answer → List Rule → List Insn
-rules_code default [] = return_with default.0 ∷ []
-rules_code default (r ∷ rs) = rule_code r ++ behind_rule r.conditions (rules_code default rs)
+abbrev pub rules_code : Architecture → Answer → List Rule → List Insn
+rules_code a default [] = return_with default.0 ∷ []
+rules_code a default (r ∷ rs) = rule_code a r ++ behind_rule r.conditions (rules_code a default rs)
 
 -- Some instructions are put before others, which stay at their indices, and sound with them, and plain where this is so.
 pub record ArePut (plain : Type 0) (before after : List Insn) (index : Position) : Type 0 where
@@ -51,36 +54,46 @@ pub record ArePut (plain : Type 0) (before after : List Insn) (index : Position)
 
 -- From an index on each call with a number that the ranges serve is answered by the rules wanted of it, after two
 -- steps for each halving of the ranges.
-pub record IsSearchPut (default : Answer) (ranges : List NrRange) (before after : List Insn) (index : Position)
-    : Type 0 where
+pub record IsSearchPut (a : Architecture) (default : Answer) (ranges : List NrRange) (before after : List Insn)
+    (index : Position) : Type 0 where
   pub small : length after + 2 ≤ length before + sum_by range_bound ranges
   pub put : ArePut (AllRules IsPlainRule ranges) before after index
   pub ends : (call : CallRecord) (wanted : ℕ → List Rule) (low high halvings : ℕ) → IsRecord call
       → AreServed default wanted low ranges high → low ≤ call.nr → call.nr < high → length ranges ≤ 2 ^ halvings
-      → EndsWithin (words_of call) (code_from index after) call.nr (first_answer call default (wanted call.nr))
+      → EndsWithin (words_of call) (code_from index after) call.nr (first_answer a call default (wanted call.nr))
       (2 * halvings + (1 + sum_by rule_bound (wanted call.nr)))
 
--- From an index on each call with a number that isn't one of x32 is answered by the profile's rules of the number. Seven
--- instructions more are within the bound on the size, and five steps more within that on the steps.
-pub record IsSearchOf (p : Profile) (code : List Insn) (index : Position) : Type 0 where
-  pub some : 0 < index.0
-  pub near : IsNear index code
-  pub small : (length code + 7 ≤ size_bound_of p) × (size_bound_of p < 2 ^ 31)
-  pub sound : (plain : Bool) → (IsTrue plain → IsPlainProfile p) → AreSound plain code
-  pub ends : (call : CallRecord) → IsRecord call → call.nr < x32_syscall_bit
-      → EndsWithin (words_of call) (code_from index code) call.nr
-      (first_answer call p.default_answer (rules_of call.nr p.rules)) (search_bound_of p - 5)
+-- From its index on each call of the profile's architecture is answered by the profile's rules of the number.
+pub record IsSearchOf (p : Profile) (code : List Insn) (s : Search) : Type 0 where
+  pub architecture : s.architecture ≡ p.architecture
+  pub some : 0 < s.index.0
+  pub stands : s.index.0 ≤ length code
+  pub ends : (call : CallRecord) → IsRecord call → IsOf p.architecture call
+      → EndsWithin (words_of call) (code_from s.index code) call.nr
+      (first_answer p.architecture call p.default_answer (rules_of call.nr p.rules)) (3 + rules_steps p)
 
--- what the filter and the profile answer to a call
-pub record AnswersCall (p : Profile) (code : List Insn) (call : CallRecord) : Type 0 where
+-- each profile has its search
+abbrev pub AreSearchesOf : List Insn → List Profile → List Search → Type 0
+AreSearchesOf code [] [] = Unit {0}
+AreSearchesOf code (p ∷ ps) (s ∷ ss) = IsSearchOf p code s × AreSearchesOf code ps ss
+AreSearchesOf code _ _ = ⊥
+
+-- The code is the searches of the profiles. Seven instructions more for each are within the bound on the size.
+pub record AreSearched (ps : List Profile) (code : List Insn) (ss : List Search) : Type 0 where
+  pub each : AreSearchesOf code ps ss
+  pub small : length code + 7 * length ps ≤ size_bound_of_each ps
+  pub sound : (plain : Bool) → (IsTrue plain → All IsPlainProfile ps) → AreSound plain code
+
+-- what the filter and the profiles answer to a call
+pub record AnswersCall (ps : List Profile) (code : List Insn) (call : CallRecord) : Type 0 where
   pub answer : ℕ
-  pub of_words : EndsWithin (words_of call) code 0 answer (search_bound_of p)
-  pub of_profile : ProfileAnswers p call answer
+  pub of_words : EndsWithin (words_of call) code 0 answer (search_bound_of_each ps)
+  pub of_profiles : ProfilesAnswer ps call answer
 
--- The code answers each call as the profile does, and is within both bounds. It is sound, and plain where the profile
--- is.
-pub record IsFilterOf (p : Profile) (code : List Insn) : Type 0 where
+-- The code answers each call as the profiles do, and within the bound on the steps. Only where the bound on the size is
+-- more than a filter may have, the code can be. It is sound, and plain where the profiles are.
+pub record IsFilterOf (ps : List Profile) (code : List Insn) : Type 0 where
   pub some : 0 < length code
-  pub small : length code ≤ size_bound_of p
-  pub sound : (plain : Bool) → (IsTrue plain → IsPlainProfile p) → AreSound plain code
-  pub answered : (call : CallRecord) → IsRecord call → AnswersCall p code call
+  pub small : bpf_maxinsns < length code → bpf_maxinsns < size_bound_of_each ps
+  pub sound : (plain : Bool) → (IsTrue plain → All IsPlainProfile ps) → AreSound plain code
+  pub answered : (call : CallRecord) → IsRecord call → AnswersCall ps code call

@@ -2,23 +2,25 @@
 use Rattle.std.specs.Prelude.{◌≡◌, ℕ, ◌+◌, ◌*◌, ◌<◌, ◌≤◌, ◌⊎◌, All, Contains, List, [], ◌∷◌, ◌++◌, length, sum_by}
 use Rattle.std.specs.Prelude.{if◌then◌else◌}
 use Rattle.scf_insn.specs.declared.answer.Answer.{Answer}
+use Rattle.scf_insn.specs.declared.architecture.Architecture.{Architecture}
 use Rattle.scf_insn.specs.declared.record.CallRecord.{CallRecord}
-use Rattle.scf_insn.specs.Kernel.{x32_syscall_bit}
+use Rattle.scf_insn.specs.Architectures.{row_of}
 use Rattle.scf_profile.specs.declared.rule.Rule.{Rule}
 use Rattle.scf_profile.specs.Rule.{all_hold}
 use Rattle.scf_profile.specs.RulesByNumber.{numbers_of, rules_of}
 use Rattle.scf_compile.specs.declared.ranges.NrRange.{NrRange}
 use Rattle.scf_compile.specs.SizeBound.{rule_bound}
 
--- the answer of the first of the rules whose conditions hold, else the default
-abbrev pub first_answer : CallRecord → Answer → List Rule → ℕ
-first_answer call default [] = default.0
-first_answer call default (r ∷ rs) =
-    (if all_hold call r.conditions then r.answer.0 else first_answer call default rs)
+-- the answer of the first of an architecture's rules whose conditions hold, else the default
+abbrev pub first_answer : Architecture → CallRecord → Answer → List Rule → ℕ
+first_answer a call default [] = default.0
+first_answer a call default (r ∷ rs) =
+    (if all_hold a call r.conditions then r.answer.0 else first_answer a call default rs)
 
--- The rules answer each call as others do, and have no greater bound.
+-- The rules answer each call as others do, whatever their architecture, and have no greater bound.
 pub record StandsFor (default : Answer) (rules others : List Rule) : Type 0 where
-  pub answers : (call : CallRecord) → first_answer call default rules ≡ first_answer call default others
+  pub answers : (a : Architecture) (call : CallRecord)
+      → first_answer a call default rules ≡ first_answer a call default others
   pub small : sum_by rule_bound rules ≤ sum_by rule_bound others
 
 -- The rules of a number that tell: they stand for all of them, and are all or none.
@@ -58,17 +60,18 @@ pub data IsLaid (before : List NrRange) (first : ℕ) (rules : List Rule) (after
       → ((default : Answer) → StandsFor default last.rules.now rules) → after ≡ before
       → IsLaid before first rules after
 
--- Each number below `end` is served by one of the ranges, which have some of the rules. They are at most so many,
--- and so are the instructions that they stay within.
-pub record AreRangesUpTo (end most bound : ℕ) (default : Answer) (ranges : List NrRange) (rules : List Rule)
+-- Each number from `first` on and below `end` is served by one of the ranges, which have some of the rules. They are at
+-- most so many, and so are the instructions that they stay within.
+pub record AreRangesUpTo (first end most bound : ℕ) (default : Answer) (ranges : List NrRange) (rules : List Rule)
     : Type 0 where
-  pub serve : AreServed default (λ nr. rules_of nr rules) 0 ranges end
+  pub serve : AreServed default (λ nr. rules_of nr rules) first ranges end
   pub own : AllRules (Contains rules) ranges
   pub few : length ranges ≤ most
   pub small : sum_by range_bound ranges ≤ bound
 
--- These are the ranges of the rules: each number is served by one, and they are few and small.
-abbrev pub AreRangesOf : Answer → List NrRange → List Rule → Type 0
-AreRangesOf default ranges rules =
+-- These are the ranges of an architecture's rules: each of its numbers is served by one, and they are few and small.
+abbrev pub AreRangesOf : Architecture → Answer → List NrRange → List Rule → Type 0
+AreRangesOf a default ranges rules =
     let count = length (numbers_of rules) in
-    AreRangesUpTo x32_syscall_bit (1 + 2 * count) (3 + 4 * count + sum_by rule_bound rules) default ranges rules
+    AreRangesUpTo (row_of a).first ((row_of a).last + 1) (1 + 2 * count) (3 + 4 * count + sum_by rule_bound rules)
+    default ranges rules

@@ -1,6 +1,6 @@
 -- Code that is put together from its last instruction to its first.
 use Rattle.std.specs.Prelude.{◌≡◌, ◌≢◌, ℕ, ◌+◌, ◌-◌, ◌<◌, ◌≤◌, ◌⊎◌, All, List, [], ◌∷◌, ◌++◌, drop, length, nat_le}
-use Rattle.std.specs.Prelude.{take}
+use Rattle.std.specs.Prelude.{◌==◌, take}
 use Rattle.std.specs.Prelude.{if◌then◌else◌}
 use Rattle.scf_insn.specs.declared.insn.Insn.{Insn}
 use Rattle.scf_insn.specs.declared.operation.Test.{Test}
@@ -38,6 +38,10 @@ pub record IsPut (block before after : List Insn) (index : Position) : Type 0 wh
   pub near : IsNear index after
   pub once : (insn : Insn) → block ≡ insn ∷ [] → (after ≡ before) ⊎ IsOutOfReach insn before
 
+-- the block stands in the code behind some instructions
+abbrev pub StandsBehind : ℕ → List Insn → List Insn → Type 0
+StandsBehind passed block code = (behind : List Insn) × (drop passed code ≡ block ++ behind)
+
 -- tests the accumulator, and passes `hit` instructions where the test holds and else `miss`: more than 255 by a jump of
 -- their own
 abbrev pub branch_code : Test → ℕ → ℕ → ℕ → List Insn
@@ -45,3 +49,7 @@ branch_code test constant hit miss =
     (if nat_le miss 255
     then jump_if test constant hit miss ∷ []
     else jump_if test constant (1 + hit) 0 ∷ jump_over miss ∷ [])
+
+-- passes some instructions, if there are any to pass
+abbrev pub skip_code : ℕ → List Insn
+skip_code count = (if count == 0 then [] else jump_over count ∷ [])

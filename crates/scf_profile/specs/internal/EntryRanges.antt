@@ -1,9 +1,12 @@
 -- The ranges of what entries and rules hold, and how many rules there may be.
-use Rattle.std.specs.Prelude.{◌≡◌, ◌≢◌, ◌<◌, ◌≤◌, ◌^◌, List, length, All, Contains}
+use Rattle.std.specs.Prelude.{◌≡◌, ◌≢◌, ◌<◌, ◌≤◌, ◌^◌, List, length, nat_lt, true, All, Contains}
+use Rattle.std.specs.List.{list_any}
+use Rattle.scf_insn.specs.declared.architecture.Architecture.{Architecture}
 use Rattle.scf_profile.specs.declared.entry.Entry.{Entry}
 use Rattle.scf_profile.specs.declared.load_fault.LoadFault.{LoadFault}
 use Rattle.scf_profile.specs.declared.load_fault.LoadFault.TheVariants as faults
 use Rattle.scf_profile.specs.declared.rule.Rule.{Rule}
+use Rattle.scf_profile.specs.Profile.{Profile}
 use Rattle.scf_profile.specs.Limits.{max_rules}
 use Rattle.scf_profile.specs.Rule.{AreConditions, IsRule}
 
@@ -12,11 +15,17 @@ pub record IsEntry (e : Entry) : Type 0 where
   pub answer : e.answer.0 < 2 ^ 32
 
 -- rules that entries state: few enough, each within its ranges, and those of one entry with one answer
-pub record AreStatedRules (rules : List Rule) : Type 0 where
+pub record AreStatedRules (architecture : Architecture) (rules : List Rule) : Type 0 where
   pub few : length rules ≤ max_rules
-  pub each : All IsRule rules
+  pub each : All (IsRule architecture) rules
   pub one_answer : (r s : Rule) → Contains rules r → Contains rules s → r.entry ≡ s.entry → r.answer ≡ s.answer
 
 -- a fault other than out of memory tells that the rules are too many, and they are
 abbrev pub TellsTooMany : List Rule → LoadFault → Type 0
 TellsTooMany rules fault = fault ≢ faults.Memory → (fault ≡ faults.TooMany) × (max_rules < length rules)
+
+-- a fault other than out of memory tells that the rules of some profile are too many, and they are
+abbrev pub TellsOneTooMany : List Profile → LoadFault → Type 0
+TellsOneTooMany profiles fault =
+    fault ≢ faults.Memory
+    → (fault ≡ faults.TooMany) × (list_any (λ p. nat_lt max_rules (length p.rules)) profiles ≡ true)

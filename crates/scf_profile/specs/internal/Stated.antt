@@ -1,16 +1,41 @@
 -- What was read of a text, as it is loaded where no rules conflict.
-use Rattle.std.specs.Prelude.{◌≡◌}
+use Rattle.std.specs.Prelude.{map}
+use Rattle.serde_json.specs.View.{view}
+use Rattle.scf_insn.specs.declared.answer.Answer.{Answer}
+use Rattle.scf_profile.specs.declared.profile_text.Head.{Head as HeadRead}
 use Rattle.scf_profile.specs.declared.profile_text.Stated.{Stated}
+use Rattle.scf_profile.specs.declared.profile_text.StatedProfiles.{StatedProfiles}
+use Rattle.scf_profile.specs.declared.profile_text.StatedRules.{StatedRules}
 use Rattle.scf_profile.specs.declared.loaded.Loaded.{Loaded}
-use Rattle.scf_profile.specs.Profile.{HaveNoConflict}
+use Rattle.scf_profile.specs.declared.loaded.LoadedProfiles.{LoadedProfiles}
+use Rattle.scf_profile.specs.Profile.{Profile}
+use Rattle.scf_profile.specs.StatedProfile.{Head}
+
+abbrev pub head_stated : HeadRead → Head
+head_stated head = record {
+  object = view head.object.now;
+  default_answer = head.default_answer;
+  architectures = head.architectures;
+}
+
+-- rules with a default answer, as the profile of their architecture
+abbrev pub stated_profile : Answer → StatedRules → Profile
+stated_profile default_answer s = record {
+  architecture = s.architecture;
+  default_answer = default_answer;
+  rules = s.rules.items;
+}
 
 abbrev pub loaded_of : Stated → Loaded
 loaded_of s = record {
-  profile = record { default_answer = s.default_answer; rules = s.rules.items };
+  profile = stated_profile s.default_answer s.rules;
   skipped = s.skipped;
   other_architectures = s.other_architectures;
 }
 
--- just this is loaded, and no two of its rules conflict
-abbrev pub IsWithoutConflict : Stated → Loaded → Type 0
-IsWithoutConflict s loaded = (loaded ≡ loaded_of s) × HaveNoConflict s.rules.items
+abbrev pub loaded_profiles_of : StatedProfiles → LoadedProfiles
+loaded_profiles_of s = record {
+  profiles = map (stated_profile s.default_answer) s.rules.items;
+  skipped = s.skipped;
+  other_architectures = s.other_architectures;
+}

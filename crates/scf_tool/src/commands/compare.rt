@@ -18,7 +18,7 @@ ghost use Rattle.std.specs.Prelude.{
 };
 ghost use Rattle.std.specs.Option.{option_map_or};
 ghost use Rattle.scf_tool.specs.CallReports.{joint_of};
-ghost use Rattle.scf_tool.specs.Commands.{Compares, ComparesParts, HoldsBundle, ReadsInput};
+ghost use Rattle.scf_tool.specs.Commands.{Compares, ComparesParts, HoldsBundle, IsReport, ReadsInput};
 ghost use Rattle.scf_tool.specs.Reports.{finding_status};
 ghost use Rattle.scf_tool.specs.Statuses.{LeavesWhole};
 ghost use Rattle.scf_request.specs.Bundle.{IsBundleFault};
@@ -33,6 +33,7 @@ use crate::reply::Reply;
 use crate::reporting::{finding_of_verdict, report_by};
 use crate::stack_verification::verify_by;
 use crate::status::Status;
+use crate::verification::Outcome;
 use crate::verify_fault::VerifyFault;
 use scf_compare::Finding;
 use scf_insn::Source;
@@ -58,6 +59,20 @@ pub(super) fn status_of_calls(calls: &[CallFinding]) -> Status
     joint_finding(calls).map_or(Status::Well, |finding| status_of_finding(&finding))
 }
 
+/// The report on an outcome.
+pub(super) fn report_of(
+    alloc: Global,
+    relation: Relation,
+    outcome: &Outcome,
+) -> Result<Reply, VerifyFault>
+    ensures reply { IfOk result (IsReport relation outcome.now) }
+    ensures memory { IfErr result (λ fault. fault ≡ VerifyFault.Memory) }
+{
+    let status = status_of_finding(&finding_of_verdict(&outcome.verdict));
+    let text = report_by(alloc, relation, outcome)?;
+    Ok(Reply::Compared { text, status })
+}
+
 /// The report on a stack and a profile over the records of a scope.
 fn compare_at_once(
     alloc: Global,
@@ -74,9 +89,7 @@ fn compare_at_once(
         (map rest_of filters.old) (rest_of profile.old) (rest_of table.old) (Err (Fault.Verify fault))) }
 {
     let outcome = verify_by(alloc, filters, profile, table, scope, relation, limits.each)?;
-    let status = status_of_finding(&finding_of_verdict(&outcome.verdict));
-    let text = report_by(alloc, relation, &outcome)?;
-    Ok(Reply::Compared { text, status })
+    report_of(alloc, relation, &outcome)
 }
 
 /// The report on a stack and a profile, call by call of the table.

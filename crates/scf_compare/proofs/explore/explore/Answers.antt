@@ -1,6 +1,6 @@
 use Rattle.std.specs.Prelude.{sum_by}
 use Rattle.scf_compare.proofs.Common.{ap, length, open_size, sym, ◌≡◌, ◌+◌, ◌<◌, ◌≤◌, ◌⊎◌, ◌∙◌, ℕ, List, inl, inr, arith, refl, Option, None, Some, IfSome, IsSome, IsWords-words_of, call_of-words_of, words_of, Compared, AllRelated, IsFindingDecided, IsTrueFinding, Which, AreWordsIn, IsFirstUndecided, WereSeen, finding_of_all}
-use Rattle.scf_compare.specs.Findings.{AreSteps, IsStepCount, IsFindingWithin}
+use Rattle.scf_compare.specs.Findings.{IsStepCount, IsFindingWithin}
 use Rattle.scf_compare.proofs.explore.explore.Goals as goal
 
 -- what was seen stays so

@@ -1,12 +1,19 @@
-use Rattle.scf_compile.proofs.Valid.{answers_within, keeps_scratch_rule, sound_is_valid}
+use Rattle.scf_compile.proofs.Common.{◌∷◌, [], IfOk-weaker, RunAnswers, SameAnswers, SameAnswersAsEach}
+use Rattle.scf_compile.proofs.Valid.{one_plain, one_same, one_search_bound}
 use Rattle.scf_compile.proofs.compiler.compile.Goals as goal
 
-pub returns-in-Ok-clause-searched : goal.returns-in-Ok-clause-searched
-returns-in-Ok-clause-searched c = rw c.in-Ok.ensures.accepted.0 (answers_within c.in_ok-code.ensures)
+pub returns-clause-same : goal.returns-clause-same
+returns-clause-same c =
+    let p = c.args.profile.now in
+    IfOk-weaker c.program_of.result (λ program. SameAnswersAsEach (RunAnswers program) (p ∷ []))
+    (λ program. SameAnswers (RunAnswers program) p) (λ program same. one_same p (RunAnswers program) same)
+    (rw c.from_ref.ensures.value at c.program_of.ensures.same)
 
--- a list that keeps both rules is refused when memory runs out alone
-pub unreachable-requires : goal.unreachable-requires
-unreachable-requires c =
-    let few = rw c.as_slice.ensures.value at c.if-as_slice-gt-BPF_MAXINSNS.false in
-    c.in-Err.ensures.only_where c.in_default.not-Memory (sound_is_valid c.in_ok-code.ensures few)
-    (keeps_scratch_rule c.in_ok-code.ensures)
+pub returns-clause-searched : goal.returns-clause-searched
+returns-clause-searched c =
+    let p = c.args.profile.now in
+    rw one_search_bound at (rw c.from_ref.ensures.value at c.program_of.ensures.searched)
+
+pub returns-clause-plain : goal.returns-clause-plain
+returns-clause-plain c = λ plain.
+    (rw c.from_ref.ensures.value at c.program_of.ensures.plain) (one_plain c.args.profile.now plain)

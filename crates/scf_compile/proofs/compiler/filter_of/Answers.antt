@@ -1,12 +1,19 @@
-use Rattle.scf_compile.proofs.Common.{auto_rules, ◌≡◌, ◌∷◌, length, load_word}
-use Rattle.scf_compile.proofs.Filters.{filter_put}
+use Rattle.scf_compile.proofs.Common.{auto_rules, ◌≡◌, ◌∷◌, arith, load_word}
+use Rattle.scf_compile.proofs.Filters.{all_stand, filter_put}
 use Rattle.scf_compile.proofs.compiler.filter_of.Goals as goal
+
+pub put_dispatch-requires-clause-stand : goal.put_dispatch-requires-clause-stand
+put_dispatch-requires-clause-stand c =
+    rw c.deref.ensures.value (all_stand _ c.args.profiles.now _ c.in_ok-code.ensures.put.each).0
+
+pub put_dispatch-requires-clause-few : goal.put_dispatch-requires-clause-few
+put_dispatch-requires-clause-few c =
+    let count = (all_stand _ c.args.profiles.now _ c.in_ok-code.ensures.put.each).1 in
+    let few = c.requires.few in
+    rw c.deref.ensures.value (omega (arith, c.in_ok-code.ensures.small))
 
 pub returns : goal.returns
 returns c =
-    let load : c.push_front.new.self.items ≡ load_word 0 ∷ c.put_branch.new.code.items = search auto_rules in
-    let here : c.len.result ≡ length c.push_front.new.self.items = search auto_rules in
-    let whole : c.from.result.items ≡ load_word 1 ∷ c.put_branch-2.new.code.items = search auto_rules in
-    filter_put (record { 0 = c.len.result }) c.in_ok-code.ensures (rw c.return_with.ensures at c.in_ok-x32.ensures)
-    c.in_ok-put_branch.ensures load here (rw c.return_with-2.ensures at c.in_ok-foreign.ensures)
-    c.in_ok-put_branch-2.ensures whole
+    let whole : c.from.result.items ≡ load_word 1 ∷ c.put_dispatch.new.code.items = search auto_rules in
+    filter_put c.requires.apart c.in_ok-code.ensures.put
+    (rw c.deref.ensures.value at c.in_ok-put_dispatch.ensures) whole

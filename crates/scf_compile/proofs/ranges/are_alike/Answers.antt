@@ -11,14 +11,14 @@ AreLike p = (pointwise eq-value.it p.0.conditions p.1.conditions ≡ true) × (p
 -- rules that are alike one by one stand for one another
 alike : (default : Answer) (rs os : List Rule) → length rs ≡ length os → AllByRecursion AreLike (zip rs os)
     → StandsFor default rs os
-alike default [] [] len all = record { answers = λ call. refl; small = omega arith }
+alike default [] [] len all = record { answers = λ a call. refl; small = omega arith }
 alike default [] (o ∷ os) len all = absurd (omega arith)
 alike default (r ∷ rs) [] len all = absurd (omega arith)
 alike default (r ∷ rs) (o ∷ os) len all =
     let rest = alike default rs os (omega arith) all.1 in
     let conditions = same_conditions r.conditions o.conditions all.0.0 in
     record {
-      answers = λ call. rw (conditions, all.0.1, rest.answers call) refl;
+      answers = λ a call. rw (conditions, all.0.1, rest.answers a call) refl;
       small = rw (sum_by-cons rule_bound r rs, sum_by-cons rule_bound o os, conditions)
           (let small = rest.small in omega arith);
     }

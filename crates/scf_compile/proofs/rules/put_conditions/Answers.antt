@@ -6,7 +6,7 @@ loop-i-preserved c =
     let conditions = c.args.conditions.now in
     let whole = c.loop-i.invariant.whole in
     let i = c.loop-i.i in
-    let rest = conditions_code (drop i conditions) in
+    let rest = conditions_code c.args.architecture (drop i conditions) in
     let some : Condition = record { index = 0; op = NotEqual; value = 0; value_two = 0 } in
     let more : drop (i - 1) conditions ≡ get_or conditions (i - 1) some ∷ drop i conditions =
     drop_more conditions (i - 1) some (search rules)

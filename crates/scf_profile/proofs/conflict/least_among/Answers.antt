@@ -13,14 +13,14 @@ loop-later-preserved c =
     let keeps = c.least_with-least.ensures.keeps in
     record {
       one =
-          one_more (λ d. (c.args.known ≡ Some d) ⊎ EntriesConflict rules d.first d.second d.number)
-          (λ d. Any (λ r. IsClashOf r later d) rules) least more
+          one_more (λ d. (c.args.known ≡ Some d) ⊎ EntriesConflict c.args.architecture rules d.first d.second d.number)
+          (λ d. Any (λ r. IsClashOf c.args.architecture r later d) rules) least more
           (λ d (k, r, lt, at, clash).
           inr (k, r, lt, at, (i, later, c.loop-later-test.true, sym c.later-item.is, clash)))
           c.loop-later.invariant.one c.least_with-least.ensures.one;
       bounds =
-          All-more (λ l. All (IsClashBounded more l) rules) rules i later c.loop-later-test.true
-          (still_bounded least more keeps rules _ c.loop-later.invariant.bounds)
-          (subst (λ (l : Rule). All (IsClashBounded more l) rules) c.later-item.is c.least_with-least.ensures.bounds);
+          All-more (λ l. All (IsClashBounded c.args.architecture more l) rules) rules i later c.loop-later-test.true
+          (still_bounded c.args.architecture least more keeps rules _ c.loop-later.invariant.bounds)
+          (subst (λ (l : Rule). All (IsClashBounded c.args.architecture more l) rules) c.later-item.is c.least_with-least.ensures.bounds);
       keeps = λ d h. keeps d (c.loop-later.invariant.keeps d h);
     }

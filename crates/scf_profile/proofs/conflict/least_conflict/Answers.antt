@@ -18,21 +18,21 @@ loop-own-preserved c =
     let bounds = rw c.deref.ensures at c.least_among-least.ensures.bounds in
     record {
       one =
-          one_more (λ d. Any (λ (o : NumberRules). EntriesConflict o.rules.items d.first d.second d.number) numbers)
-          (λ d. EntriesConflict own.rules.items d.first d.second d.number) least more
+          one_more (λ d. Any (λ (o : NumberRules). EntriesConflict c.args.architecture o.rules.items d.first d.second d.number) numbers)
+          (λ d. EntriesConflict c.args.architecture own.rules.items d.first d.second d.number) least more
           (λ d h. (i, own, c.loop-own-test.true, sym c.own-item.is, h)) c.loop-own.invariant.one found;
       bounds =
-          All-more (λ (o : NumberRules). AreBounded o.rules.items more) numbers i own c.loop-own-test.true
-          (λ k d lt. still_bounded least more keeps _ _ (c.loop-own.invariant.bounds k d lt))
-          (subst (λ (o : NumberRules). AreBounded o.rules.items more) c.own-item.is bounds);
+          All-more (λ (o : NumberRules). AreBounded c.args.architecture o.rules.items more) numbers i own c.loop-own-test.true
+          (λ k d lt. still_bounded c.args.architecture least more keeps _ _ (c.loop-own.invariant.bounds k d lt))
+          (subst (λ (o : NumberRules). AreBounded c.args.architecture o.rules.items more) c.own-item.is bounds);
     }
 
 pub returns : goal.returns
 returns c = λ rules are.
     let numbers = c.args.numbers.now in
     let least = c.loop-own.least in
-    least_found rules least
-    (all_bounded numbers rules are least
-    (All-same (λ (own : NumberRules). AreBounded own.rules.items least) numbers _
+    least_found c.args.architecture rules least
+    (all_bounded c.args.architecture numbers rules are least
+    (All-same (λ (own : NumberRules). AreBounded c.args.architecture own.rules.items least) numbers _
     (sym (take_all _ _ c.loop-own-test.false)) c.loop-own.invariant.bounds))
-    (all_found numbers rules are least c.loop-own.invariant.one)
+    (all_found c.args.architecture numbers rules are least c.loop-own.invariant.one)

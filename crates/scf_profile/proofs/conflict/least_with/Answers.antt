@@ -11,11 +11,11 @@ loop-rule-preserved c =
     let rules = c.args.rules.now in
     let later = c.args.later.now in
     let i = c.loop-rule.rule-index in
-    let Bounded = IsClashBounded c.lesser-least.result later in
+    let Bounded = IsClashBounded c.args.architecture c.lesser-least.result later in
     record {
       one =
-          one_of_two (λ d. (c.args.known ≡ Some d) ⊎ Any (λ r. IsClashOf r later d) rules)
-          (IsClashOf c.rule-item.result later) c.loop-rule.least c.clash_of.result c.lesser-least.result
+          one_of_two (λ d. (c.args.known ≡ Some d) ⊎ Any (λ r. IsClashOf c.args.architecture r later d) rules)
+          (IsClashOf c.args.architecture c.rule-item.result later) c.loop-rule.least c.clash_of.result c.lesser-least.result
           (λ d is. inr (i, c.rule-item.result, c.loop-rule-test.true, sym c.rule-item.is, is))
           c.loop-rule.invariant.one c.clash_of.ensures.some c.lesser-least.ensures.one;
       bounds =

@@ -1,4 +1,4 @@
-use Rattle.scf_profile.proofs.Common.{List, subst, sym, IfOk-weaker, NamedCall, AreCallsOf, names_of}
+use Rattle.scf_profile.proofs.Common.{IfOk-weaker}
 use Rattle.scf_profile.proofs.NamedCalls.{are_calls}
 use Rattle.scf_profile.proofs.named_call.named_calls.Goals as goal
 

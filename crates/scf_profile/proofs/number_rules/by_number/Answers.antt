@@ -1,4 +1,4 @@
-use Rattle.scf_profile.proofs.Common.{List, subst, sym, IfOk-weaker, NumberRules, AreNumbersOf}
+use Rattle.scf_profile.proofs.Common.{IfOk-weaker}
 use Rattle.scf_profile.proofs.NumberLists.{are_numbers}
 use Rattle.scf_profile.proofs.number_rules.by_number.Goals as goal
 

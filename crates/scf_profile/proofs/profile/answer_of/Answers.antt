@@ -3,7 +3,7 @@ use Rattle.scf_profile.proofs.Answering.{answered}
 use Rattle.scf_profile.proofs.profile.answer_of.Goals as goal
 
 pub returns-in-Some : goal.returns-in-Some
-returns-in-Some c = answered _ c.args.call.now c.requires.native (Some c.in-Some.rule.now) c.in-Some.ensures
+returns-in-Some c = answered _ c.args.call.now c.requires.own (Some c.in-Some.rule.now) c.in-Some.ensures
 
 pub returns-in-None : goal.returns-in-None
-returns-in-None c = answered _ c.args.call.now c.requires.native None c.in-None.ensures
+returns-in-None c = answered _ c.args.call.now c.requires.own None c.in-None.ensures

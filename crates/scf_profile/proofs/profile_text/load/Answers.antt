@@ -1,18 +1,21 @@
-use Rattle.scf_profile.proofs.Common.{Ok, IfOk-weaker, MatchResult-weaker, view, Loads, TestsGive, loaded_of, IsWithoutConflict}
+use Rattle.scf_profile.proofs.Common.{Ok, Refuses, view, TestsGive, loaded_of, profile_of}
+use Rattle.scf_profile.proofs.Handed.{handed_fault}
 use Rattle.scf_profile.proofs.TestFaults.{refuses_of_conflict}
 use Rattle.scf_profile.proofs.profile_text.load.Goals as goal
 
 pub returns-clause-ok : goal.returns-clause-ok
 returns-clause-ok c =
-    let stated : TestsGive c.args.text.now c.args.table.now (Ok (loaded_of c.in_ok-read_root.field-0)) =
-    (view c.in_ok-value.value, c.in_ok-value.ensures.ok, c.in_ok-read_root.ensures.value) in
-    IfOk-weaker c.without_conflict.result (IsWithoutConflict c.in_ok-read_root.field-0)
-    (λ loaded. Loads c.args.text.now c.args.table.now loaded)
-    (λ loaded k. rw k.0 (stated, k.1)) c.without_conflict.ensures.ok
+    let stated = c.in_ok-stated.ensures.value in
+    let architecture = c.in_ok-stated.ensures.architecture in
+    let profile = c.in_ok-without_conflict.ensures.ok in
+    let none = rw profile at c.in_ok-without_conflict.ensures.no_conflict in
+    rw profile ((view c.in_ok-value.value, c.in_ok-value.ensures.ok, stated), rw architecture at none)
 
-pub returns-clause-err : goal.returns-clause-err
-returns-clause-err c =
-    let stated : TestsGive c.args.text.now c.args.table.now (Ok (loaded_of c.in_ok-read_root.field-0)) =
-    (view c.in_ok-value.value, c.in_ok-value.ensures.ok, c.in_ok-read_root.ensures.value) in
-    MatchResult-weaker c.without_conflict.result c.without_conflict.ensures.err (λ loaded k. k)
-    (λ e k. refuses_of_conflict _ _ (loaded_of c.in_ok-read_root.field-0) stated e k)
+pub returns-in_err-without_conflict-clause-err : goal.returns-in_err-without_conflict-clause-err
+returns-in_err-without_conflict-clause-err c =
+    let stated = c.in_ok-stated.stated in
+    let architecture = c.in_ok-stated.ensures.architecture in
+    let gives : TestsGive (profile_of c.args.table.now) c.args.text.now (Ok (loaded_of stated)) =
+    (view c.in_ok-value.value, c.in_ok-value.ensures.ok, c.in_ok-stated.ensures.value) in
+    handed_fault (Refuses c.args.text.now c.args.table.now) _ _ c.from_residual-in_err-without_conflict.ensures.1
+    (refuses_of_conflict _ _ (loaded_of stated) gives _ (rw architecture at c.in_err-without_conflict.ensures.err))

@@ -18,7 +18,9 @@ returns c =
     ∙ ap₂ with_rule fourth c.flag_argument-4.ensures.rule in
     let sixth = c.in_ok-arg-5.ensures.shape c.flag_argument-5.ensures.local
     ∙ ap₂ with_rule fifth c.flag_argument-5.ensures.rule in
-    IfOk-weaker c.arg-6.result _ _
-    (λ command (added : AddsArg c.in_ok-arg-5.field-0 c.flag_argument-6.result command).
-    added.shape c.flag_argument-6.ensures.local ∙ ap₂ with_rule sixth c.flag_argument-6.ensures.rule)
-    c.arg-6.ensures
+    let seventh = c.in_ok-arg-6.ensures.shape c.flag_argument-6.ensures.local
+    ∙ ap₂ with_rule sixth c.flag_argument-6.ensures.rule in
+    IfOk-weaker c.arg-7.result _ _
+    (λ command (added : AddsArg c.in_ok-arg-6.field-0 c.flag_argument-7.result command).
+    added.shape c.flag_argument-7.ensures.local ∙ ap₂ with_rule seventh c.flag_argument-7.ensures.rule)
+    c.arg-7.ensures

@@ -1,5 +1,5 @@
 use Rattle.scf_tool.proofs.Common.{get_or, ap, arith, err_from_is_err_and}
-use Rattle.scf_tool.proofs.StackLemmas.{SameFrom, stack_grows, no_stack, readers_stop}
+use Rattle.scf_tool.proofs.StackLemmas.{SameFrom, stack_grows, no_stack, filters_stop}
 use Rattle.scf_tool.proofs.filter_stack.read_stack.Goals as goal
 
 pub loop-reader-preserved : goal.loop-reader-preserved
@@ -34,5 +34,5 @@ returns-in_err-push_filter-clause-stopped g c =
       same = c.loop-reader.invariant.same;
     } in
     let p = err_from_is_err_and c.from_residual.result c.from_residual.ensures.1 in
-    rw (p.1, p.2) (readers_stop g.R.Source.remaining g.R.Source.failures _ _ _ _ _ _ c.in_err-push_filter.field-0.0
+    rw (p.1, p.2) (filters_stop g.R.Source.remaining g.R.Source.failures _ _ _ _ _ _ c.in_err-push_filter.field-0.0
     from c.loop-reader.invariant c.in_err-push_filter.ensures.left)

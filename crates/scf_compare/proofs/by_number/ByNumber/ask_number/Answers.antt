@@ -1,23 +1,11 @@
-use Rattle.scf_compare.proofs.Common.{◌≢◌, ◌≤◌, refl, ap, arith, rules, length, take_all, call_of}
+use Rattle.scf_compare.proofs.Common.{◌≢◌, refl, arith, rules, take_all, call_of}
 use Rattle.scf_compare.proofs.Bits.{word_is, word_isnt}
 use Rattle.scf_compare.proofs.Rules.{all_more, read_at}
 use Rattle.scf_compare.proofs.Numbered.{from_above, of_no_number, own_kept, sizes_from}
 use Rattle.scf_compare.proofs.by_number.ByNumber.ask_number.Goals as goal
 
 pub returns-then-from-numbers : goal.returns-then-from-numbers
-returns-then-from-numbers g c =
-    let s = c.args.self.now in
-    let from = c.first_possible-from.result in
-    let past : length s.numbers ≤ from =
-    omega (arith, ap length c.numbers-numbers.ensures.numbers, c.if-from-numbers.true) in
-    rw c.of_profile.ensures (record {
-      proper = (refl, tt);
-      leads = λ words given r. rw (c.default_answer-default_answer.ensures, c.profile.ensures)
-          (of_no_number s (call_of words) c.numbers-numbers.ensures.numbered r.0
-          (rw (take_all from s.numbers past) at (c.first_possible-from.ensures.possible words given.0 given.1 r.1)));
-      costs = omega arith;
-      plain = λ plain. refl;
-    })
+returns-then-from-numbers g c = grind (arith, of_no_number, take_all, c.first_possible-from.ensures.possible)
 
 pub returns-then-is_known_below : goal.returns-then-is_known_below
 returns-then-is_known_below g c =
@@ -49,7 +37,7 @@ returns g c =
       proper = search rules;
       leads = λ words given r. rw c.word_is.ensures (
         λ e. c.next_rule.ensures.reached words (record {
-          native = r.0;
+          is_of = r.0;
           own = rw (word_is words 0 own.number given.0 e, own_kept s c.numbers-numbers.ensures.numbered from own here);
           unmet = λ k d lt. absurd (omega arith);
         }),

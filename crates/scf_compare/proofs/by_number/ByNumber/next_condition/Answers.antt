@@ -1,6 +1,6 @@
-use Rattle.scf_compare.proofs.Common.{◌≡◌, ap, arith, length, slice_get, Some, slice_get-get_or, call_of, own_conditions, own_rules, size_behind, slice_index_or}
-use Rattle.scf_compare.proofs.Rules.{conditions_more, read_at}
-use Rattle.scf_compare.proofs.Numbered.{by_own_rule, conditions_read, no_condition}
+use Rattle.scf_compare.proofs.Common.{◌≡◌, ap, arith, length, slice_get, Some, slice_get-get_or, call_of, own_conditions, size_behind, slice_index_or}
+use Rattle.scf_compare.proofs.Rules.{conditions_more}
+use Rattle.scf_compare.proofs.Numbered.{by_own_rule, no_condition}
 use Rattle.scf_compare.proofs.by_number.ByNumber.next_condition.Goals as goal
 
 -- a condition stands there
@@ -8,11 +8,8 @@ here : (c : goal.Then-at-as_slice)
     → slice_get (own_conditions c.args.self.now.numbers c.args.at) c.args.at.condition
     ≡ Some (slice_index_or (own_conditions c.args.self.now.numbers c.args.at) c.args.at.condition no_condition)
 here c =
-    let numbers = c.args.self.now.numbers in
-    let rule = read_at _ (own_rules numbers c.args.at.number) c.args.at.rule _ c.rules_at.ensures.own
-    (omega (arith, c.requires.rule, ap length c.rules_at.ensures.own)) c.index-rules_at-at.is in
-    let count = ap length (conditions_read numbers c.args.at _ rule) in
-    slice_get-get_or (own_conditions numbers c.args.at) c.args.at.condition no_condition
+    let count = ap length c.rule_at-rule.ensures.conditions in
+    slice_get-get_or (own_conditions c.args.self.now.numbers c.args.at) c.args.at.condition no_condition
     (omega (arith, count, ap length c.as_slice.ensures, c.if-at-as_slice.true))
 
 pub returns-then-at-as_slice-clause-reached : goal.returns-then-at-as_slice-clause-reached
@@ -27,8 +24,5 @@ returns-then-at-as_slice-clause-size c =
 
 pub returns-else-at-as_slice-clause-reached : goal.returns-else-at-as_slice-clause-reached
 returns-else-at-as_slice-clause-reached c = λ words at.
-    let s = c.args.self.now in
-    let rule = read_at _ (own_rules s.numbers c.args.at.number) c.args.at.rule _ c.rules_at.ensures.own
-    (omega (arith, c.requires.rule, ap length c.rules_at.ensures.own)) c.index-rules_at-at.is in
-    by_own_rule s (call_of words) c.args.at _ at rule
+    by_own_rule c.args.self.now (call_of words) c.args.at _ at c.rule_at-rule.ensures.stands
     (omega (arith, ap length c.as_slice.ensures, c.if-at-as_slice.false))

@@ -19,5 +19,6 @@ returns-clause-known c =
 
 pub returns-clause-valid : goal.returns-clause-valid
 returns-clause-valid c =
-    of_own IsRule c
-    (All-from_recursion IsRule c.args.self.now.profile.rules c.numbers.ensures.numbered.valid.each)
+    let p = c.args.self.now.profile in
+    of_own (IsRule p.architecture) c
+    (All-from_recursion (IsRule p.architecture) p.rules c.numbers.ensures.numbered.valid.each)

@@ -1,0 +1,19 @@
+use Rattle.scf_tool.proofs.Common.{err_from_is_err_and}
+use Rattle.scf_tool.specs.declared.verification.Outcome.{Outcome}
+use Rattle.scf_c.proofs.ComparisonLemmas.{each_refused}
+use Rattle.scf_c.proofs.ReadingLemmas.{reads_well_each}
+use Rattle.scf_c.proofs.architecture_comparison.compare_each.Goals as goal
+
+pub returns-in_err-outcome-clause-refused : goal.returns-in_err-outcome-clause-refused
+returns-in_err-outcome-clause-refused c =
+    let p = err_from_is_err_and c.from_residual-in_err-outcome.result c.from_residual-in_err-outcome.ensures.1 in
+    let left = c.in_err-outcome.ensures in
+    rw (p.1, p.2) (each_refused c.args.filters.now c.args.profile.now c.args.tables.now c.in_err-outcome.field-0.0
+    (rw (
+      c.deref_mut.ensures.value,
+      c.deref_mut-2.ensures.value,
+      c.in_ok-readers.ensures,
+      c.in_ok-table_readers.ensures,
+      c.new.ensures,
+    ) at left.answer)
+    (reads_well_each Outcome _ _ _ _ _ _ _ left.filter_readers left.table_readers left.profile_reader))

@@ -1,0 +1,60 @@
+-- The architectures that a profile can name (OCI runtime specification, config-linux.md, seccomp), and which call records
+-- are theirs (Linux uapi audit.h, asm/unistd.h).
+use Rattle.std.specs.Prelude.{◌≡◌, ℕ, ◌-◌, ◌^◌, ◌<◌, ◌≤◌, List, [], ◌∷◌, codes}
+use Rattle.scf_insn.specs.declared.architecture.Architecture.{Architecture}
+use Rattle.scf_insn.specs.declared.architecture.Architecture.TheVariants.{X8664, X86, X32, Aarch64, Arm}
+use Rattle.scf_insn.specs.declared.architecture.ArgumentBits.{ArgumentBits}
+use Rattle.scf_insn.specs.declared.architecture.ArgumentBits.TheVariants.{Bits32, Bits64}
+use Rattle.scf_insn.specs.declared.record.CallRecord.{CallRecord}
+use Rattle.scf_insn.specs.Kernel.{audit_arch_x86_64, audit_arch_i386, audit_arch_aarch64, audit_arch_arm, x32_syscall_bit}
+use Rattle.scf_insn.specs.Words.{argument, low}
+
+-- What is known of an architecture: the value of `arch` in its records, its first and its last syscall number, how wide
+-- its arguments are, its name in a profile, and the kind of part that holds its syscall table in a bundle.
+pub record Row : Type 0 where
+  pub audit : ℕ
+  pub first : ℕ
+  pub last : ℕ
+  pub bits : ArgumentBits
+  pub name : List ℕ
+  pub part : List ℕ
+
+abbrev row : ℕ → ℕ → ℕ → ArgumentBits → List ℕ → List ℕ → Row
+row audit first last bits name part =
+    record { audit = audit; first = first; last = last; bits = bits; name = name; part = part }
+
+abbrev pub row_of : Architecture → Row
+row_of X8664 = row audit_arch_x86_64 0 (x32_syscall_bit - 1) Bits64 (codes "SCMP_ARCH_X86_64") (codes "table")
+row_of X86 = row audit_arch_i386 0 (2 ^ 32 - 1) Bits32 (codes "SCMP_ARCH_X86") (codes "table-x86")
+row_of X32 = row audit_arch_x86_64 x32_syscall_bit (2 ^ 32 - 1) Bits32 (codes "SCMP_ARCH_X32") (codes "table-x32")
+row_of Aarch64 = row audit_arch_aarch64 0 (2 ^ 32 - 1) Bits64 (codes "SCMP_ARCH_AARCH64") (codes "table-aarch64")
+row_of Arm = row audit_arch_arm 0 (2 ^ 32 - 1) Bits32 (codes "SCMP_ARCH_ARM") (codes "table-arm")
+
+-- all of them, in this order
+abbrev pub architectures : List Architecture
+architectures = X8664 ∷ X86 ∷ X32 ∷ Aarch64 ∷ Arm ∷ []
+
+-- the call record is of the architecture
+pub record IsOf (architecture : Architecture) (call : CallRecord) : Type 0 where
+  pub arch : call.arch ≡ (row_of architecture).audit
+  pub first : (row_of architecture).first ≤ call.nr
+  pub last : call.nr ≤ (row_of architecture).last
+
+-- Two architectures have no call record in common: where `arch` is one value, the numbers of the second follow those of the
+-- first.
+abbrev pub AreApart : Architecture → Architecture → Type 0
+AreApart one later = (row_of one).audit ≡ (row_of later).audit → (row_of one).last < (row_of later).first
+
+-- the greatest argument
+abbrev pub greatest_argument : ArgumentBits → ℕ
+greatest_argument Bits32 = 2 ^ 32 - 1
+greatest_argument Bits64 = 2 ^ 64 - 1
+
+-- what a syscall takes of a register of 64 bits: all of it, or its low half
+abbrev pub taken_of : ArgumentBits → ℕ → ℕ
+taken_of Bits32 register = low register
+taken_of Bits64 register = register
+
+-- the argument at an index, as the architecture's syscalls take it
+abbrev pub argument_in : Architecture → CallRecord → ℕ → ℕ
+argument_in architecture call i = taken_of (row_of architecture).bits (argument call i)

@@ -1,0 +1,183 @@
+//! The architectures that a profile can name (OCI runtime specification, config-linux.md, seccomp).
+
+ghost use Rattle.std.specs.Prelude.{◌≡◌, ◌↔◌, IsTrue};
+ghost use Rattle.scf_insn.specs.Architectures.{architectures, greatest_argument, row_of, taken_of, IsOf};
+
+use crate::kernel::{
+    AUDIT_ARCH_AARCH64, AUDIT_ARCH_ARM, AUDIT_ARCH_I386, AUDIT_ARCH_X86_64, X32_SYSCALL_BIT,
+};
+use crate::record::CallRecord;
+
+/// How many bits of a register are an argument: all 64, or the low 32.
+#[derive(Clone, Copy, Debug, PartialEq, Eq)]
+pub enum ArgumentBits {
+    Bits32,
+    Bits64,
+}
+
+impl ArgumentBits {
+    /// The greatest argument.
+    pub fn greatest(self) -> u64
+        ensures { result ≡ greatest_argument self }
+    {
+        match self {
+            ArgumentBits::Bits32 => 0xffff_ffff,
+            ArgumentBits::Bits64 => u64::MAX,
+        }
+    }
+
+    /// The argument in a register.
+    pub fn taken(self, register: u64) -> u64
+        ensures { result ≡ taken_of self register }
+    {
+        match self {
+            ArgumentBits::Bits32 => register & 0xffff_ffff,
+            ArgumentBits::Bits64 => register,
+        }
+    }
+}
+
+/// An architecture whose syscalls a profile can speak of, in the order of `Architecture::all`.
+#[derive(Clone, Copy, Debug, PartialEq, Eq)]
+pub enum Architecture {
+    X8664,
+    X86,
+    X32,
+    Aarch64,
+    Arm,
+}
+
+/// What is known of an architecture.
+#[derive(Clone, Copy)]
+struct Row {
+    audit: u32,
+    first: u32,
+    last: u32,
+    bits: ArgumentBits,
+    name: &'static str,
+    part: &'static str,
+}
+
+impl Architecture {
+    /// All of them.
+    pub fn all() -> [Architecture; 5]
+        ensures { result ≡ architectures }
+    {
+        [
+            Architecture::X8664,
+            Architecture::X86,
+            Architecture::X32,
+            Architecture::Aarch64,
+            Architecture::Arm,
+        ]
+    }
+
+    fn row(self) -> Row
+        ensures audit { result.audit ≡ (row_of self).audit }
+        ensures first { result.first ≡ (row_of self).first }
+        ensures last { result.last ≡ (row_of self).last }
+        ensures bits { result.bits ≡ (row_of self).bits }
+        ensures name { result.name.now ≡ (row_of self).name }
+        ensures part { result.part.now ≡ (row_of self).part }
+    {
+        let (audit, first, last, bits, name, part) = match self {
+            Architecture::X8664 => (
+                AUDIT_ARCH_X86_64,
+                0,
+                X32_SYSCALL_BIT - 1,
+                ArgumentBits::Bits64,
+                "SCMP_ARCH_X86_64",
+                "table",
+            ),
+            Architecture::X86 => (
+                AUDIT_ARCH_I386,
+                0,
+                u32::MAX,
+                ArgumentBits::Bits32,
+                "SCMP_ARCH_X86",
+                "table-x86",
+            ),
+            Architecture::X32 => (
+                AUDIT_ARCH_X86_64,
+                X32_SYSCALL_BIT,
+                u32::MAX,
+                ArgumentBits::Bits32,
+                "SCMP_ARCH_X32",
+                "table-x32",
+            ),
+            Architecture::Aarch64 => (
+                AUDIT_ARCH_AARCH64,
+                0,
+                u32::MAX,
+                ArgumentBits::Bits64,
+                "SCMP_ARCH_AARCH64",
+                "table-aarch64",
+            ),
+            Architecture::Arm => (
+                AUDIT_ARCH_ARM,
+                0,
+                u32::MAX,
+                ArgumentBits::Bits32,
+                "SCMP_ARCH_ARM",
+                "table-arm",
+            ),
+        };
+        Row {
+            audit,
+            first,
+            last,
+            bits,
+            name,
+            part,
+        }
+    }
+
+    /// The value of `arch` in its records.
+    pub fn audit(self) -> u32
+        ensures { result ≡ (row_of self).audit }
+    {
+        self.row().audit
+    }
+
+    /// Its first syscall number.
+    pub fn first(self) -> u32
+        ensures { result ≡ (row_of self).first }
+    {
+        self.row().first
+    }
+
+    /// The last number that its syscalls can have.
+    pub fn last(self) -> u32
+        ensures { result ≡ (row_of self).last }
+    {
+        self.row().last
+    }
+
+    /// How wide its arguments are.
+    pub fn argument_bits(self) -> ArgumentBits
+        ensures { result ≡ (row_of self).bits }
+    {
+        self.row().bits
+    }
+
+    /// Its name in a profile.
+    pub fn name(self) -> &'static str
+        ensures { result.now ≡ (row_of self).name }
+    {
+        self.row().name
+    }
+
+    /// The kind of part that holds its syscall table in a bundle.
+    pub fn part(self) -> &'static str
+        ensures { result.now ≡ (row_of self).part }
+    {
+        self.row().part
+    }
+
+    /// Whether a record is of the architecture.
+    pub fn has(self, call: &CallRecord) -> bool
+        ensures { IsTrue result ↔ IsOf self call.now }
+    {
+        call.arch == self.audit() && self.first() <= call.nr && call.nr <= self.last()
+    }
+}

@@ -1,0 +1,127 @@
+-- Profiles that are stated one after another.
+use Rattle.scf_profile.proofs.Common.{◌≡◌, ℕ, ◌+◌, ◌<◌, ◌∙◌, Bool, true, false, ◌||◌, List, [], ◌∷◌, ◌++◌, Option, Some, None, All, option_map, cons_option, filter_map, list_any, map, drop, get_or, length, ltb, refl, arith, add-one, drop-cons, le-ltb, map-append, append_assoc, list_any-append, false≢true, AllPairs-cons, All-head, All-tail, All-contains, All-cons, All-nil, AllByRecursion, Contains-append_right, Answer, Architecture, AreApart, AreOfApart, X8664, Profile, HaveNoConflict, LoadFault, AreStatedRules, TellsOneTooMany, max_rules, architectures, profile_for, profiles_from, table_for, Tables, Names, stated_profile, NamesLeastConflict, NamesFirstConflict, rules_from}
+use Rattle.scf_insn.proofs.Architectures.{EachApart, each_apart}
+use Rattle.scf_profile.specs.declared.entry.Entry.{Entry}
+use Rattle.scf_profile.specs.declared.load_fault.LoadFault.TheVariants as faults
+use Rattle.scf_profile.specs.declared.profile_text.StatedRules.{StatedRules}
+
+-- ---- the rules of each architecture
+
+-- one more, where there is one
+abbrev pub with_found : List StatedRules → Option StatedRules → List StatedRules
+with_found stated None = stated
+with_found stated (Some own) = stated ++ own ∷ []
+
+by_either : (a b c : Bool) → (b || false) ≡ true → (a || (b || c)) ≡ true
+by_either true b c h = refl
+by_either false true c h = refl
+by_either false false c h = absurd (false≢true h)
+
+module _ (tables : Tables) (entries : List Entry) (all : List Architecture) (i : ℕ) (lt : i < length all) where
+  abbrev one : Answer → Option Profile
+  one default = profile_for tables default entries (get_or all i X8664)
+
+  abbrev rest : Answer → List Profile
+  rest default = filter_map (profile_for tables default entries) (drop (i + 1) all)
+
+  left : (default : Answer) → filter_map (profile_for tables default entries) (drop i all)
+      ≡ cons_option (one default) (rest default)
+  left default = rw (add-one, drop-cons all i X8664 lt) refl
+
+  pub stated_more : (default : Answer) (stated : List StatedRules) (found : Option StatedRules) (whole : List Profile)
+      → option_map (stated_profile default) found ≡ one default
+      → map (stated_profile default) stated ++ filter_map (profile_for tables default entries) (drop i all) ≡ whole
+      → map (stated_profile default) (with_found stated found) ++ rest default ≡ whole
+  stated_more default stated found whole is so_far =
+      by_found found (rw (left default, ← is) at so_far) where
+        by_found : (o : Option StatedRules)
+            → map (stated_profile default) stated ++ cons_option (option_map (stated_profile default) o) (rest default)
+            ≡ whole → map (stated_profile default) (with_found stated o) ++ rest default ≡ whole
+        by_found None h = h
+        by_found (Some own) h =
+            rw (map-append (stated_profile default) stated (own ∷ []))
+            (append_assoc (map (stated_profile default) stated) (stated_profile default own ∷ []) (rest default) ∙ h)
+
+  -- the rules of one are too many
+  pub one_too_many : (default : Answer) (stated : List StatedRules) (whole : List Profile) (fault : LoadFault)
+      → map (stated_profile default) stated ++ filter_map (profile_for tables default entries) (drop i all) ≡ whole
+      → TellsOneTooMany (cons_option (one default) []) fault → TellsOneTooMany whole fault
+  one_too_many default stated whole fault so_far tells not_memory =
+      by_one (one default) (tells not_memory) (rw (left default) at so_far) where
+        too_many : Profile → Bool
+        too_many p = ltb max_rules (length p.rules)
+
+        by_one : (o : Option Profile) → (fault ≡ faults.TooMany) × (list_any too_many (cons_option o []) ≡ true)
+            → map (stated_profile default) stated ++ cons_option o (rest default) ≡ whole
+            → (fault ≡ faults.TooMany) × (list_any too_many whole ≡ true)
+        by_one None h is = absurd (false≢true h.1)
+        by_one (Some p) h is = (
+          h.0,
+          rw (← is, list_any-append too_many (map (stated_profile default) stated) (p ∷ rest default))
+              (by_either (list_any too_many (map (stated_profile default) stated)) (too_many p) _ h.1),
+        )
+
+-- the rules of one of few tables aren't too many
+pub none_too_many : (default : Answer) (stated : List StatedRules)
+    → All (λ s. AreStatedRules s.architecture s.rules.items) stated
+    → list_any (λ p. ltb max_rules (length p.rules)) (map (stated_profile default) stated) ≡ false
+none_too_many default [] all = refl
+none_too_many default (s ∷ stated) all =
+    rw (le-ltb _ _ (All-head (λ o. AreStatedRules o.architecture o.rules.items) s stated all).few)
+    (none_too_many default stated (All-tail (λ o. AreStatedRules o.architecture o.rules.items) s stated all))
+
+-- ---- profiles of architectures that are apart
+
+module _ (tables : Tables) (default : Answer) (entries : List Entry) where
+  abbrev profile_of : Architecture → Names → Profile
+  profile_of a table =
+      record { architecture = a; default_answer = default; rules = rules_from a table 0 entries }
+
+  later_apart : (a : Architecture) (all : List Architecture) → AllByRecursion (AreApart a) all
+      → All (λ p. AreApart a p.architecture) (filter_map (profile_for tables default entries) all)
+  later_apart a [] h = All-nil (λ p. AreApart a p.architecture)
+  later_apart a (b ∷ all) h = by_table (table_for tables b) (later_apart a all h.1) where
+    by_table : (o : Option Names)
+        → All (λ p. AreApart a p.architecture) (filter_map (profile_for tables default entries) all)
+        → All (λ p. AreApart a p.architecture)
+        (cons_option (option_map (profile_of b) o) (filter_map (profile_for tables default entries) all))
+    by_table None others = others
+    by_table (Some table) others = All-cons (λ p. AreApart a p.architecture) (profile_of b table) _ h.0 others
+
+  all_apart : (all : List Architecture) → EachApart all
+      → AreOfApart (filter_map (profile_for tables default entries) all)
+  all_apart [] h = λ i j d lt within. absurd (omega arith)
+  all_apart (a ∷ all) h = by_table (table_for tables a) (all_apart all h.1) where
+    by_table : (o : Option Names) → AreOfApart (filter_map (profile_for tables default entries) all)
+        → AreOfApart (cons_option (option_map (profile_of a) o) (filter_map (profile_for tables default entries) all))
+    by_table None others = others
+    by_table (Some table) others =
+        AllPairs-cons (λ (p : Profile) (later : Profile). AreApart p.architecture later.architecture)
+        (profile_of a table) _ (later_apart a all h.0) others
+
+  pub profiles_apart : AreOfApart (profiles_from tables default entries)
+  profiles_apart = all_apart architectures each_apart
+
+-- ---- conflicts of one profile after another
+
+module _ (default : Answer) (all before : List StatedRules) (own : StatedRules) (behind : List StatedRules)
+    (split : before ++ own ∷ behind ≡ all) where
+  -- what holds of all holds of one
+  pub of_own : (P : StatedRules → Type 0) → All P all → P own
+  of_own P holds =
+      All-contains P all own holds (rw (← split) (Contains-append_right before (own ∷ behind) own (0, omega arith, refl)))
+
+  pub first_conflict : (profiles : List Profile) (fault : LoadFault) → profiles ≡ map (stated_profile default) before
+      → All (λ p. HaveNoConflict p.architecture p.rules) profiles
+      → NamesLeastConflict own.architecture own.rules.items fault
+      → NamesFirstConflict (map (stated_profile default) all) fault
+  first_conflict profiles faults.Memory is none names = tt
+  first_conflict profiles (faults.Conflict number first second) is none names = record {
+    before = map (stated_profile default) before;
+    profile = stated_profile default own;
+    behind = map (stated_profile default) behind;
+    split = rw (← split) (map-append (stated_profile default) before (own ∷ behind));
+    none = rw (← is) none;
+    least = names;
+  }
+  first_conflict profiles fault is none names = absurd names

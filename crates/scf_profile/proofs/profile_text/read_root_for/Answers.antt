@@ -1,0 +1,26 @@
+use Rattle.scf_profile.proofs.Common.{refl, profiles_of, subst, sym, AreOfApart, tables_of}
+use Rattle.scf_profile.proofs.Stated.{none_too_many, profiles_apart}
+use Rattle.scf_profile.proofs.profile_text.read_root_for.Goals as goal
+
+pub returns-clause-value : goal.returns-clause-value
+unfolding profiles_of
+returns-clause-value c =
+    let default = c.in_ok-head.head.default_answer in
+    let same = rw c.deref.ensures.value at (c.in_ok-rules.ensures.rules default) in
+    let few = none_too_many default c.in_ok-rules.rules.items c.in_ok-rules.ensures.range in
+    let skipped = rw c.deref-2.ensures.value at c.in_ok-skipped.ensures in
+    rw (
+      c.in_ok-head.ensures.value,
+      ← c.in_ok-check_listed.ensures,
+      c.in_ok-entries.ensures.value,
+      ← same,
+      few,
+      skipped,
+      c.in_ok-other_architectures.ensures,
+    ) refl
+
+pub returns-clause-apart : goal.returns-clause-apart
+returns-clause-apart c =
+    let default = c.in_ok-head.head.default_answer in
+    subst AreOfApart (sym (c.in_ok-rules.ensures.rules default))
+    (profiles_apart (tables_of c.args.tables.now) default c.deref.result.now)

@@ -1,0 +1,83 @@
+//! The profiles of several architectures.
+
+ghost use Rattle.std.specs.Prelude.{◌≡◌, Contains, IfNone, IfSome};
+ghost use Rattle.scf_insn.specs.Architectures.{IsOf};
+ghost use Rattle.scf_profile.specs.Profile.{AreOfApart};
+ghost use Rattle.scf_profile.specs.ProfileAnswers.{IsOfNone, ProfilesAnswer};
+ghost use Rattle.scf_profile.specs.Reasons.{IsReasonAmong};
+
+use crate::profile::{FOREIGN_ANSWER, Profile};
+use crate::reason::Reason;
+use scf_insn::{Answer, CallRecord};
+use std::marker::Model;
+
+/// Profiles of several architectures, one for each. No record is of two of them.
+#[derive(Debug, Drop)]
+pub struct Profiles {
+    list: Vec<Profile>,
+}
+
+impl Model for Profiles {
+    ghost use Rattle.std.specs.Prelude.{List};
+    ghost use Rattle.scf_profile.specs.Profile.{Profile, AreOfApart};
+
+    ghost Value = { List Profile };
+
+    ghost view = { λ p. p.list.items };
+
+    ghost invariant = { λ p. AreOfApart p.list.items };
+}
+
+impl Profiles {
+    /// The list of these profiles, in order.
+    pub(crate) fn from_vec(list: Vec<Profile>) -> Profiles
+        requires { AreOfApart list.items }
+        ensures { result ≡ list.items }
+    {
+        Profiles { list }
+    }
+
+    /// The profile of the record's architecture, if there is one.
+    pub fn profile_for(&self, call: &CallRecord) -> Option<&Profile>
+        ensures some { IfSome result (λ p. Contains self.now p.now × IsOf p.now.architecture call.now) }
+        ensures none { IfNone result (IsOfNone self.now call.now) }
+    {
+        let profiles = self.as_slice();
+        for profile in profiles {
+            if profile.architecture().has(call) {
+                return Some(profile);
+            }
+        }
+        None
+    }
+
+    /// The answer to a record: that of the profile of its architecture, and KILL_PROCESS if there is none.
+    #[tactic(auto, using(crate::specs::ProfileAnswers::by_none, crate::specs::ProfileAnswers::by_profile))]
+    pub fn answer(&self, call: &CallRecord) -> Answer
+        ensures { ProfilesAnswer self.now call.now result.0 }
+    {
+        match self.profile_for(call) {
+            Some(profile) => profile.answer(call),
+            None => FOREIGN_ANSWER,
+        }
+    }
+
+    /// Why a record gets its answer: the reason of the profile of its architecture, and another architecture if there
+    /// is none.
+    pub fn reason(&self, call: &CallRecord) -> Reason
+        ensures { IsReasonAmong self.now call.now result }
+    {
+        match self.profile_for(call) {
+            Some(profile) => profile.reason(call),
+            None => Reason::Foreign,
+        }
+    }
+
+    /// The profiles, in order.
+    pub fn as_slice(&self) -> &[Profile]
+        ensures profiles { result.now ≡ self.now }
+        ensures apart { AreOfApart self.now }
+    {
+        &self.list
+    }
+}

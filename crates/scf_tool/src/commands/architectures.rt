@@ -1,0 +1,275 @@
+//! Commands on a profile with the tables of several architectures.
+
+ghost use Rattle.std.specs.Prelude.{◌≡◌, ◌≤◌, ◌↔◌, ◌∷◌, [], ℕ, true, false, List, Option, All, length, map, IfOk, IfErr, IsTrue, MatchOption, Ok, Err};
+ghost use Rattle.std.specs.List.{AllZip};
+ghost use Rattle.scf_insn.specs.Architectures.{architectures, row_of};
+ghost use Rattle.scf_machine.specs.Machine.{RunAnswers};
+ghost use Rattle.scf_profile.specs.SameAnswers.{SameAnswersAsEach};
+ghost use Rattle.scf_profile.specs.StatedProfile.{is_named};
+ghost use Rattle.scf_profile.specs.declared.loaded.LoadedProfiles.{LoadedProfiles};
+ghost use Rattle.scf_request.specs.Bundle.{AreNoParts, architecture_kinds};
+ghost use Rattle.scf_request.specs.Contents.{of_architectures, of_kind, rest_of, rest_of_table, texts_for};
+ghost use Rattle.scf_request.specs.declared.bundle.PartKind.TheVariants.{Filter, Profile as OfProfile};
+ghost use Rattle.scf_tool.specs.Commands.{
+  AreStated,
+  AreTaken,
+  CantLoadEach,
+  ComparesArchitectures,
+  CompilesEach,
+  EndsOnArchitectures,
+  GivesReasonAmong,
+  HoldsArchitectures,
+  HoldsOtherParts,
+  ReadsInput,
+  SpellsTable,
+};
+ghost use Rattle.scf_tool.specs.Statuses.{LeavesWhole};
+ghost use Rattle.scf_tool.specs.internal.Verification.{named_of};
+
+use crate::architecture_verification::verify_architectures;
+use crate::buffer::encoding_of;
+use crate::commands::compare::report_of;
+use crate::commands::{only, whole_input};
+use crate::fault::Fault;
+use crate::owned_table::{OwnedTable, load_under};
+use crate::reply::Reply;
+use crate::verify_fault::VerifyFault;
+use scf_compile::{CompileFault, compile_profiles};
+use scf_insn::{Architecture, CallRecord, Source};
+use scf_machine::Program;
+use scf_profile::{CallTable, LoadedProfiles, Relation, TableFault};
+use scf_request::{BundleFault, Contents, Limits, PartReader, TableReader};
+use std::alloc::Global;
+
+/// The parts of a bundle for several architectures.
+#[derive(Drop)]
+struct ArchitectureParts<'a> {
+    /// Readers of the filters, the oldest first.
+    filters: Vec<PartReader<'a>>,
+    profile: PartReader<'a>,
+    tables: Vec<TableReader<PartReader<'a>>>,
+}
+
+/// Whether a table is of an architecture.
+fn is_of(table: &TableReader<PartReader<'_>>, architecture: Architecture) -> bool
+    ensures { result ≡ is_named (row_of architecture).name table.now.architecture }
+{
+    table.architecture.name() == architecture.name()
+}
+
+/// How many of the tables are of an architecture.
+fn count_of(tables: &[TableReader<PartReader<'_>>], architecture: Architecture) -> usize
+    ensures { result ≡ length (texts_for architecture (map rest_of_table tables.now)) }
+{
+    let mut count: usize = 0;
+    for table in tables {
+        if is_of(table, architecture) {
+            count += 1;
+        }
+    }
+    count
+}
+
+/// Whether no two of the tables are of one architecture.
+fn are_distinct(tables: &[TableReader<PartReader<'_>>]) -> bool
+    ensures { IsTrue result
+        ↔ All (λ architecture. length (texts_for architecture (map rest_of_table tables.now)) ≤ 1) architectures }
+{
+    let all = Architecture::all();
+    for architecture in &all {
+        if count_of(tables, *architecture) > 1 {
+            return false;
+        }
+    }
+    true
+}
+
+/// Whether a bundle holds what a command takes: some filters or none, one profile, and one table or more, no two of one
+/// architecture.
+fn are_taken(contents: &Contents<'_>, has_filters: bool) -> bool
+    ensures { IsTrue result ↔ AreTaken has_filters (of_kind Filter contents.now) (of_kind OfProfile contents.now)
+        (of_architectures contents.now) }
+{
+    let has_some = !contents.filters.is_empty();
+    has_some == has_filters
+        && contents.profiles.len() == 1
+        && !contents.architecture_tables.is_empty()
+        && are_distinct(&contents.architecture_tables)
+}
+
+/// The parts of a bundle, where they are what a command takes.
+fn parts_of<'a>(
+    alloc: Global,
+    bytes: &'a [u8],
+    has_filters: bool,
+) -> Result<Option<ArchitectureParts<'a>>, BundleFault>
+    ensures parts { (input : Option (List ℕ)) → ReadsInput input (Ok bytes.now) → IfOk result (λ parts.
+        MatchOption parts
+        (HoldsOtherParts has_filters input)
+        (λ own. HoldsArchitectures input (map rest_of own.filters.items) (rest_of own.profile ∷ [])
+        (map rest_of_table own.tables.items)
+        × AreTaken has_filters (map rest_of own.filters.items) (rest_of own.profile ∷ [])
+        (map rest_of_table own.tables.items))) }
+    ensures fault { IfErr result (AreNoParts architecture_kinds bytes.now) }
+{
+    let contents = Contents::of_architectures(alloc, bytes)?;
+    if !are_taken(&contents, has_filters) {
+        return Ok(None);
+    }
+    let filters = contents.filters;
+    let tables = contents.architecture_tables;
+    match only(contents.profiles) {
+        Some(profile) => Ok(Some(ArchitectureParts {
+            filters,
+            profile,
+            tables,
+        })),
+        None => Ok(None),
+    }
+}
+
+/// The tables of a bundle, however long they are.
+fn owned_tables(
+    alloc: Global,
+    tables: &[TableReader<PartReader<'_>>],
+) -> Result<Vec<OwnedTable>, VerifyFault>
+    ensures tables { IfOk result (λ own. AllZip SpellsTable (map rest_of_table tables.now) (map named_of own.items)) }
+    ensures fault { IfErr result (λ fault. (profile : List ℕ)
+        → CantLoadEach profile (map rest_of_table tables.now) fault) }
+{
+    let mut own = Vec::new(alloc);
+    for part in tables {
+        let table = CallTable::read(alloc, part.reader.rest())?;
+        let architecture = part.architecture;
+        let Ok(()) = own.push(OwnedTable {
+            architecture,
+            table,
+        }) else {
+            return Err(VerifyFault::Table(TableFault::Memory));
+        };
+    }
+    Ok(own)
+}
+
+/// What a profile and tables state, however long they are.
+fn loaded(
+    alloc: Global,
+    profile: &[u8],
+    tables: &[TableReader<PartReader<'_>>],
+) -> Result<LoadedProfiles, VerifyFault>
+    ensures stated { IfOk result (AreStated profile.now (map rest_of_table tables.now)) }
+    ensures fault { IfErr result (CantLoadEach profile.now (map rest_of_table tables.now)) }
+{
+    let own = owned_tables(alloc, tables)?;
+    Ok(load_under(alloc, profile, &own)?)
+}
+
+/// The report on a stack and a profile, over the calls of each architecture that has a table.
+fn compare_parts(
+    alloc: Global,
+    parts: ArchitectureParts<'_>,
+    limits: Limits,
+    relation: Relation,
+) -> Result<Reply, VerifyFault>
+    ensures reply { IfOk result (λ reply. ComparesArchitectures relation limits (map rest_of parts.entry.filters.items)
+        (rest_of parts.entry.profile) (map rest_of_table parts.entry.tables.items) (Ok reply)) }
+    ensures fault { IfErr result (λ fault. ComparesArchitectures relation limits (map rest_of parts.entry.filters.items)
+        (rest_of parts.entry.profile) (map rest_of_table parts.entry.tables.items) (Err (Fault.Verify fault))) }
+{
+    let mut filters = parts.filters;
+    let mut profile = parts.profile;
+    let mut tables = parts.tables;
+    let outcome = verify_architectures(
+        alloc,
+        &mut filters,
+        &mut profile,
+        &mut tables,
+        relation,
+        limits.each,
+    )?;
+    report_of(alloc, relation, &outcome)
+}
+
+/// `compare --architectures`: whether a stack of filters answers as a profile does, or is no more or no less permissive,
+/// over the calls of each architecture that has a table.
+pub(super) fn compare_architectures<R: Source>(
+    alloc: Global,
+    limits: Limits,
+    relation: Relation,
+    input: &mut R,
+) -> Result<Reply, Fault>
+    ensures answer { EndsOnArchitectures true (R.remaining input.old) (ComparesArchitectures relation limits) result }
+    ensures left { LeavesWhole R.remaining R.failures input.old result input.new }
+{
+    let bytes = whole_input(alloc, input)?;
+    let Some(parts) = parts_of(alloc, &bytes, true)? else {
+        return Err(Fault::Parts);
+    };
+    Ok(compare_parts(alloc, parts, limits, relation)?)
+}
+
+/// The filter of a profile and tables.
+fn compiled(
+    alloc: Global,
+    profile: &[u8],
+    tables: &[TableReader<PartReader<'_>>],
+) -> Result<Program, Fault>
+    ensures program { IfOk result (λ program. (loaded : LoadedProfiles)
+        × AreStated profile.now (map rest_of_table tables.now) loaded
+        × SameAnswersAsEach (RunAnswers program) loaded.profiles) }
+    ensures fault { IfErr result (λ fault. (filters : List (List ℕ))
+        → CompilesEach filters profile.now (map rest_of_table tables.now) (Err fault)) }
+{
+    let loaded = loaded(alloc, profile, tables)?;
+    Ok(compile_profiles(alloc, &loaded.profiles)?)
+}
+
+/// The bytes of the filter of a profile and tables.
+fn filter_bytes(
+    alloc: Global,
+    profile: &[u8],
+    tables: &[TableReader<PartReader<'_>>],
+) -> Result<Vec<u8>, Fault>
+    ensures filter { IfOk result (λ bytes. (filters : List (List ℕ))
+        → CompilesEach filters profile.now (map rest_of_table tables.now) (Ok (Reply.Bytes bytes))) }
+    ensures fault { IfErr result (λ fault. (filters : List (List ℕ))
+        → CompilesEach filters profile.now (map rest_of_table tables.now) (Err fault)) }
+{
+    let program = compiled(alloc, profile, tables)?;
+    match encoding_of(alloc, program.insns()) {
+        Ok(bytes) => Ok(bytes),
+        Err(_) => Err(Fault::Compile(CompileFault::Memory)),
+    }
+}
+
+/// `compile --architectures`: the filter that answers as a profile does, for each architecture that has a table.
+pub(super) fn compile_architectures<R: Source>(alloc: Global, input: &mut R) -> Result<Reply, Fault>
+    ensures answer { EndsOnArchitectures false (R.remaining input.old) CompilesEach result }
+    ensures left { LeavesWhole R.remaining R.failures input.old result input.new }
+{
+    let bytes = whole_input(alloc, input)?;
+    let Some(parts) = parts_of(alloc, &bytes, false)? else {
+        return Err(Fault::Parts);
+    };
+    Ok(Reply::Bytes(filter_bytes(alloc, parts.profile.rest(), &parts.tables)?))
+}
+
+/// `ask --architectures`: what the profile of a call's architecture answers to it, and why.
+pub(super) fn ask_architectures<R: Source>(
+    alloc: Global,
+    call: &CallRecord,
+    input: &mut R,
+) -> Result<Reply, Fault>
+    ensures answer { EndsOnArchitectures false (R.remaining input.old) (GivesReasonAmong call.now) result }
+    ensures left { LeavesWhole R.remaining R.failures input.old result input.new }
+{
+    let bytes = whole_input(alloc, input)?;
+    let Some(parts) = parts_of(alloc, &bytes, false)? else {
+        return Err(Fault::Parts);
+    };
+    let loaded = loaded(alloc, parts.profile.rest(), &parts.tables)?;
+    Ok(Reply::Asked {
+        answer: loaded.profiles.answer(call),
+        reason: loaded.profiles.reason(call),
+    })
+}
