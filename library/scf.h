@@ -1,4 +1,5 @@
-/* libscf: checks, runs, lists, compiles and compares seccomp filters for x86-64, in memory.
+/* libscf: checks, runs, lists, compiles and compares seccomp filters, in memory. Profiles are those of x86-64, or of
+ * several architectures.
  *
  *     cc program.c $(pkg-config --cflags --libs scf)
  *
@@ -17,8 +18,8 @@
  * none may be made in a signal handler, or in the child of a fork of a process with threads before it runs another
  * program. A call takes less than 256 KiB of stack.
  *
- * Limits. A filter has at most 4096 instructions, a profile 4194304 bytes and 4096 rules, a stack of filters 32768
- * instructions, where each older filter counts 4 more.
+ * Limits. A filter has at most 4096 instructions, a profile 4194304 bytes and 4096 rules of an architecture, a stack
+ * of filters 32768 instructions, where each older filter counts 4 more.
  *
  * Numbers of this interface never change their meaning, and structs never change their layout. Statuses, kinds of
  * faults and other numbers may be added: take an unknown status for SCF_REFUSED.
@@ -46,7 +47,7 @@ uint32_t scf_version(void);
 enum scf_status {
     SCF_OK = 0,
     SCF_REFUSED = 1,        /* an input isn't accepted */
-    SCF_WRONG_ARGUMENT = 2, /* a number in a struct has no meaning; no fault says more */
+    SCF_WRONG_ARGUMENT = 2, /* a number has no meaning, or there is no table, or one twice; no fault says more */
     SCF_NO_MEMORY = 3       /* malloc failed; nothing stays allocated, and the call may be repeated */
 };
 
@@ -113,7 +114,9 @@ enum scf_kind {
     SCF_KIND_TOO_MANY = 36, /* rules; of stacks the total of instructions */
     SCF_KIND_CONFLICT = 37, /* the syscall number, and two entries */
     /* the compiler */
-    SCF_KIND_TOO_LARGE = 38
+    SCF_KIND_TOO_LARGE = 38,
+    /* profiles: the index of a table whose architecture isn't among `architectures` */
+    SCF_KIND_NOT_LISTED = 39
 };
 
 #define SCF_NO_ENTRY UINT64_MAX
@@ -128,7 +131,7 @@ struct scf_bytes {
 /* What a filter sees of a syscall: struct seccomp_data of linux/seccomp.h. */
 struct scf_call {
     uint32_t nr;
-    uint32_t arch; /* SCF_ARCH_X86_64 for a syscall of x86-64 */
+    uint32_t arch; /* AUDIT_ARCH_.. of linux/audit.h: SCF_ARCH_X86_64 for a syscall of x86-64 or x32 */
     uint64_t ip;
     uint64_t args[6];
 };
@@ -259,6 +262,44 @@ struct scf_call_comparison {
 uint32_t scf_compare_calls(const struct scf_bytes *filters, size_t filters_len, const struct scf_right_side *right,
                            const struct scf_question *question, struct scf_call_comparison *calls, size_t calls_room,
                            size_t *calls_needed, uint8_t *text, size_t room, size_t *needed, struct scf_fault *fault);
+
+/* ---- several architectures: calls for a profile that lists more than SCMP_ARCH_X86_64
+ *
+ * They take one table or more, at most one for an architecture, in any order. The profile must list the architecture of
+ * each; of others that it lists, nothing is said. */
+
+enum scf_architecture {
+    SCF_X86_64 = 1,
+    SCF_X86 = 2, /* i386 */
+    SCF_X32 = 3,
+    SCF_AARCH64 = 4,
+    SCF_ARM = 5
+};
+
+/* A syscall table, and the architecture whose syscalls it numbers; x32's has its numbers without the bit 0x40000000. */
+struct scf_table {
+    uint32_t architecture; /* enum scf_architecture */
+    uint32_t reserved;     /* 0 */
+    struct scf_bytes bytes;
+};
+
+/* Hands out a filter that answers every call of these architectures as the profile does, and others by KILL_PROCESS. */
+uint32_t scf_compile_architectures(const uint8_t *profile, size_t profile_len, const struct scf_table *tables,
+                                   size_t tables_len, uint8_t *filter, size_t room, size_t *needed,
+                                   struct scf_fault *fault);
+
+/* The profile's answer to a call, and why: SCF_FOREIGN for a call of no architecture that has a table. */
+uint32_t scf_ask_architectures(const uint8_t *profile, size_t profile_len, const struct scf_table *tables,
+                               size_t tables_len, const struct scf_call *call, uint32_t *answer,
+                               struct scf_reason *reason, struct scf_fault *fault);
+
+/* Compares a stack of filters, the oldest first, with the profile over the calls of all these architectures. `relation`
+ * is an enum scf_relation, `limit` the most steps for each architecture. The text is what `scf compare --architectures`
+ * prints. */
+uint32_t scf_compare_architectures(const struct scf_bytes *filters, size_t filters_len, const uint8_t *profile,
+                                   size_t profile_len, const struct scf_table *tables, size_t tables_len,
+                                   uint32_t relation, uint64_t limit, struct scf_comparison *comparison, uint8_t *text,
+                                   size_t room, size_t *needed, struct scf_fault *fault);
 
 #ifdef __cplusplus
 }

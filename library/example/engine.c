@@ -1,5 +1,5 @@
 /* What a container engine can do before it loads a filter: libseccomp builds the filter in memory, and scf proves that
- * it answers every syscall of x86-64 as the profile says.
+ * it answers every syscall of x86-64, i386 and x32 as the profile says.
  *
  *     cc engine.c $(pkg-config --cflags --libs scf libseccomp)
  *
@@ -14,36 +14,43 @@
 #include <sys/mman.h>
 #include <unistd.h>
 
-/* What an engine would have read from its configuration, and from x86_64.table. */
+/* What an engine would have read from its configuration, and from x86_64.table, i386.table and x32.table. */
 static const char profile[] =
-    "{\"defaultAction\": \"SCMP_ACT_ERRNO\", \"syscalls\": ["
+    "{\"defaultAction\": \"SCMP_ACT_ERRNO\","
+    " \"architectures\": [\"SCMP_ARCH_X86_64\", \"SCMP_ARCH_X86\", \"SCMP_ARCH_X32\"], \"syscalls\": ["
     "{\"names\": [\"read\", \"write\", \"exit_group\"], \"action\": \"SCMP_ACT_ALLOW\"},"
-    "{\"names\": [\"socket\"], \"action\": \"SCMP_ACT_ALLOW\","
-    " \"args\": [{\"index\": 0, \"value\": 40, \"op\": \"SCMP_CMP_NE\"}]}]}";
-static const char table[] = "read 0\nwrite 1\nsocket 41\nexit_group 231\n";
+    "{\"names\": [\"personality\"], \"action\": \"SCMP_ACT_ALLOW\","
+    " \"args\": [{\"index\": 0, \"value\": 8, \"op\": \"SCMP_CMP_EQ\"}]}]}";
+static const char x86_64[] = "read 0\nwrite 1\npersonality 135\nexit_group 231\n";
+static const char i386[] = "read 3\nwrite 4\npersonality 136\nexit_group 252\n";
 
 /* The filter that libseccomp makes of the same rules, or with one that is missing. */
 static int build(scmp_filter_ctx ctx, int is_wrong) {
     const int names[] = {SCMP_SYS(read), SCMP_SYS(write), SCMP_SYS(exit_group)};
+    if (seccomp_arch_add(ctx, SCMP_ARCH_X86) != 0 || seccomp_arch_add(ctx, SCMP_ARCH_X32) != 0) return -1;
     for (int i = is_wrong; i < 3; i++)
         if (seccomp_rule_add(ctx, SCMP_ACT_ALLOW, names[i], 0) != 0) return -1;
-    return seccomp_rule_add(ctx, SCMP_ACT_ALLOW, SCMP_SYS(socket), 1, SCMP_A0(SCMP_CMP_NE, 40));
+    return seccomp_rule_add(ctx, SCMP_ACT_ALLOW, SCMP_SYS(personality), 1, SCMP_A0(SCMP_CMP_EQ, 8));
+}
+
+static struct scf_bytes bytes_of(const char *text) {
+    return (struct scf_bytes){(const uint8_t *)text, strlen(text)};
 }
 
 /* Proves the filter: 0, 1 or 3 as above. */
 static int prove(const uint8_t *filter, size_t len) {
-    const struct scf_bytes stack = {filter, len};
-    const struct scf_right_side right = {
-        .kind = SCF_PROFILE,
-        .profile = {(const uint8_t *)profile, strlen(profile)},
-        .table = {(const uint8_t *)table, strlen(table)},
+    const struct scf_bytes stack = {filter, len}, own = bytes_of(profile);
+    const struct scf_table tables[] = {
+        {SCF_X86_64, 0, bytes_of(x86_64)},
+        {SCF_X86, 0, bytes_of(i386)},
+        {SCF_X32, 0, bytes_of(x86_64)}, /* these syscalls have the same numbers, but for a bit */
     };
-    const struct scf_question question = {.scope = SCF_NATIVE_CALLS, .relation = SCF_SAME, .limit = SCF_LIMIT};
     struct scf_comparison comparison;
     struct scf_fault fault;
     char report[4096];
     size_t needed;
-    if (scf_compare(&stack, 1, &right, &question, &comparison, (uint8_t *)report, sizeof report, &needed, &fault)
+    if (scf_compare_architectures(&stack, 1, own.at, own.len, tables, 3, SCF_SAME, SCF_LIMIT, &comparison,
+                                  (uint8_t *)report, sizeof report, &needed, &fault)
         != SCF_OK) {
         fprintf(stderr, "source %u is refused: kind %u\n", fault.source, fault.kind);
         return 3;

@@ -1,4 +1,4 @@
-// Package scf checks, runs, compiles and compares seccomp filters for x86-64 in this process, by libscf.
+// Package scf checks, runs, compiles and compares seccomp filters in this process, by libscf.
 //
 // What the library answers is proved: see docs/TRUST.md of scf. Each function is one of its arguments, and may be
 // called from any number of goroutines.
@@ -43,6 +43,29 @@ type Profile struct{ Text, Table []byte }
 type Filters struct {
 	Filters [][]byte
 	Table   []byte
+}
+
+// Architecture says whose syscalls a table numbers.
+type Architecture uint32
+
+const (
+	OnX86_64  Architecture = C.SCF_X86_64
+	OnX86     Architecture = C.SCF_X86 // i386
+	OnX32     Architecture = C.SCF_X32 // its table has its numbers without the bit 0x40000000
+	OnAarch64 Architecture = C.SCF_AARCH64
+	OnArm     Architecture = C.SCF_ARM
+)
+
+// Table is a syscall table, and the architecture whose syscalls it numbers.
+type Table struct {
+	Architecture Architecture
+	Text         []byte
+}
+
+// Profiles is an OCI profile, JSON, and the tables of the architectures that it is to speak for, at most one for each.
+type Profiles struct {
+	Text   []byte
+	Tables []Table
 }
 
 func (Profile) kind() C.uint32_t { return C.SCF_PROFILE }
@@ -122,8 +145,8 @@ func (f *Fault) Error() string {
 // ErrNoMemory says that malloc failed.
 var ErrNoMemory = errors.New("scf: out of memory")
 
-// ErrWrongArgument says that a number has no meaning.
-var ErrWrongArgument = errors.New("scf: a number has no meaning")
+// ErrWrongArgument says that a number has no meaning, or that there is no table, or two of one architecture.
+var ErrWrongArgument = errors.New("scf: a number has no meaning, or there is no table, or one twice")
 
 // ended makes a call of the library, and says how it ended.
 func ended(call func(fault *C.struct_scf_fault) C.uint32_t) error {
@@ -268,6 +291,50 @@ func (p Profile) Ask(call *Call) (answer uint32, why ReasonKind, entry uint32, e
 	return uint32(a), ReasonKind(reason.kind), uint32(reason.entry), err
 }
 
+// tables copies the tables into a list in C's memory, as several does.
+func (p Profiles) tables() (list *C.struct_scf_table, free func()) {
+	var texts [][]byte
+	for _, table := range p.Tables {
+		texts = append(texts, table.Text)
+	}
+	copies, freeTexts := several(texts)
+	list = (*C.struct_scf_table)(C.calloc(C.size_t(len(texts)+1), C.sizeof_struct_scf_table))
+	if list == nil {
+		panic("scf: out of memory")
+	}
+	all := unsafe.Slice(list, len(texts))
+	for i, text := range unsafe.Slice(copies, len(texts)) {
+		all[i] = C.struct_scf_table{architecture: C.uint32_t(p.Tables[i].Architecture), bytes: text}
+	}
+	return list, func() {
+		freeTexts()
+		C.free(unsafe.Pointer(list))
+	}
+}
+
+// Compile returns a filter that answers every call as the profile of its architecture does.
+func (p Profiles) Compile() ([]byte, error) {
+	tables, free := p.tables()
+	defer free()
+	return handedOut(1<<15, func(list []byte, needed *C.size_t, f *C.struct_scf_fault) C.uint32_t {
+		return C.scf_compile_architectures(at(p.Text), size(p.Text), tables, C.size_t(len(p.Tables)), at(list), size(list),
+			needed, f)
+	})
+}
+
+// Ask is Profile.Ask for the profile of the call's architecture; the reason is Foreign where that has no table.
+func (p Profiles) Ask(call *Call) (answer uint32, why ReasonKind, entry uint32, err error) {
+	tables, free := p.tables()
+	defer free()
+	var a C.uint32_t
+	var reason C.struct_scf_reason
+	err = ended(func(f *C.struct_scf_fault) C.uint32_t {
+		return C.scf_ask_architectures(at(p.Text), size(p.Text), tables, C.size_t(len(p.Tables)), record(call), &a,
+			&reason, f)
+	})
+	return uint32(a), ReasonKind(reason.kind), uint32(reason.entry), err
+}
+
 // rightSide makes the right side of a comparison, in C's memory as it holds pointers.
 func rightSide(right RightSide) (side *C.struct_scf_right_side, free func()) {
 	side = (*C.struct_scf_right_side)(C.calloc(1, C.sizeof_struct_scf_right_side))
@@ -311,6 +378,25 @@ func Compare(filters [][]byte, right RightSide, scope Scope, relation Relation, 
 	var found C.struct_scf_comparison
 	report, err := handedOut(1<<13, func(text []byte, needed *C.size_t, f *C.struct_scf_fault) C.uint32_t {
 		return C.scf_compare(list, C.size_t(len(filters)), side, &question, &found, at(text), size(text), needed, f)
+	})
+	if err != nil {
+		return nil, err
+	}
+	whole := compared(&found, report)
+	return &whole, nil
+}
+
+// CompareArchitectures compares a stack of filters, the oldest first, with a profile over the calls of all architectures
+// that have a table, each in at most limit steps.
+func CompareArchitectures(filters [][]byte, p Profiles, relation Relation, limit uint64) (*Comparison, error) {
+	list, free := several(filters)
+	defer free()
+	tables, freeTables := p.tables()
+	defer freeTables()
+	var found C.struct_scf_comparison
+	report, err := handedOut(1<<13, func(text []byte, needed *C.size_t, f *C.struct_scf_fault) C.uint32_t {
+		return C.scf_compare_architectures(list, C.size_t(len(filters)), at(p.Text), size(p.Text), tables,
+			C.size_t(len(p.Tables)), C.uint32_t(relation), C.uint64_t(limit), &found, at(text), size(text), needed, f)
 	})
 	if err != nil {
 		return nil, err

@@ -88,6 +88,38 @@ func TestProfiles(t *testing.T) {
 	}
 }
 
+func TestArchitectures(t *testing.T) {
+	p := Profiles{[]byte(`{"defaultAction": "SCMP_ACT_ERRNO", "architectures": ["SCMP_ARCH_X86_64", "SCMP_ARCH_X86"],
+		"syscalls": [{"names": ["read"], "action": "SCMP_ACT_ALLOW"}]}`),
+		[]Table{{OnX86_64, []byte("read 0\n")}, {OnX86, []byte("read 3\n")}}}
+	const i386 = 0x40000003
+	for _, row := range []struct {
+		call   Call
+		answer uint32
+		why    ReasonKind
+	}{{read, retAllow, ByEntry}, {Call{Nr: 3, Arch: i386}, retAllow, ByEntry}, {Call{Nr: 0, Arch: i386}, retEperm, ByDefault},
+		{Call{Nr: 1 << 30, Arch: X86_64}, retKillProcess, Foreign}} {
+		answer, why, entry, err := p.Ask(&row.call)
+		is(t, []any{answer, why, entry, err}, []any{row.answer, row.why, uint32(0), nil})
+	}
+	filter, _ := p.Compile()
+	found, err := CompareArchitectures([][]byte{filter}, p, Same, Limit)
+	if err != nil || found.Verdict != Holds || string(found.Report) != "same\n" {
+		t.Error(found, err)
+	}
+	filter, _ = Profiles{p.Text, p.Tables[:1]}.Compile()
+	found, err = CompareArchitectures([][]byte{filter}, p, Same, Limit)
+	if err != nil || found.Verdict != Fails || found.Call.Arch != i386 {
+		t.Error(found, err)
+	}
+	_, err = CompareArchitectures(nil, Profiles{p.Text, []Table{p.Tables[0], {OnArm, nil}}}, Same, Limit)
+	refused(t, err, 5, 39, 1)
+	_, err = CompareArchitectures(nil, Profiles{p.Text, append(p.Tables, p.Tables[0])}, Same, Limit)
+	is(t, err, ErrWrongArgument)
+	_, err = Profiles{p.Text, nil}.Compile()
+	is(t, err, ErrWrongArgument)
+}
+
 func TestComparisons(t *testing.T) {
 	both := Filters{[][]byte{allow, deny}, profile.Table}
 	for _, row := range []struct {

@@ -14,13 +14,14 @@ from __future__ import annotations
 import ctypes
 import enum
 import os
-from collections.abc import Callable, Sequence
+from collections.abc import Callable, Mapping, Sequence
 from dataclasses import dataclass
 from typing import Union
 
-__all__ = ["ALL", "Call", "CallComparison", "CallsComparison", "Comparison", "Filters", "Kind", "NATIVE", "Profile",
-           "Reason", "Refused", "Relation", "Scope", "Source", "Verdict", "ask", "assemble", "check", "compare",
-           "compare_calls", "compile", "decide", "listing", "run", "trace", "version"]
+__all__ = ["ALL", "Architecture", "Call", "CallComparison", "CallsComparison", "Comparison", "Filters", "Kind",
+           "NATIVE", "Profile", "Profiles", "Reason", "Refused", "Relation", "Scope", "Source", "Verdict", "ask",
+           "ask_architectures", "assemble", "check", "compare", "compare_architectures", "compare_calls", "compile",
+           "compile_architectures", "decide", "listing", "run", "trace", "version"]
 
 X86_64 = 0xC000003E
 LIMIT = 1_000_000
@@ -44,6 +45,12 @@ class Reason(enum.IntEnum):
     DEFAULT, ENTRY, FOREIGN = range(1, 4)
 
 
+class Architecture(enum.IntEnum):
+    """Whose syscalls a table numbers. X86 is i386; X32's table has its numbers without the bit 0x40000000."""
+
+    X86_64, X86, X32, AARCH64, ARM = range(1, 6)
+
+
 class Source(enum.IntEnum):
     """What is refused."""
 
@@ -55,7 +62,8 @@ Kind = enum.IntEnum("Kind", [
     "MEMORY", "READ", "TRUNCATED", "TOO_LONG", "EMPTY", "CODE", "LOAD", "SCRATCH", "DIVISOR", "SHIFT", "JUMP",
     "LAST_NOT_RETURN", "UNSET", "NOT_ASCII", "MNEMONIC", "OPERAND", "NUMBER_RANGE", "LABEL", "JUMP_TOO_FAR", "FORM",
     "NAME", "NUMBER", "REPEATED", "JSON", "MISSING", "KIND", "ACTION", "OPERATOR", "EMPTY_NAMES", "INDEX",
-    "REPEATED_INDEX", "ERRNO", "ERRNO_RANGE", "NO_X8664", "ENGINE_FORM", "TOO_MANY", "CONFLICT", "TOO_LARGE"])
+    "REPEATED_INDEX", "ERRNO", "ERRNO_RANGE", "NO_X8664", "ENGINE_FORM", "TOO_MANY", "CONFLICT", "TOO_LARGE",
+    "NOT_LISTED"])
 NO_ENTRY = 2 ** 64 - 1
 
 
@@ -98,8 +106,13 @@ class _CallComparison(ctypes.Structure):
     _fields_ = [("nr", _U32), ("reserved", _U32), ("comparison", _Comparison)]
 
 
+class _Table(ctypes.Structure):
+    _fields_ = [("architecture", _U32), ("reserved", _U32), ("bytes", _Bytes)]
+
+
 _lib = ctypes.CDLL(os.environ.get("LIBSCF", "libscf.so.0"))
 _IN, _FILTERS, _OUT = [ctypes.c_char_p, _SIZE], [ctypes.POINTER(_Bytes), _SIZE], [ctypes.c_void_p, _SIZE]
+_TABLES = [ctypes.POINTER(_Table), _SIZE]
 _NUMBER, _NEEDED, _CALL = ctypes.POINTER(_U32), ctypes.POINTER(_SIZE), ctypes.POINTER(_Call)
 for _name, _types in {
     "version": [], "check": [*_IN, _NEEDED], "run": [*_IN, _CALL, _NUMBER, _NUMBER],
@@ -109,6 +122,9 @@ for _name, _types in {
     "compare": [*_FILTERS, ctypes.POINTER(_RightSide), ctypes.POINTER(_Question), ctypes.POINTER(_Comparison), *_OUT,
                 _NEEDED],
     "compare_calls": [*_FILTERS, ctypes.POINTER(_RightSide), ctypes.POINTER(_Question), *_OUT, _NEEDED, *_OUT, _NEEDED],
+    "compile_architectures": [*_IN, *_TABLES, *_OUT, _NEEDED],
+    "ask_architectures": [*_IN, *_TABLES, _CALL, _NUMBER, ctypes.POINTER(_Reason)],
+    "compare_architectures": [*_FILTERS, *_IN, *_TABLES, _U32, _U64, ctypes.POINTER(_Comparison), *_OUT, _NEEDED],
 }.items():
     _function = getattr(_lib, f"scf_{_name}")
     _function.restype, _function.argtypes = _U32, [*_types, *([ctypes.POINTER(_Fault)] if _types else [])]
@@ -139,7 +155,7 @@ def _call(function: Callable[..., int], *given: object) -> None:
     if status == 3:
         raise MemoryError
     if status == 2:
-        raise ValueError("a number has no meaning")
+        raise ValueError("a number has no meaning, or there is no table")
     if status:
         raise Refused(fault.source, fault.kind, fault.numbers)
 
@@ -192,6 +208,19 @@ class Profile:
 
     text: bytes
     table: bytes
+
+
+@dataclass(frozen=True)
+class Profiles:
+    """An OCI profile, JSON, and the table of each architecture that it is to speak for."""
+
+    text: bytes
+    tables: Mapping[Architecture, bytes]
+
+    def _given(self) -> tuple[object, ...]:
+        _within(32, **{f"tables[{it!r}]": it for it in self.tables})
+        tables = [_Table(architecture, 0, _Bytes(table, len(table))) for architecture, table in self.tables.items()]
+        return self.text, len(self.text), (_Table * len(tables))(*tables), len(tables)
 
 
 @dataclass(frozen=True)
@@ -324,13 +353,27 @@ def compile(profile: Profile) -> bytes:
     return bytes(_handed_out(_U8, 1 << 15, lambda *out: _call(_lib.scf_compile, *given, *out)))
 
 
-def ask(profile: Profile, call: Call) -> tuple[int, Reason, int | None]:
-    """A profile's answer to a call, why it is this, and the index of the entry that gives it."""
+def compile_architectures(profiles: Profiles) -> bytes:
+    """A filter that answers every call as the profile of its architecture does."""
+    given = profiles._given()
+    return bytes(_handed_out(_U8, 1 << 15, lambda *out: _call(_lib.scf_compile_architectures, *given, *out)))
+
+
+def _asked(function: Callable[..., int], given: tuple[object, ...], call: Call) -> tuple[int, Reason, int | None]:
     answer, reason = _U32(), _Reason()
-    given = profile.text, len(profile.text), profile.table, len(profile.table)
-    _call(_lib.scf_ask, *given, call._record(), answer, reason)
+    _call(function, *given, call._record(), answer, reason)
     why = Reason(reason.kind)
     return answer.value, why, reason.entry if why == Reason.ENTRY else None
+
+
+def ask(profile: Profile, call: Call) -> tuple[int, Reason, int | None]:
+    """A profile's answer to a call, why it is this, and the index of the entry that gives it."""
+    return _asked(_lib.scf_ask, (profile.text, len(profile.text), profile.table, len(profile.table)), call)
+
+
+def ask_architectures(profiles: Profiles, call: Call) -> tuple[int, Reason, int | None]:
+    """The same of the profile of the call's architecture; it is FOREIGN where that has no table."""
+    return _asked(_lib.scf_ask_architectures, profiles._given(), call)
 
 
 def _parties(filters: Sequence[bytes], right: RightSide, question: _Question) -> tuple[object, ...]:
@@ -350,6 +393,16 @@ def compare(filters: Sequence[bytes], right: RightSide, scope: Scope = ALL, rela
     parties = _parties(filters, right, _Question(scope.kind, relation, scope.first, scope.last, limit))
     found = _Comparison()
     report = _handed_out(_U8, 1 << 13, lambda *out: _call(_lib.scf_compare, *parties, found, *out))
+    return _compared(found, _text(report))
+
+
+def compare_architectures(filters: Sequence[bytes], profiles: Profiles, relation: Relation = Relation.SAME,
+                          limit: int = LIMIT) -> Comparison:
+    """Compares a stack of filters, the oldest first, with a profile over the calls of all architectures that have a
+    table, each in at most `limit` steps."""
+    _within(64, limit=limit)
+    given, found = (_several(filters), len(filters), *profiles._given(), relation, limit), _Comparison()
+    report = _handed_out(_U8, 1 << 13, lambda *out: _call(_lib.scf_compare_architectures, *given, found, *out))
     return _compared(found, _text(report))
 
 

@@ -10,6 +10,10 @@ RET_ALLOW, RET_EPERM, RET_KILL_PROCESS = 0x7FFF0000, 0x00050001, 0x80000000
 PROFILE = scf.Profile(b'{"defaultAction": "SCMP_ACT_ERRNO", "syscalls": [{"names": ["read", "absent"], "action": '
                       b'"SCMP_ACT_ALLOW"}]}', b"read 0\nwrite 1\n")
 READ, WRITE = scf.Call(0), scf.Call(1)
+I386 = 0x40000003
+BOTH = scf.Profiles(b'{"defaultAction": "SCMP_ACT_ERRNO", "architectures": ["SCMP_ARCH_X86_64", "SCMP_ARCH_X86"], '
+                    b'"syscalls": [{"names": ["read"], "action": "SCMP_ACT_ALLOW"}]}',
+                    {scf.Architecture.X86_64: b"read 0\n", scf.Architecture.X86: b"read 3\n"})
 
 
 class Calls(unittest.TestCase):
@@ -69,8 +73,25 @@ class Calls(unittest.TestCase):
         self.assertEqual([it.nr for it in found.calls], list(range(700)))
         self.assertEqual(found.report.count("\n"), 701)
 
+    def test_architectures(self):
+        for call, answer in ((READ, (RET_ALLOW, scf.Reason.ENTRY, 0)),
+                             (scf.Call(3, arch=I386), (RET_ALLOW, scf.Reason.ENTRY, 0)),
+                             (scf.Call(0, arch=I386), (RET_EPERM, scf.Reason.DEFAULT, None)),
+                             (scf.Call(1 << 30), (RET_KILL_PROCESS, scf.Reason.FOREIGN, None))):
+            self.assertEqual(scf.ask_architectures(BOTH, call), answer)
+        found = scf.compare_architectures([scf.compile_architectures(BOTH)], BOTH)
+        self.assertEqual((found.verdict, found.report), (scf.Verdict.HOLDS, "same\n"))
+        one = scf.Profiles(BOTH.text, {scf.Architecture.X86_64: b"read 0\n"})
+        found = scf.compare_architectures([scf.compile_architectures(one)], BOTH, scf.Relation.NO_LESS)
+        self.assertEqual((found.verdict, found.call.arch, found.right), (scf.Verdict.FAILS, I386, RET_ALLOW))
+        other = scf.Profiles(BOTH.text, {**one.tables, scf.Architecture.ARM: b""})
+        self.refused(scf.Source.PROFILE, scf.Kind.NOT_LISTED, (1, 0, 0), scf.compile_architectures, other)
+
     def test_numbers_that_have_no_meaning(self):
-        for wrong in (lambda: scf.Call(1 << 32), lambda: scf.Call(0, (1 << 64,)), lambda: scf.Call(-1),
+        for wrong in (lambda: scf.compare_architectures([], scf.Profiles(BOTH.text, {})),
+                      lambda: scf.compile_architectures(scf.Profiles(BOTH.text, {6: b""})),
+                      lambda: scf.ask_architectures(scf.Profiles(BOTH.text, {1 << 32 | 1: b""}), READ),
+                      lambda: scf.Call(1 << 32), lambda: scf.Call(0, (1 << 64,)), lambda: scf.Call(-1),
                       lambda: scf.Call(0, (0,) * 7), lambda: scf.compare([], PROFILE, scf.Scope(9)),
                       lambda: scf.compare([], PROFILE, limit=1 << 64),
                       lambda: scf.compare([], PROFILE, scf.Scope.one_call(1 << 32))):

@@ -231,6 +231,143 @@ static void call_by_call(void) {
     IS(is_fault(&fault, SCF_SOURCE_TABLE, SCF_KIND_REPEATED, 2));
 }
 
+/* ---- several architectures: the numbers are those of linux/unistd.h */
+
+static const char several[] =
+    "{\"defaultAction\": \"SCMP_ACT_ERRNO\", \"architectures\": [\"SCMP_ARCH_X86_64\", \"SCMP_ARCH_X86\", "
+    "\"SCMP_ARCH_X32\"], \"syscalls\": [{\"names\": [\"read\"], \"action\": \"SCMP_ACT_ALLOW\"}, {\"names\": "
+    "[\"personality\"], \"action\": \"SCMP_ACT_ALLOW\", \"args\": [{\"index\": 0, \"value\": 8, \"op\": "
+    "\"SCMP_CMP_EQ\"}]}]}";
+
+enum { I386 = 0x40000003, X32_BIT = 0x40000000 };
+
+static struct scf_table tables[4];
+
+/* The three tables, and one that the profile doesn't list. */
+static void set_tables(void) {
+    static const uint32_t architectures[4] = {SCF_X86_64, SCF_X86, SCF_X32, SCF_ARM};
+    size_t i;
+    memset(tables, 0, sizeof tables);
+    for (i = 0; i < 4; i++) {
+        tables[i].architecture = architectures[i];
+        tables[i].bytes = text_of(i == 1 ? "read 3\npersonality 136\n" : "read 0\npersonality 135\n");
+    }
+}
+
+static uint32_t compile_each(size_t count, uint8_t *filter, size_t room) {
+    struct scf_bytes own = text_of(several);
+    return scf_compile_architectures(own.at, own.len, tables, count, filter, room, &needed, &fault);
+}
+
+static uint32_t compare_each(const struct scf_bytes *filter, size_t count, uint32_t relation, uint64_t limit) {
+    struct scf_bytes own = text_of(several);
+    return scf_compare_architectures(filter, 1, own.at, own.len, tables, count, relation, limit, &found, text,
+                                     sizeof text, &needed, &fault);
+}
+
+static void asks_of_each(void) {
+    static const struct {
+        uint32_t nr, arch, answer, kind;
+    } rows[] = {
+        {0, SCF_ARCH_X86_64, RET_ALLOW, SCF_BY_ENTRY}, {X32_BIT, SCF_ARCH_X86_64, RET_ALLOW, SCF_BY_ENTRY},
+        {3, I386, RET_ALLOW, SCF_BY_ENTRY},            {3, SCF_ARCH_X86_64, RET_EPERM, SCF_BY_DEFAULT},
+        {0, I386, RET_EPERM, SCF_BY_DEFAULT},          {0, 0xc00000b7, RET_KILL_PROCESS, SCF_FOREIGN},
+    };
+    struct scf_bytes own = text_of(several);
+    struct scf_reason reason;
+    struct scf_call call = call_of(136);
+    size_t i;
+    set_tables();
+    for (i = 0; i < sizeof rows / sizeof *rows; i++) {
+        call.nr = rows[i].nr, call.arch = rows[i].arch;
+        unset();
+        IS(scf_ask_architectures(own.at, own.len, tables, 3, &call, &answer, &reason, &fault) == SCF_OK);
+        IS(answer == rows[i].answer && reason.kind == rows[i].kind && reason.entry == 0);
+        IS(is_zero(&fault, sizeof fault));
+    }
+    /* i386 takes the low half of an argument, x86-64 all of it */
+    call.nr = 136, call.arch = I386, call.args[0] = 0x100000008;
+    IS(scf_ask_architectures(own.at, own.len, tables, 3, &call, &answer, &reason, &fault) == SCF_OK);
+    IS(answer == RET_ALLOW && reason.kind == SCF_BY_ENTRY && reason.entry == 1);
+    call.nr = 135, call.arch = SCF_ARCH_X86_64;
+    IS(scf_ask_architectures(own.at, own.len, tables, 3, &call, &answer, &reason, &fault) == SCF_OK);
+    IS(answer == RET_EPERM);
+    unset();
+    IS(scf_ask_architectures(own.at, own.len, tables, 4, &call, &answer, &reason, &fault) == SCF_REFUSED);
+    IS(answer == 0 && is_zero(&reason, sizeof reason));
+    IS(is_fault(&fault, SCF_SOURCE_PROFILE, SCF_KIND_NOT_LISTED, 3));
+}
+
+static void compares_each(void) {
+    static uint8_t compiled[4096];
+    struct scf_bytes filter = bytes_of(compiled, 0), other = bytes_of(allow, sizeof allow);
+    set_tables();
+    unset();
+    IS(compile_each(3, compiled, sizeof compiled) == SCF_OK && is_zero(&fault, sizeof fault));
+    filter.len = needed;
+    unset();
+    IS(compare_each(&filter, 3, SCF_SAME, SCF_LIMIT) == SCF_OK && is_text("same\n") && is_zero(&fault, sizeof fault));
+    IS(found.verdict == SCF_HOLDS && is_zero(&found.left, sizeof found - sizeof found.verdict));
+    unset();
+    IS(compare_each(&filter, 2, SCF_SAME, SCF_LIMIT) == SCF_OK && is_text("same\nother SCMP_ARCH_X32\n"));
+    IS(compare_each(&filter, 3, SCF_SAME, 0) == SCF_OK && found.verdict == SCF_UNFINISHED);
+    /* the filter of two architectures kills calls of the third */
+    IS(compile_each(2, compiled, sizeof compiled) == SCF_OK);
+    filter.len = needed;
+    IS(compare_each(&filter, 2, SCF_SAME, SCF_LIMIT) == SCF_OK && found.verdict == SCF_HOLDS);
+    unset();
+    IS(compare_each(&filter, 3, SCF_SAME, SCF_LIMIT) == SCF_OK && found.verdict == SCF_FAILS);
+    IS(found.call.arch == SCF_ARCH_X86_64 && (found.call.nr & X32_BIT) != 0 && found.left == RET_KILL_PROCESS);
+    IS(memcmp(text, "differs\ncall nr ", 16) == 0);
+    IS(compare_each(&filter, 3, SCF_NO_MORE, SCF_LIMIT) == SCF_OK && found.verdict == SCF_HOLDS);
+    IS(compare_each(&other, 3, SCF_NO_MORE, SCF_LIMIT) == SCF_OK && found.verdict == SCF_FAILS);
+    other = bytes_of(product, sizeof product);
+    IS(compare_each(&other, 3, SCF_NO_MORE, SCF_LIMIT) == SCF_OK && found.verdict == SCF_UNDECIDED);
+    IS(found.side == 1 && found.at == 5 && is_zero(&found.call, sizeof found.call));
+    unset();
+    IS(compare_each(&filter, 4, SCF_SAME, SCF_LIMIT) == SCF_REFUSED && is_nothing() && is_zero(&found, sizeof found));
+    IS(is_fault(&fault, SCF_SOURCE_PROFILE, SCF_KIND_NOT_LISTED, 3));
+    tables[1].bytes = text_of("read\n");
+    IS(compare_each(&filter, 3, SCF_SAME, SCF_LIMIT) == SCF_REFUSED);
+    IS(is_fault(&fault, SCF_SOURCE_TABLE, SCF_KIND_FORM, 1));
+    filter.len--;
+    IS(compare_each(&filter, 3, SCF_SAME, SCF_LIMIT) == SCF_REFUSED && fault.source == SCF_SOURCE_FILTER);
+}
+
+/* No table, one that is there twice, and each number without a meaning is a wrong argument; no input is looked at. */
+static void wrong_tables(void) {
+    struct scf_bytes cut = bytes_of(allow, 1), own = bytes_of("{", 1);
+    struct scf_call call = call_of(0);
+    struct scf_reason reason;
+    size_t i, count;
+    for (i = 0; i < 7; i++) {
+        uint32_t relation = i == 6 ? 4 : SCF_SAME;
+        set_tables();
+        count = i == 0 ? 0 : 3;
+        if (i == 1) tables[2].architecture = SCF_X86_64;
+        if (i == 2) tables[1].architecture = SCF_X32;
+        if (i == 3) tables[0].architecture = 0;
+        if (i == 4) tables[2].architecture = 6;
+        if (i == 5) tables[1].reserved = 1;
+        unset();
+        IS(scf_compare_architectures(&cut, 1, own.at, own.len, tables, count, relation, SCF_LIMIT, &found, text,
+                                     sizeof text, &needed, &fault)
+           == SCF_WRONG_ARGUMENT);
+        IS(is_nothing() && is_zero(&found, sizeof found) && is_zero(&fault, sizeof fault));
+        if (i == 6) break;
+        unset();
+        IS(compile_each(count, text, sizeof text) == SCF_WRONG_ARGUMENT);
+        IS(is_nothing() && is_zero(&fault, sizeof fault));
+        unset();
+        IS(scf_ask_architectures(own.at, own.len, tables, count, &call, &answer, &reason, &fault)
+           == SCF_WRONG_ARGUMENT);
+        IS(answer == 0 && is_zero(&reason, sizeof reason) && is_zero(&fault, sizeof fault));
+    }
+    unset();
+    IS(scf_compile_architectures(own.at, own.len, tables, 3, text, sizeof text, &needed, &fault) == SCF_REFUSED);
+    IS(is_nothing() && fault.source == SCF_SOURCE_PROFILE && fault.kind == SCF_KIND_JSON);
+}
+
 /* Each number without a meaning is a wrong argument; no input is looked at. */
 static void wrong_arguments(void) {
     struct scf_right_side right = with_profile(profile);
@@ -271,6 +408,9 @@ int main(void) {
     stacks_beside();
     call_by_call();
     wrong_arguments();
+    asks_of_each();
+    compares_each();
+    wrong_tables();
     printf("%ld checks\n", checks);
     return 0;
 }

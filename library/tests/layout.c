@@ -32,6 +32,7 @@ int main(void) {
     FIELD(comparison, side), FIELD(comparison, at), FIELD(comparison, call);
     STRUCT(call_comparison), FIELD(call_comparison, nr), FIELD(call_comparison, reserved);
     FIELD(call_comparison, comparison);
+    STRUCT(table), FIELD(table, architecture), FIELD(table, reserved), FIELD(table, bytes);
     puts("");
     return 0;
 }

@@ -125,9 +125,35 @@ static void compares_calls_beside(struct result *r) {
     compare_calls(r, &right);
 }
 
+/* The profile lists both, and the one table serves for both. */
+static void set_tables(struct scf_table *tables) {
+    memset(tables, 0, 2 * sizeof *tables);
+    tables[0].architecture = SCF_X86_64, tables[1].architecture = SCF_X86;
+    tables[0].bytes = tables[1].bytes = own_table;
+}
+
+static void compiles_each(struct result *r) {
+    struct scf_table tables[2];
+    set_tables(tables);
+    r->status = scf_compile_architectures(IN(own_profile), tables, 2, OUT);
+}
+
+static void asks_of_each(struct result *r) {
+    struct scf_call call = call_of(1);
+    struct scf_table tables[2];
+    set_tables(tables);
+    r->status = scf_ask_architectures(IN(own_profile), tables, 2, &call, &r->answer, &r->reason, &r->fault);
+}
+
+static void compares_each(struct result *r) {
+    struct scf_table tables[2];
+    set_tables(tables);
+    r->status = scf_compare_architectures(&filter, 1, IN(own_profile), tables, 2, SCF_SAME, SCF_LIMIT, &r->found, OUT);
+}
+
 static const call_type calls[] = {
     checks_filter, runs, traces, lists, assembles, decides, compiles, asks, compares, compares_beside, compares_calls,
-    compares_calls_beside,
+    compares_calls_beside, compiles_each, asks_of_each, compares_each,
 };
 enum { CALLS = sizeof calls / sizeof *calls };
 

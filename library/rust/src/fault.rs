@@ -33,7 +33,7 @@ numbers! {
     /// Why it is refused: the kinds of docs/FAULTS.md.
     Kind: Memory Read Truncated TooLong Empty Code Load Scratch Divisor Shift Jump LastNotReturn Unset NotAscii Mnemonic
     Operand NumberRange Label JumpTooFar Form Name Number Repeated Json Missing Kind Action Operator EmptyNames Index
-    RepeatedIndex Errno ErrnoRange NoX8664 EngineForm TooMany Conflict TooLarge;
+    RepeatedIndex Errno ErrnoRange NoX8664 EngineForm TooMany Conflict TooLarge NotListed;
 }
 
 /// The number in place of an entry of a profile, for what is outside of them.
@@ -66,7 +66,7 @@ impl fmt::Display for Fault {
 pub enum Error {
     /// An input isn't accepted.
     Refused(Fault),
-    /// The library doesn't know a number that it was handed; it is older than this crate.
+    /// There is no table, or one twice, or the library doesn't know a number: it is older than this crate.
     WrongArgument,
     /// Out of memory.
     NoMemory,
@@ -76,7 +76,7 @@ impl fmt::Display for Error {
     fn fmt(&self, f: &mut fmt::Formatter<'_>) -> fmt::Result {
         match self {
             Error::Refused(fault) => fault.fmt(f),
-            Error::WrongArgument => f.write_str("a number has no meaning"),
+            Error::WrongArgument => f.write_str("a number has no meaning, or there is no table, or one twice"),
             Error::NoMemory => f.write_str("out of memory"),
         }
     }

@@ -1,4 +1,4 @@
-//! Checks, runs, compiles and compares seccomp filters for x86-64, by libscf.
+//! Checks, runs, compiles and compares seccomp filters, by libscf.
 //!
 //! What the library answers is proved: see docs/TRUST.md of scf. Each function is one of its arguments and may be
 //! called in any number of threads.
@@ -18,7 +18,7 @@ mod fault;
 mod sys;
 
 pub use fault::{Error, Fault, Kind, Source, NO_ENTRY};
-use sys::{Bytes, CallComparison as Found};
+use sys::{Bytes, CallComparison as Found, Table};
 
 /// The architecture of x86-64 in a call.
 pub const X86_64: u32 = 0xc000_003e;
@@ -47,6 +47,31 @@ pub struct Profile<'a> {
     pub text: &'a [u8],
     /// The table that gives the profile's names their numbers.
     pub table: &'a [u8],
+}
+
+/// Whose syscalls a table numbers.
+#[derive(Clone, Copy, Debug, PartialEq, Eq, Hash)]
+#[non_exhaustive]
+pub enum Architecture {
+    /// x86-64.
+    X86_64 = 1,
+    /// i386.
+    X86 = 2,
+    /// x32, whose table has its numbers without the bit 0x40000000.
+    X32 = 3,
+    /// aarch64.
+    Aarch64 = 4,
+    /// 32-bit arm.
+    Arm = 5,
+}
+
+/// An OCI profile for several architectures.
+#[derive(Clone, Copy, Debug)]
+pub struct Profiles<'a> {
+    /// JSON.
+    pub text: &'a [u8],
+    /// The tables of the architectures that it is to speak for: one or more, at most one for each.
+    pub tables: &'a [(Architecture, &'a [u8])],
 }
 
 /// What filters are compared with.
@@ -257,18 +282,64 @@ pub fn compile(profile: &Profile) -> Result<Vec<u8>, Error> {
     })
 }
 
-/// A profile's answer to a call, and why it is this.
-pub fn ask(profile: &Profile, call: &Call) -> Result<(u32, Reason), Error> {
-    let (Profile { text, table }, mut answer, mut reason) = (*profile, 0, sys::Reason::default());
-    ended(|fault| unsafe {
-        sys::scf_ask(text.as_ptr(), text.len(), table.as_ptr(), table.len(), call, &mut answer, &mut reason, fault)
-    })?;
+fn tables_of(profiles: &Profiles) -> Vec<Table> {
+    let table =
+        |&(architecture, text)| Table { architecture: architecture as u32, reserved: 0, bytes: Bytes::of(text) };
+    profiles.tables.iter().map(table).collect()
+}
+
+/// A filter that answers every call as the profile of its architecture does.
+pub fn compile_architectures(profiles: &Profiles) -> Result<Vec<u8>, Error> {
+    let (text, tables) = (profiles.text, tables_of(profiles));
+    handed_out(1 << 15, |filter, needed, fault| unsafe {
+        sys::scf_compile_architectures(
+            text.as_ptr(),
+            text.len(),
+            tables.as_ptr(),
+            tables.len(),
+            filter.as_mut_ptr(),
+            filter.len(),
+            needed,
+            fault,
+        )
+    })
+}
+
+/// The answer and the reason that a call hands out.
+fn asked(call: impl FnOnce(&mut u32, &mut sys::Reason, &mut sys::Fault) -> u32) -> Result<(u32, Reason), Error> {
+    let (mut answer, mut reason) = (0, sys::Reason::default());
+    ended(|fault| call(&mut answer, &mut reason, fault))?;
     let why = match reason.kind {
         1 => Reason::Default,
         2 => Reason::Entry(reason.entry),
         _ => Reason::Foreign,
     };
     Ok((answer, why))
+}
+
+/// A profile's answer to a call, and why it is this.
+pub fn ask(profile: &Profile, call: &Call) -> Result<(u32, Reason), Error> {
+    let Profile { text, table } = *profile;
+    asked(|answer, reason, fault| unsafe {
+        sys::scf_ask(text.as_ptr(), text.len(), table.as_ptr(), table.len(), call, answer, reason, fault)
+    })
+}
+
+/// The same of the profile of the call's architecture; it is `Foreign` where that has no table.
+pub fn ask_architectures(profiles: &Profiles, call: &Call) -> Result<(u32, Reason), Error> {
+    let (text, tables) = (profiles.text, tables_of(profiles));
+    asked(|answer, reason, fault| unsafe {
+        sys::scf_ask_architectures(
+            text.as_ptr(),
+            text.len(),
+            tables.as_ptr(),
+            tables.len(),
+            call,
+            answer,
+            reason,
+            fault,
+        )
+    })
 }
 
 fn verdict_of(found: &sys::Comparison) -> Verdict {
@@ -328,6 +399,36 @@ pub fn compare(
                 fault,
             )
         })
+    })?;
+    Ok(Comparison { verdict: verdict_of(&found), report })
+}
+
+/// Compares a stack of filters, the oldest first, with a profile over the calls of all architectures that have a table,
+/// each in at most `limit` steps.
+pub fn compare_architectures(
+    filters: &[&[u8]],
+    profiles: &Profiles,
+    relation: Relation,
+    limit: u64,
+) -> Result<Comparison, Error> {
+    let (filters, text, tables) = (several(filters), profiles.text, tables_of(profiles));
+    let mut found = sys::Comparison::default();
+    let report = handed_out(1 << 13, |report, needed, fault| unsafe {
+        sys::scf_compare_architectures(
+            filters.as_ptr(),
+            filters.len(),
+            text.as_ptr(),
+            text.len(),
+            tables.as_ptr(),
+            tables.len(),
+            relation as u32,
+            limit,
+            &mut found,
+            report.as_mut_ptr(),
+            report.len(),
+            needed,
+            fault,
+        )
     })?;
     Ok(Comparison { verdict: verdict_of(&found), report })
 }

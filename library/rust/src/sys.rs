@@ -68,6 +68,13 @@ pub struct CallComparison {
     pub comparison: Comparison,
 }
 
+#[repr(C)]
+pub struct Table {
+    pub architecture: u32,
+    pub reserved: u32,
+    pub bytes: Bytes,
+}
+
 #[rustfmt::skip]
 extern "C" {
     pub fn scf_version() -> u32;
@@ -92,4 +99,12 @@ extern "C" {
     pub fn scf_compare_calls(filters: *const Bytes, len: usize, right: &RightSide, question: &Question,
                              calls: *mut CallComparison, calls_room: usize, calls_needed: &mut usize, text: *mut u8,
                              room: usize, needed: &mut usize, fault: &mut Fault) -> u32;
+    pub fn scf_compile_architectures(profile: *const u8, profile_len: usize, tables: *const Table, tables_len: usize,
+                                     filter: *mut u8, room: usize, needed: &mut usize, fault: &mut Fault) -> u32;
+    pub fn scf_ask_architectures(profile: *const u8, profile_len: usize, tables: *const Table, tables_len: usize,
+                                 call: &crate::Call, answer: &mut u32, reason: &mut Reason, fault: &mut Fault) -> u32;
+    pub fn scf_compare_architectures(filters: *const Bytes, len: usize, profile: *const u8, profile_len: usize,
+                                     tables: *const Table, tables_len: usize, relation: u32, limit: u64,
+                                     comparison: &mut Comparison, text: *mut u8, room: usize, needed: &mut usize,
+                                     fault: &mut Fault) -> u32;
 }

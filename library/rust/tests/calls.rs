@@ -1,8 +1,9 @@
 //! Each call once, and what refuses it. The answers are those of linux/seccomp.h and of the OCI specification.
 
 use scf::{
-    ask, assemble, check, compare, compare_calls, compile, decide, list, run, trace, version, Call, Error, Fault, Kind,
-    Profile, Reason, Relation, RightSide, Scope, Source, Verdict, LIMIT, NO_ENTRY, X86_64,
+    ask, ask_architectures, assemble, check, compare, compare_architectures, compare_calls, compile,
+    compile_architectures, decide, list, run, trace, version, Architecture, Call, Error, Fault, Kind, Profile,
+    Profiles, Reason, Relation, RightSide, Scope, Source, Verdict, LIMIT, NO_ENTRY, X86_64,
 };
 
 const ALLOW: [u8; 8] = [6, 0, 0, 0, 0, 0, 0xff, 0x7f];
@@ -74,6 +75,29 @@ fn comparisons() {
     assert_eq!(compare_calls(&[&DENY], both, Relation::Same, LIMIT, LIMIT).unwrap().report, b"same\n");
     let cut = RightSide::Filters { filters: &[&[6]], table: b"" };
     assert_eq!(compare(&[], cut, Scope::All, Relation::Same, 1), refused(Source::Beside, Kind::Truncated, [0; 3]));
+}
+
+#[test]
+fn architectures() {
+    const I386: u32 = 0x4000_0003;
+    let text = br#"{"defaultAction": "SCMP_ACT_ERRNO", "architectures": ["SCMP_ARCH_X86_64", "SCMP_ARCH_X86"],
+        "syscalls": [{"names": ["read"], "action": "SCMP_ACT_ALLOW"}]}"#;
+    let native = (Architecture::X86_64, &b"read 0\n"[..]);
+    let both = Profiles { text, tables: &[native, (Architecture::X86, b"read 3\n")] };
+    let asked = |nr, arch| ask_architectures(&both, &Call { nr, arch, ..Call::default() });
+    assert_eq!(asked(0, X86_64), Ok((RET_ALLOW, Reason::Entry(0))));
+    assert_eq!(asked(3, I386), Ok((RET_ALLOW, Reason::Entry(0))));
+    assert_eq!(asked(0, I386), Ok((RET_EPERM, Reason::Default)));
+    assert_eq!(asked(1 << 30, X86_64), Ok((0x8000_0000, Reason::Foreign)));
+    let compared = |filter: &[u8]| compare_architectures(&[filter], &both, Relation::Same, LIMIT).unwrap();
+    let found = compared(&compile_architectures(&both).unwrap());
+    assert_eq!((found.verdict, found.report.as_slice()), (Verdict::Holds, b"same\n".as_slice()));
+    let one = compile_architectures(&Profiles { text, tables: &[native] }).unwrap();
+    assert!(matches!(compared(&one).verdict, Verdict::Fails { call: Call { arch: I386, .. }, .. }));
+    let compiled = |tables: &[_]| compile_architectures(&Profiles { text, tables });
+    assert_eq!(compiled(&[native, (Architecture::Arm, b"")]), refused(Source::Profile, Kind::NotListed, [1, 0, 0]));
+    assert_eq!(compiled(&[native, native]), Err(Error::WrongArgument));
+    assert_eq!(compiled(&[]), Err(Error::WrongArgument));
 }
 
 #[test]
