@@ -13,7 +13,7 @@ import kernel_child
 import kernel_profiles
 from kernel_child import Kernel, Setting
 from kernel_programs import HARMLESS, Calls
-from scftools import bundles, client
+from scftools import bundles, client, tables
 from scftools.answers import I386, MAX_ERRNO, X86_64, Answer
 from scftools.calls import Call
 
@@ -39,7 +39,7 @@ class Scf:
 
     def compile(self, profile: bytes, table: bytes) -> bytes | str:
         """The filter, or the line that refuses the profile."""
-        done = client.run(["compile"], bundles.of_compilation(profile, table))
+        done = client.run(["compile"], bundles.of_compilation(profile, tables.native_alone(table)))
         return done.lines[0] if done.status else done.out
 
 

@@ -11,12 +11,12 @@ environment, folders or site packages. So it adds its own folder, by its real na
     words       the command line of a tool
     inputs      files, pipes and standard input, each read up to its limit
     bundles     several inputs as one, which is how scf reads them
-    tables      syscall tables; names in them, and names that no syscall has
+    tables      syscall tables, and which go with a profile; names in them, and names that no syscall has
     number_sources  sources of syscall numbers: kernel headers, syscall_64.tbl, libseccomp
     libseccomp  the installed libseccomp: names and numbers that it knows
     constants   constants of C, by which arguments are given and shown
     answers     actions, errnos, architectures, and what an answer does
-    architectures  architectures by their names and numbers
+    architectures  architectures by their names and numbers, and those that scf judges
     calls       syscall records: how one is given, and how one is printed
     filters     instructions of filters, as far as the tools need them
     forms       filters in other forms: hexadecimal text, C arrays, tcpdump's decimals, scf's assembler
@@ -79,7 +79,8 @@ environment, folders or site packages. So it adds its own folder, by its real na
     audit_page  an audit as a page of HTML
     compare_page  a comparison as a page of HTML
     html_page   pages of HTML that stand alone
-    other_abis  syscalls of other ABIs: whether any is allowed
+    views       filters as the syscalls of another architecture see them
+    other_abis  syscalls of other ABIs that are not compared: whether any is allowed
     questions   whether filters always allow or deny a number, by comparison with profiles of one answer
     unnamed     numbers that a table doesn't name: how many of them filters allow
     surfaces    surfaces: what filters allow of each syscall in a table

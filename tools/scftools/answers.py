@@ -3,6 +3,8 @@
 from __future__ import annotations
 
 import errno
+import json
+from collections.abc import Sequence
 
 from .values import Pattern, dataclass
 
@@ -33,9 +35,8 @@ ERRNOS = {**errno.errorcode, errno.EAGAIN: "EAGAIN", errno.EDEADLK: "EDEADLK", e
 # The greatest errno that the kernel returns (MAX_ERRNO in linux/err.h).
 MAX_ERRNO = 4095
 
-# linux/audit.h: x86-64, the other architecture of its kernel, and two neighbours.
+# linux/audit.h: x86-64, and the other architecture of its kernel.
 X86_64, I386 = 0xC000003E, 0x40000003
-ARCHITECTURES = {X86_64: "x86-64", I386: "i386", 0xC00000B7: "aarch64", 0x40000028: "arm"}
 # The first x32 syscall number (__X32_SYSCALL_BIT in asm/unistd.h).
 X32 = 0x40000000
 
@@ -104,12 +105,20 @@ class Answer:
         """With the name of its errno, as ERRNO 38 (ENOSYS)."""
         return f"{self} ({ERRNOS[self.data]})" if self.action == "ERRNO" and self.data in ERRNOS else str(self)
 
-    def as_profile(self) -> bytes | None:
-        """A profile that gives every x86-64 syscall this answer, or None if none can."""
+    @classmethod
+    def of_profile(cls, action: str, data: int) -> Answer:
+        """The answer of an action of the OCI specification with its number."""
+        word = action.removeprefix("SCMP_ACT_")
+        return cls({"NOTIFY": "USER_NOTIF", "KILL": "KILL_THREAD"}.get(word, word), data)
+
+    def as_profile(self, architectures: Sequence[str] = ()) -> bytes | None:
+        """A profile that gives every syscall of these architectures, by default x86-64's, this answer, or None if none
+        can."""
         if self.action in ("USER_NOTIF", "UNNAMED") or (self.data and self.action not in ("ERRNO", "TRACE")):
             return None
-        errno_member = f', "defaultErrnoRet": {self.data}' if self.action in ("ERRNO", "TRACE") else ""
-        return f'{{"defaultAction": "SCMP_ACT_{self.action}"{errno_member}}}'.encode()
+        errno_member = {"defaultErrnoRet": self.data} if self.action in ("ERRNO", "TRACE") else {}
+        return json.dumps({"defaultAction": f"SCMP_ACT_{self.action}", **errno_member,
+                           "architectures": list(architectures)}).encode()
 
     def as_json(self, explains: bool = False) -> dict[str, object]:
         found: dict[str, object] = {"action": self.action, "data": self.data}

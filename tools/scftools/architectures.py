@@ -1,13 +1,17 @@
-"""Architectures: their AUDIT_ARCH numbers, and their names on a command line and in a profile."""
+"""Architectures: their AUDIT_ARCH numbers, their names on a command line and in a profile, and what scf knows of those
+that it judges."""
 from __future__ import annotations
 
+import os
 import re
+from collections.abc import Sequence
 
-from . import program
+from . import answers, program
 from .answers import X86_64
+from .values import dataclass
 
 PREFIX = "SCMP_ARCH_"
-NATIVE, X32 = f"{PREFIX}X86_64", f"{PREFIX}X32"
+NATIVE, X32, I386, AARCH64 = (f"{PREFIX}{it}" for it in ("X86_64", "X32", "X86", "AARCH64"))
 # By the names of libseccomp (seccomp.h), the numbers of linux/audit.h: a machine of linux/elf-em.h, with 0x80000000
 # where it has 64 bits, 0x40000000 where it is little-endian, and 0x20000000 for the N32 calls of MIPS. The record of an
 # x32 syscall has x86-64's.
@@ -18,6 +22,70 @@ NUMBERS = {f"{PREFIX}{name}": number for name, number in {
     "PARISC64": 0x8000000F, "PPC": 0x00000014, "PPC64": 0x80000015, "PPC64LE": 0xC0000015, "RISCV64": 0xC00000F3,
     "S390": 0x00000016, "S390X": 0x80000016, "SHEB": 0x0000002A, "SH": 0x4000002A}.items()}
 OTHER_NAMES = {"I386": "X86", "AMD64": "X86_64", "ARM64": "AARCH64"}
+
+
+@dataclass(frozen=True)
+class Architecture:
+    """An architecture that scf judges, since a table of it comes with scf: its OCI name, what people call it, the kind
+    of its table in a bundle, what is added to a number of the table, and the bits of an argument."""
+
+    oci: str
+    name: str
+    kind: str
+    first: int = 0
+    bits: int = 64
+
+    @property
+    def number(self) -> int:
+        """Its number in linux/audit.h."""
+        return NUMBERS[self.oci]
+
+    @property
+    def last(self) -> int:
+        """The last number that a record of it may have."""
+        return answers.X32 - 1 if self.oci == NATIVE else 0xFFFFFFFF
+
+    @property
+    def file(self) -> str:
+        """The file of its table."""
+        return os.path.join(program.TOP, "tables", f"{self.name.replace('-', '_')}.table")
+
+
+# Those that scf judges, by OCI names, in scf's order.
+JUDGED = {it.oci: it for it in (
+    Architecture(NATIVE, "x86-64", "table"), Architecture(I386, "i386", "table-x86", bits=32),
+    Architecture(X32, "x32", "table-x32", first=answers.X32, bits=32),
+    Architecture(AARCH64, "aarch64", "table-aarch64"),
+    Architecture(f"{PREFIX}ARM", "arm", "table-arm", bits=32))}
+
+
+def of_machine() -> str:
+    """The OCI name of the architecture of this machine's own syscalls, which a profile without a list is for."""
+    return AARCH64 if os.uname().machine == "aarch64" else NATIVE
+
+
+def of_record(number: int, nr: int) -> str | None:
+    """The OCI name of the architecture that a record with this audit number and this syscall number is of, None if that
+    isn't known. Numbers from 0x40000000 on are x32's on x86-64."""
+    if number == X86_64:
+        return X32 if nr >= answers.X32 else NATIVE
+    return profile_name(number)
+
+
+def shown_name(number: int) -> str | None:
+    """What people call the architecture with this number of linux/audit.h, if scf judges it."""
+    return next((it.name for it in JUDGED.values() if it.number == number and it.oci != X32), None)
+
+
+def bounds_of(name: str) -> tuple[int, int, int]:
+    """Of an architecture its number of linux/audit.h, and the first and the last syscall number of its records."""
+    known = JUDGED.get(name)
+    return (NUMBERS[name], 0, 0xFFFFFFFF) if known is None else (known.number, known.first, known.last)
+
+
+def names_of(judged: Sequence[str]) -> list[str]:
+    """What people call architectures that scf judges."""
+    return [JUDGED[it].name for it in judged]
 
 
 def profile_name(number: int) -> str | None:

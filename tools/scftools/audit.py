@@ -180,39 +180,37 @@ class Judge:
         self.limit = limit
         self.tell = tell
         self.known: dict[tuple[object, ...], Judgement] = {}
-        self.foreign: dict[tuple[bytes, ...], list[other_abis.Proved | other_abis.Tried]] = {}
+        self.foreign: dict[tuple[tuple[object, ...], ...], list[other_abis.Proved | other_abis.Tried]] = {}
 
     def judge(self, stack: Stack, asked: Request | None, relation: str = SAME) -> Judgement:
         """The verdict on a stack with filters."""
-        profile = ALLOWS_ALL if asked is None else asked.profile
-        stub = asked.applied.stub if asked is not None and asked.applied is not None else None
-        key = stack.filters, profile, stub, relation, asked is None
+        asked_of = asked or Request(ALLOWS_ALL, self.table, self.limit)
+        stub = asked_of.applied.stub if asked_of.applied is not None else {}
+        key = stack.filters, asked_of.profile, tuple(stub.items()), relation, asked is None
         if len(self.known) > MOST_KNOWN:
             self.known.clear()
             self.foreign.clear()
         if key not in self.known:
             self.tell(len(self.known))
-            self.known[key] = self._judged(stack, asked or Request(profile, self.table, self.limit, compare.NATIVE),
-                                           relation, asked is None)
+            self.known[key] = self._judged(stack, asked_of, relation, asked is None)
         return self.known[key]
 
     def _judged(self, stack: Stack, asked: Request, relation: str, is_of_nothing: bool) -> Judgement:
         """The verdict; syscalls of other ABIs don't count if nothing is configured."""
-        comparison = Comparison(stack.named, asked.profile, self.table, self.limit, relation,
-                                asked.applied.origins if asked.applied is not None else None)
-        stub = asked.applied.stub if asked.applied is not None else None
-        _, report, has_stub = newer.compared_with_stub(comparison, compare.NATIVE, stub)
-        comparison = newer.expecting_stub(comparison, stub if has_stub else None)
-        found = self._of_native(comparison, report)
+        comparison = asked.comparison(stack.named, relation)
+        stub = asked.applied.stub if asked.applied is not None else {}
+        _, report, has_stub = newer.compared_with_stub(comparison, comparison.scope, stub)
+        comparison = newer.expecting_stub(comparison, stub if has_stub else {})
+        found = self._of_report(comparison, report)
         if is_of_nothing:
             # (the call that shows it would be answered by no profile of a user)
             return replace(found, shown=None)
         if found.verdict in (WEAKER, NOT_KNOWN):
             return found
-        return self._with_foreign(found, stack.filters, report.architectures)
+        return self._with_foreign(found, comparison, report.architectures)
 
-    def _of_native(self, comparison: Comparison, report: verdicts.Report) -> Judgement:
-        """The verdict on x86-64 syscalls: if some differ, whether any is more permissive, or any stricter."""
+    def _of_report(self, comparison: Comparison, report: verdicts.Report) -> Judgement:
+        """The verdict on what is judged: if some syscalls differ, whether any is more permissive, or any stricter."""
         verdict = report.verdict
         if verdict is None:
             return Judgement(NOT_KNOWN, f"scf says: {report.lines[0] if report.lines else 'nothing'}")
@@ -220,22 +218,23 @@ class Judge:
             return Judgement(AS_CONFIGURED, comparison=comparison)
         if not verdict.fails:
             return _undecided(verdict)
-        no_more = verdict if comparison.relation == NO_MORE else comparison.run(compare.NATIVE, NO_MORE)[1].verdict
+        no_more = verdict if comparison.relation == NO_MORE else comparison.run(None, NO_MORE)[1].verdict
         if no_more is None or not no_more.holds:
             return _undecided(no_more) if no_more is None or not no_more.fails else \
                 Judgement(WEAKER, shown=no_more, comparison=comparison)
-        no_less = comparison.run(compare.NATIVE, NO_LESS)[1].verdict
+        no_less = comparison.run(None, NO_LESS)[1].verdict
         if no_less is None or not (no_less.holds or no_less.fails):
             return _undecided(no_less)
         return Judgement(OTHERWISE if no_less.holds else STRICTER, shown=verdict if no_less.holds else no_less,
                          comparison=comparison)
 
-    def _with_foreign(self, found: Judgement, filters: tuple[bytes, ...], names: Sequence[str]) -> Judgement:
-        """The same with syscalls of i386 and x32: weaker if some are allowed and the profile doesn't name their
-        architecture."""
-        if filters not in self.foreign:
-            self.foreign[filters] = other_abis.let_through(filters, self.limit)
-        for one in self.foreign[filters]:
+    def _with_foreign(self, found: Judgement, comparison: Comparison, names: Sequence[str]) -> Judgement:
+        """The same with syscalls of i386 and x32 that aren't judged: weaker if some are allowed and the profile doesn't
+        name their architecture."""
+        key = tuple(it.data for it in comparison.filters), tuple(comparison.tables.of)
+        if key not in self.foreign:
+            self.foreign[key] = compare.foreign_of(comparison, comparison.scope)
+        for one in self.foreign[key]:
             if one.kind.profile_name in names:
                 continue
             if isinstance(one, other_abis.Proved) and not one.lets_none_through or \
@@ -264,13 +263,16 @@ class Options:
     is_forced: bool = False
     allows_unconfined: bool = False
     roots: tuple[str, ...] = ()
+    # None for all architectures that a profile names
+    scope: str | None = None
 
     def check(self) -> None:
         """Raises a ToolError if scf refuses a profile, the table or the limit. Two entries that conflict, or two
         conditions on one argument, are left to the runtimes, which accept them."""
         for name, profile in filter(None, (self.expected, self.baseline, ("", ALLOWS_ALL))):
-            comparison = Comparison([Filter("", IS_MADE.filter)], profile, self.table, self.limit)
-            fault = comparison.run(compare.NATIVE)[1].fault
+            comparison = Comparison([Filter("", IS_MADE.filter)], profile, self.table, self.limit,
+                                    is_native=self.scope is not None)
+            fault = comparison.run(comparison.scope)[1].fault
             if fault is not None and fault.kind not in ("Conflict", "RepeatedIndex"):
                 when, _, *where = *compare.sentences_of(comparison, fault), "", ""
                 told = " ".join(filter(None, (f"{fault.line}:", when, *where)))
@@ -290,7 +292,8 @@ class Expectations:
         key = json.dumps(config), runtime
         if key not in self.known:
             try:
-                self.known[key] = hooks.request_of(config, runtime, False, self.options.table, self.options.limit, SAME)
+                self.known[key] = hooks.request_of(config, runtime, False, self.options.table, self.options.limit, SAME,
+                                                     self.options.scope)
             except hooks.HookError as why:
                 self.known[key] = str(why)
         return self.known[key]
@@ -305,7 +308,7 @@ class Expectations:
             return None
         name, data = self.options.expected
         if runtime is None:
-            return Expected(Request(data, self.options.table, self.options.limit, compare.NATIVE), name)
+            return Expected(Request(data, self.options.table, self.options.limit, self.options.scope), name)
         value = json.loads(data)
         linux = value.get("linux") if isinstance(value, dict) else None
         return self._of_config({"linux": linux if isinstance(linux, dict) else {"seccomp": value}}, runtime, name)
@@ -349,7 +352,7 @@ class Expectations:
             profile = units.profile_of(settings).encode()
         except (units.SettingError, program.ToolError) as why:
             return Expected(source=source, why=str(why))
-        return Expected(Request(profile, self.options.table, self.options.limit, compare.NATIVE), source)
+        return Expected(Request(profile, self.options.table, self.options.limit, self.options.scope), source)
 
 
 def rows_of(kernel: Kernel, snapshot: Snapshot, options: Options) -> list[Row]:
@@ -393,7 +396,7 @@ def judged(stack: Stack, expected: Expected, options: Options, judge: Judge) -> 
         found = judge.judge(stack, expected.asked)
     if options.baseline is None:
         return found
-    asked = Request(options.baseline[1], options.table, options.limit, compare.NATIVE, NO_MORE)
+    asked = Request(options.baseline[1], options.table, options.limit, options.scope, NO_MORE)
     least = judge.judge(stack, asked, NO_MORE)
     if VERDICTS.index(least.verdict) < VERDICTS.index(found.verdict) and least.verdict in (WEAKER, NOT_KNOWN):
         return replace(least, is_of_baseline=True)

@@ -5,12 +5,17 @@ from collections.abc import Iterable, Sequence
 
 from .values import Pattern
 
-KINDS = ("filter", "profile", "table")
+TYPE_CHECKING = False
+if TYPE_CHECKING:
+    from .tables import Tables
+
+TABLES = ("table", "table-x86", "table-x32", "table-aarch64", "table-arm")
+KINDS = ("filter", "profile", *TABLES)
 # The kind of a filter of the other side, which only `scf compare --beside` reads.
 BESIDE = "beside"
 # The most bytes that scf reads; it refuses a longer bundle.
 LIMIT = 1 << 24
-HEADER = Pattern(rb"(filter|profile|table) ([0-9]{1,8})\n")
+HEADER = Pattern(rb"(filter|profile|table(?:-x86|-x32|-aarch64|-arm)?) ([0-9]{1,8})\n")
 
 
 def bundle(parts: Iterable[tuple[str, bytes]]) -> bytes:
@@ -42,9 +47,9 @@ def of_stack(filters: Sequence[bytes]) -> bytes:
     return bundle(("filter", data) for data in filters)
 
 
-def of_comparison(filters: Sequence[bytes], profile: bytes, table: bytes) -> bytes:
-    """What `scf compare` reads: filters, oldest first, a profile and a call table."""
-    return bundle([*(("filter", data) for data in filters), ("profile", profile), ("table", table)])
+def of_comparison(filters: Sequence[bytes], profile: bytes, tables: Tables) -> bytes:
+    """What `scf compare` reads: filters, oldest first, a profile and tables."""
+    return bundle([*(("filter", data) for data in filters), ("profile", profile), *tables.parts])
 
 
 def of_stacks(left: Sequence[bytes], right: Sequence[bytes], table: bytes | None = None) -> bytes:
@@ -53,6 +58,6 @@ def of_stacks(left: Sequence[bytes], right: Sequence[bytes], table: bytes | None
     return bundle([*(("filter", data) for data in left), *((BESIDE, data) for data in right), *of_table])
 
 
-def of_compilation(profile: bytes, table: bytes) -> bytes:
-    """What `scf compile` reads."""
-    return bundle([("profile", profile), ("table", table)])
+def of_compilation(profile: bytes, tables: Tables) -> bytes:
+    """What `scf compile` and `scf ask` read."""
+    return bundle([("profile", profile), *tables.parts])

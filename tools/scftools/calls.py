@@ -3,7 +3,7 @@ from __future__ import annotations
 
 
 from . import architectures, constants, tables
-from .answers import ARCHITECTURES, X32, X86_64
+from .answers import X32, X86_64
 from .tables import Table
 from .values import Pattern, dataclass
 
@@ -46,21 +46,23 @@ class Call:
         return self.architecture == X86_64 and self.number < X32
 
     @property
-    def other_abi(self) -> str | None:
-        """The OCI name of the architecture of a foreign syscall; None if no syscall can be so."""
-        if self.is_native or self.number >= NO_CALL:
-            return None
-        if self.architecture == X86_64:
-            return architectures.X32
-        return architectures.profile_name(self.architecture)
+    def abi(self) -> str | None:
+        """The OCI name of the architecture that it is of, None if that isn't known."""
+        return architectures.of_record(self.architecture, self.number)
+
+    @property
+    def bits(self) -> int:
+        """The bits of an argument, as a profile compares them."""
+        judged = architectures.JUDGED.get(self.abi or "")
+        return 64 if judged is None else judged.bits
 
     def names(self, table: Table) -> list[str]:
         """Its names: an x86-64 syscall's in this table, another one's in the table of its architecture."""
         if self.is_native:
             return table.names_of(self.number)
-        abi = self.other_abi
-        own = None if abi is None else tables.of_architecture(abi)
-        return [] if own is None else own.names_of(self.number - (X32 if abi == architectures.X32 else 0))
+        judged = architectures.JUDGED.get(self.abi or "")
+        own = None if judged is None else tables.of_architecture(judged.oci)
+        return [] if own is None or judged is None else own.names_of(self.number - judged.first)
 
     def words(self) -> list[str]:
         """The options of scf that give this record."""
@@ -73,7 +75,7 @@ class Call:
             return number_text(self.number)
         named = " or ".join(self.names(table))
         if self.architecture != X86_64:
-            shown = ARCHITECTURES.get(self.architecture, hex(self.architecture))
+            shown = architectures.shown_name(self.architecture) or hex(self.architecture)
             return (f"{named} ({self.number})" if named else f"number {self.number}") + f" of the architecture {shown}"
         if self.number >= NO_CALL:
             return f"number {self.number} ({hex(self.number)}), which no syscall has"

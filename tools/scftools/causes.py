@@ -3,7 +3,7 @@ from __future__ import annotations
 
 from collections.abc import Iterator, Sequence
 
-from . import amendment, ask, client, decisions, output, paths, program, reasons, refusals
+from . import amendment, ask, client, decisions, output, paths, program, reasons, refusals, tables
 from .amendment import Amendment
 from .answers import ERRNOS
 from .calls import Call
@@ -11,7 +11,7 @@ from .client import Refusal
 from .diagnosis import CONTRADICTS, FITS, UNKNOWN, Case, Stack, cases, rank, verdict_of
 from .events import CORE, EVENTS, RECORD, STRACE, Event, EventLog
 from .filters import Filter
-from .tables import Table
+from .tables import Table, Tables
 from .trials import Trial
 from .values import dataclass, field
 from .verdicts import FOR_OTHER_ABI
@@ -35,7 +35,7 @@ class Side:
     found: tuple[Case, ...] = ()
     verdict: str = UNKNOWN
     refusal: Refusal | None = None
-    # whether the syscall is of an architecture that the profile also names
+    # whether the syscall is of an architecture that the profile names, and that isn't judged
     is_undetermined: bool = False
 
     @property
@@ -51,10 +51,17 @@ class Inputs:
     trial: Trial
     profile: bytes | None = None
     filters: Sequence[Filter] = ()
+    # whether the profile is judged for x86-64 alone
+    is_native: bool = False
 
     @property
     def table(self) -> Table:
         return self.trial.table
+
+    @property
+    def judged(self) -> Tables:
+        """The tables of the architectures that the profile is judged for."""
+        return tables.of_profile(self.profile or b"", self.table, self.is_native)
 
 
 @dataclass
@@ -95,18 +102,18 @@ def of(event: Event, count: int, given: Inputs) -> Cause:
     if given.profile is None:
         return found
     try:
-        stack = Stack([given.trial.filter_of(given.profile)], given.trial)
+        stack = Stack([client.compile_profile(given.profile, given.judged)], given.trial)
     except Refusal as why:
         found.profile = Side("the profile", refusal=why)
         return found
-    reason = reasons.of(given.profile, given.table, event.call.words())
-    if ask.is_undetermined(reason, event.call, given.profile, given.table):
+    reason = reasons.of(given.profile, given.judged, event.call.words())
+    if ask.is_undetermined(reason, event.call, given.profile, given.judged):
         found.profile = Side("the profile", is_undetermined=True)
         return found
     found.profile = _side("the profile", stack, event)
     denied = next((it for it in found.profile.found if not it.answer.allows), None)
     if denied is not None:
-        reason = reasons.of(given.profile, given.table, denied.call.words())
+        reason = reasons.of(given.profile, given.judged, denied.call.words())
         found.changes = list(amendment.amendments(given.profile, event, reason, given.trial))
     return found
 
@@ -175,7 +182,7 @@ def _of_case(case: Case, event: Event, table: Table) -> Iterator[str]:
 def _of_refusal(why: Refusal, given: Inputs) -> Iterator[str]:
     yield why.line
     if why.fault is not None:
-        yield from output.notes(refusals.sentences(why.fault, given.profile or b"", given.table))
+        yield from output.notes(refusals.sentences(why.fault, given.profile or b"", given.judged))
 
 
 def _of_profile(cause: Cause) -> Iterator[str]:
@@ -190,7 +197,7 @@ def _of_profile(cause: Cause) -> Iterator[str]:
         yield FOR_OTHER_ABI
         return
     for case in side.found:
-        reason = reasons.of(given.profile, given.table, case.call.words())
+        reason = reasons.of(given.profile, given.judged, case.call.words())
         yield reason.line
         yield f"# {case.answer.describe()}"
         call = None if case.is_for_all and cause.event.unknown else case.call
@@ -227,7 +234,8 @@ def _of_filters(cause: Cause) -> Iterator[str]:
 def _of_changes(cause: Cause) -> Iterator[str]:
     """The changes of the profile that allow the syscall."""
     for change in cause.changes:
-        yield f"this change of the profile allows {change.describe()}, and no other answer changes:"
+        whose = "" if cause.given.judged.is_native else " to an x86-64 syscall"
+        yield f"this change of the profile allows {change.describe()}, and no other answer{whose} changes:"
         yield from (f"  {step}" for step in change.steps())
 
 
@@ -259,7 +267,7 @@ def as_json(cause: Cause) -> dict[str, object]:
     if cause.profile is not None:
         found["profile"] = _side_json(cause.profile, cause)
         for case, shown in zip(cause.profile.found, found["profile"]["cases"]):
-            reason = reasons.of(given.profile or b"", given.table, case.call.words())
+            reason = reasons.of(given.profile or b"", given.judged, case.call.words())
             shown.update(reasons.as_json(reason, given.profile or b"", None))
     if cause.filters is not None:
         found["filters"] = _side_json(cause.filters, cause)

@@ -4,6 +4,8 @@ from __future__ import annotations
 from collections.abc import Iterator
 
 from . import constants, output, reasons
+from .architectures import NATIVE
+from .explanation import join_names
 from .changes import KINDS, NEW, OLD, OTHERWISE, Change, Changes, Source
 from .profiles import STUB
 from .reasons import Reason
@@ -30,7 +32,7 @@ def _by(reason: Reason, source: Source) -> str:
 
 def line_of(change: Change, sources: dict[str, Source]) -> str:
     """The line of a change: number, names, kind, an example, and for each profile its answer and what gives it."""
-    words = [str(change.number), *([",".join(change.names)] if change.names else []), change.kind]
+    words = [*([change.architecture.name] if change.architecture.oci != NATIVE else []), str(change.number), *([",".join(change.names)] if change.names else []), change.kind]
     if change.call is not None:
         words += ["args", *map(hex, change.call.arguments)]
         words += [f"{side} {reason.answer} {_by(reason, sources[side])}" for side, reason in change.reasons.items()]
@@ -93,11 +95,17 @@ def lines(changes: Changes) -> Iterator[str]:
         yield f"# numbers that the table doesn't name: {changes.unnamed.kind}"
     yield from output.notes(_entries(changes))
     yield from output.notes(_apart("names that were skipped because the table doesn't have them", changes.skipped))
+    for side, other in ((OLD, NEW), (NEW, OLD)):
+        if changes.alone[side]:
+            yield (f"# only the {side} profile names {join_names(changes.alone[side])}: the {other} one kills a process "
+                   f"that makes such a syscall")
     yield from output.notes(_apart("other architectures, not compared", changes.architectures))
 
 
 def _change_json(changes: Changes, change: Change, table: Table) -> dict[str, object]:
     found: dict[str, object] = {"number": change.number, "names": list(change.names), "change": change.kind}
+    if change.architecture.oci != NATIVE:
+        found["architecture"] = change.architecture.name
     if change.call is not None:
         found["call"] = change.call.as_json(table)
     for side, reason in change.reasons.items():
@@ -113,4 +121,4 @@ def as_json(changes: Changes, table: Table) -> dict[str, object]:
             "counts": changes.counts, "changes": [_change_json(changes, change, table) for change in changes.calls],
             "unnamed": None if changes.unnamed is None else _change_json(changes, changes.unnamed, table),
             "skipped": {side: list(names) for side, names in changes.skipped.items()},
-            "other": {side: list(names) for side, names in changes.architectures.items()}}
+            "alone": changes.alone, "other": {side: list(names) for side, names in changes.architectures.items()}}

@@ -1,22 +1,23 @@
-"""Changes: two profiles compared syscall by syscall, by verdicts of scf on the old one's filter and the new one."""
+"""Changes: two profiles compared syscall by syscall, by verdicts of scf on the filters of both."""
 from __future__ import annotations
 
 import json
 from collections.abc import Iterator, Sequence
 
-from . import bundles, client, entries, newer, program, reasons, unnamed
+from . import client, compare, entries, newer, program, reasons, tables, unnamed, views
 from .answers import DISPOSITIONS, Answer
+from .architectures import JUDGED, NATIVE, Architecture
 from .calls import Call
 from .client import Refusal
-from .compare import CALLS, NATIVE, Comparison
 from .filters import Filter
 from .profiles import STUB, Origin
 from .questions import checked
 from .reasons import Reason
-from .tables import Table
+from .stack_comparison import StackComparison
+from .tables import Table, Tables
 from .values import dataclass, field, replace
-from .verdicts import (DIFFERS, LESS, MORE, NO_LESS, NO_MORE, SAME, UNDECIDED, UNFINISHED, NamedCall, Report,
-                       Verdict)
+from .verdicts import (ALL, CALLS, DIFFERS, LESS, MORE, NO_LESS, NO_MORE, SAME, UNDECIDED, UNFINISHED, NamedCall,
+                       Report, Verdict)
 
 OLD, NEW = "old", "new"
 # The new profile is more permissive, stricter, or only gives another answer; or scf can't decide.
@@ -30,108 +31,108 @@ TURNED = {NO_MORE: NO_LESS, NO_LESS: NO_MORE}
 
 @dataclass(frozen=True)
 class Source:
-    """A profile; and of one as a runtime applies it, where its entries stand in the user's, and the least number that
-    runc answers with ENOSYS."""
+    """A profile; and of one as a runtime applies it, where its entries stand in the user's, and for each architecture
+    the least number that runc answers with ENOSYS."""
 
     data: bytes
     origins: Sequence[Origin] | None = None
-    stub: int | None = None
-
-    def with_stub(self, table: Table, end: int | None) -> Source:
-        """The profile with an entry for what runc answers with ENOSYS, as far as the table names it, below a number."""
-        if self.stub is None:
-            return self
-        return replace(self, data=newer.with_stub(self.data, table, self.stub, end),
-                       origins=[*(self.origins or ()), STUB])
+    stub: dict[str, int] = field(default_factory=dict)
 
 
 def _some(holder: dict[str, object], *names: str) -> dict[str, object]:
     return {name: holder[name] for name in names if name in holder}
 
 
-class Part:
-    """A profile by its syscalls, so that scf can be asked about one without the other entries."""
+class Side:
+    """A profile, the tables that it is judged by, its filter, and its entries by their syscalls, so that scf can be
+    asked about one without the other entries. Raises Refusal, whose subject is the side."""
 
-    def __init__(self, data: bytes, table: Table) -> None:
-        self.data, self.table = data, table
-        self.top = entries.read(data)
-        self.indices: dict[int | None, dict[int, str]] = {}
+    def __init__(self, name: str, source: Source, judged: Tables) -> None:
+        self.source, self.judged = source, judged
+        try:
+            data = client.compile_profile(source.data, judged)
+        except Refusal as why:
+            why.subject = name, source.data
+            raise
+        self.filter = Filter(name, newer.with_stub(data, source.stub))
+        self.top = entries.read(source.data)
+        self.indices: dict[str, dict[int, str]] = {}
         for index, entry in enumerate(self.top.get("syscalls", []) if self.top is not None else []):
-            for name in entry["names"]:
-                self.indices.setdefault(table.number_of(name), {}).setdefault(index, name)
+            for it in entry["names"]:
+                self.indices.setdefault(it, {}).setdefault(index, it)
 
     def reason(self, call: Call) -> Reason:
         """What the profile answers to a syscall and why, by scf on the entries that have its number."""
-        if self.top is None:
-            return reasons.of(self.data, self.table, call.words())
-        own = self.indices.get(call.number, {})
-        kept = [{"names": [name], **_some(self.top["syscalls"][index], "action", "errnoRet", "args")}
-                for index, name in own.items()]
-        members = _some(self.top, "defaultAction", "defaultErrnoRet")
-        found = reasons.of(json.dumps({**members, "syscalls": kept}).encode(), self.table, call.words())
-        return found if found.entry is None else replace(found, entry=list(own)[found.entry])
+        data, places = self.source.data, None
+        if call.number >= self.source.stub.get(call.abi or "", 1 << 32):
+            return Reason(program.SUCCESS, "", newer.ENOSYS, len(self.source.origins or ()))
+        if self.top is not None:
+            names = call.names(self.judged.native)
+            own = dict(sorted((index, it) for name in names for index, it in self.indices.get(name, {}).items()))
+            kept = [{"names": [name], **_some(self.top["syscalls"][index], "action", "errnoRet", "args")}
+                    for index, name in own.items()]
+            members = _some(self.top, "defaultAction", "defaultErrnoRet", "architectures")
+            data, places = json.dumps({**members, "syscalls": kept}).encode(), list(own)
+        found = reasons.of(data, self.judged, call.words())
+        return found if found.entry is None or places is None else replace(found, entry=places[found.entry])
 
-
-def filter_of(data: bytes, table: Table) -> Filter:
-    """The old profile's filter. Raises Refusal, whose subject is that side."""
-    try:
-        return Filter(OLD, client.compile_profile(bundles.of_compilation(data, table.data)))
-    except Refusal as why:
-        why.subject = OLD, data
-        raise
-
-
-def _refuse_new(report: Report, status: int, data: bytes, table: Table) -> None:
-    """Raises the Refusal of the new profile: that of `compile` if it refuses the profile, too."""
-    assert report.fault is not None
-    done = client.run(["compile"], bundles.of_compilation(data, table.data))
-    if done.status != program.SUCCESS and report.fault.source == "profile":
-        raise Refusal(done.line, done.status, (NEW, data))
-    raise Refusal(report.fault.line, status, (NEW, data))
+    def with_stub_origin(self) -> Source:
+        """The profile with an origin for what the stub answers."""
+        source = self.source
+        return replace(source, origins=[*(source.origins or ()), STUB]) if source.stub else source
 
 
 @dataclass(frozen=True)
 class Given:
-    """Both profiles, the old one's filter, the table, and the most steps, as a text, where they aren't scf's; and the
-    least number from which on runc answers both alike, whatever they say."""
+    """Both sides, the table of x86-64, and the most steps, as a text, where they aren't scf's."""
 
-    old: bytes
-    new: bytes
-    filter: Filter
+    sides: dict[str, Side]
     table: Table
     limit: str | None
-    end: int | None = None
-    parts: dict[str, Part] = field(default_factory=dict)
+
+    def _comparison(self, one: Architecture | None = None, table: Table | None = None) -> StackComparison | None:
+        """The comparison of the old profile's filter with the new one's, on request of their views; None if they have
+        none."""
+        data = [side.filter.data if one is None else views.of(side.filter.data, one) for side in self.sides.values()]
+        if None in data:
+            return None
+        old, new = ([Filter(name, it)] for name, it in zip(self.sides, data))
+        return StackComparison(old, new, table or self.table, self.limit)
 
     @property
-    def comparison(self) -> Comparison:
-        return Comparison([self.filter], self.new, self.table, self.limit)
+    def both(self) -> list[tuple[Architecture, Table]]:
+        """The architectures that both are judged for, with their tables."""
+        old, new = (side.judged.of for side in self.sides.values())
+        return [(JUDGED[name], table) for name, table in old.items() if name in new]
 
-    def _below_end(self) -> Table:
-        """The table without the numbers that are answered alike."""
-        if self.end is None:
-            return self.table
-        lines = (f"{name} {number}\n" for number in self.table.numbers() if number < self.end
-                 for name in self.table.names_of(number))
-        return Table("".join(lines).encode())
+    @property
+    def whole(self) -> str:
+        """The scope of all that is judged."""
+        return compare.NATIVE if all(it.judged.is_native for it in self.sides.values()) else ALL
 
-    def compared(self, scope: str, relation: str) -> Report:
-        """scf's report on the old profile's filter compared with the new profile."""
-        if scope == CALLS:
-            status, report = replace(self.comparison, table=self._below_end()).run(CALLS, relation)
-        elif self.end is not None:
-            status, report = self.comparison.of_numbers(0, self.end, relation)
-        else:
-            status, report = self.comparison.run(scope, relation)
+    def compared(self, relation: str) -> Report:
+        """scf's report on the old profile's filter beside the new one's."""
+        status, report = self._comparison().run(self.whole, relation)
         if report.fault is not None:
-            _refuse_new(report, status, self.new, self.table)
-        return checked(status, report, scope)
+            raise Refusal(report.fault.line, status, (NEW, self.sides[NEW].source.data))
+        return checked(status, report, self.whole)
+
+    def of_calls(self, one: Architecture, table: Table, relation: str) -> list[NamedCall]:
+        """The same for each syscall in the table of an architecture."""
+        comparison = self._comparison(one, table)
+        if comparison is None:
+            return []
+        status, report = comparison.run(CALLS, relation)
+        return [it.on(one) for it in checked(status, report, CALLS).calls]
+
+    def of_number(self, one: Architecture, number: int) -> Verdict | None:
+        """The verdict on the syscalls of an architecture with a number of its table."""
+        comparison = self._comparison(one)
+        return None if comparison is None else comparison.of_numbers(number, number)
 
     def asked(self, call: Call) -> dict[str, Reason]:
         """What each profile answers to a syscall, and why."""
-        if not self.parts:
-            self.parts.update({OLD: Part(self.old, self.table), NEW: Part(self.new, self.table)})
-        return {side: self.parts[side].reason(call) for side in (OLD, NEW)}
+        return {name: side.reason(call) for name, side in self.sides.items()}
 
 
 @dataclass
@@ -146,6 +147,7 @@ class Change:
     kind: str
     call: Call | None = None
     reasons: dict[str, Reason] = field(default_factory=dict)
+    architecture: Architecture = JUDGED[NATIVE]
 
 
 @dataclass(frozen=True)
@@ -153,7 +155,7 @@ class Changes:
     """What changes from the old profile to the new one."""
 
     relation: str
-    # the verdict over all x86-64 syscalls
+    # the verdict over all syscalls
     whole: Verdict
     calls: Sequence[Change]
     # the least number without a name, if the defaults differ, which answer all such numbers
@@ -162,6 +164,8 @@ class Changes:
     sources: dict[str, Source]
     skipped: dict[str, tuple[str, ...]]
     architectures: dict[str, tuple[str, ...]]
+    # of each side the OCI names of those that only this side is judged for
+    alone: dict[str, list[str]]
 
     @property
     def fails(self) -> bool:
@@ -197,14 +201,15 @@ def _kinds(same: NamedCall | None, more: NamedCall | None, less: NamedCall | Non
 
 def _of_calls(given: Given) -> list[Change]:
     """The syscalls that differ: first more permissive, then stricter, then others."""
-    # the new profile is more permissive where the old one is stricter
-    lists = [{line.number: line for line in given.compared(CALLS, relation).calls}
-             for relation in (SAME, NO_LESS, NO_MORE)]
     found = []
-    for number in sorted({number for lines in lists for number in lines}):
-        for kind, line in _kinds(*(lines.get(number) for lines in lists)):
-            call = line.verdict.call
-            found.append(Change(number, line.names, kind, call, given.asked(call) if call else {}))
+    for one, table in given.both:
+        # the new profile is more permissive where the old one is stricter
+        lists = [{line.number: line for line in given.of_calls(one, table, relation)}
+                 for relation in (SAME, NO_LESS, NO_MORE)]
+        for number in sorted({number for lines in lists for number in lines}):
+            for kind, line in _kinds(*(lines.get(number) for lines in lists)):
+                call = line.verdict.call
+                found.append(Change(number, line.names, kind, call, given.asked(call) if call else {}, one))
     return sorted(found, key=lambda it: KINDS.index(it.kind))
 
 
@@ -214,39 +219,43 @@ def _kind_of(before: Answer | None, after: Answer | None) -> str:
     return MORE if one < other else LESS if one > other else OTHERWISE
 
 
-def _of_unnamed(given: Given, end: int) -> Change | None:
-    """Whether the defaults differ, which answer all numbers that the table doesn't name: by the least of them."""
-    number = next((first for first, _ in unnamed.gaps(given.table) if first < end), None)
-    verdict = None if number is None else given.comparison.of_numbers(number, number + 1)[1].verdict
-    if number is None or verdict is None or verdict.holds:
-        return None
-    if not verdict.fails:
-        return Change(number, (), verdict.word)
-    asked = given.asked(Call(number))
-    return Change(number, (), _kind_of(asked[OLD].answer, asked[NEW].answer), Call(number), asked)
+def _of_unnamed(given: Given) -> Change | None:
+    """Whether the defaults differ, which answer all numbers that a table doesn't name: by the least of them."""
+    for one, table in given.both:
+        stubs = [side.source.stub[one.oci] - one.first for side in given.sides.values() if one.oci in side.source.stub]
+        number = next((first for first, _ in unnamed.gaps(table) if first < min(stubs, default=unnamed.X32)), None)
+        verdict = None if number is None else given.of_number(one, number)
+        if number is None or verdict is None or verdict.holds:
+            continue
+        if not verdict.fails:
+            return Change(number, (), verdict.word, architecture=one)
+        call = Call(one.first + number, one.number)
+        asked = given.asked(call)
+        return Change(number, (), _kind_of(asked[OLD].answer, asked[NEW].answer), call, asked, one)
+    return None
 
 
 def _whole(given: Given, same: Verdict, relation: str) -> Verdict:
     """The verdict on whether the new profile has a relation to the old one, given that on whether they are the same."""
     if relation == SAME or same.holds:
         return Verdict(relation) if same.holds else same
-    found = given.compared(NATIVE, TURNED[relation]).verdict
+    found = given.compared(TURNED[relation]).verdict
     assert found is not None
     return Verdict(relation) if found.holds else replace(found, word=FAILED[relation]) if found.fails else found
 
 
-def of_profiles(old: Source, new: Source, table: Table, limit: str | None, relation: str) -> Changes:
+def of_profiles(old: Source, new: Source, table: Table, limit: str | None, relation: str,
+                is_native: bool = False) -> Changes:
     """What changes from one profile to another."""
-    stubs = [it.stub for it in (old, new) if it.stub is not None]
-    end = max(stubs) if len(stubs) == 2 else None
-    old, new = old.with_stub(table, end), new.with_stub(table, end)
-    given = Given(old.data, new.data, filter_of(old.data, table), table, limit, end)
-    beside_new = given.compared(NATIVE, SAME)
-    # without a step the comparison only reports what was left out
-    beside_old = Comparison([given.filter], old.data, table, "0").run(NATIVE)[1]
-    assert beside_new.verdict is not None
-    whole, are_same = _whole(given, beside_new.verdict, relation), beside_new.verdict.holds
-    end = min(stubs, default=unnamed.X32)
-    return Changes(relation, whole, [] if are_same else _of_calls(given), None if are_same else _of_unnamed(given, end),
-                   {OLD: old, NEW: new}, {OLD: beside_old.skipped, NEW: beside_new.skipped},
-                   {OLD: beside_old.architectures, NEW: beside_new.architectures})
+    given = Given({name: Side(name, source, tables.of_profile(source.data, table, is_native))
+                   for name, source in ((OLD, old), (NEW, new))}, table, limit)
+    same = given.compared(SAME).verdict
+    assert same is not None
+    left_out = {name: compare.left_out(side.source.data, side.judged) for name, side in given.sides.items()}
+    both = {one.oci for one, _ in given.both}
+    return Changes(relation, _whole(given, same, relation), [] if same.holds else _of_calls(given),
+                   None if same.holds else _of_unnamed(given),
+                   {name: side.with_stub_origin() for name, side in given.sides.items()},
+                   {name: it.skipped for name, it in left_out.items()},
+                   {name: it.architectures for name, it in left_out.items()},
+                   {name: [it for it in side.judged.of if it not in both] for name, side in given.sides.items()})

@@ -4,9 +4,13 @@ from __future__ import annotations
 import os
 from collections.abc import Iterable, Sequence
 
-from . import output, program
+from . import bundles, output, program
 from .program import NEGATIVE, NOT_BUILT, SUCCESS, UNKNOWN, ToolError
 from .values import Pattern, dataclass
+
+TYPE_CHECKING = False
+if TYPE_CHECKING:
+    from .tables import Tables
 
 # In the sources the command, which builds the program where it never was; the program, as it is installed or was built.
 SCF = os.path.join(program.TOP, "scf")
@@ -190,9 +194,9 @@ def print_version() -> int:
     return done.status
 
 
-def compile_profile(bundle: bytes) -> bytes:
-    """The filter of a bundle of a profile and a table. Raises Refusal."""
-    done = run(["compile"], bundle)
+def compile_profile(profile: bytes, tables: Tables) -> bytes:
+    """The filter of a profile for the architectures of these tables. Raises Refusal."""
+    done = run(["compile", *tables.words], bundles.of_compilation(profile, tables))
     if done.status != SUCCESS:
         raise Refusal(done.line, done.status)
     return done.out

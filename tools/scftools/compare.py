@@ -3,21 +3,25 @@ from __future__ import annotations
 
 from collections.abc import Iterator, Sequence
 
-from . import (bundles, client, explanation, newer, other_abis, profiles, program, reasons, refusals, tables,
-               verdicts)
-from .answers import DENIED
-from .filters import Filter, looks_at_pointer
+from . import (architectures, bundles, client, explanation, newer, other_abis, profiles, program, reasons, refusals,
+               tables, verdicts, views)
+from .answers import DENIED, Answer
+from .architectures import Architecture
+from .client import Refusal
+from .filters import RETURN_CONSTANT, Filter, instruction, looks_at_pointer
 from .profiles import Origin, Profile
+from .explanation import join_names
 from .refusals import faulty_filters
-from .tables import Table
+from .tables import Table, Tables
 from .values import dataclass, field, replace
-from .verdicts import (ALL, CALLS, DIFFERS, FOR_OTHER_ABI, LESS, MORE, NATIVE, NO_LESS, NO_MORE, SAME,
+from .verdicts import (ALL, CALLS, DIFFERS, FOR_OTHER_ABI, LESS, LISTED, MORE, NATIVE, NO_LESS, NO_MORE, SAME,
                        SAME_DISPOSITION, UNDECIDED, UNDETERMINED, NamedCall, Report, Verdict)
 
-SCOPES = {ALL: [], NATIVE: ["--native"], CALLS: ["--calls"]}
-# The line about a scope that leaves out other ABIs.
-LOOKED_AT = {NATIVE: "compared: x86-64 syscalls; other ABIs are only checked for any allowed syscall:",
-             CALLS: "compared: each x86-64 syscall in the table; other ABIs are only checked for any allowed syscall:"}
+SCOPES = {ALL: [], NATIVE: ["--native"], CALLS: ["--calls"], LISTED: ["--architectures"]}
+# What is compared in a scope, which leaves out other ABIs.
+LOOKED_AT = {NATIVE: "x86-64 syscalls", CALLS: "each x86-64 syscall in the table", LISTED: "{} syscalls"}
+ABIS_CHECKED = "; other ABIs are only checked for any allowed syscall:"
+NOTHING_ELSE = b'{"defaultAction": "SCMP_ACT_KILL_PROCESS"}'
 # The options for each relation, by the verdict if it holds; and what is printed of syscalls that fail it.
 RELATIONS = {SAME: [], NO_MORE: ["--no-more"], NO_LESS: ["--no-less"], SAME_DISPOSITION: ["--disposition"]}
 FAILED = {DIFFERS: "that differ", MORE: "answered more permissively than by {}",
@@ -29,8 +33,9 @@ MOST_UNDECIDED = 20
 
 @dataclass
 class Comparison:
-    """Filters, oldest first, a profile and a table; the step limit as a text, or None for scf's; a relation; of a
-    resolved profile the index of each entry in the user's, and the least number that runc answers with ENOSYS."""
+    """Filters, oldest first, a profile and x86-64's table; the step limit as a text, or None for scf's; a relation; of a
+    resolved profile the index of each entry in the user's, and for each architecture the least number that runc answers
+    with ENOSYS; and whether x86-64 alone is judged, whatever the profile names."""
 
     filters: Sequence[Filter]
     profile: bytes
@@ -38,8 +43,19 @@ class Comparison:
     limit: str | None = None
     relation: str = SAME
     origins: Sequence[Origin] | None = None
-    stub: int | None = None
+    stub: newer.Bounds = field(default_factory=dict)
+    is_native: bool = False
     _facts: list[Profile | None] = field(default_factory=list)
+
+    @property
+    def tables(self) -> Tables:
+        """The tables of the architectures that are judged."""
+        return tables.of_profile(self.profile, self.table, self.is_native)
+
+    @property
+    def scope(self) -> str:
+        """The scope of all architectures that are judged."""
+        return NATIVE if self.tables.is_native else LISTED
 
     @property
     def facts(self) -> Profile | None:
@@ -48,41 +64,78 @@ class Comparison:
             self._facts.append(profiles.read(self.profile))
         return self._facts[0]
 
-    def _run(self, scope: str, filters: Sequence[bytes], relation: str = SAME,
-             numbers: Sequence[str] = ()) -> tuple[int, Report]:
-        given = bundles.of_comparison(filters, self.profile, self.table.data)
-        done = client.compare([*SCOPES[scope], *RELATIONS[relation], *numbers], given, self.limit)
+    def _run(self, scope: str, filters: Sequence[bytes], relation: str) -> tuple[int, Report]:
+        judged = self.tables if scope == LISTED else tables.native_alone(self.table.data)
+        given = bundles.of_comparison(filters, self.profile, judged)
+        done = client.compare([*SCOPES[scope], *RELATIONS[relation]], given, self.limit)
         known = self.facts if b"\nskipped " in done.out else None
         pointer = None if scope == CALLS and any(map(looks_at_pointer, filters)) else 0
-        return done.status, verdicts.report(done.text, known.names if known else None, self.table, pointer)
+        return done.status, verdicts.report(done.text, known.names if known else None, judged.has, pointer)
 
-    def run(self, scope: str = ALL, relation: str | None = None) -> tuple[int, Report]:
-        """scf's exit status and report, for this relation or the comparison's own. The verdict is `undetermined` if
-        the syscall that decides is of an architecture that the profile also names."""
+    def _run_others(self, filters: Sequence[bytes], relation: str) -> tuple[int, Report]:
+        """The same over all records; those of several architectures that are judged are left out, and a profile denies
+        the others."""
+        if self.tables.is_native:
+            return self._run(ALL, filters, relation)
+        others = replace(self, profile=NOTHING_ELSE, _facts=[])
+        return others._run(ALL, [*other_abis.denial_filters(self.tables.of), *filters], relation)
+
+    def run(self, scope: str | None = None, relation: str | None = None) -> tuple[int, Report]:
+        """scf's exit status and report, for this relation or the comparison's own, by default over all architectures
+        that are judged. Over all records the verdict is `undetermined` if the syscall that decides is of an
+        architecture that the profile names, and scf has no table of it."""
         relation, filters = relation or self.relation, [one.data for one in self.filters]
-        status, report = self._run(scope, filters, relation)
+        if scope != ALL:
+            return self._run(scope or self.scope, filters, relation)
+        listed = None
+        if not self.tables.is_native:
+            status, listed = self._run(LISTED, filters, relation)
+            if listed.verdict is None or not listed.verdict.holds:
+                return status, listed
+        status, report = self._run_others(filters, relation)
+        if listed is not None:
+            report = replace(report, skipped=listed.skipped, architectures=listed.architectures)
         call = report.verdict.call if report.verdict is not None else None
-        if scope != ALL or call is None or not report.architectures or call.is_native:
+        if call is None or call.abi not in report.architectures:
             return status, report
-        if call.other_abi is not None and call.other_abi not in report.architectures:
-            return status, report
-        # whether anything else decides, and if nothing does, whether a syscall does or only numbers that none has
-        for names in (report.architectures, ()):
-            ended, others = self._run(scope, [*other_abis.denial_filters(names), *filters], relation)
-            if others.verdict is None or names == () and others.verdict.fails:
-                return program.UNKNOWN, as_undetermined(report if others.verdict is None else others)
-            if not others.verdict.holds:
-                return ended, others
-        return status, report
-
-    def of_numbers(self, first: int, end: int | None = None, relation: str = SAME) -> tuple[int, Report]:
-        """scf's exit status and report for a relation, over the x86-64 syscalls with numbers from `first` on, and below
-        `end` if it is given."""
-        numbers = [f"--nr-from={first}", *([f"--nr-to={end - 1}"] if end is not None else [])]
-        return self._run(ALL, [one.data for one in self.filters], relation, numbers)
+        # whether anything else decides
+        denials = other_abis.denial_filters(report.architectures)
+        ended, others = self._run_others([*denials, *filters], relation)
+        if others.verdict is None or others.verdict.holds:
+            return program.UNKNOWN, as_undetermined(report)
+        return ended, others
 
     def alone(self, one: Filter, scope: str) -> Report:
         return self._run(scope, [one.data], self.relation)[1]
+
+    def answers(self) -> bytes:
+        """A filter that answers as the profile, with runc's stub where it has one. Raises Refusal."""
+        return newer.with_stub(client.compile_profile(self.profile, self.tables), self.stub)
+
+    def of_calls(self, relation: str | None = None) -> list[NamedCall]:
+        """The syscalls in the tables of which the relation isn't proved. Raises Refusal."""
+        relation, found = relation or self.relation, []
+        for one, table in ((architectures.JUDGED[name], its) for name, its in self.tables.of.items()):
+            if one.oci == architectures.NATIVE and not self.stub:
+                status, report = self.run(CALLS, relation)
+                if report.verdict is None:
+                    raise Refusal(report.lines[0] if report.lines else "", status)
+                found += report.calls
+            else:
+                found += self._of_calls(one, table, relation)
+        return found
+
+    def _of_calls(self, one: Architecture, table: Table, relation: str) -> list[NamedCall]:
+        """The same of one architecture: of a filter that answers as the profile, seen as by x86-64."""
+        sides = [[views.of(data, one) for data in side] for side in ([it.data for it in self.filters], [self.answers()])]
+        if any(it is None for side in sides for it in side):
+            return []
+        given = bundles.of_stacks(sides[0], sides[1], table.data)
+        done = client.compare(["--beside", "--calls", *RELATIONS[relation]], given, self.limit)
+        report = verdicts.report(done.text, pointer=None if any(map(looks_at_pointer, sides[0])) else 0)
+        if report.verdict is None:
+            raise Refusal(done.line, done.status)
+        return [it.on(one) for it in report.calls]
 
 
 def as_undetermined(report: Report) -> Report:
@@ -122,22 +175,25 @@ def count_lines(calls: Sequence[NamedCall], other: str = PROFILE) -> Iterator[st
         yield from [f"more such syscalls: {len(untold) - MOST_UNDECIDED}"] * (len(untold) > MOST_UNDECIDED)
 
 
-def of_native_calls(comparison: Comparison, report: Report) -> tuple[list[str], list[str]]:
-    """The lines before and after the explanation of scf's example, if x86-64 syscalls differ.
+def of_calls(comparison: Comparison, report: Report) -> tuple[list[str], list[str]]:
+    """The lines before and after the explanation of scf's example, if syscalls differ.
 
     Syscalls that are only newer than the profile are reported apart: first if there are no others, else last.
     """
-    by_name = comparison.run(CALLS)[1]
-    if by_name.verdict is None or report.verdict is None or report.verdict.call is None:
+    try:
+        by_name = comparison.of_calls()
+    except Refusal:
+        return [], []
+    if report.verdict is None or report.verdict.call is None:
         return [], []
     all_named = [f"no syscall in the table is among those {FAILED[report.verdict.word].format(PROFILE)}"]
     if comparison.relation == SAME:
         all_named = ["each syscall in the table is answered as the profile says"]
-    found = newer.calls_of(comparison) if comparison.relation == SAME and comparison.stub is None else None
+    found = newer.calls_of(comparison)
     if found is None:
-        return [], all_named if by_name.verdict.holds else list(count_lines(by_name.calls))
-    others = [call for call in by_name.calls if not found.has(call)]
-    count, others_differ = len(by_name.calls) - len(others), newer.another_call(comparison, found)
+        return [], list(count_lines(by_name)) or all_named
+    others = [call for call in by_name if not found.has(call.record)]
+    count, others_differ = len(by_name) - len(others), newer.another_call(comparison, found)
     newer_lines = [found.describe(others_differ is None, comparison.table)]
     if count:
         newer_lines.append(f"syscalls in the table among these: {count}")
@@ -145,7 +201,7 @@ def of_native_calls(comparison: Comparison, report: Report) -> tuple[list[str], 
         return newer_lines, [] if count else all_named
     lines = list(count_lines(others)) or list(
         explanation.of_differing(others_differ, comparison.table, True, len(comparison.filters)))
-    return (lines + newer_lines, []) if report.verdict.call.number >= found.first else ([], lines + newer_lines)
+    return (lines + newer_lines, []) if found.has(report.verdict.call) else ([], lines + newer_lines)
 
 
 def of_both_relations(comparison: Comparison, scope: str) -> tuple[Report, Report]:
@@ -172,25 +228,35 @@ def of_refusing_more(comparison: Comparison, scope: str) -> Iterator[str]:
 
 def sentences_of(comparison: Comparison, fault: verdicts.Fault) -> Iterator[str]:
     """The lines about a fault of a comparison."""
-    yield from refusals.sentences(fault, comparison.profile, comparison.table, comparison.origins)
+    yield from refusals.sentences(fault, comparison.profile, comparison.tables, comparison.origins)
 
 
 def of_left_out(comparison: Comparison, report: Report) -> Iterator[str]:
-    """What was left out of the profile: skipped names, and other architectures."""
+    """What was left out of the profile: skipped names, and architectures that aren't judged."""
     if report.skipped:
         facts = comparison.facts
-        yield from explanation.of_skipped(report, comparison.table, bool(facts and facts.allows_by_default))
+        yield from explanation.of_skipped(report, comparison.tables, bool(facts and facts.allows_by_default))
     yield from explanation.of_architectures(report)
 
 
+def foreign_of(comparison: Comparison, scope: str) -> list[other_abis.Proved | other_abis.Tried]:
+    """What is known of the syscalls of other ABIs that a scope doesn't cover."""
+    judged = comparison.tables.of if scope == LISTED else ()
+    return other_abis.let_through([one.data for one in comparison.filters], comparison.limit, judged)
+
+
 def of_foreign(comparison: Comparison, report: Report, scope: str, is_quiet: bool = False) -> Iterator[str]:
-    """Whether syscalls of other ABIs are allowed, which a scope doesn't cover; if quiet, only if some may be."""
+    """What is compared, and whether syscalls of other ABIs are allowed, which a scope doesn't cover; if quiet, only if
+    some may be."""
     if scope not in LOOKED_AT or report.verdict is None:
         return
-    found = other_abis.let_through([one.data for one in comparison.filters], comparison.limit)
+    compared = f"compared: {LOOKED_AT[scope].format(join_names(comparison.tables.names))}"
+    found = foreign_of(comparison, scope)
     if found and not (is_quiet and other_abis.are_none(found)):
-        yield LOOKED_AT[scope]
+        yield compared + ABIS_CHECKED
         yield from other_abis.describe(found, report.architectures)
+    elif scope == LISTED and not is_quiet:
+        yield f"{compared}; an x86-64 kernel has no others" if architectures.NATIVE in comparison.tables.of else compared
 
 
 def notes(comparison: Comparison, report: Report, scope: str) -> Iterator[str]:
@@ -203,34 +269,41 @@ def notes(comparison: Comparison, report: Report, scope: str) -> Iterator[str]:
     if report.verdict and report.verdict.word == DIFFERS:
         yield from of_refusing_more(comparison, scope)
     if report.verdict and report.verdict.fails:
-        if scope == NATIVE:
-            before, behind = of_native_calls(comparison, report)
+        if scope in (NATIVE, LISTED):
+            before, behind = of_calls(comparison, report)
         elif scope == CALLS and comparison.relation == SAME:
             before = list(newer.of_named_calls(comparison, report.calls))
     yield from before
     if report.verdict:
-        yield from explanation.of_verdict(report, table, scope == NATIVE, count)
+        yield from explanation.of_verdict(report, table, scope != ALL, count)
         yield from reasons.of_difference(comparison, report.verdict)
         yield from of_left_out(comparison, report)
     yield from behind
     yield from (line for _, line in responsible(comparison, report, scope))
 
 
-def compile_profile(profile: bytes, table: Table,
-                    origins: Sequence[Origin] | None = None) -> tuple[int, bytes, list[str]]:
+def compile_profile(profile: bytes, judged: Tables, origins: Sequence[Origin] | None = None) -> \
+        tuple[int, bytes, list[str]]:
     """scf's exit status, a profile's filter, and lines about a refusal, or about what was left out. `origins` are those
     of a profile that was resolved."""
-    done = client.run(["compile"], bundles.of_compilation(profile, table.data))
+    done = client.run(["compile", *judged.words], bundles.of_compilation(profile, judged))
     fault = None if done.status == program.SUCCESS else verdicts.Fault.read(done.line)
     if fault:
-        return done.status, b"", [fault.line, *refusals.sentences(fault, profile, table, origins)]
+        return done.status, b"", [fault.line, *refusals.sentences(fault, profile, judged, origins)]
     # without a step the comparison only reports what was left out
-    comparison = Comparison([Filter("the compiled one", done.out)], profile, table, "0")
-    report = comparison.run(NATIVE)[1]
-    facts = comparison.facts if report.skipped else None
+    report = left_out(profile, judged)
+    facts = profiles.read(profile) if report.skipped else None
     lets_through = bool(facts and facts.allows_by_default)
-    return done.status, done.out, [*explanation.of_skipped(report, table, lets_through),
+    return done.status, done.out, [*explanation.of_skipped(report, judged, lets_through),
                                    *explanation.of_killed_architectures(report)]
+
+
+def left_out(profile: bytes, judged: Tables) -> Report:
+    """What scf leaves out of a profile, which a comparison without a step reports."""
+    allows = instruction(RETURN_CONSTANT, Answer("ALLOW", 0).word)
+    done = client.compare(SCOPES[LISTED], bundles.of_comparison([allows], profile, judged), "0")
+    known = profiles.read(profile) if b"\nskipped " in done.out else None
+    return verdicts.report(done.text, known.names if known else None, judged.has)
 
 
 def _side_json(verdict: Verdict, table: Table) -> dict[str, object]:
@@ -251,6 +324,8 @@ def as_json(comparison: Comparison, report: Report, scope: str, status: int) -> 
     table = comparison.table
     found: dict[str, object] = {"status": status, "scope": scope,
                                 "verdict": report.verdict.word if report.verdict else None}
+    if scope == LISTED:
+        found["architectures"] = list(comparison.tables.of)
     if comparison.relation != SAME:
         found["relation"] = comparison.relation
     if report.fault:
@@ -263,21 +338,18 @@ def as_json(comparison: Comparison, report: Report, scope: str, status: int) -> 
     if report.verdict and report.verdict.word == DIFFERS:
         for member, one in zip(("no_more", "no_less"), of_both_relations(comparison, scope)):
             found[member] = one.verdict.word if one.verdict else None
-    if scope == NATIVE and report.verdict and report.verdict.fails:
-        calls = comparison.run(CALLS)[1].calls
-        apart = newer.calls_of(comparison) if comparison.relation == SAME and comparison.stub is None else None
+    if scope in (NATIVE, LISTED) and report.verdict and report.verdict.fails:
+        calls = comparison.of_calls()
+        apart = newer.calls_of(comparison)
         if apart:
-            found["newer"] = {"first": apart.first, "are_all": newer.another_call(comparison, apart) is None,
-                              "filter": apart.filters.as_json(), "profile": apart.profile.as_json()}
-    found["calls"] = [{"number": one.number, "names": list(one.names), "verdict": one.verdict.word,
-                       **_side_json(one.verdict, table)} for one in calls]
+            found["newer"] = {**apart.as_json(), "are_all": newer.another_call(comparison, apart) is None}
+    found["calls"] = [{**one.as_json(), **_side_json(one.verdict, table)} for one in calls]
     found["skipped"], found["other"] = list(report.skipped), list(report.architectures)
     if report.skipped:
         found["unknown"] = [{"name": name, "nearest": near}
                             for name, near in tables.classify(report.skipped, table).unknown]
     if scope in LOOKED_AT and report.verdict is not None:
-        filters = [one.data for one in comparison.filters]
-        found["foreign"] = [one.as_json() for one in other_abis.let_through(filters, comparison.limit)]
+        found["foreign"] = [one.as_json() for one in foreign_of(comparison, scope)]
     files = [name for name, _ in responsible(comparison, report, scope)]
     if files:
         found["files"] = files

@@ -9,9 +9,10 @@ from .answers import X32, X86_64, Answer
 from .calls import OPTIONS, SKIPPED, Call
 from .client import Fault
 from .constants import argument_in, number_in
+from .explanation import join_names
 from .filters import Filter
 from .paths import Giver
-from .refusals import faulty_filters, join_names
+from .refusals import faulty_filters
 from .tables import Table
 from .values import dataclass, replace
 from .verdicts import Decision
@@ -232,7 +233,7 @@ def _reply(status: int, lines: Sequence[str], query: Query, decision: Decision, 
     """The reply of filters, without what gives the answer."""
     fault = decision.fault
     return Reply(status, lines, query.call, decision.answer, fault,
-                 lambda: explanation.of_fault(fault, table) if fault else ())
+                 lambda: explanation.of_fault(fault) if fault else ())
 
 
 def of_stack(filters: Sequence[Filter], query: Query, table: Table) -> Reply:

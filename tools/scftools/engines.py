@@ -54,6 +54,9 @@ ERRNOS = (
 # The most digits of a number that any member may have; the most letters of a stranger's text and the most texts of a
 # list that a note repeats; the most notes.
 MAX_DIGITS, MAX_TOLD, MAX_LISTED, MAX_NOTES = 20, 64, 3, 1000
+# The most names of all entries together that are passed on to libseccomp, each once for each of its alternatives: the
+# kernel takes no filter that is a sixteenth so long.
+MAX_RULES = 1 << 16
 
 
 class Refused(Exception):

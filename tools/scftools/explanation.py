@@ -3,15 +3,20 @@ and `unfinished` are the rows of docs/FAULTS.md."""
 from __future__ import annotations
 
 import re
-from collections.abc import Iterator
+from collections.abc import Iterator, Sequence
 
-from . import program, tables, verdicts
+from . import architectures, program, tables, verdicts
 from .answers import Answer
 from .calls import Call
-from .tables import Table
+from .tables import Table, Tables
 from .verdicts import Fault, Report
 
 UNNAMED = ["docs/FAULTS.md doesn't name this line."]
+
+
+def join_names(names: Sequence[str]) -> str:
+    """Names in a sentence."""
+    return names[0] if len(names) == 1 else ", ".join(names[:-1]) + f" and {names[-1]}"
 
 
 def _key(line: str) -> str:
@@ -37,7 +42,8 @@ def what_a_row_says(line: str) -> list[str]:
     return _rows().get(_key(line), UNNAMED)
 
 
-def of_fault(fault: Fault, table: Table | None) -> Iterator[str]:
+def of_fault(fault: Fault, table: Table | None = None) -> Iterator[str]:
+    """What a fault is and what to do; with a table also the x86-64 syscall of which two entries conflict."""
     yield from what_a_row_says(fault.line)
     if (fault.source, fault.kind) == ("profile", "Conflict") and table is not None:
         yield f"the syscall is {Call(fault.numbers['number']).describe(table)}"
@@ -77,12 +83,13 @@ def of_verdict(report: Report, table: Table, is_native: bool, count: int) -> Ite
         yield from what_a_row_says(report.lines[0])
 
 
-def of_skipped(report: Report, table: Table, default_lets_through: bool) -> Iterator[str]:
+def of_skipped(report: Report, judged: Tables, default_lets_through: bool) -> Iterator[str]:
     """What the skipped names are, and what is lost with them."""
     if not report.skipped:
         return
-    found = tables.classify(report.skipped, table)
-    yield (f"names in the profile that were skipped because the table doesn't have them: {len(report.skipped)}"
+    found = tables.classify(report.skipped, judged.native)
+    why = "the table doesn't have them" if len(judged.of) == 1 else "no table has them"
+    yield (f"names in the profile that were skipped because {why}: {len(report.skipped)}"
            + (", all of them syscalls of other architectures" if not found.left_out and not found.unknown else ""))
     for name in found.left_out[:tables.MOST_LISTED]:
         yield f"{name} is an x86-64 syscall that this table leaves out"
@@ -98,17 +105,18 @@ def of_skipped(report: Report, table: Table, default_lets_through: bool) -> Iter
 
 
 def of_architectures(report: Report) -> Iterator[str]:
-    if report.architectures:
-        yield "the profile's other architectures are left out"
+    """Which architectures of a profile aren't judged, and why."""
+    left_out = [it for it in dict.fromkeys(report.architectures) if it in architectures.JUDGED]
+    if left_out:
+        yield f"--native leaves out {join_names(left_out)}, which the profile also names"
+    if len(left_out) < len(set(report.architectures)):
+        yield "the profile's other architectures aren't judged, since scf has no table of them"
 
 
 def of_killed_architectures(report: Report) -> Iterator[str]:
-    """What a filter that scf compiles does with the other architectures of its profile, which an x86-64 kernel has."""
-    killed = [name for name in ("SCMP_ARCH_X86", "SCMP_ARCH_X32") if name in report.architectures]
-    if killed:
-        yield f"the profile also names {' and '.join(killed)}: the filter kills a process that makes such a syscall"
-    if len(killed) < len(set(report.architectures)):
-        yield "the profile's other architectures are left out"
+    """What a filter that scf compiles does with the architectures of its profile that are left out."""
+    for line in of_architectures(report):
+        yield f"{line}: the filter kills a process that makes such a syscall"
 
 
 def of_answer(call: Call | None, answer: Answer, table: Table) -> Iterator[str]:

@@ -8,7 +8,7 @@ from __future__ import annotations
 import heapq
 from collections.abc import Iterator, Sequence
 
-from . import answers, output
+from . import answers, architectures, output
 from .answers import X32
 from .filters import BY_X, JEQ, JGE, JGT, JUMP, RETURN_CONSTANT
 from .listing import (ARCHITECTURE, NUMBER, RETURNS, Instruction, Known, instructions, known_facts, name_of,
@@ -131,7 +131,7 @@ def _value_text(value: int, node: Node, table: Table) -> str:
         its = node.known.architectures
         return "x32" if value == X32 and its.has(answers.X86_64) else name_of(value, its, table)
     if node.word == ARCHITECTURE:
-        return answers.ARCHITECTURES.get(value, hex(value))
+        return architectures.shown_name(value) or hex(value)
     return hex(value)
 
 

@@ -145,19 +145,19 @@ def member(value: Any, wanted: str, path: str) -> Any:
 
 
 def request_of(config: dict[str, Any], runtime: str | None, keeps_first: bool, table: Table, limit: str | None,
-               relation: str) -> verify.Request:
-    """The question about a container with this configuration, as its runtime applies it."""
+               relation: str, scope: str | None = None) -> verify.Request:
+    """The question about a container with this configuration, as its runtime applies it; over all architectures that
+    its profile names unless a scope is given."""
     try:
         if runtime is not None:
-            return verify.Request.of_runtime(runtimes.applied(config, runtime), table, limit, compare.NATIVE,
-                                              relation)
+            return verify.Request.of_runtime(runtimes.applied(config, runtime), table, limit, scope, relation)
         text = json.dumps(config)
         if keeps_first:
             resolver = engines.Resolver(engines.Setting((), (0, 0), False), lambda _: None)
             profile = resolver.resolved(config)
             resolver.keep_first(profile)
             text = engines.printed(profile)
-        return verify.Request(text.encode(), table, limit, compare.NATIVE, relation)
+        return verify.Request(text.encode(), table, limit, scope, relation)
     except RecursionError as error:
         raise HookError("the container's configuration: the profile is nested too deep") from error
     except engines.Refused as why:

@@ -3,7 +3,10 @@ from __future__ import annotations
 
 from . import program
 from .answers import X86_64
+from .architectures import NATIVE, NUMBERS, X32
 
+# SCMP_ARCH_X32 (seccomp.h), whose records have x86-64's number.
+TOKENS = {**NUMBERS, X32: 0x4000003E}
 # __NR_SCMP_ERROR (seccomp.h), which stands for a name that it doesn't know.
 UNKNOWN = -1
 
@@ -30,10 +33,11 @@ class Library:
         found = version_of()
         self.version = ".".join(map(str, found.contents)) if found else "of unknown version"
 
-    def number_of(self, name: str) -> int | None:
-        """The number of a name, below 0 if x86-64 has no such syscall and others do; None if it isn't known."""
+    def number_of(self, name: str, architecture: str = NATIVE) -> int | None:
+        """The number of a name on an architecture, as in a record; below 0 if the architecture has no such syscall and
+        others do, None if it isn't known."""
         data = name.encode("utf-8", "surrogatepass")
-        number = self._number_of(X86_64, data) if b"\0" not in data else UNKNOWN
+        number = self._number_of(TOKENS[architecture], data) if b"\0" not in data else UNKNOWN
         return None if number == UNKNOWN else number
 
     def knows(self, name: str) -> bool:

@@ -3,7 +3,8 @@ from __future__ import annotations
 
 from collections.abc import Iterable, Iterator, Sequence
 
-from .answers import ACTIONS, ARCHITECTURES, X32, X86_64, Answer
+from .answers import ACTIONS, X32, X86_64, Answer
+from .architectures import shown_name
 from .calls import Call, number_text
 from .filters import BY_X, INSTRUCTION, JEQ, JGE, JGT, JSET, JUMP, LOAD_WORD, RETURN_CONSTANT
 from .tables import Table
@@ -129,7 +130,7 @@ def _name_on(k: int, architecture: int, table: Table) -> str:
     """The name of a syscall number on an architecture."""
     named = " or ".join(Call(k, architecture).names(table))
     if architecture != X86_64:
-        return f"{named or f'number {k}'} of {ARCHITECTURES.get(architecture, hex(architecture))}"
+        return f"{named or f'number {k}'} of {shown_name(architecture) or hex(architecture)}"
     return f"x32 {named}" if named and k >= X32 else named or number_text(k)
 
 
@@ -155,7 +156,7 @@ def _tested(insn: Instruction, known: Known, table: Table) -> str | None:
     if insn.code & BY_X or known.word not in (NUMBER, ARCHITECTURE):
         return None
     if known.word == ARCHITECTURE:
-        return ARCHITECTURES.get(insn.k) if test == JEQ else None
+        return shown_name(insn.k) if test == JEQ else None
     if insn.k == X32 and test in (JGE, JSET) and known.architectures.has(X86_64):
         return "x32"
     name = name_of(insn.k, known.architectures, table)

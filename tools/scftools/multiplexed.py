@@ -9,11 +9,10 @@ from __future__ import annotations
 from collections.abc import Callable, Iterator
 
 from . import entries
-from .engines import Refused
-from .runtimes import MAX_RULES, PREFIX
+from .architectures import I386
+from .engines import MAX_RULES, Refused
 from .values import Any
 
-I386 = f"{PREFIX}X86"
 # By the multiplexer the number of each syscall: linux/net.h and linux/ipc.h.
 NUMBERS = {
     "socketcall": {name: number for number, name in enumerate((
@@ -40,23 +39,26 @@ def rules_of(entry: dict[str, Any]) -> Iterator[dict[str, Any]]:
                 yield {**entry, "names": [multiplexer], "args": [first, *others]}
 
 
-def add(profile: dict[str, Any], note: Callable[[str], None]) -> None:
-    """Adds to a resolved profile the entries that libseccomp makes for i386, each behind its own. Engines pass on no
-    entry whose answer is the default's."""
+def with_rules(profile: dict[str, Any], note: Callable[[str], None] = lambda _: None) -> tuple[dict[str, Any], list[int]]:
+    """A resolved profile with the entries that libseccomp makes for i386, each behind its own, and for each entry the
+    place of its own. Engines pass on no entry whose answer is the default's."""
+    entries_of = profile["syscalls"]
     if I386 not in profile.get("architectures", ()):
         note(f"no rule of socketcall or ipc is added: architectures lacks {I386}")
-        return
+        return profile, list(range(len(entries_of)))
     default = entries.answer_of(profile["defaultAction"], profile.get("defaultErrnoRet"))
-    differs = [entries.answer_of(it["action"], it.get("errnoRet")) != default for it in profile["syscalls"]]
-    unconditional = {name for entry, is_passed_on in zip(profile["syscalls"], differs)
+    differs = [entries.answer_of(it["action"], it.get("errnoRet")) != default for it in entries_of]
+    unconditional = {name for entry, is_passed_on in zip(entries_of, differs)
                      if is_passed_on and not entry.get("args") for name in entry["names"] if name in NUMBERS}
     for name in sorted(unconditional):
         note(f"no rule of {name} is added: an entry without conditions covers all of its calls")
-    found, count = [], 0
-    for entry, is_passed_on in zip(profile["syscalls"], differs):
+    found: list[dict[str, Any]] = []
+    places, count = [], 0
+    for place, (entry, is_passed_on) in enumerate(zip(entries_of, differs)):
         rules = [rule for rule in rules_of(entry) if is_passed_on and rule["names"][0] not in unconditional]
         count += sum(len(rule["args"]) for rule in rules)
         if count > MAX_RULES:
             raise Refused(f"the rules of socketcall and ipc have more than {MAX_RULES} conditions")
         found += [entry, *rules]
-    profile["syscalls"] = found
+        places += [place] * (1 + len(rules))
+    return {**profile, "syscalls": found}, places

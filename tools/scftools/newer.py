@@ -1,144 +1,187 @@
 """Syscalls with numbers above all that a profile names, which the filters deny with another answer than the profile.
 
-runc makes its filters answer them with ENOSYS, so that programs fall back on older syscalls
-(libcontainer/seccomp/patchbpf of runc). The results hold for every x86-64 syscall, since they are comparisons of scf
-over the numbers on each side of a bound.
+runc makes its filters answer them with ENOSYS, so that programs fall back on older syscalls (libcontainer/seccomp/
+patchbpf of runc); each architecture has a number of its own from which on that is so. The results hold for every such
+syscall: they are comparisons of scf, of filters that give one answer on the other side of these numbers.
 """
 from __future__ import annotations
 
-import json
 from collections.abc import Iterator, Sequence
 
+from . import entries, filters
 from .answers import Answer
+from .architectures import JUDGED, NATIVE
 from .calls import Call
-from .profiles import STUB
+from .explanation import join_names
 from .tables import Table
 from .values import dataclass, replace
-from .verdicts import CALLS, DIFFERS, SAME, NamedCall, Report, Verdict
+from .verdicts import DIFFERS, SAME, NamedCall, Report, Verdict
 
 TYPE_CHECKING = False
 if TYPE_CHECKING:
     from .compare import Comparison
 
+# By the OCI name of an architecture, the first of its numbers, as in a record, above all that a profile names.
+Bounds = dict[str, int]
 
-# The answer of runc's stub, ENOSYS: as a profile that answers nothing else, and as a filter's return value.
-ENOSYS_PROFILE, ENOSYS = b'{"defaultAction": "SCMP_ACT_ERRNO", "defaultErrnoRet": 38}', 0x00050000 | 38
-
-
-def with_stub(profile: bytes, table: Table, first: int, end: int | None = None) -> bytes:
-    """A profile as runc resolves it, with one more entry for the numbers in this range that its stub answers, as far as
-    a table names them."""
-    numbers = [number for number in table.numbers() if first <= number and (end is None or number < end)]
-    top = json.loads(profile)
-    if numbers:
-        names = [table.names_of(number)[0] for number in numbers]
-        top["syscalls"].append({"names": names, "action": "SCMP_ACT_ERRNO", "errnoRet": 38})
-    return json.dumps(top).encode()
+# The answer of runc's stub, ENOSYS.
+ENOSYS = Answer("ERRNO", 38)
 
 
-def expecting_stub(comparison: Comparison, first: int | None) -> Comparison:
-    """The comparison that explains a difference if a stub answers the numbers from `first` on."""
-    if first is None:
-        return comparison
-    return replace(comparison, profile=with_stub(comparison.profile, comparison.table, first), stub=first, _facts=[],
-                   origins=[*(comparison.origins or ()), STUB])
+def _split(data: bytes, bounds: Bounds, answer: Answer, runs_beyond: bool) -> bytes:
+    """A filter that gives an answer to the numbers from the bounds on, or to all others."""
+    those = [(JUDGED[it].number, first, JUDGED[it].last) for it, first in bounds.items()]
+    return filters.split(data, those, answer.word, runs_beyond)
 
 
-def compared_with_stub(comparison: Comparison, scope: str, first: int | None) -> tuple[int, Report, bool]:
-    """scf's status and report on filters that may begin with runc's stub, which answers ENOSYS from this number on; and
-    whether the stub is there.
+def with_stub(data: bytes, bounds: Bounds) -> bytes:
+    """A filter behind runc's stub."""
+    return _split(data, bounds, ENOSYS, False) if bounds else data
+
+
+def _can_split(comparison: Comparison, bounds: Bounds) -> bool:
+    """Whether the filters leave room for it."""
+    longest = filters.LONGEST * filters.INSTRUCTION.size
+    return all(len(_split(it.data, bounds, ENOSYS, True)) <= longest for it in comparison.filters)
+
+
+def _only(comparison: Comparison, bounds: Bounds, answer: Answer, is_beyond: bool) -> Comparison:
+    """The comparison of filters that are answered alike below the bounds, or from them on."""
+    those = [replace(it, data=_split(it.data, bounds, answer, is_beyond)) for it in comparison.filters]
+    return replace(comparison, filters=those)
+
+
+def _default_of(profile: bytes) -> Answer | None:
+    """The answer of a profile to what it doesn't name."""
+    top = entries.read(profile)
+    return Answer.of_profile(*entries.default_of(top)) if top is not None and "defaultAction" in top else None
+
+
+def _below(comparison: Comparison, bounds: Bounds) -> Comparison:
+    """The comparison of the numbers below the bounds alone: from them on, the filters answer as the profile does."""
+    default = _default_of(comparison.profile)
+    return comparison if default is None else _only(comparison, bounds, default, False)
+
+
+def _beyond(comparison: Comparison, bounds: Bounds, answer: Answer) -> Comparison:
+    """The comparison of the numbers from the bounds on with one answer."""
+    profile = answer.as_profile(list(comparison.tables.of)) or b""
+    return replace(_only(comparison, bounds, answer, True), profile=profile, _facts=[])
+
+
+def expecting_stub(comparison: Comparison, bounds: Bounds) -> Comparison:
+    """The comparison that explains a difference if a stub answers the numbers from the bounds on."""
+    return replace(comparison, stub=bounds) if bounds else comparison
+
+
+def compared_with_stub(comparison: Comparison, scope: str, bounds: Bounds) -> tuple[int, Report, bool]:
+    """scf's status and report on filters that may begin with runc's stub, which answers ENOSYS from these numbers on;
+    and whether the stub is there.
 
     The filters are the same with the stub if scf proves two things: that the numbers below are answered as the profile
     says, and that those from there on all get ENOSYS. If not, they may be the same without one.
     """
-    if first is None or comparison.relation != SAME:
+    if not bounds or comparison.relation != SAME or not _can_split(comparison, bounds):
         return (*comparison.run(scope), False)
-    if scope == CALLS:
-        return _calls_with_stub(comparison, first)
-    status, report = comparison.of_numbers(0, first)
+    status, report = _below(comparison, bounds).run(scope)
     if report.verdict is None or not report.verdict.holds:
         return status, report, False
-    beyond_status, beyond = replace(comparison, profile=ENOSYS_PROFILE, _facts=[]).of_numbers(first)
+    beyond_status, beyond = _beyond(comparison, bounds, ENOSYS).run(scope)
     if beyond.verdict is not None and beyond.verdict.holds:
         return status, report, True
-    status, report = comparison.run(scope)
-    is_other = report.verdict is not None and report.verdict.fails
-    return (beyond_status, beyond, False) if is_other else (status, report, False)
+    whole_status, whole = comparison.run(scope)
+    is_other = whole.verdict is not None and whole.verdict.fails
+    return (beyond_status, replace(beyond, skipped=report.skipped, architectures=report.architectures), False) \
+        if is_other else (whole_status, whole, False)
 
 
-def _calls_with_stub(comparison: Comparison, first: int) -> tuple[int, Report, bool]:
-    """The same for each syscall in the table."""
-    status, report = comparison.run(CALLS)
-    if report.verdict is None or not report.verdict.fails:
-        return status, report, False
-    expected = replace(comparison, profile=with_stub(comparison.profile, comparison.table, first), _facts=[])
-    status, report = expected.run(CALLS)
-    return status, report, report.verdict is not None and report.verdict.holds
+def _bounds_of(comparison: Comparison) -> Bounds:
+    """For each architecture the number behind the greatest that the profile names."""
+    facts, found = comparison.facts, {}
+    for name, table in comparison.tables.of.items() if facts is not None else ():
+        numbers = {table.number_of(it) for it in facts.names} - {None}
+        if numbers:
+            found[name] = JUDGED[name].first + max(numbers) + 1
+    return found
 
 
-def _told(calls: str, are_all: bool, first: int, table: Table) -> str:
-    return (f"{'only ' if are_all else ''}{calls} with numbers above all that the profile names differ, the first is "
-            f"{Call(first).describe(table)}; both sides deny them")
-
-
-def greatest_named(comparison: Comparison) -> int | None:
-    """The greatest number in the table that the profile names."""
-    names = comparison.facts.names if comparison.facts else []
-    numbers = [comparison.table.number_of(name) for name in names]
-    return max((number for number in numbers if number is not None), default=None)
+def _told(what: str, are_all: bool, firsts: Sequence[Call], table: Table) -> str:
+    named = join_names([it.describe(table) for it in firsts])
+    return (f"{'only ' if are_all else ''}{what} with numbers above all that the profile names differ, the first "
+            f"{'is' if len(firsts) == 1 else 'are'} {named}; both sides deny them")
 
 
 @dataclass(frozen=True)
 class Newer:
-    """Every x86-64 syscall from a number on, all above those that a profile names, and both answers."""
+    """Every syscall from these numbers on, all above those that a profile names, and both answers."""
 
-    first: int
+    bounds: Bounds
     filters: Answer
     profile: Answer
 
-    def has(self, call: NamedCall) -> bool:
-        return call.number >= self.first
+    def has(self, call: Call) -> bool:
+        return call.abi in self.bounds and call.number >= self.bounds[call.abi]
 
     def describe(self, are_all: bool, table: Table) -> str:
-        return (f"{_told('syscalls', are_all, self.first, table)}, the filter with {self.filters.named()} and the "
-                f"profile with {self.profile.named()}")
+        firsts = [Call(first, JUDGED[name].number) for name, first in self.bounds.items()]
+        return (f"{_told('syscalls', are_all, firsts, table)}, the filter with {self.filters.named()} and the profile "
+                f"with {self.profile.named()}")
+
+    def as_json(self) -> dict[str, object]:
+        return {"first": next(iter(self.bounds.values())), "firsts": self.bounds, "filter": self.filters.as_json(),
+                "profile": self.profile.as_json()}
 
 
 def calls_of(comparison: Comparison) -> Newer | None:
-    """The syscalls above all that the profile names, from the first that differs on, if both sides deny them all."""
-    greatest = greatest_named(comparison)
-    verdict = None if greatest is None else comparison.of_numbers(greatest + 1)[1].verdict
-    if greatest is None or verdict is None or verdict.call is None or not verdict.both_deny:
+    """The syscalls above all that the profile names, of each architecture from the first that differs on, if both sides
+    deny them all with one answer each."""
+    default, bounds = _default_of(comparison.profile), _bounds_of(comparison)
+    if comparison.relation != SAME or comparison.stub or default is None or not default.denies:
         return None
-    assert verdict.filters is not None and verdict.profile is not None
-    answer = verdict.filters.as_profile()
-    if not answer:
+    if not _can_split(comparison, bounds):
         return None
-    alike = replace(comparison, profile=answer, _facts=[])
-    # what isn't all of them is said of those from the example on, if none below differs
-    for first in dict.fromkeys((greatest + 1, verdict.call.number)):
-        below = comparison.of_numbers(greatest + 1, first)[1].verdict if first > greatest + 1 else None
-        beyond = alike.of_numbers(first)[1].verdict
-        if (below is None or below.holds) and beyond is not None and beyond.holds:
-            return Newer(first, verdict.filters, verdict.profile)
+    found, answers = {}, set()
+    for name, first in bounds.items():
+        verdict = _beyond(comparison, {name: first}, default).run()[1].verdict
+        if verdict is None or not verdict.holds and (verdict.call is None or not verdict.both_deny):
+            return None
+        if not verdict.holds:
+            answers.add(verdict.filters)
+            found[name] = _first_of(comparison, name, first, verdict)
+    if len(answers) != 1 or None in found.values():
+        return None
+    return Newer(found, answers.pop(), default)
+
+
+def _first_of(comparison: Comparison, name: str, least: int, verdict: Verdict) -> int | None:
+    """The number of an architecture from which on all get the answer of an example, where those before are answered by
+    default: the least that may be, or the example's; None if neither is."""
+    assert verdict.call is not None and verdict.filters is not None and verdict.profile is not None
+    if verdict.filters.as_profile() is None:
+        return None
+    for first in dict.fromkeys((least, verdict.call.number)):
+        alike = _beyond(comparison, {name: first}, verdict.filters).run()[1].verdict
+        between = _only(comparison, {name: first}, verdict.profile, False)
+        below = _beyond(between, {name: least}, verdict.profile).run()[1].verdict if first > least else alike
+        if alike is not None and alike.holds and below is not None and below.holds:
+            return first
     return None
 
 
 def another_call(comparison: Comparison, found: Newer) -> Verdict | None:
-    """The verdict on the x86-64 syscalls that aren't among these, or None if they are the same."""
-    verdict = comparison.of_numbers(0, found.first)[1].verdict or Verdict(DIFFERS)
+    """The verdict on the syscalls that aren't among these, or None if they are the same."""
+    verdict = _below(comparison, found.bounds).run()[1].verdict or Verdict(DIFFERS)
     return None if verdict.word == SAME else verdict
 
 
 def of_named_calls(comparison: Comparison, calls: Sequence[NamedCall]) -> Iterator[str]:
-    """The lines about syscalls of the table that differ: those above all that the profile names apart, if denied."""
-    greatest = greatest_named(comparison)
-    if greatest is None:
-        return
-    above = [call for call in calls if call.number > greatest and call.verdict.both_deny]
+    """The lines about x86-64 syscalls of the table that differ: those above all that the profile names apart, if both
+    sides deny them."""
+    first = _bounds_of(comparison).get(NATIVE)
+    above = [call for call in calls if first is not None and call.number >= first and call.verdict.both_deny]
     if not above:
         return
-    others = [call.verdict.word for call in calls if call.number <= greatest or not call.verdict.both_deny]
+    others = [call.verdict.word for call in calls if call not in above]
     for word in dict.fromkeys(others):
         yield f"other syscalls that {'differ' if word == DIFFERS else f'are {word}'}: {others.count(word)}"
-    yield f"{_told('syscalls in the table', not others, above[0].number, comparison.table)}: {len(above)}"
+    yield (f"{_told('syscalls in the table', not others, [above[0].record], comparison.table)}: {len(above)}")

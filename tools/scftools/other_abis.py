@@ -1,4 +1,4 @@
-"""Syscalls of other ABIs, which a comparison of x86-64 syscalls leaves out: whether filters allow any.
+"""Syscalls of other ABIs, which a comparison leaves out: whether filters allow any.
 
 A filter that doesn't test the architecture takes the number of an i386 syscall for one of x86-64; and x32 syscalls have
 the architecture of x86-64, with numbers from 0x40000000 on. An x86-64 kernel has no other ABIs. Each profile denies
@@ -8,12 +8,12 @@ syscalls alone. If scf can't decide, some syscalls are tried by `scf decide`, an
 """
 from __future__ import annotations
 
-from collections.abc import Iterable, Sequence
+from collections.abc import Collection, Iterable, Sequence
 
-from . import architectures, bundles, client, verdicts
+from . import architectures, bundles, client, tables, verdicts
 from .answers import ALLOWED, I386, X32, X86_64, Answer
 from .calls import NO_CALL, Call, number_text
-from .filters import JEQ, JGE, JSET, JUMP, LOAD_WORD, RETURN_CONSTANT, instruction
+from .filters import JEQ, JGE, JSET, JUMP, LOAD_WORD, RETURN_CONSTANT, instruction, split
 from .tables import Table
 from .values import dataclass
 
@@ -78,16 +78,10 @@ KINDS = (
 )
 
 
-def denial_filters(profile_names: Iterable[str]) -> list[bytes]:
-    """Filters that deny, as a profile does, every syscall of the architectures with these OCI names, and every number
-    that no syscall has, and allow all else."""
-    found = [NUMBER + jump(JSET, NO_CALL, 0, 1) + KILL + ALLOW]
-    for name in dict.fromkeys(profile_names):
-        if name == architectures.X32:
-            found += [kind.denial for kind in KINDS if kind.profile_name == name]
-        elif name in architectures.NUMBERS:
-            found.append(ARCHITECTURE + jump(JEQ, architectures.NUMBERS[name], 0, 1) + KILL + ALLOW)
-    return found
+def denial_filters(names: Iterable[str]) -> list[bytes]:
+    """A filter that denies every record of the architectures with these OCI names, and allows all else; none for none."""
+    bounds = [architectures.bounds_of(it) for it in dict.fromkeys(names) if it in architectures.NUMBERS]
+    return [split(ALLOW, bounds, Answer("KILL_PROCESS", 0).word, False)] if bounds else []
 
 
 @dataclass(frozen=True)
@@ -170,7 +164,7 @@ def describe(found: Sequence[Proved | Tried], profile_names: Sequence[str] = ())
     """A line for each kind, given a profile that names these other architectures."""
     if are_none(found):
         return [NONE]
-    named = {name: f"; the profile also names {name}" for name in profile_names}
+    named = {name: f"; the profile also names {name}, which is judged without --native" for name in profile_names}
     return [*(one.describe() + named.get(one.kind.profile_name, "") for one in found), OTHERS]
 
 
@@ -179,18 +173,24 @@ def all_denied() -> list[Proved | Tried]:
     return [Proved(kind) for kind in KINDS]
 
 
-def of_each(filters: Sequence[bytes], limit: str | None, example: Verdict) -> list[Proved | Tried]:
-    """For each kind, whether filters, oldest first, allow any foreign syscall, given one that they allow, if there is
-    one; nothing if scf refuses the filters."""
-    abi = example.call.other_abi if example.call is not None else None
-    found = (Proved(kind, example.call, example.filters) if kind.profile_name == abi else
-             _proved(filters, kind, limit) or _tried(filters, kind) for kind in KINDS)
+def of_each(filters: Sequence[bytes], limit: str | None, example: Verdict | None = None,
+            judged: Collection[str] = ()) -> list[Proved | Tried]:
+    """For each kind that isn't judged otherwise, whether filters, oldest first, allow any foreign syscall, given one
+    that they allow, if there is one; nothing if scf refuses the filters."""
+    call = example.call if example is not None else None
+    abi = call.abi if call is not None and call.number < NO_CALL else None
+    found = (Proved(kind, call, example.filters) if kind.profile_name == abi else
+             _proved(filters, kind, limit) or _tried(filters, kind)
+             for kind in KINDS if kind.profile_name not in judged)
     return [one for one in found if one is not None]
 
 
-def let_through(filters: Sequence[bytes], limit: str | None = None) -> list[Proved | Tried]:
-    """The same, and if all are denied by one comparison."""
-    done = client.compare(["--no-more"], bundles.of_comparison(filters, ALLOWS_NATIVE, b""), limit)
+def let_through(filters: Sequence[bytes], limit: str | None = None, judged: Collection[str] = ()) -> list[Proved | Tried]:
+    """The same, and if all are denied by one comparison, but where some kinds are judged otherwise."""
+    if any(kind.profile_name in judged for kind in KINDS):
+        return of_each(filters, limit, None, judged)
+    given = bundles.of_comparison(filters, ALLOWS_NATIVE, tables.native_alone(b""))
+    done = client.compare(["--no-more"], given, limit)
     verdict = verdicts.report(done.text).verdict
     if verdict is None:
         return []

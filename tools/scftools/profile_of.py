@@ -8,7 +8,7 @@ from __future__ import annotations
 from collections import Counter
 from collections.abc import Iterable, Iterator, Sequence
 
-from . import answer_sets, compare, engines, newer, output, program, reasons, runtimes, unnamed
+from . import answer_sets, compare, engines, newer, output, program, reasons, runtimes, tables, unnamed
 from .answer_sets import UNFOLLOWED, Answers
 from .answers import DISPOSITIONS, X32, Answer
 from .argument_sets import ALL, BITS, NONE, OTHERS, Sets, TooMany
@@ -67,7 +67,7 @@ class FilterAnswers:
 
     def with_stub(self) -> FilterAnswers:
         """The same without the numbers that all get ENOSYS, from one on."""
-        stub = ((ENOSYS, ALL),)
+        stub = ((ENOSYS.word, ALL),)
         count = next((at for at in range(len(self.numbers), 0, -1) if self.answers[at - 1] != stub), 0)
         return replace(self, end=self.numbers[count]) if 0 < count < len(self.numbers) else self
 
@@ -186,7 +186,7 @@ class ProvedProfile:
     profile: dict[str, object]
     relations: tuple[str, ...]
     report: Report
-    stub: int | None = None
+    stub: dict[str, int] = field(default_factory=dict)
 
     @property
     def text(self) -> str:
@@ -202,15 +202,16 @@ class Request:
     limit: str | None = None
     runtime: str | None = None
 
-    def comparison(self, profile: dict[str, object], relation: str = SAME) -> tuple[Comparison, int | None]:
-        """The comparison of the filters with a profile, and the number from which on the runtime may put a stub."""
+    def comparison(self, profile: dict[str, object], relation: str = SAME) -> tuple[Comparison, dict[str, int]]:
+        """The comparison of the filters with a profile, and the numbers from which on the runtime may put a stub."""
         found = Comparison(self.filters, engines.to_bytes(profile), self.table, self.limit, OF_FILTERS[relation])
         if self.runtime is None:
-            return found, None
+            return found, {}
         applied = runtimes.applied(engines.read(found.profile), self.runtime)
         return replace(found, profile=applied.data, origins=applied.origins), applied.stub
 
-    def compared(self, profile: dict[str, object], relation: str, scope: str = NATIVE) -> tuple[Report, int | None]:
+    def compared(self, profile: dict[str, object], relation: str, scope: str = NATIVE) -> \
+            tuple[Report, dict[str, int]]:
         """scf's report on whether a profile has this relation to the filters, and where runc's stub begins.
 
         Raises Refusal if scf refuses the filters, the table or the limit.
@@ -219,7 +220,7 @@ class Request:
         status, report, has_stub = newer.compared_with_stub(comparison, scope, first)
         if report.fault is not None and report.fault.source != "profile":
             raise Refusal(report.fault.line, status)
-        return report, first if has_stub else None
+        return report, first if has_stub else {}
 
     def answers(self) -> FilterAnswers:
         """What the filters answer, number by number; nothing is known if they compute too much."""
@@ -278,7 +279,7 @@ def _other_number(request: Request, answers: FilterAnswers, profile: dict[str, o
             if word == answer.word and members_of(answer, "defaultAction", "defaultErrnoRet") == default:
                 continue
             call = Call(number, arguments=answers.sets.least(answers.sets.possible(arguments)))
-            ours, theirs = asker.decided(call), reasons.of(data, request.table, call.words()).answer
+            ours, theirs = asker.decided(call), reasons.of(data, tables.native_alone(request.table.data), call.words()).answer
             if ours is not None and theirs is not None and ours != theirs:
                 yield (f"numbers that the table doesn't name differ, such as {number}: filter {ours} profile {theirs}")
                 return

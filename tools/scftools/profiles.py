@@ -67,6 +67,18 @@ def _top(data: bytes, parse_int: Callable[[str], object]) -> dict[str, Any]:
     return top
 
 
+@functools.lru_cache(4)
+def architectures_of(data: bytes) -> tuple[str, ...]:
+    """The OCI names in a profile's list of architectures; none if it has no list, or it can't be read."""
+    if b"architectures" not in data and b"\\u" not in data:
+        return ()
+    try:
+        found = _top(data, str).get("architectures")
+    except (ValueError, LookupError, TypeError, AttributeError, RecursionError):
+        return ()
+    return tuple(it for it in found if isinstance(it, str)) if isinstance(found, list) else ()
+
+
 @functools.lru_cache(2)
 def _entries(data: bytes) -> list[object] | None:
     """The entries of a profile, parsed once even if two are compared."""

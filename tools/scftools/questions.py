@@ -9,7 +9,7 @@ from __future__ import annotations
 import json
 from collections.abc import Sequence
 
-from . import bundles, client, program, verdicts
+from . import bundles, client, program, tables, verdicts
 from .answers import Answer
 from .calls import Call
 from .compare import CALLS, RELATIONS, SCOPES
@@ -76,7 +76,7 @@ class Asker:
         """The verdict on whether every syscall of a scope is denied but those with these names."""
         entries = [{"names": names, "action": "SCMP_ACT_ALLOW"}] if names else []
         profile = json.dumps({"defaultAction": "SCMP_ACT_KILL_PROCESS", "syscalls": entries}).encode()
-        bundle = bundles.of_comparison(self.filters, profile, table)
+        bundle = bundles.of_comparison(self.filters, profile, tables.native_alone(table))
         done = client.compare([*SCOPES[scope], *RELATIONS[NO_MORE]], bundle, self.limit)
         return verdicts.report(done.text).verdict
 

@@ -10,7 +10,7 @@ from .answers import Answer
 from .calls import Call
 from .paths import Giver
 from .profiles import Origin
-from .tables import Table
+from .tables import Table, Tables
 from .values import Pattern, dataclass
 from .verdicts import Fault, Verdict
 
@@ -46,9 +46,9 @@ class Reason:
     fault: Fault | None = None
 
 
-def of(profile: bytes, table: Table, words: Sequence[str]) -> Reason:
+def of(profile: bytes, judged: Tables, words: Sequence[str]) -> Reason:
     """A profile's reason for the record that scf's options give."""
-    done = client.run(["ask", *words], bundles.of_compilation(profile, table.data))
+    done = client.run(["ask", *judged.words, *words], bundles.of_compilation(profile, judged))
     return _read(done.status, done.text)
 
 
@@ -85,7 +85,7 @@ def _condition_text(condition: dict[str, object], call: Call) -> str | None:
     op = condition.get("op")
     if not (isinstance(index, int) and isinstance(value, int) and isinstance(two, int) and 0 <= index < 6):
         return None
-    argument = call.arguments[index]
+    argument = call.arguments[index] & (1 << call.bits) - 1
     if not isinstance(op, str) or op not in HOLDS or not HOLDS[op](argument, value, two):
         return None
     second = f" of {two} ({two:#x})" if op == "SCMP_CMP_MASKED_EQ" else ""
@@ -149,8 +149,8 @@ class Difference:
         call = verdict.call
         if call is None or verdict.filters is None or verdict.profile is None:
             return None
-        is_stub = comparison.stub is not None and comparison.stub <= call.number
-        return cls(comparison, call, None if is_stub else of(comparison.profile, comparison.table, call.words()),
+        is_stub = call.number >= comparison.stub.get(call.abi or "", 1 << 32)
+        return cls(comparison, call, None if is_stub else of(comparison.profile, comparison.tables, call.words()),
                    paths.to_show(paths.deciding_filters(comparison.filters, call.words(), verdict.filters)))
 
     def lines(self) -> Iterator[str]:

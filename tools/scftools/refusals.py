@@ -3,22 +3,32 @@ from __future__ import annotations
 
 from collections.abc import Iterator, Sequence
 
-from . import client, explanation, profile_faults, profiles
+from . import architectures, client, explanation, profile_faults, profiles
+from .calls import Call
 from .client import Fault
 from .filters import LONGEST_STACK, MORE_OF_OLDER, Filter
 from .profiles import Origin
-from .tables import Table
+from .tables import Tables
 
 
-def join_names(names: Sequence[str]) -> str:
-    """Names in a sentence."""
-    return names[0] if len(names) == 1 else ", ".join(names[:-1]) + f" and {names[-1]}"
+def _conflicting(fault: Fault, profile: bytes, judged: Tables) -> Call:
+    """A record of the syscall on which two entries conflict: of the first architecture on which both name it."""
+    number, found = fault.numbers["number"], [profiles.entry_at(profile, fault.numbers[it]) for it in ("first", "second")]
+    listed = [it["names"] for it in found if isinstance(it, dict) and isinstance(it.get("names"), list)]
+    for name, table in judged.of.items():
+        one = architectures.JUDGED[name]
+        names = set(table.names_of(number - one.first)) if one.first <= number <= one.last else set()
+        if all(names.intersection(it for it in its if isinstance(it, str)) for its in listed) and names:
+            return Call(number, one.number)
+    return Call(number)
 
 
-def sentences(fault: Fault, profile: bytes, table: Table, origins: Sequence[Origin] | None = None) -> Iterator[str]:
+def sentences(fault: Fault, profile: bytes, judged: Tables, origins: Sequence[Origin] | None = None) -> Iterator[str]:
     """What a fault is and what to do; of a profile, where it stands, and of one that was resolved, in which entries of
     the user's file."""
-    yield from explanation.of_fault(fault, table)
+    yield from explanation.of_fault(fault)
+    if (fault.source, fault.kind) == ("profile", "Conflict"):
+        yield f"the syscall is {_conflicting(fault, profile, judged).describe(judged.native)}"
     if (fault.source, fault.kind) == ("profile", "Json"):
         yield profiles.where_json_ends(profile)
     elif fault.source == "profile" and origins is not None:

@@ -161,7 +161,7 @@ class Judge:
         return Judgement(traced, disposition, line, made, refused)
 
     def _reason(self, call: Call) -> Reason:
-        found = reasons.of(self.profile, self.table, call.words())
+        found = reasons.of(self.profile, tables.native_alone(self.table.data), call.words())
         if found.answer is None:
             raise Refusal(found.line, found.status)
         return found
@@ -330,7 +330,7 @@ def of_refusal(why: Refusal, profile: bytes, table: Table) -> Iterator[str]:
     """scf's line, and what it means."""
     yield why.line
     if why.fault:
-        yield from output.notes(refusals.sentences(why.fault, profile, table))
+        yield from output.notes(refusals.sentences(why.fault, profile, tables.native_alone(table.data)))
 
 
 def read(names: Sequence[str], judge: Judge, runtime: str | None = None) -> Needs:

@@ -6,7 +6,7 @@ import json
 import os
 from collections.abc import Iterator, Sequence
 
-from . import bundles, client, constants, program, verdicts
+from . import bundles, client, constants, program, tables, verdicts
 from .answer_sets import Answers
 from .answers import ERRNOS, Answer
 from .argument_sets import NONE
@@ -144,7 +144,7 @@ def _failed(filters: Sequence[bytes], limit: str | None, those: Sequence[tuple[R
     table = "".join(f"{it.names[0]} {row.number}\n" for row, it in those).encode()
     profile = {**members_of(those[0][1].otherwise, "defaultAction", "defaultErrnoRet"),
                "syscalls": [entry for _, it in those for entry in it.entries()]}
-    given, found = bundles.of_comparison(filters, json.dumps(profile).encode(), table), set()
+    given, found = bundles.of_comparison(filters, json.dumps(profile).encode(), tables.native_alone(table)), set()
     for relation in (SAME,) if those[0][1].is_whole else (NO_MORE, NO_LESS):
         done = client.compare([*SCOPES[CALLS], *RELATIONS[relation]], given, limit)
         report = verdicts.report(done.text)

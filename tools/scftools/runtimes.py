@@ -9,15 +9,19 @@ generatePatch of seccomp/patchbpf), and were found by filters that crun 1.8.1 an
 - a name that libseccomp doesn't know is left out;
 - an entry without conditions has all calls of its syscall, wherever it stands; of two such entries it is the first;
 - the calls of x86-64 are confined whether or not `architectures` has it;
-- where it has it and the default denies, runc alone answers each number above all that the profile names with ENOSYS.
+- on i386 socketcall and ipc are answered as the syscalls that they make;
+- where the default denies, runc alone answers each number of an architecture in the list, above all that the profile
+  names, with ENOSYS; x86-64 and x32 have numbers of their own.
 """
 from __future__ import annotations
 
 import os
 from collections.abc import Callable, Iterator, Sequence
 
-from . import engines, libseccomp, profile_inputs, program, tables
-from .engines import OCI_ARCH, Origin, Refused, Setting, excerpt, excerpts
+from . import engines, libseccomp, multiplexed, profile_inputs, program, tables
+from .architectures import JUDGED, NATIVE
+from .engines import MAX_RULES, OCI_ARCH, Origin, Refused, Setting, excerpt, excerpts
+from .explanation import join_names
 from .libseccomp import Library
 from .values import Any, dataclass, field, replace
 
@@ -39,9 +43,6 @@ ALLOWS = ("SCMP_ACT_ALLOW", "SCMP_ACT_LOG", "SCMP_ACT_TRACE")
 # The greatest errno that libseccomp takes, and the most conditions of an entry that crun reads.
 MAX_ERRNO, CRUN_CONDITIONS = 4095, 6
 PREFIX = "SCMP_ARCH_"
-# The most names of all entries together that are passed on, each once for each of its alternatives: the kernel takes no
-# filter that is a sixteenth so long.
-MAX_RULES = 1 << 16
 
 
 @dataclass(frozen=True)
@@ -117,31 +118,35 @@ class AppliedProfile:
     """A profile as a runtime applies it, in a form of which scf says the same."""
 
     runtime: Runtime
+    # what is handed to libseccomp, and what this makes of it for i386
     profile: dict[str, Any]
-    # the index of each entry in the user's profile
+    handed: dict[str, Any]
+    # the index of each entry of the latter in the user's profile
     origins: Sequence[Origin]
     # what is to be known of the whole, and what was left out of it, entry by entry
     remarks: Sequence[str]
     notes: Sequence[str]
-    # the least number that runc answers with ENOSYS, if it does
-    stub: int | None = None
+    # by the OCI name of an architecture, the least number of a record that runc answers with ENOSYS
+    stub: dict[str, int] = field(default_factory=dict)
 
     @property
     def data(self) -> bytes:
         """The profile's text."""
-        return engines.to_bytes(self.profile)
+        return engines.to_bytes(self.handed)
 
     def describe(self) -> Iterator[str]:
         """What is to be known of it, and all that was left out."""
         yield from engines.at_most(self.notes)
         yield from self.remarks
-        if self.stub is not None:
+        if self.stub:
             yield f"not in the profile: {stub_note(self.stub)}"
 
 
-def stub_note(first: int) -> str:
+def stub_note(stub: dict[str, int]) -> str:
     """What is said of a filter with runc's stub before it."""
-    return f"runc answers the numbers from {first} on, above all that the profile names, with ENOSYS"
+    firsts = [("" if name == NATIVE else f"of {JUDGED[name].name} ") + f"from {first - JUDGED[name].first} on"
+              for name, first in stub.items()]
+    return f"runc answers the numbers {join_names(firsts)}, above all that the profile names, with ENOSYS"
 
 
 # An action and its number.
@@ -172,12 +177,14 @@ class _Application:
 
     runtime: Runtime
     library: Library | None
-    # what a name of x86-64 has as its number: by the library, or without one by the call table
-    number_of: Callable[[str], int | None]
+    # what a name has as its number on an architecture: by the library, or without one by the tables
+    number_of: Callable[[str, str], int | None]
+    # the architectures of the list that scf judges
+    judged: Sequence[str] = ()
     remarks: list[str] = field(default_factory=list)
     notes: list[str] = field(default_factory=list)
     unknown: dict[str, None] = field(default_factory=dict)
-    greatest: int = 0
+    greatest: dict[str, int] = field(default_factory=dict)
     count: int = 0
     has_ignored: bool = False
 
@@ -223,12 +230,13 @@ class _Application:
         for name in dict.fromkeys(names):
             if not name and self.runtime.program == RUNC:
                 self.refuse(f"a name of {where} is empty")
-            number = self.number_of(name)
-            if number is None:
+            if self.number_of(name, NATIVE) is None:
                 self.unknown[name] = None
-            else:
-                self.greatest = max(self.greatest, number)
-                found.append(name)
+                continue
+            found.append(name)
+            for architecture in self.judged:
+                number = self.number_of(name, architecture)
+                self.greatest[architecture] = max(self.greatest.get(architecture, 0), number or 0)
         return found
 
     def rules_of(self, entry: dict[str, Any], origin: Origin, default: Answer) -> Iterator[_Rule]:
@@ -282,10 +290,11 @@ class _Application:
         self.remarks.append(f"x86-64 syscalls are confined too, though architectures lacks {OCI_ARCH}")
         return [OCI_ARCH, *names]
 
-    def stub_of(self, profile: dict[str, Any], default: Answer) -> int | None:
-        """The least number that runc's stub answers (findLastSyscalls of patchbpf), where there is one."""
-        is_put = self.runtime.program == RUNC and OCI_ARCH in profile.get("architectures", ())
-        return self.greatest + 1 if is_put and self.greatest and default[0] not in ALLOWS else None
+    def stub_of(self, default: Answer) -> dict[str, int]:
+        """By architecture the least number that runc's stub answers (findLastSyscalls of patchbpf), where it has one."""
+        if self.runtime.program != RUNC or default[0] in ALLOWS:
+            return {}
+        return {name: self.greatest[name] + 1 for name in JUDGED if self.greatest.get(name)}
 
     def tell_unknown(self) -> None:
         if self.library is None:
@@ -298,6 +307,7 @@ class _Application:
 
     def run(self, profile: dict[str, Any], origins: Sequence[Origin]) -> AppliedProfile:
         default = self.default_of(profile)
+        self.judged = [it for it in JUDGED if it in profile.get("architectures", ())]
         rules = [rule for entry, origin in zip(profile["syscalls"], origins)
                  for rule in self.rules_of(entry, origin, default)]
         if self.runtime.program == RUNC and "listenerPath" not in profile:
@@ -312,8 +322,19 @@ class _Application:
         found.update((name, profile[name]) for name in engines.KEPT if name in profile)
         found["syscalls"] = [rule.as_entry() for rule in rules]
         self.tell_unknown()
-        return AppliedProfile(self.runtime, found, [rule.origin for rule in rules], self.remarks, self.notes,
-                              self.stub_of(profile, default))
+        handed, places = multiplexed.with_rules(found)
+        return AppliedProfile(self.runtime, found, handed, [rules[it].origin for it in places], self.remarks, self.notes,
+                              self.stub_of(default))
+
+
+def _number_in_tables(name: str, architecture: str) -> int | None:
+    """The number of a name in a table that comes with scf, as in a record; below 0 if only others have it, None if
+    none has."""
+    found = {it: table.number_of(name) for it in JUDGED for table in [tables.of_architecture(it)] if table is not None}
+    number = found.get(architecture)
+    if number is not None:
+        return JUDGED[architecture].first + number
+    return None if all(it is None for it in found.values()) else -1
 
 
 def _is_config(value: Any) -> bool:
@@ -362,7 +383,7 @@ def applied(value: Any, name: str, setting: Setting | None = None) -> AppliedPro
     resolver = engines.Resolver(setting, notes.append)
     resolved = resolver.resolved(value)
     library = libseccomp.installed()
-    number_of = tables.read(None).number_of if library is None else library.number_of
+    number_of = _number_in_tables if library is None else library.number_of
     found = _Application(runtime, library, number_of).run(resolved, resolver.origins)
     remarks = list(found.remarks)
     if setting.engine is not None and setting.source is not None:

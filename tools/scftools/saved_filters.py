@@ -11,6 +11,7 @@ from .processes import Stack
 from .stack_comparison import StackComparison
 from .tables import Table
 from .values import dataclass
+from .verdicts import ALL
 from .verify import Block
 
 
@@ -30,18 +31,19 @@ class SavedRequest:
     saved: Sequence[Filter]
     table: Table
     limit: str | None
-    scope: str
+    scope: str | None
     relation: str
     remarks: Sequence[str] = ()
 
     def judge(self, stack: Stack) -> Block:
         comparison = StackComparison(stack.named, self.saved, self.table, self.limit, self.relation)
-        status, report = comparison.run(self.scope)
-        return Block(stack, status, comparison, report)
+        scope = self.scope or ALL
+        status, report = comparison.run(scope)
+        return Block(stack, status, comparison, report, scope=scope)
 
     def notes(self, block: Block) -> Iterator[str]:
         """What is added to scf's lines."""
-        return stack_comparison.added(block.comparison, block.report, self.scope)
+        return stack_comparison.added(block.comparison, block.report, block.scope)
 
     def as_json(self, block: Block) -> dict[str, object]:
-        return stack_comparison.as_json(block.comparison, block.report, self.scope, block.status)
+        return stack_comparison.as_json(block.comparison, block.report, block.scope, block.status)

@@ -111,7 +111,7 @@ def faulty(comparison: StackComparison, report: Report) -> list[str]:
 def added(comparison: StackComparison, report: Report, scope: str) -> Iterator[str]:
     """The lines after scf's."""
     if report.fault is not None:
-        yield from explanation.of_fault(report.fault, comparison.table)
+        yield from explanation.of_fault(report.fault)
         yield from (f"the filter is {name}" for name in faulty(comparison, report))
     if report.verdict is None:
         return
@@ -151,7 +151,7 @@ def as_json(comparison: StackComparison, report: Report, scope: str, status: int
     verdict, table = report.verdict, comparison.table
     found: dict[str, object] = {"status": status, "scope": scope, "relation": comparison.relation, "verdict": None}
     if report.fault is not None:
-        sentences = list(explanation.of_fault(report.fault, table))
+        sentences = list(explanation.of_fault(report.fault))
         found["fault"] = {**report.fault.as_json(), "sentences": sentences, "files": faulty(comparison, report)}
     if verdict is None:
         return found

@@ -6,10 +6,11 @@ from collections.abc import Iterator, Sequence
 from . import beside, client, explanation, output, program, row_conditions, surface_output, surfaces, verify
 from .beside import Beside
 from .client import Fault, Refusal
+from .explanation import join_names
 from .filters import Filter
 from .groups import Groups
 from .processes import Inspection, Stack
-from .refusals import faulty_filters, join_names
+from .refusals import faulty_filters
 from .surfaces import Surface
 from .tables import Table
 from .values import dataclass
@@ -85,7 +86,7 @@ def _of_refusal(block: Block) -> Iterator[str]:
     if block.fault is None:
         return
     yield block.fault.line
-    yield from (f"# {line}" for line in explanation.of_fault(block.fault, None))
+    yield from (f"# {line}" for line in explanation.of_fault(block.fault))
     those = faulty_filters(block.filters, block.fault) if len(block.filters) > 1 else []
     if those:
         yield f"# the filter is {join_names(those)}"
@@ -111,7 +112,7 @@ def lines(blocks: Sequence[Block], found: Inspection | None, width: int | None) 
 def _json_of(block: Block, found: Inspection | None, groups: Groups) -> dict[str, object]:
     said: dict[str, object] = {"status": block.status}
     if block.fault is not None:
-        said["fault"] = {**block.fault.as_json(), "sentences": list(explanation.of_fault(block.fault, None))}
+        said["fault"] = {**block.fault.as_json(), "sentences": list(explanation.of_fault(block.fault))}
         said["files"] = faulty_filters(block.filters, block.fault)
     if block.surface is not None:
         said.update(surface_output.as_json(block.surface, groups))

@@ -1,16 +1,13 @@
-"""Syscall tables: the names of numbers; and what names are that a table doesn't have."""
+"""Syscall tables: the names of numbers, which tables go with a profile, and what names are that a table doesn't have."""
 from __future__ import annotations
 
 import functools
-import os
 from collections.abc import Iterable, Sequence
 
-from . import inputs, program
+from . import architectures, bundles, inputs, profiles, program
+from .architectures import JUDGED, NATIVE
 from .values import Pattern, dataclass
 
-# The architectures beside x86-64 whose tables come with scf, by OCI names; x32's has its numbers without 0x40000000.
-NAMES = {"SCMP_ARCH_X86": "i386", "SCMP_ARCH_X32": "x32", "SCMP_ARCH_AARCH64": "aarch64", "SCMP_ARCH_ARM": "arm"}
-OTHERS = {it: os.path.join(program.TOP, "tables", f"{name}.table") for it, name in NAMES.items()}
 LINE = Pattern(rb"[ \t]*([A-Za-z_][A-Za-z0-9_]*)[ \t]+0*([0-9]{1,10})[ \t]*\r?")
 # At most so many unknown names are listed, and longer ones get no nearest name.
 MOST_LISTED, LONGEST = 20, 64
@@ -63,12 +60,81 @@ def read(name: str | None) -> Table:
 
 @functools.lru_cache(None)
 def of_architecture(name: str) -> Table | None:
-    """The table of another architecture, by its OCI name, or None if none comes with scf."""
+    """The table that comes with scf of an architecture, by its OCI name, or None if none does. x32's has its numbers
+    without 0x40000000."""
     try:
-        with open(OTHERS[name], "rb") as file:
+        with open(JUDGED[name].file, "rb") as file:
             return Table(file.read())
     except (KeyError, FileNotFoundError):
         return None
+
+
+@dataclass(frozen=True)
+class Tables:
+    """The tables of the architectures that a profile is judged for, by OCI names in scf's order."""
+
+    of: dict[str, Table]
+
+    @property
+    def is_native(self) -> bool:
+        """Whether they are x86-64's alone."""
+        return list(self.of) == [NATIVE]
+
+    def has(self, name: str) -> bool:
+        """Whether any of them has a syscall by this name."""
+        return any(table.number_of(name) is not None for table in self.of.values())
+
+    @property
+    def names(self) -> list[str]:
+        """What people call the architectures."""
+        return architectures.names_of(list(self.of))
+
+    @property
+    def native(self) -> Table:
+        """The table of x86-64, or of another one, where x86-64 isn't judged."""
+        return self.of.get(NATIVE) or next(iter(self.of.values()))
+
+    @property
+    def words(self) -> list[str]:
+        """The option by which scf judges these architectures."""
+        return [] if self.is_native else ["--architectures"]
+
+    @property
+    def parts(self) -> list[tuple[str, bytes]]:
+        """The parts of a bundle."""
+        return [(JUDGED[name].kind, table.data) for name, table in self.of.items()]
+
+    def only(self, name: str) -> Tables:
+        """The table of one of the architectures."""
+        return Tables({name: self.of[name]})
+
+
+def native_alone(data: bytes) -> Tables:
+    """A table of x86-64 and no other."""
+    return Tables({NATIVE: Table(data)})
+
+
+def of_bundle(bundle: bytes) -> Tables | None:
+    """The tables in a bundle, None if it has none."""
+    found = {name: bundles.part_of(bundle, one.kind) for name, one in JUDGED.items()}
+    return Tables({name: Table(data) for name, data in found.items() if data is not None}) if any(
+        it is not None for it in found.values()) else None
+
+
+def of_architectures(names: Iterable[str], table: Table) -> Tables:
+    """The tables of those architectures with these OCI names that scf judges, with this one for x86-64's; x86-64's alone
+    if scf judges none of them."""
+    found = {name: table if name == NATIVE else of_architecture(name) for name in JUDGED if name in set(names)}
+    known = {name: its for name, its in found.items() if its is not None}
+    return Tables(known or {NATIVE: table})
+
+
+def of_profile(profile: bytes, table: Table, is_native: bool = False) -> Tables:
+    """The tables of the architectures that a profile names, with this one for x86-64's; on request x86-64's alone. One
+    that names none is for this machine's own."""
+    if is_native:
+        return Tables({NATIVE: table})
+    return of_architectures(profiles.architectures_of(profile) or [architectures.of_machine()], table)
 
 
 def names_elsewhere() -> set[str]:

@@ -7,20 +7,21 @@ verdict, whatever it looks like.
 from __future__ import annotations
 
 import re
-from collections.abc import Sequence
+from collections.abc import Callable, Sequence
 
 from . import client
 from .answers import Answer
+from .architectures import NATIVE as X86_64
+from .architectures import Architecture
 from .calls import Call
 from .client import Fault
-from .tables import Table
 from .values import Pattern, dataclass, replace
 
-# The sets of syscalls that are compared.
-ALL, NATIVE, CALLS = "all", "native", "calls"
+# The sets of syscalls that are compared: all records, x86-64's, x86-64's in the table one by one, or those of each
+# architecture that the profile names and scf has a table of.
+ALL, NATIVE, CALLS, LISTED = "all", "native", "calls", "listed"
 SAME, DIFFERS, UNDECIDED, UNFINISHED = "same", "differs", "undecided", "unfinished"
-# Only from the tools: the syscall that decides is of an architecture that the profile also names, which scf doesn't
-# judge.
+# Only from the tools: the syscall that decides is of an architecture that the profile names, and scf has no table of it.
 UNDETERMINED = "undetermined"
 FOR_OTHER_ABI = f"{UNDETERMINED}: the profile is for this architecture, too"
 # The first two with --no-more and --no-less.
@@ -59,12 +60,37 @@ class Verdict:
 
 @dataclass(frozen=True)
 class NamedCall:
-    """A line of `scf compare --calls`: a syscall in the table for which the relation isn't proved."""
+    """A line of `scf compare --calls`: a syscall in the table for which the relation isn't proved. The architecture is
+    that of the table; the line of another one than x86-64 is the tools' own."""
 
     line: str
     number: int
     names: tuple[str, ...]
     verdict: Verdict
+    architecture: Architecture | None = None
+
+    @property
+    def record(self) -> Call:
+        """A record of the syscall."""
+        if self.verdict.call is not None or self.architecture is None:
+            return self.verdict.call or Call(self.number)
+        return Call(self.architecture.first + self.number, self.architecture.number)
+
+    def on(self, one: Architecture) -> NamedCall:
+        """The syscall of this architecture that has the number and the example of one of x86-64, as a view of filters
+        has them."""
+        verdict, call = self.verdict, self.verdict.call
+        if call is not None:
+            call = replace(call, number=one.first + call.number, architecture=one.number)
+            verdict = replace(verdict, call=call)
+        line = self.line.replace(" beside ", " profile ")
+        return replace(self, line=line if one.oci == X86_64 else f"{one.name} {line}", verdict=verdict, architecture=one)
+
+    def as_json(self) -> dict[str, object]:
+        found: dict[str, object] = {"number": self.number, "names": list(self.names), "verdict": self.verdict.word}
+        if self.architecture is not None and self.architecture.oci != X86_64:
+            found["architecture"] = self.architecture.name
+        return found
 
 
 @dataclass(frozen=True)
@@ -143,19 +169,20 @@ def _names(lines: Sequence[str]) -> tuple[list[str], list[str]]:
     return skipped, others
 
 
-def report(text: str, profile_names: Sequence[str] | None = None, table: Table | None = None,
+def report(text: str, profile_names: Sequence[str] | None = None, is_known: Callable[[str], bool] = lambda _: False,
            pointer: int | None = 0) -> Report:
     """Parses the output of `scf compare`.
 
-    If the names of the profile are known, a name that contains lines `skipped ..` or `other ..` is distinguished from
-    several names. The records of lines get this instruction pointer, None if it matters and is unknown.
+    If the names of the profile are known, and which of them a table has, a name that contains lines `skipped ..` or
+    `other ..` is distinguished from several names. The records of lines get this instruction pointer, None if it
+    matters and is unknown.
     """
     lines = client.lines_of(text)
     count = next((at for at, line in enumerate(lines) if line.startswith(LEFT_OUT)), len(lines))
     own, rest = lines[:count], lines[count:]
     skipped, architectures = _names(rest)
-    if profile_names is not None and table is not None:
-        exact = [name for name in profile_names if table.number_of(name) is None]
+    if profile_names is not None:
+        exact = [name for name in profile_names if not is_known(name)]
         head, tail = "".join(f"skipped {name}\n" for name in exact), "".join(f"{line}\n" for line in rest)
         if tail.startswith(head) and not tail.startswith(LEFT_OUT[0], len(head)):
             skipped, architectures = exact, _names(tail[len(head):].split("\n")[:-1])[1]

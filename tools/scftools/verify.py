@@ -6,10 +6,11 @@ from collections.abc import Iterator, Sequence
 
 from . import client, compare, newer, output, program, runtimes, verdicts
 from .compare import Comparison
+from .filters import Filter
 from .processes import Inspection, Stack, threads_text
 from .runtimes import AppliedProfile
 from .tables import Table
-from .values import dataclass, replace
+from .values import dataclass, field, replace
 from .verdicts import Report
 
 TYPE_CHECKING = False
@@ -29,8 +30,10 @@ class Block:
     status: int
     comparison: Comparison | StackComparison | None = None
     report: Report | None = None
-    # the least number that runc answers with ENOSYS, if it does so here
-    stub: int | None = None
+    # by architecture the least number that runc answers with ENOSYS, if it does so here
+    stub: dict[str, int] = field(default_factory=dict)
+    # the scope of the comparison
+    scope: str = verdicts.NATIVE
 
     @property
     def is_of_all(self) -> bool:
@@ -52,12 +55,14 @@ class Request:
     profile: bytes
     table: Table
     limit: str | None
-    scope: str
+    # None for all architectures that the profile names
+    scope: str | None = None
     relation: str = verdicts.SAME
     applied: AppliedProfile | None = None
 
     @classmethod
-    def of_runtime(cls, applied: AppliedProfile, table: Table, limit: str | None, scope: str, relation: str) -> Request:
+    def of_runtime(cls, applied: AppliedProfile, table: Table, limit: str | None, scope: str | None,
+                   relation: str) -> Request:
         """The settings for a profile as a runtime applies it."""
         return cls(applied.data, table, limit, scope, relation, applied)
 
@@ -67,25 +72,28 @@ class Request:
         return list(self.applied.remarks) if self.applied is not None else []
 
     def judge(self, stack: Stack) -> Block:
-        comparison = Comparison(stack.named, self.profile, self.table, self.limit, self.relation)
-        if self.applied is None:
-            status, report = comparison.run(self.scope)
-            return Block(stack, status, comparison, report)
-        comparison = replace(comparison, origins=self.applied.origins)
-        stub = self.applied.stub
-        status, report, has_stub = newer.compared_with_stub(comparison, self.scope, stub)
-        return Block(stack, status, newer.expecting_stub(comparison, stub), report, stub if has_stub else None)
+        comparison = self.comparison(stack.named)
+        stub = self.applied.stub if self.applied is not None else {}
+        scope = self.scope or comparison.scope
+        status, report, has_stub = newer.compared_with_stub(comparison, scope, stub)
+        return Block(stack, status, newer.expecting_stub(comparison, stub), report, stub if has_stub else {}, scope)
+
+    def comparison(self, filters: Sequence[Filter], relation: str | None = None) -> Comparison:
+        """The comparison of filters with the profile."""
+        origins = self.applied.origins if self.applied is not None else None
+        return Comparison(filters, self.profile, self.table, self.limit, relation or self.relation, origins,
+                          is_native=self.scope in (verdicts.NATIVE, verdicts.CALLS))
 
     def notes(self, block: Block) -> Iterator[str]:
         """What is added to scf's lines."""
-        yield from compare.notes(block.comparison, block.report, self.scope)
-        if block.stub is not None:
+        yield from compare.notes(block.comparison, block.report, block.scope)
+        if block.stub:
             yield runtimes.stub_note(block.stub)
-        yield from compare.of_foreign(block.comparison, block.report, self.scope)
+        yield from compare.of_foreign(block.comparison, block.report, block.scope)
 
     def as_json(self, block: Block) -> dict[str, object]:
-        own = compare.as_json(block.comparison, block.report, self.scope, block.status)
-        return own if block.stub is None else {**own, "stub": block.stub}
+        own = compare.as_json(block.comparison, block.report, block.scope, block.status)
+        return {**own, "stub": block.stub} if block.stub else own
 
 
 def _block(stack: Stack, request: Request | SavedRequest) -> Block:
@@ -156,7 +164,8 @@ def _block_json(block: Block, found: Inspection, request: Request | SavedRequest
 def as_json(made: Sequence[Block], found: Inspection, request: Request | SavedRequest, container: str | None) -> \
         dict[str, object]:
     """The same as `lines`, as one object, with the container: the verdict is that of the worst stack."""
-    return {"status": worst(made), "scope": request.scope, "verdict": made[0].verdict, "container": container,
+    scope = request.scope or next((it.scope for it in made if it.report is not None), verdicts.NATIVE)
+    return {"status": worst(made), "scope": scope, "verdict": made[0].verdict, "container": container,
             "stacks": [_block_json(block, found, request) for block in made],
             "passed_over": [{"process": process, "why": why} for process, why in found.passed_over.items()],
             "asked_again": [{"process": process, "thread": thread} for process, thread in found.asked_again]}

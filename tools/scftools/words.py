@@ -112,6 +112,11 @@ class Parser(argparse.ArgumentParser):
         group.add_argument("--calls", dest="scope", action="store_const", const=verdicts.CALLS,
                            help="each x86-64 syscall in the table by itself, and no other")
 
+    def native(self) -> None:
+        """Adds `--native` alone."""
+        self.add_argument("--native", action="store_true",
+                          help="x86-64 alone, whatever architectures the profile names")
+
     def relation(self, with_disposition: bool = False, other: str = "the profile") -> None:
         """Adds `--no-more` and `--no-less`, on request `--disposition`, which exclude each other."""
         group = self.add_mutually_exclusive_group()

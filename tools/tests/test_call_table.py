@@ -10,7 +10,7 @@ from common import I386, TABLE, TOP, Case, limited, part, tool
 
 sys.path.append(os.path.join(TOP, "tools"))
 
-from scftools import tables  # noqa: E402
+from scftools import architectures, tables  # noqa: E402
 
 HEADER = """#ifndef _ASM_UNISTD_64_H
 /* #define __NR_commented 9 */
@@ -301,7 +301,7 @@ class OtherTables(Case):
         # of Linux 7.2, which is newer than x86-64's table
         newer = {"listns", "rseq_slice_yield"}
         known = {row[0] for row in rows(TABLE)} | tables.names_elsewhere() | newer
-        for path in tables.OTHERS.values():
+        for path in [it.file for it in architectures.JUDGED.values() if it.oci != architectures.NATIVE]:
             self.assertEqual({row[0] for row in rows(path)} - known, set(), path)
             with open(path, encoding="ascii") as file:
                 self.assertRegex(file.readline(), r"^# The syscalls of \w+, from \S+\.h .*linux-libc-dev 7\.2\.12")

@@ -220,8 +220,11 @@ class Records(Causes):
         lines = self.why(line, self.profile(), status=0)
         self.assertIn("an x32 syscall", lines[0])
         self.assertIn("# by no entry: the syscall is of another ABI", lines)
-        lines = self.why(line, self.profile(architectures=["SCMP_ARCH_X86_64", "SCMP_ARCH_X32"]), status=4)
-        self.assertIn("undetermined: the profile is for this architecture, too", lines)
+        both = self.profile(architectures=["SCMP_ARCH_X86_64", "SCMP_ARCH_X32"])
+        self.assertIn("undetermined: the profile is for this architecture, too",
+                      self.why("--native", line, both, status=4))
+        lines = self.why(line, both, status=1)
+        self.assertNotIn("# by no entry: the syscall is of another ABI", lines)
 
     def test_what_is_not_logged(self):
         """ERRNO, TRAP and the like only where the filter has the flag; and each only if it is in actions_logged."""

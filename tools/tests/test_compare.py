@@ -177,11 +177,11 @@ class Compare(Case):
 
     def test_skipped_names_and_other_architectures(self):
         profile = profile_of("read", "gone", "write").replace(b"{",
-            b'{"architectures":["SCMP_ARCH_X86_64","SCMP_ARCH_X86"],', 1)
-        added = ("other SCMP_ARCH_X86\n"
+            b'{"architectures":["SCMP_ARCH_X86_64","SCMP_ARCH_MIPS"],', 1)
+        added = ("other SCMP_ARCH_MIPS\n"
                  "# names in the profile that were skipped because the table doesn't have them: 1\n"
                  "# no known syscall is named gone\n"
-                 "# the profile's other architectures are left out\n")
+                 "# the profile's other architectures aren't judged, since scf has no table of them\n")
         profile = self.file("p", profile)
         self.assertEqual(self.run_tool("compare", self.same, profile), (0, f"same\n{added}", ""))
         self.assertEqual(self.run_tool("compare", "--verbose", self.same, profile),
@@ -287,78 +287,105 @@ class OtherAbis(Case):
         self.assertEqual(err, "")
         return status, out.split("\n")
 
-    def test_native_calls_are_looked_at(self):
+    def test_native_leaves_them_out(self):
         for filters in (self.lets_i386, self.lets_x32, self.lets_both):
-            for words in ((), ("--native",), ("--calls",), ("--no-more",)):
+            for words in (("--native",), ("--calls",), ("--native", "--no-more")):
                 status, lines = self.said(*words, filters, self.profile("X86", "X32"))
                 self.assertEqual((status, lines[0]), (0, "no more" if "--no-more" in words else "same"))
-        self.assertEqual(self.said(self.wrong, self.profile("X86", "X32"))[0], 1)
+        self.assertEqual(self.said("--native", self.wrong, self.profile("X86", "X32"))[0], 1)
+
+    def test_each_architecture_that_is_named_is_judged(self):
+        """Its syscalls have the names and the entries that they have there."""
+        for filters, names, arch, number, shown in (
+                (self.lets_i386, ("X86",), I386, 3, "read (3) of the architecture i386"),
+                (self.lets_x32, ("X32",), X86_64, 0x40000000, "read (0x40000000 + 0), an x32 syscall"),
+                (self.lets_both, ("X86", "X32"), I386, 3, "read (3) of the architecture i386")):
+            status, lines = self.said(filters, self.profile(*names))
+            self.assertEqual((status, lines[:4]), (1, [
+                "differs", f"call nr {number} arch {arch:#x} ip 0x0 args 0x0 0x0 0x0 0x0 0x0 0x0", "filter ERRNO 1",
+                "profile ALLOW 0"]))
+            self.assertIn(f"# the syscall is {shown}", lines)
+            self.assertTrue(any(it.startswith("# by entry 0 of syscalls: ") for it in lines), lines)
+        rows = [it for it in lines if it.startswith(("# i386 ", "# x32 "))]
+        self.assertEqual(rows[0], "# i386 3 read differs args 0x0 0x0 0x0 0x0 0x0 0x0 filter ERRNO 1 profile ALLOW 0")
+        self.assertEqual(rows[1].split()[1:5], ["x32", "1", "write", "differs"])
+        found = json.loads(self.run_tool("compare", "--json", self.lets_i386, self.profile("X86"))[1])
+        self.assertEqual((found["scope"], found["architectures"]), ("listed", ["SCMP_ARCH_X86_64", "SCMP_ARCH_X86"]))
+        self.assertEqual([(it["architecture"], it["number"], it["names"]) for it in found["calls"]],
+                         [("i386", 3, ["read"])])
+
+    def test_all_records(self):
+        """Those of the architectures that are named, and that all others are denied."""
+        names, native = ("X86", "X32"), load(0) + jeq(READ, 1, 0) + ret(EPERM) + ret(ALLOW)
+        i386 = load(0) + jeq(3, 1, 0) + ret(EPERM) + ret(ALLOW)
+        x32 = load(0) + jeq(0x40000000, 1, 0) + ret(EPERM) + ret(ALLOW)
+
+        def of_three(x32):
+            return (load(4) + jeq(I386, 0, len(i386) // 8) + i386 + jeq(X86_64, 1, 0) + ret(KILL_PROCESS) + load(0)
+                    + jge(0x40000000, 0, len(x32) // 8) + x32 + native)
+
+        for data, architecture in ((of_three(x32), None), (of_three(ret(EPERM)), "0xc000003e"),
+                                   (load(4) + jeq(0xC0FFEE, 0, 1) + ret(EPERM) + of_three(x32), "0xc0ffee")):
+            status, lines = self.said("--all", self.file("f.bpf", data), self.profile(*names))
+            self.assertEqual((status, lines[0]), (0, "same") if architecture is None else (1, "differs"))
+            self.assertEqual(architecture is None or lines[1].split()[4] == architecture, True, lines)
 
     def test_a_call_that_decides_and_that_the_profile_may_be_for(self):
-        for name, filters, answer in (("X86", self.lets_i386, "ERRNO 1"), ("X32", self.lets_x32, "ERRNO 1"),
-                                      ("X32", self.lets_both, "ALLOW 0")):
-            named = ("X86", "X32") if filters == self.lets_both else (name,)
-            status, lines = self.said("--all", filters, self.profile(*named))
-            self.assertEqual((status, lines[0]), (4, self.UNDETERMINED))
-            found = json.loads(self.run_tool("compare", "--all", "--json", filters, self.profile(*named))[1])
-            self.assertEqual((found["status"], found["verdict"]), (4, "undetermined"))
-            self.assertNotIn("profile", found)
-            self.assertNotIn("profile", " ".join(lines[1:3]))
-            if filters != self.lets_both:
-                self.assertEqual(lines[2], f"filter {answer}")
-
-    def test_where_something_else_decides(self):
-        """A native call, or one of an architecture that the profile doesn't name."""
-        for filters, names, arch, number in ((self.wrong, ("X86", "X32"), X86_64, range(0x40000000)),
-                                             (self.lets_both, ("X86",), X86_64, range(0x40000000, 0x80000000)),
-                                             (self.lets_both, ("X32",), I386, range(0x80000000))):
-            status, lines = self.said("--all", filters, self.profile(*names))
-            self.assertEqual((status, lines[0]), (1, "differs"))
-            words = lines[1].split()
-            self.assertEqual(int(words[4], 16), arch)
-            self.assertIn(int(words[2]), number)
-        for names, word in (((), "more"), (("X86",), "more"), (("X32",), self.UNDETERMINED)):
-            self.assertEqual(self.said("--all", "--no-more", self.lets_both, self.profile(*names))[1][0], word)
-
-    def test_numbers_that_no_call_has_decide_alone(self):
-        """The record is one all the same, and it is said what it is."""
-        native = load(0) + jeq(READ, 1, 0) + ret(EPERM) + ret(ALLOW)
-        no_calls = self.file("f.bpf", of_abis(native, ret(KILL_PROCESS), ret(KILL_PROCESS)))
-        for names in ((), ("X86", "X32")):
-            status, lines = self.said("--all", no_calls, self.profile(*names))
-            self.assertEqual((status, lines[0]), (1, "differs"))
-            self.assertRegex("\n".join(lines),
-                             "\n# the syscall is number (-1, which a tracer|[0-9]+ .0x.*, which no syscall)")
-            self.assertEqual(self.said(no_calls, self.profile(*names))[0], 0)
+        """Of an architecture that scf has no table of, if nothing else decides."""
+        mips = load(4) + jeq(8, 0, 1) + ret(EPERM)
+        fits, wrong = (self.file(f"{at}.mips", mips + filter_of(numbers)) for at, numbers in enumerate(([READ], [])))
+        for words in ((), ("--no-less",)):
+            status, lines = self.said("--all", *words, fits, self.profile("MIPS"))
+            self.assertEqual((status, lines[0]), (0, "no less") if words else (4, self.UNDETERMINED))
+        self.assertEqual(lines[2:3], ["# the profile's other architectures aren't judged, since scf has no table of them"])
+        found = json.loads(self.run_tool("compare", "--all", "--json", fits, self.profile("MIPS"))[1])
+        self.assertEqual((found["status"], found["verdict"]), (4, "undetermined"))
+        self.assertNotIn("profile", found)
+        self.assertEqual(self.said("--all", fits, self.profile())[1][0], "differs")
+        self.assertEqual(self.said("--all", wrong, self.profile("MIPS"))[1][:2], [
+            "differs", "call nr 0 arch 0xc000003e ip 0x0 args 0x0 0x0 0x0 0x0 0x0 0x0"])
+        self.assertEqual(self.said(fits, self.profile("MIPS"))[1][:2], ["same", "other SCMP_ARCH_MIPS"])
 
     def test_what_is_let_through_is_said(self):
-        """Behind the verdict over native calls; nothing where nothing is."""
-        i386, x32 = self.profile("X86"), "x32: some syscalls are allowed, such as read (0x40000000 + 0): ALLOW"
-        status, lines = self.said(self.lets_both, i386)
+        """Behind the verdict; nothing where nothing is."""
+        both, x32 = self.profile("X86", "X32"), "x32: some syscalls are allowed, such as read (0x40000000 + 0): ALLOW"
+        status, lines = self.said("--native", self.lets_both, both)
         self.assertEqual((status, lines), (0, [
-            "same", "other SCMP_ARCH_X86", "# the profile's other architectures are left out",
+            "same", "other SCMP_ARCH_X86", "other SCMP_ARCH_X32",
+            "# --native leaves out SCMP_ARCH_X86 and SCMP_ARCH_X32, which the profile also names",
             "# compared: x86-64 syscalls; other ABIs are only checked for any allowed syscall:",
-            "# i386: every syscall is denied; the profile also names SCMP_ARCH_X86", f"# {x32}",
+            "# i386: every syscall is denied; the profile also names SCMP_ARCH_X86, which is judged without --native",
+            f"# {x32}; the profile also names SCMP_ARCH_X32, which is judged without --native",
             "# other ABIs: the kernel has no others", ""]))
-        lines = self.said(self.lets_both, self.profile("X32"))[1]
-        self.assertIn(f"# {x32}; the profile also names SCMP_ARCH_X32", lines)
+        fits = of_abis(load(0) + jeq(READ, 1, 0) + ret(EPERM) + ret(ALLOW),
+                       load(0) + jeq(3, 1, 0) + ret(EPERM) + ret(ALLOW), ret(ALLOW))
+        status, lines = self.said(self.file("f.bpf", fits), self.profile("X86"))
+        self.assertEqual((status, lines), (0, [
+            "same", "# compared: x86-64 and i386 syscalls; other ABIs are only checked for any allowed syscall:",
+            f"# {x32}", "# other ABIs: the kernel has no others", ""]))
         self.assertEqual(self.said(self.lets_i386, self.profile())[1], ["same", ""])
-        found = json.loads(self.run_tool("compare", "--json", self.lets_both, i386)[1])
+        found = json.loads(self.run_tool("compare", "--native", "--json", self.lets_both, both)[1])
         self.assertEqual([bool(one["let_through"]) for one in found["foreign"]], [False, True])
 
     def test_ask(self):
-        for arch, number, names, line in (("i386", "3", ("X86",), self.UNDETERMINED),
-                                          ("x32", "0", ("X86", "X32"), self.UNDETERMINED),
-                                          ("aarch64", "63", ("AARCH64",), self.UNDETERMINED),
+        for arch, number, names, line in (("i386", "3", ("X86",), "ALLOW 0 entry 0"),
+                                          ("i386", "read", ("X86", "X32"), "ALLOW 0 entry 0"),
+                                          ("i386", "4", ("X86",), "ERRNO 1 default"),
+                                          ("x32", "0", ("X86", "X32"), "ALLOW 0 entry 0"),
+                                          ("aarch64", "63", ("AARCH64",), "ALLOW 0 entry 0"),
+                                          ("mips", "4003", ("MIPS",), self.UNDETERMINED),
                                           ("x32", "0", ("X86",), "KILL_PROCESS 0 foreign"),
                                           ("i386", "3", (), "KILL_PROCESS 0 foreign"),
-                                          ("x86_64", "-1", ("X86", "X32"), "KILL_PROCESS 0 foreign"),
+                                          ("x86_64", "-1", ("X86",), "KILL_PROCESS 0 foreign"),
+                                          ("x86_64", "-1", ("X86", "X32"), "ERRNO 1 default"),
                                           ("x86_64", "read", ("X86", "X32"), "ALLOW 0 entry 0")):
             words = ("ask", f"--arch={arch}", "--nr", number)
             status, out, _ = self.run_tool(*words, self.profile(*names))
             self.assertEqual((status, out.split("\n")[0]), (4 if line == self.UNDETERMINED else 0, line), words)
             found = json.loads(self.run_tool(*words, "--json", self.profile(*names))[1])["calls"][0]
             self.assertEqual("answer" in found, line != self.UNDETERMINED)
+        native = self.run_tool("ask", "--native", "--arch=i386", "--nr=read", self.profile("X86"))
+        self.assertEqual((native[0], native[1].split("\n")[0]), (4, self.UNDETERMINED))
 
 
 FAKE = """#!/bin/sh

@@ -119,8 +119,8 @@ class Program(Case):
 
     def test_names_and_architectures_that_are_left_out(self):
         hostile = "\x1b[2J\n0 read more"
-        old = profile(("read waitpid umont2", "ALLOW", {}), architectures=["SCMP_ARCH_X86_64", "SCMP_ARCH_X86"])
-        others = ["SCMP_ARCH_X86_64", "SCMP_ARCH_ARM", "\x9b\n# same"]
+        old = profile(("read waitpid umont2", "ALLOW", {}), architectures=["SCMP_ARCH_X86_64", "SCMP_ARCH_MIPS"])
+        others = ["SCMP_ARCH_X86_64", "SCMP_ARCH_S390", "\x9b\n# same"]
         new = json.dumps({"defaultAction": ERRNO, "architectures": others,
                           "syscalls": [{"names": ["read", "waitpid", hostile], "action": ALLOW}]})
         status, lines = self.compared(old, new)
@@ -129,13 +129,35 @@ class Program(Case):
             "# names that were skipped because the table doesn't have them: 2 in the old profile, 2 in the new one",
             "# only in the old one: umont2", "# only in the new one: \\x1b[2J\\x0a0 read more",
             "# other architectures, not compared: 1 in the old profile, 2 in the new one",
-            "# only in the old one: SCMP_ARCH_X86",
-            "# only in the new one: SCMP_ARCH_ARM, \\xc2\\x9b\\x0a# same"]))
+            "# only in the old one: SCMP_ARCH_MIPS",
+            "# only in the new one: SCMP_ARCH_S390, \\xc2\\x9b\\x0a# same"]))
         found = json.loads(self.compared(old, new, "--json")[1][0])
         self.assertEqual(found["skipped"], {"old": ["waitpid", "umont2"], "new": ["waitpid", hostile]})
         many = profile((" ".join(["read", *(f"x{at}" for at in range(25))]), "ALLOW", {}))
         self.assertEqual(self.compared(many, profile(("read", "ALLOW", {})))[1][-1],
                          f"# only in the old one: {', '.join(f'x{at}' for at in range(20))} and 5 more")
+
+    def test_each_architecture(self):
+        """Changes on i386 alone, and an architecture that only one profile names."""
+        both = {"architectures": ["SCMP_ARCH_X86_64", "SCMP_ARCH_X86"]}
+        old = profile(("read waitpid", "ALLOW", {}), **both)
+        new = profile(("read waitpid", "ALLOW", {}), ("waitpid", "ALLOW", {}), **both)
+        self.assertEqual(self.compared(old, new)[0], 0)
+        new = profile(("read", "ALLOW", {}), **both)
+        status, lines = self.compared(old, new)
+        self.assertEqual((status, lines[:4]), (1, [
+            "differs", "more 0, less 1, otherwise 0", "# syscalls for which the new profile is stricter: 1",
+            "i386 7 waitpid less args 0x0 0x0 0x0 0x0 0x0 0x0 old ALLOW entry 0 new ERRNO 1 default"]))
+        self.assertEqual(self.compared(old, new, "--native")[1][0], "same")
+        found = json.loads(self.compared(old, new, "--json")[1][0])
+        self.assertEqual([(it["architecture"], it["number"]) for it in found["changes"]], [("i386", 7)])
+        alone = profile(("read", "ALLOW", {}), architectures=["SCMP_ARCH_X86_64"])
+        for one, other, word in ((new, alone, "old"), (alone, new, "new")):
+            status, lines = self.compared(one, other)
+            self.assertEqual((status, lines[:2]), (1, ["differs", "more 0, less 0, otherwise 0"]))
+            self.assertIn(f"# only the {word} profile names SCMP_ARCH_X86: the {'new' if word == 'old' else 'old'} one "
+                          "kills a process that makes such a syscall", lines)
+            self.assertEqual(self.compared(one, other, "--no-more")[0], 0 if word == "old" else 1)
 
     def test_a_strangers_entry(self):
         """It is one line, without a control character, and bounded."""

@@ -149,6 +149,8 @@ class Faults(Case):
             (["compile"], one(b'"errnoRet":65536'), "fault profile ErrnoRange entry 0"),
             (["compile"], top(b'{"defaultAction":"SCMP_ACT_ALLOW","architectures":["SCMP_ARCH_ARM"]}'),
              "fault profile NoX8664"),
+            (["compile", "--architectures"], top(b'{"defaultAction":"SCMP_ACT_ALLOW"}') + part("table-arm", b""),
+             "fault profile NotListed table 1"),
             (["compile"], one(b'"includes":{"caps":[]}'), "fault profile EngineForm entry 0"),
             (["compile"], entries(b'{"names":[%s],"action":"SCMP_ACT_LOG"}' % b",".join([b'"read"'] * 4097)),
              "fault profile TooMany"),

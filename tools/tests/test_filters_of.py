@@ -369,12 +369,16 @@ class VerifyProcess(Confined):
         self.assertIn("compared: x86-64 syscalls; other ABIs are only checked for any allowed syscall:", said)
         self.assertIn("other ABIs: every i386 and x32 syscall is denied; the kernel has no others", said)
         untested = load(0) + jeq(MOUNT, 0, 1) + ret(EPERM) + ret(ALLOW)
-        status, out = self.verify(self.child([untested]), refuses("mount", architectures=["SCMP_ARCH_X86_64",
-                                                                                         "SCMP_ARCH_X86"]))
+        child, named = self.child([untested]), refuses("mount", architectures=["SCMP_ARCH_X86_64", "SCMP_ARCH_X86"])
+        status, out = self.verify(child, named, "--native")
         said = comments(out)
         self.assertEqual((status, out.split("\n")[0]), (0, "same"))
         self.assertIn("i386: some syscalls are allowed, such as restart_syscall (0): ALLOW; the profile also names "
-                      "SCMP_ARCH_X86", said)
+                      "SCMP_ARCH_X86, which is judged without --native", said)
+        status, out = self.verify(child, named)
+        self.assertEqual((status, out.split("\n")[0]), (1, "differs"))
+        self.assertIn("compared: x86-64 and i386 syscalls; other ABIs are only checked for any allowed syscall:",
+                      comments(out))
         self.assertIn("x32: some syscalls are allowed, such as read (0x40000000 + 0): ALLOW", said)
         logs_one = (load(4) + jeq(I386, 1, 0) + ret(ALLOW) + load(0) + jeq(3, 0, 1) + ret(0x7FFC0000)
                     + ret(EPERM))

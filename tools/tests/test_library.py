@@ -12,13 +12,15 @@ import sys
 import unittest
 from unittest import mock
 
-from common import (ALLOW, EPERM, PATIENCE, TOP, Case, filter_of, insn, jeq, load, part, profile_of, ret)
+from common import (ALLOW, EPERM, I386, PATIENCE, TOP, X86_64, Case, filter_of, insn, jeq, load, part, profile_of, ret)
+from seccomp_library import NEEDED, Library
 
 LIBRARY = os.path.join(TOP, "library")
 OUT = os.path.join(LIBRARY, "out")
 PROGRAM = os.path.join(TOP, "crates", "scf", "out", "scf")
 CALLS = {f"scf_{name}" for name in ("check", "run", "trace", "decide", "assemble", "list", "compile", "ask", "compare",
-                                    "compare_calls", "version")}
+                                    "compare_calls", "compile_architectures", "ask_architectures",
+                                    "compare_architectures", "version")}
 STRICT = ["-Wall", "-Wextra", "-Wpedantic", "-Werror", "-Wno-unused-function", "-Wno-unused-variable"]
 LINES = re.compile(r"`fault (\w+) (\w+)((?: \w+ N)*)( \[entry N\])?`")
 
@@ -116,7 +118,7 @@ class Interface(Built):
             self.assertEqual((ctypes.sizeof(kind), [it for field, _ in kind._fields_
                                                     for it in (field, str(getattr(kind, field).offset))]),
                              (int(size), fields), name)
-        self.assertEqual(len(lines), 8)
+        self.assertEqual(len(lines), 9)
 
     def test_faults_are_those_of_the_page(self):
         sources, kinds = header_numbers("SOURCE_"), header_numbers("KIND_")
@@ -134,7 +136,8 @@ class Interface(Built):
             variants = re.search(rf"\n    {name}: ([\w\s]+);", rust)[1].split()
             self.assertEqual({snake(it): place for place, it in enumerate(variants, 1)}, numbers)
         header = read(LIBRARY, "scf.h")
-        for enum, names in (("verdict", module.Verdict), ("relation", module.Relation), ("reason_kind", module.Reason)):
+        for enum, names in (("verdict", module.Verdict), ("relation", module.Relation), ("reason_kind", module.Reason),
+                            ("architecture", module.Architecture)):
             listed = re.search(rf"enum scf_{enum} {{(.*?)}};", header, re.S)[1]
             numbers = {int(it) for it in re.findall(r"= (\d+)", listed)}
             self.assertEqual({it.value for it in names} | ({0} & numbers), numbers, enum)
@@ -223,7 +226,9 @@ class Memory(Built):
     def parties(self):
         """A filter, a profile that it doesn't answer as, and a table."""
         filters = self.file("own.bpf", filter_of([0, 1, 231]))
-        profile = self.file("own.json", profile_of("read", "write", "socket", "absent"))
+        text = {**json.loads(profile_of("read", "write", "socket", "absent")),
+                "architectures": ["SCMP_ARCH_X86_64", "SCMP_ARCH_X86"]}
+        profile = self.file("own.json", json.dumps(text))
         return filters, profile, self.file("own.table", "read 0\nwrite 1\nsocket 41\nexit_group 231\nclone 56\n")
 
     def test_each_allocation_fails_in_turn_and_calls_run_side_by_side(self):
@@ -233,6 +238,35 @@ class Memory(Built):
                 program = self.compiled("tests/memory.c", os.path.join(folder, "libscf.a"), "-pthread", *wraps,
                                         compiler=["gcc", "-std=gnu99"])
                 self.assertRegex(self.runs(program, *self.parties()), r"^\d{4,} checks\n$")
+
+
+class Architectures(Case):
+    """Filters that libseccomp makes for three architectures, each compared in one call."""
+
+    TABLES = {"X86_64": "x86_64", "X86": "i386", "X32": "x32"}
+
+    @staticmethod
+    def profile(*names):
+        return {"defaultAction": "SCMP_ACT_ERRNO", "architectures": [f"SCMP_ARCH_{it}" for it in Architectures.TABLES],
+                "syscalls": [{"names": ["read", "write", "exit_group", *names], "action": "SCMP_ACT_ALLOW"},
+                             {"names": ["personality"], "action": "SCMP_ACT_ALLOW", "args": [
+                                 {"index": 0, "value": 8, "op": "SCMP_CMP_EQ"}]}]}
+
+    @NEEDED
+    def test_filters_of_libseccomp(self):
+        scf, library = python_module(), Library()
+        tables = {scf.Architecture[name]: read(TOP, "tables", f"{file}.table").encode()
+                  for name, file in self.TABLES.items()}
+        # x86-64 and x32 have no waitpid
+        profiles = scf.Profiles(json.dumps(self.profile("waitpid")).encode(), tables)
+        found = scf.compare_architectures([library.filter_of(self.profile("waitpid"))], profiles)
+        self.assertEqual((found.verdict, found.report), (scf.Verdict.HOLDS, "same\n"))
+        found = scf.compare_architectures([library.filter_of(self.profile())], profiles)
+        self.assertEqual((found.verdict, found.call.arch, found.call.nr, found.left, found.right),
+                         (scf.Verdict.FAILS, I386, 7, EPERM, ALLOW))
+        native = scf.Profile(profiles.text, tables[scf.Architecture.X86_64])
+        found = scf.compare([library.filter_of(self.profile())], native, scf.NATIVE)
+        self.assertEqual(found.verdict, scf.Verdict.HOLDS)
 
 
 # ---- the library beside the program
@@ -252,6 +286,7 @@ CONDITIONS = json.dumps({
                      {"index": 0, "value": 40, "op": "SCMP_CMP_NE"}]},
                  {"names": ["clone"], "action": "SCMP_ACT_ALLOW", "args": [
                      {"index": 0, "value": 2114060288, "valueTwo": 0, "op": "SCMP_CMP_MASKED_EQ"}]}]}).encode()
+SEVERAL = CONDITIONS.replace(b'"SCMP_ARCH_X32"', b'"SCMP_ARCH_X32", "SCMP_ARCH_X86"')
 NAMES = b"read 0\nwrite 1\nsocket 41\nclone 56\nexit_group 231\n"
 
 
@@ -300,7 +335,8 @@ class Alike(Case):
         the printed line and the status."""
         pick = self.random
         for kind in itertools.cycle(("check", "run", "path", "dis", "asm", "decide", "compile", "ask", "compare",
-                                     "beside", "calls", "beside calls", "compare", "beside")):
+                                     "beside", "calls", "beside calls", "compare", "beside", "compile each",
+                                     "ask each", "compare each", "compare each")):
             call = {"nr": pick.choice((0, 1, 41, 56, 1 << 31)), "args": (pick.choice((0, 16, 40, 0x7E020000)),)}
             words = ["--nr", str(call["nr"]), "--a0", str(call["args"][0])]
             yield getattr(self, f"case_{kind.replace(' ', '_')}")(call, words)
@@ -358,14 +394,17 @@ class Alike(Case):
             ([], lambda scf: scf.ALL), (["--native"], lambda scf: scf.NATIVE),
             (["--nr-from", str(first), "--nr-to", str(last)], lambda scf: scf.Scope.numbers(first, last))))
 
-    def compared(self, words, given, filters, right):
+    def found(self, words, given, compare):
         relation, limit = self.random.randrange(4), self.random.choice((1000000, 1000000, 3))
-        flags, scope = self.scope()
 
         def made(scf):
-            found = scf.compare(filters, right(scf), scope(scf), scf.Relation(relation), limit)
+            found = compare(scf, scf.Relation(relation), limit)
             return found.report, {"HOLDS": 0, "FAILS": 1}.get(found.verdict.name, 4)
-        return ["compare", *words, *flags, *RELATIONS[relation], "--limit", str(limit)], given, made
+        return ["compare", *words, *RELATIONS[relation], "--limit", str(limit)], given, made
+
+    def compared(self, words, given, filters, right):
+        flags, scope = self.scope()
+        return self.found([*words, *flags], given, lambda scf, *how: scf.compare(filters, right(scf), scope(scf), *how))
 
     def case_compare(self, _call, _words):
         filters, profile, table = self.filters(), self.profile(), self.table()
@@ -376,6 +415,33 @@ class Alike(Case):
         filters, others = self.filters(), self.filters()
         given = b"".join(part(kind, it) for kind, list in (("filter", filters), ("beside", others)) for it in list)
         return self.compared(["--beside"], given, filters, lambda scf: scf.Filters(others))
+
+    def several(self):
+        """A profile and tables of some architectures: the parts, and the same for the module."""
+        kinds = {"X86_64": "table", "X86": "table-x86", "X32": "table-x32", "ARM": "table-arm"}
+        profile = self.changed(self.random.choice((SEVERAL, SEVERAL, CONDITIONS)))
+        tables = {name: self.table() for name in self.random.sample(list(kinds)[:self.random.choice((3, 3, 4))],
+                                                                    self.random.randrange(1, 4))}
+        given = part("profile", profile) + b"".join(part(kinds[name], table) for name, table in tables.items())
+        return given, lambda scf: scf.Profiles(profile, {scf.Architecture[name]: it for name, it in tables.items()})
+
+    def case_compile_each(self, _call, _words):
+        given, profiles = self.several()
+        return ["compile", "--architectures"], given, lambda scf: (scf.compile_architectures(profiles(scf)), 0)
+
+    def case_ask_each(self, call, words):
+        (given, profiles), arch = self.several(), self.random.choice((X86_64, I386))
+
+        def made(scf):
+            answer, why, entry = scf.ask_architectures(profiles(scf), scf.Call(**call, arch=arch))
+            return f"{answer_text(answer)} {why.name.lower()}{'' if entry is None else f' {entry}'}\n", 0
+        return ["ask", "--architectures", *words, "--arch", str(arch)], given, made
+
+    def case_compare_each(self, _call, _words):
+        filters, (given, profiles) = self.filters(), self.several()
+        given = b"".join(part("filter", it) for it in filters) + given
+        return self.found(["--architectures"], given,
+                          lambda scf, *how: scf.compare_architectures(filters, profiles(scf), *how))
 
     def by_calls(self, words, given, filters, right):
         relation, total = self.random.randrange(4), self.random.choice((1 << 63, 1 << 63, 40))

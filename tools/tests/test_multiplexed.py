@@ -163,9 +163,7 @@ class RandomProfile:
 
 
 def with_rules(given):
-    found = json.loads(json.dumps(given))
-    multiplexed.add(found, lambda _: None)
-    return found
+    return multiplexed.with_rules(given)[0]
 
 
 def differences(resolved, data, calls):

@@ -105,17 +105,18 @@ class Newer(Case):
                                  f"{said} set_mempolicy_home_node (450); both sides deny them: {COUNT_FROM_450}"])
 
     def test_a_long_filter(self):
-        """Also of the longest that the kernel takes."""
+        """They are told apart by a few instructions before a filter, for which the longest have no room."""
         code = stub(450) + filter_of(self.rules)
-        long = load(0) * (4096 - len(code) // 8) + code
-        _, added = self.added(long)
-        self.assertTrue(any(SAID in line for line in added), added)
-        self.assertIn(f"syscalls in the table among these: {COUNT_FROM_450}", added)
+        for length, is_told in ((4088, True), (4089, False), (4096, False)):
+            _, added = self.added(load(0) * (length - len(code) // 8) + code)
+            self.assertEqual(any(SAID in line for line in added), is_told, added)
+            self.assertEqual(f"syscalls in the table among these: {COUNT_FROM_450}" in added, is_told)
+            self.assertEqual(f"syscalls in the table that differ: {COUNT_FROM_450}" in added, not is_told)
 
     def test_json(self):
         name = self.file("f.bpf", stub(CACHESTAT) + filter_of(self.rules))
         found = json.loads(self.run_tool("compare", "--native", "--json", name, self.profile)[1])
-        self.assertEqual(found["newer"], {"first": CACHESTAT, "are_all": True,
+        self.assertEqual(found["newer"], {"first": CACHESTAT, "firsts": {"SCMP_ARCH_X86_64": CACHESTAT}, "are_all": True,
                                           "filter": {"action": "ERRNO", "data": 38, "errno": "ENOSYS"},
                                           "profile": {"action": "ERRNO", "data": 1, "errno": "EPERM"}})
         name = self.file("g.bpf", stub(CACHESTAT) + filter_of([*self.rules, 41]))

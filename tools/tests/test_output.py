@@ -98,7 +98,7 @@ class Hostile(Case):
         forged = "SCMP_ARCH_\x1b[2J\nsame\n# all is well"
         status, out, _ = self.run_tool("compare", self.same, self.profile(architectures=[forged]))
         self.assertEqual((status, out), (0, "same\nother SCMP_ARCH_\\x1b[2J\\x0asame\\x0a# all is well\n"
-                                            "# the profile's other architectures are left out\n"))
+                                            "# the profile's other architectures aren't judged, since scf has no table of them\n"))
 
     def test_where_a_skipped_name_stands_for_several(self):
         """Two names and one name with a line end in it are printed alike by scf, and told apart by the profile."""

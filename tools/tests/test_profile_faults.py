@@ -56,7 +56,7 @@ class Places(Case):
                             "linux has no seccomp: the container isn't confined, at line 2, column 12"),
                            ('{"linux": {"seccomp": {"defaultAction": "ALLOW"}}}',
                             'linux.seccomp.defaultAction is "ALLOW", which is none, at line 1, column 41'),
-                           ('{"defaultAction": "SCMP_ACT_LOG",\n"architectures": ["SCMP_ARCH_ARM"]}',
+                           ('{"defaultAction": "SCMP_ACT_LOG",\n"architectures": ["SCMP_ARCH_MIPS"]}',
                             "architectures lacks SCMP_ARCH_X86_64, at line 2, column 18"),
                            ('{"defaultAction": "SCMP_ACT_LOG", "syscalls": {}}', "syscalls is an object, not an array"),
                            ('{"defaultAction": "SCMP_ACT_LOG", "archMap": [{}]}', "archMap is an array, at line 1"),

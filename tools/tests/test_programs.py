@@ -64,20 +64,23 @@ class Compile(Case):
     def test_what_was_left_out_is_said(self):
         denies = b'{"defaultAction":"SCMP_ACT_ALLOW","architectures":["SCMP_ARCH_X86_64","SCMP_ARCH_X86"],' \
                  b'"syscalls":[{"names":["umont2","waitpid"],"action":"SCMP_ACT_ERRNO"}]}'
-        status, out, err = self.compiled(self.file("p.json", denies))
-        self.assertEqual((status, len(out) % 8), (0, 0))
-        self.assertEqual(err, "compile: names in the profile that were skipped because the table doesn't have "
-                              "them: 2\ncompile: no known syscall is named umont2; the nearest name in "
-                              f"the table is umount2\n{LOST.replace('# ', 'compile: ')}"
-                              "compile: the profile also names SCMP_ARCH_X86: the filter kills a process that makes "
-                              "such a syscall\n")
-        # it says of the filter what the filter does
-        self.assertEqual(self.run_tool("run", "--arch", "0x40000003", "--nr", "3", self.file("made.bpf", out))[1].split(
-            "\n")[0].split()[0], "KILL_PROCESS")
-        for names, says in ((("X86_64",), ""), (("X86_64", "ARM"), "compile: the profile's other architectures "
-                                                                    "are left out\n"),
-                            (("X32", "X86_64", "X86"), "compile: the profile also names SCMP_ARCH_X86 and "
-                             "SCMP_ARCH_X32: the filter kills a process that makes such a syscall\n")):
+        unknown = ("compile: no known syscall is named umont2; the nearest name in the table is umount2\n"
+                   f"{LOST.replace('# ', 'compile: ')}")
+        kills = "the filter kills a process that makes such a syscall\n"
+        # it says of the filter what the filter does: waitpid is a syscall of i386 alone
+        for words, says, waitpid in (
+                ([], "compile: names in the profile that were skipped because no table has them: 1\n" + unknown,
+                 "ERRNO"),
+                (["--native"], "compile: names in the profile that were skipped because the table doesn't have them: "
+                 f"2\n{unknown}compile: --native leaves out SCMP_ARCH_X86, which the profile also names: {kills}",
+                 "KILL_PROCESS")):
+            status, out, err = self.compiled(*words, self.file("p.json", denies))
+            self.assertEqual((status, len(out) % 8, err), (0, 0, says))
+            self.assertEqual(self.run_tool("run", "--arch", "0x40000003", "--nr", "7", self.file("made.bpf", out))[
+                1].split()[0], waitpid)
+        for names, says in ((("X86_64",), ""), (("X86_64", "ARM"), ""), (("X32", "X86_64", "X86"), ""),
+                            (("X86_64", "MIPS"), "compile: the profile's other architectures aren't judged, since scf "
+                             f"has no table of them: {kills}")):
             given = {"defaultAction": "SCMP_ACT_ALLOW", "architectures": [f"SCMP_ARCH_{it}" for it in names]}
             self.assertEqual(self.compiled(self.file("p.json", json.dumps(given)))[2], says)
 
@@ -326,9 +329,16 @@ class Objects(Case):
         left_out = {"skipped": ["waitpid", "umont2"], "other": ["SCMP_ARCH_X86"],
                     "unknown": [{"name": "umont2", "nearest": "umount2"}]}
         foreign = {"foreign": [{"kind": kind, "is_decided": True, "let_through": []} for kind in ("i386", "x32")]}
-        self.assertEqual(found("--all", same, profile),
-                         {"status": 0, "scope": "all", "verdict": "same", "calls": [], **left_out})
-        self.assertEqual(found(same, profile),
+        alone = self.file("alone.json", profile_of("read", "waitpid", "umont2"))
+        self.assertEqual(found("--all", same, alone),
+                         {"status": 0, "scope": "all", "verdict": "same", "calls": [], **left_out, "other": []})
+        of_i386 = found(same, profile)
+        self.assertEqual({name: of_i386[name] for name in ("status", "scope", "verdict", "architectures", "skipped")},
+                         {"status": 1, "scope": "listed", "verdict": "differs", "skipped": ["umont2"],
+                          "architectures": ["SCMP_ARCH_X86_64", "SCMP_ARCH_X86"]})
+        self.assertEqual((of_i386["call"]["architecture"], of_i386["filter"], of_i386["profile"]["action"]),
+                         (hex(I386), {"action": "KILL_PROCESS", "data": 0}, "ALLOW"))
+        self.assertEqual(found("--native", same, profile),
                          {"status": 0, "scope": "native", "verdict": "same", "calls": [], **left_out, **foreign})
         call = {"number": 231, "names": ["exit_group"], "c": "exit_group(0)", "architecture": "0xc000003e",
                 "pointer": "0x0", "arguments": ["0x0"] * 6}
@@ -337,9 +347,9 @@ class Objects(Case):
         why = {"reason": "default", "path": {"filter": wrong, "places": [0, 1, 3, 4, 6, 7, 9]}}
         line = {"number": 231, "names": ["exit_group"], "verdict": "differs", **sides}
         fates = {"no_more": "more", "no_less": "no less"}
-        self.assertEqual(found("--all", wrong, profile),
+        self.assertEqual(found("--all", wrong, alone),
                          {"status": 1, "scope": "all", "verdict": "differs", **sides, **why, **fates, "calls": [],
-                          **left_out})
+                          **left_out, "other": []})
         self.assertEqual(found("--native", wrong, profile),
                          {"status": 1, "scope": "native", "verdict": "differs", **sides, **why, **fates,
                           "calls": [line], **left_out, **foreign})

@@ -261,7 +261,8 @@ class ResolveProfile(Case):
         self.assertEqual(said.splitlines(), [
             "resolve-profile: entry 2 (rmdir) left out: only with CAP_SYS_ADMIN",
             "resolve-profile: entry 0 (mkdir) left out: its answer is the default's",
-            "resolve-profile: not in the profile: runc answers the numbers from 84 on, above all that the profile names, "
+            "resolve-profile: not in the profile: runc answers the numbers from 84 on, of i386 from 40 "
+            "on and of x32 from 84 on, above all that the profile names, "
             "with ENOSYS"])
         self.assertEqual(self.resolved(given, "--runtime", "podman", "--caps", "SYS_ADMIN")[0]["syscalls"],
                          [entry("mkdir", "read"), entry("rmdir")])

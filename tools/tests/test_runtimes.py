@@ -111,7 +111,7 @@ class Runtimes(Case):
             filters, why = filters_of(found.runtime.program, seccomp)
             self.assertIsNotNone(filters, why)
         comparison = Comparison([Filter("it", it) for it in filters], found.data, tables.read(None))
-        _, report, has_stub = newer.compared_with_stub(comparison, NATIVE, found.stub)
+        _, report, has_stub = newer.compared_with_stub(comparison, comparison.scope, found.stub)
         return report.printed[0], has_stub, found
 
     def same(self, runtime, *entries, **members):
@@ -166,35 +166,42 @@ class Runtimes(Case):
     def test_the_architectures(self):
         for runtime in ("runc", "crun"):
             found = self.same(runtime, entry("mkdir"), architectures=[X86])
-            self.assertEqual((found.profile["architectures"], found.stub), ([X86_64, X86], None))
+            self.assertEqual((found.profile["architectures"], list(found.stub)),
+                             ([X86_64, X86], [X86] if runtime == "runc" else []))
             self.assertIn(f"lacks {X86_64}", found.remarks[0])
             found = self.same(runtime, entry("mkdir"), architectures=[])
             self.assertNotIn("architectures", " ".join(found.remarks))
         self.assertEqual(self.same("crun", architectures=["x86_64"]).profile["architectures"], [X86_64])
 
     def test_the_stub_of_runc(self):
-        """Its first number is that behind the greatest that the profile names and libseccomp knows."""
+        """Its first number on each architecture is that behind the greatest that the profile names and libseccomp
+        knows."""
         for names, first in ((["read"], 1), (["write", "lchown", "no_such"], 95), (["pread64", "mkdir"], 84)):
             given = {"defaultAction": TRAP, "architectures": [X86_64], "syscalls": [entry(*names)]}
-            self.assertEqual(runtimes.applied(given, "runc").stub, first if names != ["read"] else None)
+            self.assertEqual(runtimes.applied(given, "runc").stub, {X86_64: first} if names != ["read"] else {})
         numbers = {tables.read(None).number_of(it): it for it in NAMES}
-        greatest = max(it for it in numbers if it <= 440)
+        greatest, library = max(it for it in numbers if it <= 440), libseccomp.Library()
         below = [name for number, name in numbers.items() if number <= greatest]
-        for default, architectures, first in ((ERRNO, [X86_64], greatest + 1), (ERRNO, [X86_64, X86, X32], greatest + 1),
-                                             ("SCMP_ACT_KILL", [X86_64], greatest + 1), (TRAP, [X86], None),
-                                             (ERRNO, [], None), (LOG, [X86_64], None), (ALLOW, [X86_64], None)):
+        firsts = {it: 1 + max(library.number_of(name, it) or 0 for name in below) for it in (X86_64, X86, X32)}
+        self.assertEqual((firsts[X86_64], firsts[X32] >> 30), (greatest + 1, 1))
+        for default, architectures, with_stub in (
+                (ERRNO, [X86_64], [X86_64]), (ERRNO, [X86_64, X86, X32], [X86_64, X86, X32]),
+                (ERRNO, [X86, X86_64], [X86_64, X86]), (ERRNO, [X32, X86_64], [X86_64, X32]),
+                ("SCMP_ACT_KILL", [X86_64], [X86_64]), (TRAP, [X86], [X86]), (ERRNO, [], []), (LOG, [X86_64], []),
+                (ALLOW, [X86_64], [])):
             given = {"defaultAction": default, "architectures": architectures,
                      "syscalls": [entry(*below), entry("mkdir", action=ERRNO, errno=7)]}
+            first = {it: firsts[it] for it in with_stub}
             verdict, has_stub, found = self.compared("runc", given)
-            self.assertEqual((verdict, has_stub, found.stub), ("same", first is not None, first), given["defaultAction"])
+            self.assertEqual((verdict, has_stub, found.stub), ("same", bool(first), first), given)
             verdict, has_stub, found = self.compared("crun", given)
-            self.assertEqual((verdict, has_stub, found.stub), ("same", False, None), given["defaultAction"])
+            self.assertEqual((verdict, has_stub, found.stub), ("same", False, {}), given)
 
     def test_a_stub_at_another_number_is_none(self):
         given = {"defaultAction": ERRNO, "architectures": [X86_64], "syscalls": [entry("read", "lchown")]}
         for first in (94, 96):
             found = runtimes.applied(given, "runc")
-            self.assertEqual(found.stub, 95)
+            self.assertEqual(found.stub, {X86_64: 95})
             data = stub(first) + insn(0, 0) + compiled(found.data)
             comparison = Comparison([Filter("it", data)], found.data, tables.read(None))
             status, report, has_stub = newer.compared_with_stub(comparison, NATIVE, found.stub)
@@ -260,7 +267,7 @@ class Runtimes(Case):
         """It is the call that is shown, and not one of those that runc answers by ENOSYS."""
         found = runtimes.applied({"defaultAction": ERRNO, "architectures": [X86_64],
                                   "syscalls": [entry("read", "lchown")]}, "runc")
-        stubbed = stub(found.stub) + insn(0, 0) + compiled(found.data)
+        stubbed = stub(found.stub[X86_64]) + insn(0, 0) + compiled(found.data)
         for number in (95, 460, 0x3FFFFFFF):
             hole = load(0) + jeq(number, 0, 1) + ret(ALLOWED) + insn(0, 0) + stubbed
             comparison = Comparison([Filter("it", hole)], found.data, tables.read(None))
@@ -277,7 +284,7 @@ class Runtimes(Case):
             self.assertLess(library.number_of("socketcall"), 0)
         with mock.patch("ctypes.CDLL", side_effect=OSError("none")):
             found = runtimes.applied(profile(entry("mkdir", "no_such")), "runc")
-        self.assertEqual((found.stub, found.remarks), (max(tables.read(None).numbers()) + 1, [
+        self.assertEqual((found.stub, found.remarks), ({X86_64: max(tables.read(None).numbers()) + 1}, [
             "there is no libseccomp.so.2 here, so it is unknown which names the runtime's doesn't know"]))
         self.assertEqual(found.profile["syscalls"][1]["names"], ["mkdir"])
 

@@ -58,6 +58,8 @@ WORDS = (
      "      --no-less               Whether each call is let through as far as by the profile; not with --no-more\n"
      "      --disposition           Whether both deny, delegate and allow alike; not with --no-more or --no-less\n"
      "      --beside                With parts `beside`, other filters, in place of a profile\n"
+     "      --architectures         Only calls of architectures that have a table: parts `table`, `table-x86`, "
+     "`table-x32` ..\n"
      "  -h, --help                  Print help\n", 0),
     (["--version"], "scf 0.1.0\n", 0),
     ([],
