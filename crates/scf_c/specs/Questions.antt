@@ -3,7 +3,7 @@ use Rattle.std.specs.Prelude.{◌≡◌, ℕ, [], ◌∷◌}
 use Rattle.scf_profile.specs.declared.relation.Relation.{Relation}
 use Rattle.scf_profile.specs.declared.relation.Relation.TheVariants.{Same, NoMore, NoLess, SameDisposition}
 use Rattle.scf_profile.specs.declared.scope.Scope.{Scope}
-use Rattle.scf_profile.specs.declared.scope.Scope.TheVariants.{All, Native, Call, Numbers, Of}
+use Rattle.scf_profile.specs.declared.scope.Scope.TheVariants.{All, Native, Call, Numbers, Of, NumbersOf}
 use Rattle.scf_request.specs.declared.request.Limits.{Limits}
 use Rattle.scf_c.specs.declared.layout.Question.{Question}
 use Rattle.scf_c.specs.declared.layout.RightSide.{RightSide}
@@ -22,6 +22,7 @@ IsOver question Native = question.scope ≡ native_calls
 IsOver question (Call number) = (question.scope ≡ 2) × (question.first ≡ number)
 IsOver question (Numbers first last) = (question.scope ≡ 3) × (question.first ≡ first) × (question.last ≡ last)
 IsOver question (Of architecture) = ⊥
+IsOver question (NumbersOf architecture first last) = ⊥
 
 abbrev pub relation_number : Relation → ℕ
 relation_number Same = 0

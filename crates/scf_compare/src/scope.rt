@@ -32,6 +32,14 @@ pub(crate) fn facts_of<F: WordFacts>(alloc: Global, scope: Scope) -> Result<F, M
             within_numbers(native, first, last)
         }
         Scope::Of(architecture) => facts_of_architecture(alloc, architecture),
+        Scope::NumbersOf {
+            architecture,
+            first,
+            last,
+        } => {
+            let own: F = facts_of_architecture(alloc, architecture)?;
+            within_numbers(own, first, last)
+        }
     }
 }
 

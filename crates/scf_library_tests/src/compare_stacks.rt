@@ -3,7 +3,7 @@
 
 use crate::fixtures::{holds_of, profile_of, stack_of};
 use scf_compare::Relation::{NoLess, NoMore, Same, SameDisposition};
-use scf_compare::Scope::{All, Call, Native, Numbers, Of};
+use scf_compare::Scope::{All, Call, Native, Numbers, NumbersOf, Of};
 use scf_compare::{Relation, Scope, Verdict, compare_by, compare_stack, effort_stack};
 use scf_facts::WordSets;
 use scf_insn::{Answer, Architecture};
@@ -64,6 +64,25 @@ const ROWS: &[Row] = &[
             (Of(Architecture::X86), Same, FOREIGN),
             (Of(Architecture::X32), NoMore, FOREIGN),
             (Of(Architecture::X32), NoLess, None),
+            (
+                NumbersOf {
+                    architecture: Architecture::X32,
+                    first: 0,
+                    last: 0x4000_0000,
+                },
+                Same,
+                FOREIGN,
+            ),
+            // All numbers of x32 have the bit.
+            (
+                NumbersOf {
+                    architecture: Architecture::X32,
+                    first: 0,
+                    last: 0x3fff_ffff,
+                },
+                Same,
+                None,
+            ),
             (Numbers { first: 0, last: 0 }, Same, None),
             (
                 Numbers { first: 0, last: 1 },
@@ -198,7 +217,12 @@ fn is_in_scope(scope: Scope, nr: u32, arch: u32) -> bool {
         }
         Of(Architecture::X86) => arch == 0x4000_0003,
         Of(Architecture::X32) => arch == X86_64 && nr >= 0x4000_0000,
-        Of(_) => false,
+        NumbersOf {
+            architecture: Architecture::X32,
+            first,
+            last,
+        } => arch == X86_64 && nr >= 0x4000_0000 && first <= nr && nr <= last,
+        Of(_) | NumbersOf { .. } => false,
     }
 }
 

@@ -12,7 +12,17 @@ pub enum Scope {
     /// x86-64's own with this syscall number.
     Call(u32),
     /// x86-64's own with a syscall number from `first` to `last`, both included; none if `first` is above `last`.
-    Numbers { first: u32, last: u32 },
+    Numbers {
+        first: u32,
+        last: u32,
+    },
     /// Those of an architecture.
     Of(Architecture),
+    /// Those of an architecture with a syscall number, as a record has it, from `first` to `last`, both included; none
+    /// if `first` is above `last`.
+    NumbersOf {
+        architecture: Architecture,
+        first: u32,
+        last: u32,
+    },
 }
