@@ -84,7 +84,8 @@ IsComparisonRefused kind filters right why = ⊥
 -- table, and these are the printed lines of it.
 abbrev pub IsComparedEach : Relation → List Bytes → List ℕ → List Table → ℕ → Finding → List ℕ → Type 0
 IsComparedEach relation filters profile tables limit finding text = (outcome : Outcome)
-    × VerifiesArchitectures relation (known filters) (map known_text (texts_of tables)) (Some profile) limit (Ok outcome)
+    × VerifiesArchitectures relation (known filters) (map known_text (texts_of tables)) (Some profile) limit
+    (Ok outcome)
     × (finding ≡ finding_of outcome.verdict) × (text ≡ report_text relation outcome)
 
 -- why they aren't compared

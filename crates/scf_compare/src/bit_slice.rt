@@ -222,7 +222,8 @@ impl BitSlice {
     pub(crate) fn is_above(self, v: u32) -> Decision
         requires { IsBitSlice self }
         ensures asks { IsTestDecision result }
-        ensures decides { (words : List ℕ) → IsWords words → Decides result words (nat_lt v (bit_slice_value self words)) }
+        ensures decides { (words : List ℕ) → IsWords words
+            → Decides result words (nat_lt v (bit_slice_value self words)) }
     {
         let mask = self.mask >> self.left << self.right;
         if self.flipped != 0 || !is_high_mask(mask) {

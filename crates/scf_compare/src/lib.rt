@@ -16,8 +16,8 @@
 //!    profile's leaf has ERRNO: the answers are related.
 //! 4. The newest open branch is taken: the store is undone to its mark, and "no" is learned. For other architectures
 //!    the profile answers KILL_PROCESS and the filter ERRNO. The store gives a record that comes to this leaf (`pick`),
-//!    the filter is run on it, the profile is asked, and the finding is `Fails`. Over x86-64 alone the walk goes on with
-//!    the first branch and ends with `Holds`.
+//!    the filter is run on it, the profile is asked, and the finding is `Fails`. Over x86-64 alone the walk goes on
+//!    with the first branch and ends with `Holds`.
 //!
 //! With a filter on the right, too, nothing else changes: the same filter on both sides, and the walk asks `jeq #41` a
 //! second time behind each leaf of the first. The store knows the answer by then.

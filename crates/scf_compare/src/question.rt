@@ -80,8 +80,8 @@ fn ask(atom: Atom, if_true: Successor, if_false: Successor) -> Question
     }
 }
 
-/// The question of one part of a test about an argument whose low word has index `low`. The condition holds if the test's
-/// result is `expected`.
+/// The question of one part of a test about an argument whose low word has index `low`. The condition holds if the
+/// test's result is `expected`.
 fn ask_test(test: NumberTest, expected: bool, part: ConditionPart, low: u8) -> Question
     requires { low < 15 }
     ensures word { word_of result.atom ≡ word_asked part low }

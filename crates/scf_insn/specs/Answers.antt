@@ -52,8 +52,8 @@ answer_of action detail = half_of action * 2 ^ 16 + detail
 abbrev pub rank_of : ℕ → ℤ
 rank_of answer = cast_signed w16 (action_half answer)
 
--- What becomes of a syscall by the action of its answer (kernel/seccomp.c, `__seccomp_filter`): an action without a name
--- kills the process there, and so denies (seccomp(2): since Linux 4.14).
+-- What becomes of a syscall by the action of its answer (kernel/seccomp.c, `__seccomp_filter`): an action without a
+-- name kills the process there, and so denies (seccomp(2): since Linux 4.14).
 abbrev pub action_disposition : Action → Disposition
 action_disposition KillProcess = Denied
 action_disposition KillThread = Denied

@@ -1,5 +1,5 @@
--- The architectures that a profile can name (OCI runtime specification, config-linux.md, seccomp), and which call records
--- are theirs (Linux uapi audit.h, asm/unistd.h).
+-- The architectures that a profile can name (OCI runtime specification, config-linux.md, seccomp), and which call
+-- records are theirs (Linux uapi audit.h, asm/unistd.h).
 use Rattle.std.specs.Prelude.{◌≡◌, ℕ, ◌-◌, ◌^◌, ◌<◌, ◌≤◌, List, [], ◌∷◌, codes}
 use Rattle.scf_insn.specs.declared.architecture.Architecture.{Architecture}
 use Rattle.scf_insn.specs.declared.architecture.Architecture.TheVariants.{X8664, X86, X32, Aarch64, Arm}
@@ -40,8 +40,8 @@ pub record IsOf (architecture : Architecture) (call : CallRecord) : Type 0 where
   pub first : (row_of architecture).first ≤ call.nr
   pub last : call.nr ≤ (row_of architecture).last
 
--- Two architectures have no call record in common: where `arch` is one value, the numbers of the second follow those of the
--- first.
+-- Two architectures have no call record in common: where `arch` is one value, the numbers of the second follow those of
+-- the first.
 abbrev pub AreApart : Architecture → Architecture → Type 0
 AreApart one later = (row_of one).audit ≡ (row_of later).audit → (row_of one).last < (row_of later).first
 

@@ -22,8 +22,8 @@ IsInput view limit bytes (Err CantRead) = Unit {0}
 IsInput view limit bytes (Err NoMemory) = Unit {0}
 
 -- What a filter file of these bytes may be read as: the list that has the bytes; a cut instruction, by the index of
--- its first byte; more bytes than those of the most instructions. A failure of the reader and running out of memory may stand
--- in place of these.
+-- its first byte; more bytes than those of the most instructions. A failure of the reader and running out of memory may
+-- stand in place of these.
 abbrev pub IsReading : {V : Type 0} → (V → List Insn) → List ℕ → Result V ReadFault → Type 0
 IsReading view bytes (Ok insns) = (bytes ≡ program_bytes (view insns)) × (length bytes ≤ max_filter_len)
 IsReading view bytes (Err (Truncated offset)) = (length bytes ≤ max_filter_len) × (length bytes % sock_filter_len ≢ 0)

@@ -107,7 +107,8 @@ fn record(arch: u32, nr: u32, first: u64) -> CallRecord {
     }
 }
 
-/// Records, and whether the worked profiles allow them: `personality` takes the low half of its argument in i386 and x32.
+/// Records, and whether the worked profiles allow them: `personality` takes the low half of its argument in i386 and
+/// x32.
 const ASKED: &[(u32, u32, u64, bool)] = &[
     (0xc000_003e, 135, 0x1_0000_0008, false),
     (0x4000_0003, 136, 0x1_0000_0008, true),

@@ -20,8 +20,8 @@ fn relations() -> &'static [Relation] {
     RELATIONS
 }
 
-/// Answers by the kernel's header, with unnamed ones beside them, and what becomes of a syscall by `__seccomp_filter` of
-/// kernel/seccomp.c, whose default case kills the process: 0 denied, 1 delegated, 2 allowed.
+/// Answers by the kernel's header, with unnamed ones beside them, and what becomes of a syscall by `__seccomp_filter`
+/// of kernel/seccomp.c, whose default case kills the process: 0 denied, 1 delegated, 2 allowed.
 const ANSWERS: &[(u32, u8)] = &[
     // KILL_PROCESS, and half numbers that are negative
     (0x8000_0000, 0),

@@ -65,7 +65,8 @@ LoadsEach text tables loaded =
 
 -- When a text is refused with a fault, the first test that fails, the last of which is that what is stated has no
 -- conflict. Want of memory may come in place of anything.
-abbrev pub RefusesBy : {A : Type 0} → (Data → Result A LoadFault) → (A → ℕ → ℕ → ℕ → Type 0) → List ℕ → LoadFault → Type 0
+abbrev pub RefusesBy : {A : Type 0} → (Data → Result A LoadFault) → (A → ℕ → ℕ → ℕ → Type 0) → List ℕ → LoadFault
+    → Type 0
 RefusesBy tests HasConflict text faults.Memory = Unit {0}
 RefusesBy tests HasConflict text faults.Json = (length text ≤ max_text_len) × ((value : Data) → IsText text value → ⊥)
 RefusesBy tests HasConflict text faults.TooMany =

@@ -7,8 +7,8 @@ use Rattle.scf_profile.specs.declared.rule.Rule.{Rule}
 use Rattle.scf_profile.specs.Rule.{meets}
 use Rattle.scf_profile.specs.Profile.{Profile}
 
--- KILL_PROCESS to a call that isn't of its architecture, the answer of any rule that a call of it meets, and the default
--- answer where it meets none. The order of the rules plays no part.
+-- KILL_PROCESS to a call that isn't of its architecture, the answer of any rule that a call of it meets, and the
+-- default answer where it meets none. The order of the rules plays no part.
 pub data ProfileAnswers (p : Profile) (call : CallRecord) : ℕ → Type 0 where
   foreign : (IsOf p.architecture call → ⊥) → ProfileAnswers p call seccomp_ret_kill_process
   by_rule : (r : Rule) → IsOf p.architecture call → Contains p.rules r → meets p.architecture r call ≡ true

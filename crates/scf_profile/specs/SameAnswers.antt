@@ -26,4 +26,5 @@ SameAnswers answers p = (call : CallRecord) → IsRecord call → AnswersRelated
 -- every call record is answered as several profiles answer it
 abbrev pub SameAnswersAsEach : (List ℕ → ℕ → Type 0) → List Profile → Type 0
 SameAnswersAsEach answers profiles =
-    (call : CallRecord) → IsRecord call → (answer : ℕ) × answers (words_of call) answer × ProfilesAnswer profiles call answer
+    (call : CallRecord) → IsRecord call
+    → (answer : ℕ) × answers (words_of call) answer × ProfilesAnswer profiles call answer

@@ -232,7 +232,8 @@ all_listed index names ((architecture, table) ∷ tables) = do
 unfoldable pub profile_of : Names → Data → Result Loaded LoadFault
 profile_of table root = do
   head ← head_of root
-  _ ← refused_if (nat_lt 0 (length head.architectures) && not (list_any (λ name. is_named name X8664) head.architectures))
+  _ ← refused_if
+      (nat_lt 0 (length head.architectures) && not (list_any (λ name. is_named name X8664) head.architectures))
       (faults.NoX8664 None)
   entries ← entries_of head.object
   _ ← refused_if (nat_lt max_rules (length (rules_from X8664 table 0 entries))) faults.TooMany

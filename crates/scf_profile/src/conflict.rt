@@ -77,7 +77,8 @@ fn least_with(
 /// The least of a clash and those among rules.
 fn least_among(architecture: Architecture, rules: &[Rule], known: Option<Clash>) -> Option<Clash>
     requires { All (IsRule architecture) rules.now }
-    ensures one { IfSome result (λ c. (known ≡ Some c) ⊎ EntriesConflict architecture rules.now c.first c.second c.number) }
+    ensures one { IfSome result (λ c. (known ≡ Some c)
+        ⊎ EntriesConflict architecture rules.now c.first c.second c.number) }
     ensures bounds { All (λ later. All (IsClashBounded architecture result later) rules.now) rules.now }
     ensures keeps { (c : Clash) → IsBoundedBy known c → IsBoundedBy result c }
 {

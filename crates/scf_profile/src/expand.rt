@@ -80,7 +80,8 @@ pub(crate) fn rules_under(
     entries: &[Entry],
 ) -> Result<Vec<Rule>, LoadFault>
     requires { length entries.now ≤ 2 ^ 32 }
-    ensures rules { IfOk result (λ rules. rules.items ≡ rules_from table.now.architecture table.now.table.now 0 entries.now) }
+    ensures rules { IfOk result (λ rules. rules.items
+        ≡ rules_from table.now.architecture table.now.table.now 0 entries.now) }
     ensures few { IfOk result (λ rules. vec_len rules ≤ max_rules) }
     ensures err { IfErr result (TellsTooMany (rules_from table.now.architecture table.now.table.now 0 entries.now)) }
 {
@@ -108,8 +109,8 @@ fn add_skipped(
     tables: &[ArchitectureTable],
     entry: &Entry,
 ) -> Result<(), AllocError>
-    ensures { OnOk result (skipped.new
-        ≡ skipped.old ++ filter (λ name. list_all (λ t. is_none (get t.1 name)) (tables_of tables.now)) entry.now.names) }
+    ensures { OnOk result (skipped.new ≡ skipped.old
+        ++ filter (λ name. list_all (λ t. is_none (get t.1 name)) (tables_of tables.now)) entry.now.names) }
 {
     for name in entry.names.as_slice() {
         if is_in_none(tables, name) {

@@ -1,5 +1,5 @@
-//! Laws of conditions, of profiles' answers, of relations and of scopes. Each function does nothing: its contract is the
-//! law.
+//! Laws of conditions, of profiles' answers, of relations and of scopes. Each function does nothing: its contract is
+//! the law.
 
 ghost use Rattle.std.specs.Prelude.{◌≡◌, ◌↔◌, ◌-◌, ◌<◌, ◌≤◌, ◌^◌, ℕ, List, All};
 ghost use Rattle.scf_insn.specs.declared.record.CallRecord.{CallRecord};

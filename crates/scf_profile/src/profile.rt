@@ -108,7 +108,8 @@ impl Profile {
         are_plain(self.rules())
     }
 
-    /// The profile's answer to a record: KILL_PROCESS for other architectures, else that of any rule it meets, else the default.
+    /// The profile's answer to a record: KILL_PROCESS for other architectures, else that of any rule it meets, else the
+    /// default.
     #[tactic(auto, using(crate::specs::ProfileAnswers::foreign))]
     pub fn answer(&self, call: &CallRecord) -> Answer
         ensures { ProfileAnswers self.now call.now result.0 }

@@ -258,7 +258,8 @@ fn read_root_for(
     tables: &[ArchitectureTable],
     root: &Value,
 ) -> Result<StatedProfiles, LoadFault>
-    ensures value { Gives Memory (result_map loaded_profiles_of result) (profiles_of (tables_of tables.now) (view root.now)) }
+    ensures value { Gives Memory (result_map loaded_profiles_of result)
+        (profiles_of (tables_of tables.now) (view root.now)) }
     ensures range { IfOk result (λ s. All (λ r. AreStatedRules r.architecture r.rules.items) s.rules.items) }
     ensures default_range { IfOk result (λ s. s.default_answer.0 < 2 ^ 32) }
     ensures apart { IfOk result (λ s. AreOfApart (map (stated_profile s.default_answer) s.rules.items)) }

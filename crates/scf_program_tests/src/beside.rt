@@ -1,5 +1,5 @@
-//! The comparison of a stack of filters with another one: the printed lines, the faults of either stack, and readers that
-//! fail.
+//! The comparison of a stack of filters with another one: the printed lines, the faults of either stack, and readers
+//! that fail.
 
 use crate::parts::{ALLOW, NO_TABLE, Part, WITHOUT_WRITE, bundle, filter_of, long_filter};
 use crate::runs::run;

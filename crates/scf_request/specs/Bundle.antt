@@ -61,8 +61,8 @@ SpellsParts kinds offset bytes (part ∷ parts) =
     (own : List ℕ) × (rest : List ℕ) × (bytes ≡ own ++ rest) × IsBundlePart kinds offset part own
     × SpellsParts kinds (offset + length own) rest parts
 
--- The bytes from an offset on begin with no whole part: they go on, and no header of one of these kinds stands in front,
--- or one does, and fewer bytes follow than it says. Want of memory may come anywhere.
+-- The bytes from an offset on begin with no whole part: they go on, and no header of one of these kinds stands in
+-- front, or one does, and fewer bytes follow than it says. Want of memory may come anywhere.
 abbrev pub IsPartFault : List PartKind → List ℕ → ℕ → BundleFault → Type 0
 IsPartFault kinds bytes at (Header offset) = (offset ≡ at) × (bytes ≢ [])
     × ((kind : PartKind) (count : ℕ) → Contains kinds kind → HasHeader bytes kind count → ⊥)
@@ -104,7 +104,8 @@ is_of kind other = false
 
 -- what the parts of a kind hold, in their order
 abbrev pub held_by : PartKind → List ℕ → List Part → List (List ℕ)
-held_by kind bytes parts = filter_map (λ part. if is_of kind part.kind then Some (content_of bytes part) else None) parts
+held_by kind bytes parts = filter_map
+    (λ part. if is_of kind part.kind then Some (content_of bytes part) else None) parts
 
 -- the architecture of a kind, where it is one of a table of several
 abbrev pub architecture_of : PartKind → Option Architecture
@@ -133,8 +134,8 @@ pub record IsBesideBundle (over : Scopes) (bytes : List ℕ) (filters beside tab
   pub beside_held : beside ≡ held_by Beside bytes parts
   pub tables_held : tables ≡ held_by Table bytes parts
 
--- Bytes are a bundle for several architectures, whose parts hold these filters, these profiles and these tables, each with
--- its architecture, those of each kind in order.
+-- Bytes are a bundle for several architectures, whose parts hold these filters, these profiles and these tables, each
+-- with its architecture, those of each kind in order.
 pub record IsArchitecturesBundle (bytes : List ℕ) (filters profiles : List (List ℕ))
     (tables : List (Architecture × List ℕ)) : Type 0 where
   pub parts : List Part

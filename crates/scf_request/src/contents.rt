@@ -59,8 +59,8 @@ impl<'a> Contents<'a> {
         Contents::of_kinds(alloc, bytes, &PROFILE_KINDS)
     }
 
-    /// The contents of the bundle of a comparison over these calls with other filters. Errors are those of `split`, where
-    /// `beside` is a kind of a part, `profile` isn't, and `table` is for single calls alone.
+    /// The contents of the bundle of a comparison over these calls with other filters. Errors are those of `split`,
+    /// where `beside` is a kind of a part, `profile` isn't, and `table` is for single calls alone.
     pub fn beside(alloc: Global, bytes: &'a [u8], over: Scopes) -> Result<Contents<'a>, BundleFault>
         ensures bundle { IfOk result (IsHeldBeside over bytes.now) }
         ensures fault { IfErr result (AreNoParts (beside_kinds over) bytes.now) }
@@ -78,8 +78,8 @@ impl<'a> Contents<'a> {
         }
     }
 
-    /// The contents of the bundle with tables of several architectures. Errors are those of `split`, where the kind of a
-    /// table is that of its architecture.
+    /// The contents of the bundle with tables of several architectures. Errors are those of `split`, where the kind of
+    /// a table is that of its architecture.
     pub fn of_architectures(alloc: Global, bytes: &'a [u8]) -> Result<Contents<'a>, BundleFault>
         ensures bundle { IfOk result (IsHeldForArchitectures bytes.now) }
         ensures fault { IfErr result (AreNoParts architecture_kinds bytes.now) }

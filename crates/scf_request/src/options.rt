@@ -244,10 +244,10 @@ pub(crate) struct ComparisonNumbers {
     pub last: u32,
 }
 
-/// The numbers of the options `limit`, `total-limit`, `nr-from` and `nr-to`: limits in steps and the ends of a range. If
-/// not given, they are 1000000, 10000000, 0 and 2^32 - 1. The error names the first option, in this order, whose text
-/// isn't a number in its range: decimal digits, or `0x` or `0X` and hexadecimal digits, below 2^64 for the limits and
-/// below 2^32 for the ends.
+/// The numbers of the options `limit`, `total-limit`, `nr-from` and `nr-to`: limits in steps and the ends of a range.
+/// If not given, they are 1000000, 10000000, 0 and 2^32 - 1. The error names the first option, in this order, whose
+/// text isn't a number in its range: decimal digits, or `0x` or `0X` and hexadecimal digits, below 2^64 for the limits
+/// and below 2^32 for the ends.
 pub(crate) fn comparison_numbers(matches: &ArgMatches<'_>) -> Result<ComparisonNumbers, NumberFault>
     ensures ok { IfOk result (λ n. map Some (table.numbers_of_limits n.limits ++ n.first ∷ n.last ∷ [])
         ≡ map (table.number_in (rows_of (found_of matches.now))) table.comparison_options) }

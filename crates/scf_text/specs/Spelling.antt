@@ -34,5 +34,6 @@ pub record Spells (text : List ℕ) (is : List Insn) : Type 0 where
   pub distinct : IsDistinct bytes_eq (map (λ (l : List ℕ × ℕ). l.0) (labels_from 0 (statements_of text)))
   pub few : length is ≤ bpf_maxinsns
   pub fields : AllByRecursion IsInsn is
-  pub read : AllByRecursion (λ (s : Statement). parsed_insns_in s ≡ [] → instruction_in s.tokens ≡ []) (statements_of text)
+  pub read : AllByRecursion (λ (s : Statement). parsed_insns_in s ≡ [] → instruction_in s.tokens ≡ [])
+      (statements_of text)
   pub each : SaysEach (symbols_in (statements_of text)) 0 (parsed_insns_of text) is

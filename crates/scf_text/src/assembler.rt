@@ -145,7 +145,8 @@ fn resolve(
 
 /// All instructions, with their labels resolved.
 fn resolve_all(alloc: Global, symbols: &SymbolTable<'_>) -> Result<Vec<Insn>, TextFault>
-    ensures tells { TellsInsns (targets_fault (indices_view symbols.now) 0 (parsed_insns_view symbols.now.parsed_insns.now))
+    ensures tells { TellsInsns
+        (targets_fault (indices_view symbols.now) 0 (parsed_insns_view symbols.now.parsed_insns.now))
         (indices_view symbols.now) (parsed_insns_view symbols.now.parsed_insns.now) result }
     ensures some { OnErr result (0 < length symbols.now.parsed_insns.now) }
 {

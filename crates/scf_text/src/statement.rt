@@ -66,8 +66,8 @@ const CHECKED_FIRST: usize = 1 << 12;
 
 /// Keeps the label at this offset, if there is one.
 ///
-/// A text that repeats a few labels over and over is refused early. That isn't looked for again before the end: an input
-/// holds some five million labels at most, and to sort them at each doubling takes twice the time.
+/// A text that repeats a few labels over and over is refused early. That isn't looked for again before the end: an
+/// input holds some five million labels at most, and to sort them at each doubling takes twice the time.
 fn add_label(text: &[u8], labels: &mut Vec<usize>, label: Option<usize>) -> Result<(), TextFault>
     ensures adds { AddsLabel text.now labels.old.items label result labels.new.items }
     ensures some { OnErr result (IsSome label) }
@@ -90,7 +90,8 @@ fn add_instruction<'a>(
     start: usize,
     line: usize,
 ) -> Result<Option<&'a [u8]>, TextFault>
-    ensures adds { AddsInstruction parsed_insns.old.items start line (words_at first.entry) result parsed_insns.new.items }
+    ensures adds { AddsInstruction parsed_insns.old.items start line (words_at first.entry) result
+        parsed_insns.new.items }
     ensures stops { IfOk result (λ after. others_at first.entry ≡ statements_after after) }
     ensures behind { IfOk result (λ after. (part : List ℕ) (index : ℕ)
         → LiesBehind part index first.entry → FollowsBehind part index after) }

@@ -78,8 +78,8 @@ abbrev pub HoldsBundle : Option (List ℕ) → List (List ℕ) → List (List �
 HoldsBundle input filters profiles tables =
     (bytes : List ℕ) × ReadsInput input (Ok bytes) × IsBundle bytes filters profiles tables
 
--- What a command ends with that takes parts of these kinds: the input isn't read, it is no bundle of them, they are other
--- parts than the command takes, or this holds of the end.
+-- What a command ends with that takes parts of these kinds: the input isn't read, it is no bundle of them, they are
+-- other parts than the command takes, or this holds of the end.
 abbrev pub EndsOnParts : List PartKind → Option (List ℕ) → Type 0 → (Result Reply Fault → Type 0)
     → Result Reply Fault → Type 0
 EndsOnParts kinds input others holds (Err (faults.Input fault)) = ReadsInput input (Err fault)
@@ -108,7 +108,8 @@ IsReplyOn request insns reply = ⊥
 
 -- what these end with: the reply is true of an accepted filter, or it isn't accepted
 abbrev pub EndsOnFilter : Request → Option (List ℕ) → Result Reply Fault → Type 0
-EndsOnFilter request input (Ok reply) = (insns : List Insn) × IsAcceptedFilter input insns × IsReplyOn request insns reply
+EndsOnFilter request input (Ok reply) =
+    (insns : List Insn) × IsAcceptedFilter input insns × IsReplyOn request insns reply
 EndsOnFilter request input (Err (faults.Verify fault)) = IsNoFilter input fault
 EndsOnFilter request input (Err fault) = ⊥
 
@@ -155,7 +156,8 @@ EndsOnFilters input holds = EndsOnBundle input (λ filters profiles tables. (pro
 -- A profile and a table are all that the bundle holds.
 abbrev pub EndsOnProfile : Option (List ℕ) → (List ℕ → List ℕ → Result Reply Fault → Type 0)
     → Result Reply Fault → Type 0
-EndsOnProfile input holds = EndsOnBundle input (λ filters profiles tables. (filters ≡ 0) × (profiles ≡ 1) × (tables ≡ 1))
+EndsOnProfile input holds = EndsOnBundle input
+    (λ filters profiles tables. (filters ≡ 0) × (profiles ≡ 1) × (tables ≡ 1))
     (λ ending. (profile table : List ℕ) × HoldsBundle input [] (profile ∷ []) (table ∷ []) × holds profile table ending)
 
 -- The table and the profile are read, and state this.
@@ -297,8 +299,8 @@ EndsOnArchitectures has_filters input holds = EndsOnParts architecture_kinds inp
 abbrev pub known_text : Architecture × List ℕ → Architecture × Option (List ℕ)
 known_text table = (table.0, Some table.1)
 
--- `compare --architectures`: why filters and a profile aren't compared, or the report of an outcome over the calls of the
--- architectures that have a table
+-- `compare --architectures`: why filters and a profile aren't compared, or the report of an outcome over the calls of
+-- the architectures that have a table
 abbrev pub ComparesArchitectures : Relation → Limits → List (List ℕ) → List ℕ → List (Architecture × List ℕ)
     → Result Reply Fault → Type 0
 ComparesArchitectures relation limits filters profile tables (Err (faults.Verify fault)) = NoReadFailed fault

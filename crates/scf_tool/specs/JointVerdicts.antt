@@ -40,9 +40,9 @@ joint_verdict verdicts = option_map_or (λ verdict. verdict)
     (option_or (find is_difference verdicts) (find (λ verdict. not (is_same verdict)) verdicts))
     (Same (most_steps verdicts))
 
--- What a verdict claims of the call records of all the profiles' architectures: that the relation holds of the answers to
--- each; that this record is one of them, and that they answer it so and so, of which the relation doesn't hold; and that
--- a run of a filter can end at this instruction.
+-- What a verdict claims of the call records of all the profiles' architectures: that the relation holds of the answers
+-- to each; that this record is one of them, and that they answer it so and so, of which the relation doesn't hold; and
+-- that a run of a filter can end at this instruction.
 abbrev pub IsTrueOfEach : Relation → List (List Insn) → List Profile → Verdict → Type 0
 IsTrueOfEach relation stack profiles (Same steps) = (p : Profile) (call : CallRecord) → Contains profiles p
     → IsRecord call → IsOf p.architecture call → (filter profile : ℕ) × StackAnswers stack (words_of call) filter

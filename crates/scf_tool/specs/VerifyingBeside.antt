@@ -1,5 +1,5 @@
--- What is known of two stacks of filters, and of a call table, once they are read and compared. The bytes of each reader
--- count where the reader tells them.
+-- What is known of two stacks of filters, and of a call table, once they are read and compared. The bytes of each
+-- reader count where the reader tells them.
 use Rattle.std.specs.Prelude.{◌≡◌, ◌⊎◌, ℕ, List, Option, Result, Ok, Err}
 use Rattle.scf_insn.specs.declared.insn.Insn.{Insn}
 use Rattle.scf_profile.specs.Table.{Names}

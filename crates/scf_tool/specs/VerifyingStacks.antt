@@ -39,8 +39,8 @@ abbrev pub outcome_left_out : Outcome → LeftOut
 outcome_left_out outcome =
     record { skipped = outcome.skipped; other_architectures = outcome.other_architectures }
 
--- The bytes are a stack of filters, a call table and a profile, of which this is left out, and this holds of that stack,
--- that table and that profile.
+-- The bytes are a stack of filters, a call table and a profile, of which this is left out, and this holds of that
+-- stack, that table and that profile.
 pub record AreComparedParties (filters : List (Option (List ℕ))) (table profile : Option (List ℕ))
     (left_out : LeftOut) (holds : List (List Insn) → Names → Profile → Type 0) : Type 0 where
   pub stack : List (List Insn)

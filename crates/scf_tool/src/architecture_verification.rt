@@ -62,8 +62,8 @@ fn read_profiles<R: Source>(
     }
 }
 
-/// Reads a stack of filters, syscall tables of several architectures and a profile, and compares the stack by a relation
-/// with the profile of each architecture that has a table, over its records and in at most `limit` steps.
+/// Reads a stack of filters, syscall tables of several architectures and a profile, and compares the stack by a
+/// relation with the profile of each architecture that has a table, over its records and in at most `limit` steps.
 ///
 /// What is read, in which order, and the faults are those of `verify_stack`; the tables are read in order, and each
 /// architecture has to be among the profile's. The verdict is the first that differs, in the order of

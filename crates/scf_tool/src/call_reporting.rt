@@ -214,11 +214,11 @@ fn write_calls_outcome<S: Sink>(
     )
 }
 
-/// The report of an outcome by a relation: the joint finding, then a line for each syscall for which the relation doesn't
-/// hold, one for each skipped name and one for each other architecture, in order.
+/// The report of an outcome by a relation: the joint finding, then a line for each syscall for which the relation
+/// doesn't hold, one for each skipped name and one for each other architecture, in order.
 ///
-/// The joint finding is that the relation holds if it holds for every syscall, that it doesn't if it fails for one, else
-/// the finding on the first one for which it isn't known to hold.
+/// The joint finding is that the relation holds if it holds for every syscall, that it doesn't if it fails for one,
+/// else the finding on the first one for which it isn't known to hold.
 pub fn report_calls(
     alloc: Global,
     relation: Relation,
@@ -233,7 +233,8 @@ pub fn report_calls(
     }
 }
 
-/// The joint finding on filters and those beside them, then a line for each syscall for which the relation doesn't hold.
+/// The joint finding on filters and those beside them, then a line for each syscall for which the relation doesn't
+/// hold.
 pub fn report_calls_beside(
     alloc: Global,
     relation: Relation,

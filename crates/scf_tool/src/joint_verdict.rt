@@ -54,8 +54,8 @@ fn first_other(verdicts: &[Verdict]) -> Option<Verdict>
     verdicts.iter().copied().find(|verdict| !is_same(verdict))
 }
 
-/// The verdict that speaks for several: the first that differs, else the first that isn't `Same`, else `Same` in the most
-/// steps that one of them took.
+/// The verdict that speaks for several: the first that differs, else the first that isn't `Same`, else `Same` in the
+/// most steps that one of them took.
 pub(crate) fn joint_verdict(verdicts: &[Verdict]) -> Verdict
     ensures { result ≡ spec.joint_verdict verdicts.now }
 {

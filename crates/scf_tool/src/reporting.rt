@@ -199,7 +199,8 @@ pub(crate) fn write_left_out<S: Sink>(
     skipped: &Texts,
     others: &Texts,
 ) -> Result<(), WriteFault>
-    ensures { Writes S.contents S.failures sink.old (left_out_text (record { skipped = skipped.now; other_architectures = others.now })) result sink.new }
+    ensures { Writes S.contents S.failures sink.old
+        (left_out_text (record { skipped = skipped.now; other_architectures = others.now })) result sink.new }
 {
     write_names(sink, "skipped", skipped)?;
     write_names(sink, "other", others)

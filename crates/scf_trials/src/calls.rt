@@ -2,7 +2,8 @@
 //! turn.
 //!
 //! Each call has a line with its name. One that fails has the line `CALL Memory` and is made again; where that fails
-//! too, the calls that need its answer aren't made. Nothing takes memory before the first call, and printing takes none.
+//! too, the calls that need its answer aren't made. Nothing takes memory before the first call, and printing takes
+//! none.
 
 use crate::lines::{Lines, tell_twice, twice};
 use crate::{facts, rows};

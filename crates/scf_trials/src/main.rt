@@ -1,5 +1,5 @@
-//! What dev/fault-injection and bench/run try: where standard input is empty, each call of the libraries that takes memory
-//! is made; otherwise a filter or a command runs on it many times.
+//! What dev/fault-injection and bench/run try: where standard input is empty, each call of the libraries that takes
+//! memory is made; otherwise a filter or a command runs on it many times.
 #![tactic(auto)]
 
 mod calls;

@@ -10,4 +10,5 @@ signed_sum true n added = (added + 2 ^ 32 - n) % 2 ^ 32
 
 -- a number added to an image, or the image taken from the number, modulo 2^32
 abbrev pub affine_value : AffineTerm → List ℕ → ℕ
-affine_value affine_term words = signed_sum affine_term.negated (bit_slice_value affine_term.bit_slice words) affine_term.added
+affine_value affine_term words =
+    signed_sum affine_term.negated (bit_slice_value affine_term.bit_slice words) affine_term.added

@@ -78,4 +78,5 @@ successor_size (Then part) holds fails = part_size part holds fails
 abbrev pub CostsAt : ConditionPart → Question → Type 0
 CostsAt part question =
     (holds fails : ℕ)
-    → successor_size question.if_true holds fails + successor_size question.if_false holds fails + 1 ≤ part_size part holds fails
+    → successor_size question.if_true holds fails + successor_size question.if_false holds fails + 1
+    ≤ part_size part holds fails

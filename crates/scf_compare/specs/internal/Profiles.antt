@@ -39,7 +39,8 @@ pub record StandsAt (numbers : List NumberRules) (at : ConditionPosition) : Type
 pub record IsAtRule (s : NumberedProfile) (number rule : ℕ) (call : CallRecord) : Type 0 where
   pub is_of : IsOf s.profile.architecture call
   pub own : rules_of call.nr s.profile.rules ≡ own_rules s.numbers number
-  pub unmet : All (λ earlier. meets s.profile.architecture earlier call ≡ false) (take rule (own_rules s.numbers number))
+  pub unmet : All (λ earlier. meets s.profile.architecture earlier call ≡ false)
+      (take rule (own_rules s.numbers number))
 
 -- The call is at a rule of a number, and the rule's conditions before one hold of it.
 pub record IsAtCondition (s : NumberedProfile) (at : ConditionPosition) (call : CallRecord) : Type 0 where

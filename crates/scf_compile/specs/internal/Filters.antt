@@ -44,7 +44,8 @@ abbrev pub rules_code : Architecture → Answer → List Rule → List Insn
 rules_code a default [] = return_with default.0 ∷ []
 rules_code a default (r ∷ rs) = rule_code a r ++ behind_rule r.conditions (rules_code a default rs)
 
--- Some instructions are put before others, which stay at their indices, and sound with them, and plain where this is so.
+-- Some instructions are put before others, which stay at their indices, and sound with them, and plain where this is
+-- so.
 pub record ArePut (plain : Type 0) (before after : List Insn) (index : Position) : Type 0 where
   pub longer : length before ≤ length after
   pub stays : (p : Position) → p.0 ≤ length before → code_from p after ≡ code_from p before

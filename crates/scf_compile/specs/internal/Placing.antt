@@ -26,8 +26,8 @@ pub record IsFirst (block before after : List Insn) (index : Position) : Type 0 
 abbrev pub IsOutOfReach : Insn → List Insn → Type 0
 IsOutOfReach wanted code = All (λ insn. insn ≢ wanted) (take 255 code)
 
--- The block stands at an index of the code, which is as it was before or has the block more: if this is one instruction,
--- only where it was out of reach.
+-- The block stands at an index of the code, which is as it was before or has the block more: if this is one
+-- instruction, only where it was out of reach.
 pub record IsPut (block before after : List Insn) (index : Position) : Type 0 where
   pub front : List Insn
   pub whole : after ≡ front ++ before

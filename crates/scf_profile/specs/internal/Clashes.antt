@@ -26,5 +26,6 @@ IsClashBounded architecture least later rule = (c : Clash) → IsClashOf archite
 
 -- the clash is the least conflict of the rules, and where there is none, they have none
 abbrev pub IsLeastClash : Architecture → List Rule → Option Clash → Type 0
-IsLeastClash architecture rules None = (first second number : ℕ) → EntriesConflict architecture rules first second number → ⊥
+IsLeastClash architecture rules None =
+    (first second number : ℕ) → EntriesConflict architecture rules first second number → ⊥
 IsLeastClash architecture rules (Some c) = IsLeastConflict architecture rules c.number c.first c.second

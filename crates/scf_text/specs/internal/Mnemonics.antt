@@ -61,5 +61,8 @@ pieces_of s.Raw = encodings.raw.pieces
 
 -- what a form of the code stands for
 abbrev pub encoding_view : Encoding → encodings.Encoding
-encoding_view encoding =
-    record { code = encoding.code; mnemonic = mnemonic_text encoding.mnemonic; pieces = pieces_of encoding.operand_format }
+encoding_view encoding = record {
+  code = encoding.code;
+  mnemonic = mnemonic_text encoding.mnemonic;
+  pieces = pieces_of encoding.operand_format;
+}

@@ -48,7 +48,8 @@ TellsInsn symbols at line parsed (Ok insn) =
 TellsInsn symbols at line parsed (Err e) = insn_fault symbols at line parsed ≡ Some e
 
 -- the instructions that are written, the first at index 0, where this is no fault
-abbrev pub TellsInsns : Option TextFault → SymbolTable → List (ℕ × parsed_insns.ParsedInsn) → Result (Vec Insn) TextFault → Type 0
+abbrev pub TellsInsns : Option TextFault → SymbolTable → List (ℕ × parsed_insns.ParsedInsn)
+    → Result (Vec Insn) TextFault → Type 0
 TellsInsns first symbols written (Ok insns) =
     (first ≡ None) × SaysEach symbols 0 written insns.items × AllByRecursion IsInsn insns.items
 TellsInsns first symbols written (Err e) = IsFault e first
@@ -58,7 +59,8 @@ abbrev pub TellsText : Option TextFault → List ℕ → Result (Vec Insn) TextF
 TellsText first text = TellsInsns first (symbols_in (statements_of text)) (parsed_insns_of text)
 
 -- This draft is what a mnemonic and its operands say, in a line and behind as many instructions.
-abbrev pub TellsDraft : {T : Type 0} → ℕ → ℕ → List ℕ → List (List ℕ) → parsed_insns.ParsedInsn → Result T TextFault → Type 0
+abbrev pub TellsDraft : {T : Type 0} → ℕ → ℕ → List ℕ → List (List ℕ) → parsed_insns.ParsedInsn → Result T TextFault
+    → Type 0
 TellsDraft at line mnemonic operands parsed (Ok _) =
     IsTrue (parsed_insns.is_in_range parsed) × (instruction_fault at line (mnemonic ∷ operands) ≡ None)
     × (parsed_insns.parsed_of mnemonic operands ≡ Some parsed)
@@ -76,7 +78,8 @@ AddsLabel {T} text old label (Err e) new =
 abbrev pub AddsInstruction : {T : Type 0} → List NumberedInsn → ℕ → ℕ → List (List ℕ) → Result T TextFault
     → List NumberedInsn → Type 0
 AddsInstruction old start line tokens (Ok _) new =
-    (instruction_fault (length old) line tokens ≡ None) × (parsed_insns_view new ≡ parsed_insns_view old ++ parsed_insns_by line tokens)
+    (instruction_fault (length old) line tokens ≡ None)
+    × (parsed_insns_view new ≡ parsed_insns_view old ++ parsed_insns_by line tokens)
     × (begins_of new ≡ begins_of old ++ map (λ _. start) (parsed_insns_by line tokens))
 AddsInstruction old start line tokens (Err e) new = IsFault e (instruction_fault (length old) line tokens)
 

@@ -10,7 +10,12 @@ use Rattle.scf_text.specs.Encodings.{Encoding}
 
 -- before any field is named
 abbrev pub blank : Encoding → parsed_insns.ParsedInsn
-blank encoding = record { code = encoding.code; jt = parsed_insns.Number 0; jf = parsed_insns.Number 0; k = parsed_insns.Number 0 }
+blank encoding = record {
+  code = encoding.code;
+  jt = parsed_insns.Number 0;
+  jf = parsed_insns.Number 0;
+  k = parsed_insns.Number 0;
+}
 
 -- A token that is no number stands for one that fits no field.
 abbrev pub number_view : FieldValue → ℕ

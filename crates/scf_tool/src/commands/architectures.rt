@@ -190,8 +190,8 @@ fn compare_parts(
     report_of(alloc, relation, &outcome)
 }
 
-/// `compare --architectures`: whether a stack of filters answers as a profile does, or is no more or no less permissive,
-/// over the calls of each architecture that has a table.
+/// `compare --architectures`: whether a stack of filters answers as a profile does, or is no more or no less
+/// permissive, over the calls of each architecture that has a table.
 pub(super) fn compare_architectures<R: Source>(
     alloc: Global,
     limits: Limits,

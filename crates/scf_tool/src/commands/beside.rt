@@ -28,9 +28,11 @@ fn compare_at_once(
     relation: Relation,
     limits: Limits,
 ) -> Result<Reply, BesideFault>
-    ensures reply { (tables : List (List ℕ)) → IfOk result (λ reply. ComparesStacks (Scopes.AtOnce scope) relation limits
+    ensures reply { (tables : List (List ℕ))
+        → IfOk result (λ reply. ComparesStacks (Scopes.AtOnce scope) relation limits
         (map rest_of filters.old) (map rest_of beside.old) tables (Ok reply)) }
-    ensures fault { (tables : List (List ℕ)) → IfErr result (λ fault. ComparesStacks (Scopes.AtOnce scope) relation limits
+    ensures fault { (tables : List (List ℕ))
+        → IfErr result (λ fault. ComparesStacks (Scopes.AtOnce scope) relation limits
         (map rest_of filters.old) (map rest_of beside.old) tables (Err (fault_of_beside fault))) }
 {
     let finding = verify_beside(alloc, filters, beside, scope, relation, limits.each)?;
