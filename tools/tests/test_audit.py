@@ -180,6 +180,7 @@ class Containers(Audited, OwnMachine):
 
     def test_one_of_a_user(self):
         """A container that crun makes for a user who isn't root, with a user namespace and no control group."""
+        self.runtime("crun")
         where = self.bundle("mine", STATED, change=rootless)
         os.chmod(self.folder, 0o755)
         self.on("sh", "-c", "mkdir -m 700 /run/user/12345 && chown 12345:12345 /run/user/12345")
