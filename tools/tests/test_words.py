@@ -49,8 +49,10 @@ WORDS = (
      "Options:\n"
      "      --limit <NUMBER>        The most steps of a comparison [default: 1000000]\n"
      "      --total-limit <NUMBER>  With --calls, the most steps of all its comparisons together [default: 10000000]\n"
-     "      --nr-from <NUMBER>      Only calls of x86-64 with at least this number; not with --calls\n"
-     "      --nr-to <NUMBER>        Only calls of x86-64 with at most this number; not with --calls\n"
+     "      --nr-from <NUMBER>      Only calls of x86-64, or of each of --architectures, with at least this number; "
+     "not with --calls\n"
+     "      --nr-to <NUMBER>        Only calls of x86-64, or of each of --architectures, with at most this number; not "
+     "with --calls\n"
      "      --native                Only calls of x86-64 with numbers below 0x40000000\n"
      "      --calls                 Each named call by itself, and a line for each that isn't the same; not with "
      "--native\n"
@@ -58,8 +60,8 @@ WORDS = (
      "      --no-less               Whether each call is let through as far as by the profile; not with --no-more\n"
      "      --disposition           Whether both deny, delegate and allow alike; not with --no-more or --no-less\n"
      "      --beside                With parts `beside`, other filters, in place of a profile\n"
-     "      --architectures         Only calls of architectures that have a table: parts `table`, `table-x86`, "
-     "`table-x32` ..\n"
+     "      --architectures         Only calls of architectures with a table: parts `table`, `table-x86` ..; not with "
+     "--native or --beside\n"
      "  -h, --help                  Print help\n", 0),
     (["--version"], "scf 0.1.0\n", 0),
     ([],

@@ -1,5 +1,5 @@
 -- Comparisons from the caller's bytes: what they come to, and what is handed out of it.
-use Rattle.std.specs.Prelude.{◌≡◌, ℕ, List, Some, Ok, map}
+use Rattle.std.specs.Prelude.{◌≡◌, ℕ, List, None, Some, Ok, map}
 use Rattle.scf_profile.specs.declared.relation.Relation.{Relation}
 use Rattle.scf_compare.specs.Verdicts.{finding_of}
 use Rattle.scf_compare.specs.declared.finding.Finding.{Finding}
@@ -84,7 +84,7 @@ IsComparisonRefused kind filters right why = ⊥
 -- table, and these are the printed lines of it.
 abbrev pub IsComparedEach : Relation → List Bytes → List ℕ → List Table → ℕ → Finding → List ℕ → Type 0
 IsComparedEach relation filters profile tables limit finding text = (outcome : Outcome)
-    × VerifiesArchitectures relation (known filters) (map known_text (texts_of tables)) (Some profile) limit
+    × VerifiesArchitectures relation None (known filters) (map known_text (texts_of tables)) (Some profile) limit
     (Ok outcome)
     × (finding ≡ finding_of outcome.verdict) × (text ≡ report_text relation outcome)
 

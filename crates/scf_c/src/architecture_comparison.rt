@@ -46,6 +46,7 @@ fn compare_each(
         &mut readers,
         &mut Reader::new(profile),
         &mut table_readers,
+        None,
         relation,
         limit,
     )?;

@@ -6,6 +6,8 @@
 #![tactic(auto)]
 
 #[cfg(test)]
+mod architectures;
+#[cfg(test)]
 mod beside;
 #[cfg(test)]
 mod bundles;

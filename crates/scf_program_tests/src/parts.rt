@@ -14,6 +14,10 @@ pub(crate) enum Part {
     Beside(&'static str),
     Profile(&'static str),
     Table(&'static str),
+    /// A table of i386.
+    TableX86(&'static str),
+    /// A table of x32, whose numbers are without its bit.
+    TableX32(&'static str),
 }
 
 /// Takes every call.
@@ -76,6 +80,8 @@ fn add_part(rt: &impl Abort, alloc: Global, bundle: &mut Vec<u8>, part: Part) {
         Part::Beside(text) => add(rt, alloc, bundle, "beside", &filter_of(rt, alloc, text)),
         Part::Profile(text) => add(rt, alloc, bundle, "profile", text.as_bytes()),
         Part::Table(text) => add(rt, alloc, bundle, "table", text.as_bytes()),
+        Part::TableX86(text) => add(rt, alloc, bundle, "table-x86", text.as_bytes()),
+        Part::TableX32(text) => add(rt, alloc, bundle, "table-x32", text.as_bytes()),
     }
 }
 

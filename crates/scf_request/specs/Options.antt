@@ -1,5 +1,5 @@
 -- The options of the program, and the numbers that they spell.
-use Rattle.std.specs.Prelude.{◌≡◌, ◌≢◌, ◌⊎◌, ◌||◌, ℕ, Bool, true, false, ◌-◌, ◌^◌, List, [], ◌∷◌, ◌++◌, codes, bytes_eq, map, find, nat_le, is_none, is_some, Option, Some, None, Result, Ok, Err, option_map, if◌then◌else◌}
+use Rattle.std.specs.Prelude.{◌≡◌, ◌⊎◌, ◌||◌, ℕ, Bool, true, false, ◌-◌, ◌^◌, List, [], ◌∷◌, ◌++◌, codes, bytes_eq, map, find, nat_le, is_none, is_some, Option, Some, None, Result, Ok, Err, option_map, if◌then◌else◌}
 use Rattle.std.specs.List.{filter_map}
 use Rattle.std.specs.Option.{option_and_then, option_map_or}
 use Rattle.clap.specs.Words.{Row, first_of}
@@ -101,9 +101,13 @@ one_of without (one ∷ other ∷ more) = None
 abbrev pub choice_in : {A : Type 0} → List Row → A × List (List ℕ × A) → Option A
 choice_in rows group = one_of group.0 (given_of rows group.1)
 
+-- the flag of native calls
+abbrev pub native_flag : List ℕ
+native_flag = codes "native"
+
 -- over which calls a comparison goes: all without a flag
 abbrev pub scope_flags : Scopes × List (List ℕ × Scopes)
-scope_flags = (AtOnce scopes.All, (codes "native", AtOnce scopes.Native) ∷ (codes "calls", EachCall) ∷ [])
+scope_flags = (AtOnce scopes.All, (native_flag, AtOnce scopes.Native) ∷ (codes "calls", EachCall) ∷ [])
 
 -- by which relation it goes: by the same answers without a flag
 abbrev pub relation_flags : Relation × List (List ℕ × Relation)
@@ -137,17 +141,14 @@ pub record AsksToCompare (rows : List Row) (comparison : Comparison) : Type 0 wh
   pub scopes : SelectsCalls rows comparison.scopes
   pub relation : choice_in rows relation_flags ≡ Some comparison.relation
 
--- a flag or a range selects some calls
-abbrev pub SelectsSomeCalls : List Row → Type 0
-SelectsSomeCalls rows = (over : Scopes) × SelectsCalls rows over × (over ≢ AtOnce scopes.All)
-
--- Flags exclude each other: two of a group, that of single calls a range, and that of architectures whatever selects
--- some calls, and other filters in place of a profile.
+-- Flags exclude each other: two of a group, that of single calls a range, and that of architectures the one of native
+-- calls, and other filters in place of a profile.
 abbrev pub AreExclusive : List Row → Type 0
 AreExclusive rows =
     (choice_in rows scope_flags ≡ None) ⊎ (choice_in rows relation_flags ≡ None)
     ⊎ ((has_range rows ≡ true) × (choice_in rows scope_flags ≡ Some EachCall))
-    ⊎ ((is_given rows architectures_flag ≡ true) × (SelectsSomeCalls rows ⊎ (is_given rows beside_flag ≡ true)))
+    ⊎ ((is_given rows architectures_flag ≡ true)
+    × ((is_given rows native_flag ≡ true) ⊎ (is_given rows beside_flag ≡ true)))
 
 -- the flag that has the path of a run shown
 abbrev pub path_flag : List ℕ

@@ -1,16 +1,11 @@
 -- What the program is asked for by its words.
 use Rattle.std.specs.Prelude.{◌≡◌, ℕ, true, false, List, [], ◌∷◌, ◌++◌, codes, map, Option, Some, None, Result, Ok, Err}
 use Rattle.clap.specs.Words.{Row}
-use Rattle.scf_profile.specs.declared.relation.Relation.{Relation}
-use Rattle.scf_profile.specs.declared.scope.Scope.TheVariants.{All}
 use Rattle.scf_request.specs.declared.request_fault.RequestFault.{RequestFault}
 use Rattle.scf_request.specs.declared.request_fault.RequestFault.TheVariants.{Number, NoCommand, Flags}
-use Rattle.scf_request.specs.declared.request.Comparison.{Comparison}
-use Rattle.scf_request.specs.declared.request.Limits.{Limits}
 use Rattle.scf_request.specs.declared.request.Request.{Request}
 use Rattle.scf_request.specs.declared.request.Request.TheVariants as requests
-use Rattle.scf_request.specs.declared.request.Scopes.TheVariants.{AtOnce}
-use Rattle.scf_request.specs.Options.{AreExclusive, AsksToCompare, NumberOption, architectures_flag, beside_flag, call_options, comparison_options, first_wrong, flag_names, is_given, number_in, numbers_of_comparison, numbers_of_record, path_flag, relation_flags, scope_flags}
+use Rattle.scf_request.specs.Options.{AreExclusive, AsksToCompare, NumberOption, architectures_flag, beside_flag, call_options, comparison_options, first_wrong, flag_names, is_given, native_flag, number_in, numbers_of_comparison, numbers_of_record, path_flag, relation_flags, scope_flags}
 
 pub data Command : Type 0 where
   Ask Asm Check Compare Compile Decide Dis Run : Command
@@ -36,10 +31,6 @@ command_word command = (words_of_command command).0
 abbrev pub options_of : Command → List NumberOption
 options_of command = (words_of_command command).1
 
--- a comparison over all calls
-abbrev pub over_all : Limits → Relation → Comparison
-over_all limits relation = record { limits = limits; scopes = AtOnce All; relation = relation }
-
 -- the command of a request, and the numbers of its options
 abbrev pub asked_by : Request → Command × List ℕ
 asked_by (requests.Ask call) = (Ask, numbers_of_record call)
@@ -48,7 +39,7 @@ asked_by requests.Assemble = (Asm, [])
 asked_by requests.Check = (Check, [])
 asked_by (requests.Compare comparison) = (Compare, numbers_of_comparison comparison)
 asked_by (requests.CompareBeside comparison) = (Compare, numbers_of_comparison comparison)
-asked_by (requests.CompareArchitectures limits relation) = (Compare, numbers_of_comparison (over_all limits relation))
+asked_by (requests.CompareArchitectures comparison) = (Compare, numbers_of_comparison comparison)
 asked_by requests.Compile = (Compile, [])
 asked_by requests.CompileArchitectures = (Compile, [])
 asked_by (requests.Decide call) = (Decide, numbers_of_record call)
@@ -64,8 +55,9 @@ HasFlags rows (requests.Compare comparison) = AsksToCompare rows comparison × (
     × (is_given rows architectures_flag ≡ false)
 HasFlags rows (requests.CompareBeside comparison) = AsksToCompare rows comparison × (is_given rows beside_flag ≡ true)
     × (is_given rows architectures_flag ≡ false)
-HasFlags rows (requests.CompareArchitectures limits relation) = AsksToCompare rows (over_all limits relation)
-    × (is_given rows beside_flag ≡ false) × (is_given rows architectures_flag ≡ true)
+HasFlags rows (requests.CompareArchitectures comparison) = AsksToCompare rows comparison
+    × (is_given rows native_flag ≡ false) × (is_given rows beside_flag ≡ false)
+    × (is_given rows architectures_flag ≡ true)
 HasFlags rows requests.Compile = is_given rows architectures_flag ≡ false
 HasFlags rows requests.CompileArchitectures = is_given rows architectures_flag ≡ true
 HasFlags rows (requests.Run call) = is_given rows path_flag ≡ false

@@ -129,7 +129,7 @@ fn define_compare<'a>(alloc: Global) -> Result<Command<'a>, AllocError>
         "Whether both deny, delegate and allow alike; not with --no-more or --no-less";
     let beside = "With parts `beside`, other filters, in place of a profile";
     let each =
-        "Only calls of architectures that have a table: parts `table`, `table-x86`, `table-x32` ..";
+        "Only calls of architectures with a table: parts `table`, `table-x86` ..; not with --native or --beside";
     command_with(alloc, "compare", about, &comparison_options())?
         .arg(flag_argument(alloc, NATIVE_FLAG, native))?
         .arg(flag_argument(alloc, CALLS_FLAG, calls))?

@@ -93,8 +93,10 @@ pub(crate) fn comparison_options() -> [NumberOption; 4]
 {
     let each = "The most steps of a comparison [default: 1000000]";
     let total = "With --calls, the most steps of all its comparisons together [default: 10000000]";
-    let first = "Only calls of x86-64 with at least this number; not with --calls";
-    let last = "Only calls of x86-64 with at most this number; not with --calls";
+    let first =
+        "Only calls of x86-64, or of each of --architectures, with at least this number; not with --calls";
+    let last =
+        "Only calls of x86-64, or of each of --architectures, with at most this number; not with --calls";
     [
         long("limit", 1_000_000, each),
         long("total-limit", 10_000_000, total),

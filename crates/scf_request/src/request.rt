@@ -1,6 +1,6 @@
 //! Requests: a command with the values of its options.
 
-ghost use Rattle.std.specs.Prelude.{◌≡◌, ◌↔◌, IsTrue, ◌∷◌, [], Err, IfErr, IfOk, Ok, Some, codes, map};
+ghost use Rattle.std.specs.Prelude.{◌≡◌, ◌∷◌, [], Err, IfErr, IfOk, Ok, Some, codes, map};
 ghost use Rattle.clap.specs.Words.{found_of, rows_of, subcommand_rows_of};
 ghost use Rattle.scf_request.specs.Options.{
   AreExclusive,
@@ -15,8 +15,8 @@ ghost use Rattle.scf_request.specs.Options.{
 ghost use Rattle.scf_request.specs.Requests.{AsksFor};
 
 use crate::options::{
-    ARCHITECTURES_FLAG, BESIDE_FLAG, PATH_FLAG, RELATION_FLAGS, SCOPE_FLAGS, chosen_flag,
-    comparison_numbers, has_range, is_given, record_of,
+    ARCHITECTURES_FLAG, BESIDE_FLAG, NATIVE_FLAG, PATH_FLAG, RELATION_FLAGS, SCOPE_FLAGS,
+    chosen_flag, comparison_numbers, has_range, is_given, record_of,
 };
 use crate::request_fault::RequestFault;
 use clap::ArgMatches;
@@ -62,7 +62,8 @@ pub enum Request {
     /// `compare --beside`: compare filters with other filters.
     CompareBeside(Comparison),
     /// `compare --architectures`: compare filters with a profile, over the calls of each architecture that has a table.
-    CompareArchitectures { limits: Limits, relation: Relation },
+    /// Never over `Native`; a range of numbers is one of each of them, and `EachCall` is for a bundle with one table.
+    CompareArchitectures(Comparison),
     Compile,
     /// `compile --architectures`: compile the profiles of the architectures that have a table.
     CompileArchitectures,
@@ -112,13 +113,6 @@ fn comparison_of(options: &ArgMatches<'_>) -> Result<Comparison, RequestFault>
     })
 }
 
-/// Whether a comparison goes over all records.
-fn is_over_all(scopes: &Scopes) -> bool
-    ensures { IsTrue result ↔ (scopes.now ≡ Scopes.AtOnce Scope.All) }
-{
-    matches!(scopes, Scopes::AtOnce(Scope::All))
-}
-
 /// The request of `compare` with these options.
 fn compare_request(options: &ArgMatches<'_>) -> Result<Request, RequestFault>
     ensures { AsksFor (Some (codes "compare", rows_of (found_of options.now))) result }
@@ -126,13 +120,10 @@ fn compare_request(options: &ArgMatches<'_>) -> Result<Request, RequestFault>
     let comparison = comparison_of(options)?;
     let has_beside = is_given(options, BESIDE_FLAG);
     if is_given(options, ARCHITECTURES_FLAG) {
-        if has_beside || !is_over_all(&comparison.scopes) {
+        if has_beside || is_given(options, NATIVE_FLAG) {
             return Err(RequestFault::Flags);
         }
-        return Ok(Request::CompareArchitectures {
-            limits: comparison.limits,
-            relation: comparison.relation,
-        });
+        return Ok(Request::CompareArchitectures(comparison));
     }
     if has_beside {
         Ok(Request::CompareBeside(comparison))

@@ -3,6 +3,7 @@ mod BesideLemmas
 mod CallLemmas
 pub mod Common
 mod FaultLemmas
+mod OneArchitecture
 mod PartyLemmas
 pub mod StackLemmas
 mod TableLemmas

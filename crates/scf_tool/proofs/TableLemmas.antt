@@ -1,26 +1,29 @@
 -- Tables of several architectures, one after another.
-use Rattle.scf_tool.proofs.Common.{◌≡◌, ◌≢◌, ℕ, ◌+◌, ◌<◌, Bool, true, false, List, [], ◌∷◌, ◌++◌, length, get_or, set, take, drop, map, Option, Some, None, Ok, Err, refl, sym, ap, ◌∙◌, arith, inr, if◌then◌else◌, drop_more, filter_map-append, length-append, map-append, take_more, take-append-drop, AllZip, Fault, HasEnded, HaveEnded, LeavesFilterReaders, LeavesProfileReader, PartReader, Reply, VerifyFault, rest_of}
+use Rattle.scf_tool.proofs.Common.{◌≡◌, ◌≢◌, ℕ, ◌+◌, ◌<◌, Bool, true, false, List, [], ◌∷◌, ◌++◌, length, get_or, set, take, drop, map, Option, Some, None, Ok, Err, refl, subst, sym, ap, ◌∙◌, arith, inr, if◌then◌else◌, drop_more, filter_map-append, length-append, map-append, take_more, take-append-drop, AllZip, Fault, HasEnded, HaveEnded, Insn, LeftOut, LeavesFilterReaders, LeavesProfileReader, PartReader, Reply, VerifyFault, rest_of}
 use Rattle.scf_insn.specs.Architectures.{row_of}
 use Rattle.scf_profile.specs.Table.{table_of}
 use Rattle.scf_profile.specs.StatedProfile.{is_named}
-use Rattle.scf_profile.specs.declared.relation.Relation.{Relation}
+use Rattle.scf_profile.specs.Profile.{Profile}
 use Rattle.scf_profile.specs.declared.table_fault.TableFault.{TableFault}
 use Rattle.scf_profile.specs.declared.table_fault.TableFault.TheVariants as faults
 use Rattle.scf_request.specs.Contents.{rest_of_table, texts_for}
-use Rattle.scf_tool.specs.Commands.{AreTaken, CantLoadEach, CompilesEach, EndsOnArchitectures, HoldsArchitectures, SpellsTable, known_text}
+use Rattle.scf_tool.specs.Commands.{AreTaken, CantLoadEach, ComparesArchitectures, ComparesProfiles, CompilesEach, EndsOnArchitectures, HoldsArchitectures, HoldsOtherParts, IsAtLeastOne, IsComparedCount, SpellsTable, known_text}
 use Rattle.scf_tool.specs.Statuses.{LeavesWhole}
 use Rattle.scf_tool.specs.declared.fault.Fault.TheVariants as ends
 use Rattle.scf_tool.specs.VerifyingStacks.{IsRefusedBehind}
 use Rattle.scf_tool.specs.declared.owned_table.OwnedTable.{OwnedTable}
-use Rattle.scf_tool.specs.declared.verification.Outcome.{Outcome}
-use Rattle.scf_tool.specs.internal.Verification.{named_of}
+use Rattle.scf_tool.specs.declared.architecture_inputs.ArchitectureInputs.{ArchitectureInputs}
+use Rattle.scf_tool.specs.internal.Verification.{AreInputsUnder, named_of}
 use Rattle.scf_insn.specs.declared.architecture.Architecture.{Architecture}
 use Rattle.scf_profile.specs.StatedProfile.{Tables}
 use Rattle.scf_profile.specs.Table.{Names}
+use Rattle.scf_request.specs.declared.request.Comparison.{Comparison}
+use Rattle.scf_request.specs.declared.request.Scopes.{Scopes}
+use Rattle.scf_request.specs.declared.request.Scopes.TheVariants.{AtOnce, EachCall}
 use Rattle.scf_request.specs.declared.contents.TableReader.{TableReader}
 use Rattle.scf_tool.proofs.StackLemmas.{AllZip-more, IsReadUpTo, SameFrom, one_more_read, readers_stop, texts_split}
 use Rattle.scf_tool.specs.Verifying.{IsNoTable, IsTable}
-use Rattle.scf_tool.specs.VerifyingArchitectures.{AreProfilesRefused, AreTables, AreVerified, HasNoTable, IsTableOf, LeavesTableReaders, TableHasEnded, TableIsLeft, TablesHaveStopped, table_text}
+use Rattle.scf_tool.specs.VerifyingArchitectures.{AreComparedUnder, AreProfilesRefused, AreTables, HasNoTable, IsTableOf, LeavesTableReaders, TableHasEnded, TableIsLeft, TablesHaveStopped, left_out_of_each, table_text}
 use Rattle.scf_tool.specs.declared.verify_fault.VerifyFault.TheVariants.{Memory, Table, TableRead}
 
 module _ {R : Type 0} (remaining : R → Option (List ℕ)) (failures : R → ℕ) where
@@ -172,23 +175,51 @@ module _ (tables : List (TableReader PartReader)) (i : ℕ) (d : TableReader Par
       refused other,
     )
 
--- once they are compared, only memory can be refused
-pub each_was_read : (relation : Relation) (filters : List (Option (List ℕ)))
-    (texts : List (Architecture × Option (List ℕ))) (profile : Option (List ℕ)) (limit : ℕ) (outcome : Outcome)
-    → AreVerified relation filters texts profile limit outcome
-    → IsRefusedBehind filters (AreProfilesRefused texts profile) Memory
-each_was_read relation filters texts profile limit outcome read = inr (
-  read.stack,
-  read.has_stack,
-  inr (read.tables, read.are_tables, inr (read.loaded, read.are_loaded, refl)),
-)
+-- ---- the inputs of a comparison
+
+module _ (filters : List (Option (List ℕ))) (texts : List (Architecture × Option (List ℕ)))
+    (profile : Option (List ℕ)) where
+  -- once they are read, only memory can be refused
+  pub each_is_read : (inputs : ArchitectureInputs) → AreInputsUnder filters texts profile inputs
+      → IsRefusedBehind filters (AreProfilesRefused texts profile) Memory
+  each_is_read inputs read = inr (
+    inputs.stack,
+    read.has_stack,
+    inr (map named_of inputs.tables.items, read.are_tables, inr (inputs.loaded, read.are_loaded, refl)),
+  )
+
+  -- and what holds of them is said of their bytes
+  pub are_compared_under : (inputs : ArchitectureInputs) (holds : List (List Insn) → Tables → List Profile → Type 0)
+      → AreInputsUnder filters texts profile inputs
+      → holds inputs.stack (map named_of inputs.tables.items) inputs.loaded.profiles
+      → AreComparedUnder filters texts profile (left_out_of_each inputs.loaded) holds
+  are_compared_under inputs holds read compared = record {
+    stack = inputs.stack;
+    tables = map named_of inputs.tables.items;
+    loaded = inputs.loaded;
+    has_stack = read.has_stack;
+    are_tables = read.are_tables;
+    are_loaded = read.are_loaded;
+    is_left_out = refl;
+    compared = compared;
+  }
+
+  -- and once they are compared, too
+  pub each_was_read : (left_out : LeftOut) (holds : List (List Insn) → Tables → List Profile → Type 0)
+      → AreComparedUnder filters texts profile left_out holds
+      → IsRefusedBehind filters (AreProfilesRefused texts profile) Memory
+  each_was_read left_out holds compared = inr (
+    compared.stack,
+    compared.has_stack,
+    inr (compared.tables, compared.are_tables, inr (compared.loaded, compared.are_loaded, refl)),
+  )
 
 -- ---- what `compile --architectures` ends with, where it has no filter
 
 module _ (filters : List (List ℕ)) (profile : List ℕ) (tables : List (Architecture × List ℕ)) where
   pub compile_fault : (bytes : Option (List ℕ)) (fault : Fault) → HoldsArchitectures bytes filters (profile ∷ []) tables
-      → AreTaken false filters (profile ∷ []) tables → CompilesEach filters profile tables (Err fault)
-      → EndsOnArchitectures false bytes CompilesEach (Err fault)
+      → AreTaken false IsAtLeastOne filters (profile ∷ []) tables → CompilesEach filters profile tables (Err fault)
+      → EndsOnArchitectures false IsAtLeastOne bytes CompilesEach (Err fault)
   compile_fault bytes (ends.Verify fault) held taken is = (filters, profile, tables, held, taken, is)
   compile_fault bytes (ends.Compile fault) held taken is = (filters, profile, tables, held, taken, is)
   compile_fault bytes fault held taken is = absurd is
@@ -198,3 +229,56 @@ module _ (filters : List (List ℕ)) (profile : List ℕ) (tables : List (Archit
       → LeavesWhole {T = Reply} remaining failures old (Err fault) new
   compile_leaves (ends.Input fault) remaining failures old new is ended = absurd is
   compile_leaves fault remaining failures old new is ended = ended
+
+-- ---- what `compare --architectures` ends with
+
+at_least_one : (over : Scopes) (count : ℕ) → IsComparedCount over count → IsAtLeastOne count
+at_least_one (AtOnce scope) count is = is
+at_least_one EachCall count is = omega (arith, is)
+
+module _ (comparison : Comparison) (bytes : Option (List ℕ)) where
+  -- other parts than any comparison takes
+  pub others_compared : HoldsOtherParts true IsAtLeastOne bytes
+      → HoldsOtherParts true (IsComparedCount comparison.scopes) bytes
+  others_compared (filters, profiles, tables, held, others) = (
+    filters,
+    profiles,
+    tables,
+    held,
+    λ taken. others record {
+      filter_count = taken.filter_count;
+      one_profile = taken.one_profile;
+      table_count = at_least_one comparison.scopes (length tables) taken.table_count;
+      each_once = taken.each_once;
+    },
+  )
+
+  module _ (filters : List (List ℕ)) (profile : List ℕ) (tables : List (Architecture × List ℕ))
+      (held : HoldsArchitectures bytes filters (profile ∷ []) tables)
+      (taken : AreTaken true IsAtLeastOne filters (profile ∷ []) tables) (over : Scopes)
+      (is : comparison.scopes ≡ over) (count : IsComparedCount over (length tables)) where
+    are_taken : AreTaken true (IsComparedCount comparison.scopes) filters (profile ∷ []) tables
+    are_taken = rw is record {
+      filter_count = taken.filter_count;
+      one_profile = taken.one_profile;
+      table_count = count;
+      each_once = taken.each_once;
+    }
+
+    pub compared_fault : (fault : VerifyFault)
+        → ComparesProfiles over comparison.relation comparison.limits filters profile tables (Err (ends.Verify fault))
+        → ComparesArchitectures comparison bytes (Err (ends.Verify fault))
+    compared_fault fault here = (filters, profile, tables, held, are_taken, here)
+
+    pub compared_reply : (reply : Reply)
+        → ComparesProfiles over comparison.relation comparison.limits filters profile tables (Ok reply)
+        → ComparesArchitectures comparison bytes (Ok reply)
+    compared_reply reply here = (
+      filters,
+      profile,
+      tables,
+      held,
+      are_taken,
+      subst (λ (o : Scopes). ComparesProfiles o comparison.relation comparison.limits filters profile tables
+          (Ok reply)) (sym is) here,
+    )

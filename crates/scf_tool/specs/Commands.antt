@@ -53,15 +53,16 @@ use Rattle.scf_tool.specs.declared.status.Status.TheVariants.{Well}
 use Rattle.scf_request.specs.Bundle.{AreNoParts, IsArchitecturesBundle, IsBesideBundle, IsBundle, architecture_kinds, beside_kinds, profile_kinds}
 use Rattle.scf_request.specs.Contents.{texts_for}
 use Rattle.scf_request.specs.declared.bundle.PartKind.{PartKind}
+use Rattle.scf_tool.specs.ArchitectureScopes.{range_of}
 use Rattle.scf_tool.specs.CallReports.{calls_text, findings_text, joint_of}
 use Rattle.scf_tool.specs.Lines.{traced_text}
 use Rattle.scf_tool.specs.FilterStacks.{HasStack, HasNoStack}
 use Rattle.scf_tool.specs.Reports.{beside_word, finding_status, finding_text, report_text, verdict_status}
 use Rattle.scf_tool.specs.Verifying.{IsAcceptedFilter, IsNoFilter, ReadsFilter, ReadsUnder}
-use Rattle.scf_tool.specs.VerifyingArchitectures.{VerifiesArchitectures}
+use Rattle.scf_tool.specs.VerifyingArchitectures.{AreProfilesRefused, AreVerified, AreVerifiedCallsOf}
 use Rattle.scf_tool.specs.VerifyingBeside.{AreVerifiedBeside, IsRefusedPair, IsTableFault, VerifiesBeside}
 use Rattle.scf_tool.specs.VerifyingCalls.{AreVerifiedCalls}
-use Rattle.scf_tool.specs.VerifyingStacks.{IsRefusedStack, IsVerifiedBy}
+use Rattle.scf_tool.specs.VerifyingStacks.{IsRefusedBehind, IsRefusedStack, IsVerifiedBy}
 
 -- ---- standard input
 
@@ -197,18 +198,24 @@ IsReport relation outcome (Compared text status) =
     (text.items ≡ report_text relation outcome) × (status ≡ verdict_status outcome.verdict)
 IsReport relation outcome reply = ⊥
 
+-- the report of an outcome call by call, and the status of its joint finding, where None is that the relation holds of
+-- all calls
+abbrev pub IsCallsReport : Relation → CallsOutcome → Reply → Type 0
+IsCallsReport relation outcome (Compared text status) = (text.items ≡ calls_text relation outcome)
+    × (status ≡ option_map_or finding_status (joint_of outcome.calls.items) Well)
+IsCallsReport relation outcome reply = ⊥
+
 -- What filters, a profile and a table come to: why they aren't compared; or the report of an outcome over the calls of
--- a scope, or call by call, and the status of its verdict, where None is that all calls are the same.
+-- a scope, or call by call.
 abbrev pub ComparesParts : Scopes → Relation → Limits → List (List ℕ) → List ℕ → List ℕ → Result Reply Fault → Type 0
 ComparesParts over relation limits filters profile table (Err (faults.Verify fault)) =
     NoReadFailed fault × IsRefusedStack (map Some filters) (Some table) (Some profile) fault
 ComparesParts (AtOnce scope) relation limits filters profile table (Ok reply) = (outcome : Outcome)
     × IsVerifiedBy relation (map Some filters) (Some table) (Some profile) scope limits.each outcome
     × IsReport relation outcome reply
-ComparesParts EachCall relation limits filters profile table (Ok (Compared text status)) = (outcome : CallsOutcome)
+ComparesParts EachCall relation limits filters profile table (Ok reply) = (outcome : CallsOutcome)
     × AreVerifiedCalls relation (map Some filters) (Some table) (Some profile) limits outcome
-    × (text.items ≡ calls_text relation outcome)
-    × (status ≡ option_map_or finding_status (joint_of outcome.calls.items) Well)
+    × IsCallsReport relation outcome reply
 ComparesParts over relation limits filters profile table ending = ⊥
 
 -- `compare`: the report of the comparison, where one filter or more, a profile and a table are all that the bundle
@@ -274,41 +281,63 @@ abbrev pub IsFilterCount : Bool → ℕ → Type 0
 IsFilterCount true count = 1 ≤ count
 IsFilterCount false count = count ≡ 0
 
--- these filters, one profile, and one table or more, at most one of each architecture
-pub record AreTaken (has_filters : Bool) (filters profiles : List (List ℕ)) (tables : List (Architecture × List ℕ))
-    : Type 0 where
+abbrev pub IsAtLeastOne : ℕ → Type 0
+IsAtLeastOne count = 1 ≤ count
+
+-- these filters, one profile, and so many tables, at most one of each architecture
+pub record AreTaken (has_filters : Bool) (IsTableCount : ℕ → Type 0) (filters profiles : List (List ℕ))
+    (tables : List (Architecture × List ℕ)) : Type 0 where
   pub filter_count : IsFilterCount has_filters (length filters)
   pub one_profile : length profiles ≡ 1
-  pub some_table : 1 ≤ length tables
+  pub table_count : IsTableCount (length tables)
   pub each_once : All (λ architecture. length (texts_for architecture tables) ≤ 1) architectures
 
-abbrev pub HoldsOtherParts : Bool → Option (List ℕ) → Type 0
-HoldsOtherParts has_filters input = (filters profiles : List (List ℕ)) × (tables : List (Architecture × List ℕ))
-    × HoldsArchitectures input filters profiles tables × (AreTaken has_filters filters profiles tables → ⊥)
+abbrev pub HoldsOtherParts : Bool → (ℕ → Type 0) → Option (List ℕ) → Type 0
+HoldsOtherParts has_filters IsTableCount input =
+    (filters profiles : List (List ℕ)) × (tables : List (Architecture × List ℕ))
+    × HoldsArchitectures input filters profiles tables
+    × (AreTaken has_filters IsTableCount filters profiles tables → ⊥)
 
--- A command takes filters, or none, a profile and tables of several architectures.
-abbrev pub EndsOnArchitectures : Bool → Option (List ℕ)
+-- A command takes filters, or none, a profile and so many tables of several architectures.
+abbrev pub EndsOnArchitectures : Bool → (ℕ → Type 0) → Option (List ℕ)
     → (List (List ℕ) → List ℕ → List (Architecture × List ℕ) → Result Reply Fault → Type 0)
     → Result Reply Fault → Type 0
-EndsOnArchitectures has_filters input holds = EndsOnParts architecture_kinds input (HoldsOtherParts has_filters input)
+EndsOnArchitectures has_filters IsTableCount input holds =
+    EndsOnParts architecture_kinds input (HoldsOtherParts has_filters IsTableCount input)
     (λ ending. (filters : List (List ℕ)) × (profile : List ℕ) × (tables : List (Architecture × List ℕ))
-    × HoldsArchitectures input filters (profile ∷ []) tables × AreTaken has_filters filters (profile ∷ []) tables
+    × HoldsArchitectures input filters (profile ∷ []) tables
+    × AreTaken has_filters IsTableCount filters (profile ∷ []) tables
     × holds filters profile tables ending)
 
 -- the text of a table, which its reader tells
 abbrev pub known_text : Architecture × List ℕ → Architecture × Option (List ℕ)
 known_text table = (table.0, Some table.1)
 
--- `compare --architectures`: why filters and a profile aren't compared, or the report of an outcome over the calls of
--- the architectures that have a table
-abbrev pub ComparesArchitectures : Relation → Limits → List (List ℕ) → List ℕ → List (Architecture × List ℕ)
+-- What filters, a profile and tables come to: why they aren't compared; or the report of an outcome over the calls of
+-- the architectures that have a table, where the scope is a range those with a number of it; or the report of one call
+-- by call of the only table.
+abbrev pub ComparesProfiles : Scopes → Relation → Limits → List (List ℕ) → List ℕ → List (Architecture × List ℕ)
     → Result Reply Fault → Type 0
-ComparesArchitectures relation limits filters profile tables (Err (faults.Verify fault)) = NoReadFailed fault
-    × VerifiesArchitectures relation (map Some filters) (map known_text tables) (Some profile) limits.each (Err fault)
-ComparesArchitectures relation limits filters profile tables (Ok reply) = (outcome : Outcome)
-    × VerifiesArchitectures relation (map Some filters) (map known_text tables) (Some profile) limits.each (Ok outcome)
+ComparesProfiles over relation limits filters profile tables (Err (faults.Verify fault)) = NoReadFailed fault
+    × IsRefusedBehind (map Some filters) (AreProfilesRefused (map known_text tables) (Some profile)) fault
+ComparesProfiles (AtOnce scope) relation limits filters profile tables (Ok reply) = (outcome : Outcome)
+    × AreVerified relation (range_of scope) (map Some filters) (map known_text tables) (Some profile) limits.each
+    outcome
     × IsReport relation outcome reply
-ComparesArchitectures relation limits filters profile tables ending = ⊥
+ComparesProfiles EachCall relation limits filters profile tables (Ok reply) = (outcome : CallsOutcome)
+    × AreVerifiedCallsOf relation (map Some filters) (map known_text tables) (Some profile) limits outcome
+    × IsCallsReport relation outcome reply
+ComparesProfiles over relation limits filters profile tables ending = ⊥
+
+-- one table or more are compared; call by call, one
+abbrev pub IsComparedCount : Scopes → ℕ → Type 0
+IsComparedCount (AtOnce scope) count = IsAtLeastOne count
+IsComparedCount EachCall count = count ≡ 1
+
+-- `compare --architectures`: the report of the comparison
+abbrev pub ComparesArchitectures : Comparison → Option (List ℕ) → Result Reply Fault → Type 0
+ComparesArchitectures comparison input = EndsOnArchitectures true (IsComparedCount comparison.scopes) input
+    (ComparesProfiles comparison.scopes comparison.relation comparison.limits)
 
 -- a call table of an architecture, however long its text is
 abbrev pub SpellsTable : Architecture × List ℕ → Architecture × Names → Type 0
@@ -356,14 +385,13 @@ GivesReasonAmong call filters profile texts ending = ⊥
 abbrev pub IsTrueReply : Request → Option (List ℕ) → Result Reply Fault → Type 0
 IsTrueReply (requests.Ask call) input = EndsOnProfile input (GivesReason call)
 IsTrueReply (requests.AskArchitectures call) input =
-    EndsOnArchitectures false input (GivesReasonAmong call)
+    EndsOnArchitectures false IsAtLeastOne input (GivesReasonAmong call)
 IsTrueReply requests.Assemble input = Assembles input
 IsTrueReply (requests.Compare comparison) input = Compares comparison input
 IsTrueReply (requests.CompareBeside comparison) input = ComparesBeside comparison input
-IsTrueReply (requests.CompareArchitectures limits relation) input =
-    EndsOnArchitectures true input (ComparesArchitectures relation limits)
+IsTrueReply (requests.CompareArchitectures comparison) input = ComparesArchitectures comparison input
 IsTrueReply requests.Compile input = EndsOnProfile input Compiles
-IsTrueReply requests.CompileArchitectures input = EndsOnArchitectures false input CompilesEach
+IsTrueReply requests.CompileArchitectures input = EndsOnArchitectures false IsAtLeastOne input CompilesEach
 IsTrueReply (requests.Decide call) input = EndsOnFilters input (DecidesCall call)
 IsTrueReply requests.List input = Lists input
 IsTrueReply request input = EndsOnFilter request input

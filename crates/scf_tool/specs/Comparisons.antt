@@ -1,5 +1,6 @@
 -- What findings say of two sides that are compared, over the calls of a scope or call by call of a table.
 use Rattle.std.specs.Prelude.{◌≡◌, ◌*◌, ℕ, List, [], ◌∷◌, min}
+use Rattle.scf_insn.specs.declared.architecture.Architecture.{Architecture}
 use Rattle.scf_compare.specs.declared.finding.Finding.{Finding}
 use Rattle.scf_compare.specs.Findings.{AllRelated, IsFindingDecided, IsFindingWithin, IsTrueFinding, LeavesFindingSteps, compared_in}
 use Rattle.scf_compare.specs.Sides.{Behavior}
@@ -9,8 +10,8 @@ use Rattle.scf_profile.specs.Table.{Names}
 use Rattle.scf_profile.specs.declared.named_call.NamedCall.{NamedCall}
 use Rattle.scf_profile.specs.declared.relation.Relation.{Relation}
 use Rattle.scf_profile.specs.declared.scope.Scope.{Scope}
-use Rattle.scf_profile.specs.declared.scope.Scope.TheVariants.{Call}
 use Rattle.scf_request.specs.declared.request.Limits.{Limits}
+use Rattle.scf_tool.specs.ArchitectureScopes.{scope_of_call}
 use Rattle.scf_tool.specs.declared.call_verification.CallFinding.{CallFinding}
 
 -- A finding on a relation is true of two sides over the calls of a scope, and within the limit and the effort. It
@@ -23,24 +24,26 @@ pub record IsFound (relation : Relation) (left right : Behavior) (scope : Scope)
       → IsFindingDecided (AllRelated (compared_in relation scope left right)) limit (left.size * right.size) finding
 
 -- A call of a table is named by its number and its names. The finding on it is one on the two sides over the records of
--- its number, in at most `limit` steps and no more than are left for all calls. Those that it takes are subtracted.
-pub record IsFoundOfCall (relation : Relation) (left right : Behavior) (limit remaining : ℕ) (of_table : NamedCall)
-    (call : CallFinding) (after : ℕ) : Type 0 where
+-- a scope, in at most `limit` steps and no more than are left for all calls. Those that it takes are subtracted.
+pub record IsFoundOfCall (relation : Relation) (scope : Scope) (left right : Behavior) (limit remaining : ℕ)
+    (of_table : NamedCall) (call : CallFinding) (after : ℕ) : Type 0 where
   pub number : call.number ≡ of_table.number
   pub names : call.names ≡ texts_at of_table.names.items
-  pub found : IsFound relation left right (Call call.number) (min limit remaining) call.finding
+  pub found : IsFound relation left right scope (min limit remaining) call.finding
   pub spent : LeavesFindingSteps (min limit remaining) (left.size * right.size) remaining call.finding after
 
--- Each call of a table has its finding, one after another, where so many steps are left before them and so many after.
-abbrev pub AreFound : Relation → Behavior → Behavior → ℕ → ℕ → List NamedCall → List CallFinding → ℕ → Type 0
-AreFound relation left right limit remaining [] [] after = after ≡ remaining
-AreFound relation left right limit remaining (first ∷ of_table) (call ∷ calls) after =
-    (between : ℕ) × IsFoundOfCall relation left right limit remaining first call between
-    × AreFound relation left right limit between of_table calls after
-AreFound relation left right limit remaining of_table calls after = ⊥
+-- Each call of an architecture's table has its finding over its records, one after another, where so many steps are
+-- left before them and so many after.
+abbrev pub AreFound : Relation → Architecture → Behavior → Behavior → ℕ → ℕ → List NamedCall → List CallFinding → ℕ
+    → Type 0
+AreFound relation architecture left right limit remaining [] [] after = after ≡ remaining
+AreFound relation architecture left right limit remaining (first ∷ of_table) (call ∷ calls) after = (between : ℕ)
+    × IsFoundOfCall relation (scope_of_call architecture first.number) left right limit remaining first call between
+    × AreFound relation architecture left right limit between of_table calls after
+AreFound relation architecture left right limit remaining of_table calls after = ⊥
 
--- the calls of a table have these findings, in that many steps
-abbrev pub AreFoundOfTable : Relation → Behavior → Behavior → Names → Limits → List CallFinding → Type 0
-AreFoundOfTable relation left right names limits calls =
+-- the calls of the table have these findings, in that many steps
+abbrev pub AreFoundOfTable : Relation → Architecture → Behavior → Behavior → Names → Limits → List CallFinding → Type 0
+AreFoundOfTable relation architecture left right names limits calls =
     (of_table : List NamedCall) × AreCallsOf names of_table
-    × (after : ℕ) × AreFound relation left right limits.each limits.total of_table calls after
+    × (after : ℕ) × AreFound relation architecture left right limits.each limits.total of_table calls after

@@ -1,3 +1,4 @@
+pub mod ArchitectureScopes
 pub mod CallReports
 pub mod Commands
 pub mod Comparisons

@@ -1,15 +1,23 @@
 -- What is known of a stack of filters, the call tables of several architectures and a profile once they are read and
 -- compared. The bytes of each reader count where the reader tells them.
-use Rattle.std.specs.Prelude.{◌≡◌, ◌⊎◌, ◌++◌, ℕ, List, ◌∷◌, Option, Result, Ok, Err, IfSome}
+use Rattle.std.specs.Prelude.{◌≡◌, ◌⊎◌, ◌++◌, ℕ, List, [], ◌∷◌, Option, Result, Ok, Err, IfSome}
 use Rattle.std.specs.List.{AllZip}
 use Rattle.scf_insn.specs.declared.architecture.Architecture.{Architecture}
 use Rattle.scf_insn.specs.declared.insn.Insn.{Insn}
 use Rattle.scf_profile.specs.Loading.{LoadsEach, RefusesEach}
+use Rattle.scf_profile.specs.Profile.{Profile}
 use Rattle.scf_profile.specs.StatedProfile.{Tables}
 use Rattle.scf_profile.specs.Table.{Names}
 use Rattle.scf_profile.specs.declared.loaded.LoadedProfiles.{LoadedProfiles}
 use Rattle.scf_profile.specs.declared.relation.Relation.{Relation}
+use Rattle.scf_compare.specs.Sides.{profile_behavior, stack_behavior}
 use Rattle.scf_request.specs.declared.contents.TableReader.{TableReader}
+use Rattle.scf_request.specs.declared.request.Limits.{Limits}
+use Rattle.scf_tool.specs.ArchitectureScopes.{scope_of}
+use Rattle.scf_tool.specs.Comparisons.{AreFoundOfTable}
+use Rattle.scf_tool.specs.declared.architecture_scope.NumberRange.{NumberRange}
+use Rattle.scf_tool.specs.declared.call_verification.CallFinding.{CallFinding}
+use Rattle.scf_tool.specs.declared.call_verification.CallsOutcome.{CallsOutcome}
 use Rattle.scf_tool.specs.declared.verification.Outcome.{Outcome}
 use Rattle.scf_tool.specs.declared.verify_fault.VerifyFault.{VerifyFault}
 use Rattle.scf_tool.specs.declared.verify_fault.VerifyFault.TheVariants.{FilterRead, Check, Stack, TableRead, Table, Memory}
@@ -61,10 +69,10 @@ AreProfilesRefused texts profile fault =
 
 -- ---- the comparison
 
--- The bytes are a stack of filters, call tables and a profile, which are compared by a relation, and the verdict speaks
--- for all architectures that have a table.
-pub record AreVerified (relation : Relation) (filters : List (Option (List ℕ)))
-    (texts : List (Architecture × Option (List ℕ))) (profile : Option (List ℕ)) (limit : ℕ) (outcome : Outcome)
+-- The bytes are a stack of filters, call tables and a profile, of which this is left out, and this holds of that stack,
+-- those tables and the profiles that are stated for their architectures.
+pub record AreComparedUnder (filters : List (Option (List ℕ))) (texts : List (Architecture × Option (List ℕ)))
+    (profile : Option (List ℕ)) (left_out : LeftOut) (holds : List (List Insn) → Tables → List Profile → Type 0)
     : Type 0 where
   pub stack : List (List Insn)
   pub tables : Tables
@@ -72,15 +80,53 @@ pub record AreVerified (relation : Relation) (filters : List (Option (List ℕ))
   pub has_stack : HasStack filters stack
   pub are_tables : AreTables texts tables
   pub are_loaded : AreLoaded profile tables loaded
-  pub is_left_out : outcome_left_out outcome ≡ left_out_of_each loaded
-  pub compared : IsJointComparison relation stack loaded.profiles limit outcome.verdict
+  pub is_left_out : left_out ≡ left_out_of_each loaded
+  pub compared : holds stack tables loaded.profiles
+
+-- They are compared by a relation, and the verdict speaks for all architectures that have a table, where there is a
+-- range over the records with a number of it.
+abbrev pub AreVerified : Relation → Option NumberRange → List (Option (List ℕ)) → List (Architecture × Option (List ℕ))
+    → Option (List ℕ) → ℕ → Outcome → Type 0
+AreVerified relation range filters texts profile limit outcome =
+    AreComparedUnder filters texts profile (outcome_left_out outcome)
+    (λ stack tables profiles.
+    IsJointComparison relation (scope_of range) stack profiles limit outcome.verdict)
 
 -- What the comparison of a stack with a profile for each architecture, from the bytes of their readers, answers.
-abbrev pub VerifiesArchitectures : Relation → List (Option (List ℕ)) → List (Architecture × Option (List ℕ))
-    → Option (List ℕ) → ℕ → Result Outcome VerifyFault → Type 0
-VerifiesArchitectures relation filters texts profile limit (Ok outcome) =
-    AreVerified relation filters texts profile limit outcome
-VerifiesArchitectures relation filters texts profile limit (Err fault) =
+abbrev pub VerifiesArchitectures : Relation → Option NumberRange → List (Option (List ℕ))
+    → List (Architecture × Option (List ℕ)) → Option (List ℕ) → ℕ → Result Outcome VerifyFault → Type 0
+VerifiesArchitectures relation range filters texts profile limit (Ok outcome) =
+    AreVerified relation range filters texts profile limit outcome
+VerifiesArchitectures relation range filters texts profile limit (Err fault) =
+    IsRefusedBehind filters (AreProfilesRefused texts profile) fault
+
+-- ---- the comparison call by call
+
+-- The only table and the only profile are compared, call by call of the table, by a relation and in these limits.
+pub record AreFoundOfOnly (relation : Relation) (stack : List (List Insn)) (tables : Tables) (profiles : List Profile)
+    (limits : Limits) (calls : List CallFinding) : Type 0 where
+  pub architecture : Architecture
+  pub names : Names
+  pub own : Profile
+  pub only_table : tables ≡ (architecture, names) ∷ []
+  pub only_profile : profiles ≡ own ∷ []
+  pub of_table : own.architecture ≡ architecture
+  pub found : AreFoundOfTable relation architecture (stack_behavior stack) (profile_behavior own) names limits calls
+
+-- The bytes are a stack of filters, the table of an architecture and a profile, which are compared so.
+abbrev pub AreVerifiedCallsOf : Relation → List (Option (List ℕ)) → List (Architecture × Option (List ℕ))
+    → Option (List ℕ) → Limits → CallsOutcome → Type 0
+AreVerifiedCallsOf relation filters texts profile limits outcome =
+    AreComparedUnder filters texts profile outcome.left_out
+    (λ stack tables profiles. AreFoundOfOnly relation stack tables profiles limits outcome.calls.items)
+
+-- What the comparison of a stack with the profile of one architecture, call by call and from the bytes of their
+-- readers, answers. The faults are those of the comparison for several architectures.
+abbrev pub VerifiesCallsOf : Relation → List (Option (List ℕ)) → List (Architecture × Option (List ℕ))
+    → Option (List ℕ) → Limits → Result CallsOutcome VerifyFault → Type 0
+VerifiesCallsOf relation filters texts profile limits (Ok outcome) =
+    AreVerifiedCallsOf relation filters texts profile limits outcome
+VerifiesCallsOf relation filters texts profile limits (Err fault) =
     IsRefusedBehind filters (AreProfilesRefused texts profile) fault
 
 -- ---- the readers

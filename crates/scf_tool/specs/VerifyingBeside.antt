@@ -1,6 +1,7 @@
 -- What is known of two stacks of filters, and of a call table, once they are read and compared. The bytes of each
 -- reader count where the reader tells them.
 use Rattle.std.specs.Prelude.{◌≡◌, ◌⊎◌, ℕ, List, Option, Result, Ok, Err}
+use Rattle.scf_insn.specs.declared.architecture.Architecture.TheVariants.{X8664}
 use Rattle.scf_insn.specs.declared.insn.Insn.{Insn}
 use Rattle.scf_profile.specs.Table.{Names}
 use Rattle.scf_profile.specs.declared.relation.Relation.{Relation}
@@ -51,7 +52,7 @@ abbrev pub AreVerifiedBeside : Relation → List (Option (List ℕ)) → List (O
 AreVerifiedBeside relation filters beside table limits calls =
     (left : List (List Insn)) × (right : List (List Insn)) × AreStacks filters beside left right
     × (names : Names) × IsTable table names
-    × AreFoundOfTable relation (stack_behavior left) (stack_behavior right) names limits calls
+    × AreFoundOfTable relation X8664 (stack_behavior left) (stack_behavior right) names limits calls
 
 -- ---- the readers
 

@@ -18,7 +18,7 @@ use crate::verification::read_table;
 use crate::verify_fault::BesideFault;
 use scf_compare::{Finding, Side, compare_sides};
 use scf_facts::WordSets;
-use scf_insn::Source;
+use scf_insn::{Architecture, Source};
 use scf_machine::FilterStack;
 use scf_profile::{Relation, Scope};
 use scf_request::Limits;
@@ -101,5 +101,6 @@ pub fn verify_calls_beside<F: Source, B: Source, T: Source>(
     let table = read_table(alloc, table_reader)?;
     let left = Side::Stack(stacks.left.filters());
     let right = Side::Stack(stacks.right.filters());
-    Ok(compare_calls(alloc, &left, &right, &table, relation, limits)?)
+    let own = Architecture::X8664;
+    Ok(compare_calls(alloc, &left, &right, own, &table, relation, limits)?)
 }

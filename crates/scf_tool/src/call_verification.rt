@@ -1,7 +1,9 @@
 //! The comparison of a stack of filters with a profile, call by call, from their bytes.
 
-ghost use Rattle.std.specs.Prelude.{◌≡◌, ℕ, List, Option, IfOk, map};
+ghost use Rattle.std.specs.Prelude.{◌≡◌, ◌<◌, ℕ, List, Option, IfOk, length, map};
 ghost use Rattle.scf_compare.specs.Sides.{behavior_of};
+ghost use Rattle.scf_insn.specs.Kernel.{x32_syscall_bit};
+ghost use Rattle.scf_profile.specs.NamedCalls.{HasItsNames};
 ghost use Rattle.scf_profile.specs.References.{texts_at};
 ghost use Rattle.scf_tool.specs.Comparisons.{AreFoundOfTable, IsFoundOfCall};
 ghost use Rattle.scf_tool.specs.Verifying.{LeavesProfileReader, LeavesTableReader};
@@ -9,12 +11,13 @@ ghost use Rattle.scf_tool.specs.VerifyingCalls.{AreVerifiedCalls, VerifiesCalls}
 ghost use Rattle.scf_tool.specs.VerifyingStacks.{LeavesFilterReaders};
 ghost use Rattle.scf_tool.specs.internal.Verification.{AreInputs};
 
+use crate::architecture_scope::scope_of_call;
 use crate::inputs::{Inputs, read_inputs};
 use crate::left_out::LeftOut;
 use crate::verify_fault::VerifyFault;
 use scf_compare::{Finding, Side, compare_sides_within};
 use scf_facts::WordSets;
-use scf_insn::{Memory, Source};
+use scf_insn::{Architecture, Memory, Source};
 use scf_profile::{CallTable, NamedCall, Relation, Scope, Texts};
 use scf_request::Limits;
 use std::alloc::{AllocError, Global};
@@ -48,21 +51,34 @@ fn kept(alloc: Global, words: &[&str]) -> Result<Texts, AllocError>
     Ok(Texts::from_vec(list))
 }
 
-/// Compares two sides over the records of a call by a relation, in at most `limit` steps and no more than remain. Those
-/// that it takes are subtracted from `remaining`.
+/// The number of a call of a table. The table is asked for it, which promises that it is below 0x40000000.
+fn number_in(table: &CallTable, call: &NamedCall<'_>) -> u32
+    requires named { 0 < length call.now.names.items }
+    requires names { HasItsNames table.now call.now }
+    ensures same { result ≡ call.now.number }
+    ensures below { result < x32_syscall_bit }
+{
+    match table.number_of(call.names[0]) {
+        Some(number) => number,
+        None => unreachable!(),
+    }
+}
+
+/// Compares two sides over the records of a call, which are those of a scope, by a relation, in at most `limit` steps
+/// and no more than remain. Those that it takes are subtracted from `remaining`.
 fn compare_call(
     alloc: Global,
     left: &Side<'_>,
     right: &Side<'_>,
+    over: Scope,
     call: &NamedCall<'_>,
     relation: Relation,
     limit: u64,
     remaining: &mut u64,
 ) -> Result<CallFinding, Memory>
-    ensures { IfOk result (λ own. IsFoundOfCall relation (behavior_of left.now) (behavior_of right.now)
+    ensures { IfOk result (λ own. IsFoundOfCall relation over (behavior_of left.now) (behavior_of right.now)
         limit remaining.old call.now own remaining.new) }
 {
-    let over = Scope::Call(call.number);
     let finding = compare_sides_within::<WordSets>(
         alloc, left, right, over, relation, limit, remaining,
     )?;
@@ -73,26 +89,29 @@ fn compare_call(
     })
 }
 
-/// Compares two sides over the records of each call of a table by a relation.
+/// Compares two sides over the records of each call of an architecture's table by a relation.
 pub(crate) fn compare_calls(
     alloc: Global,
     left: &Side<'_>,
     right: &Side<'_>,
+    architecture: Architecture,
     table: &CallTable,
     relation: Relation,
     limits: Limits,
 ) -> Result<Vec<CallFinding>, Memory>
-    ensures { IfOk result (λ calls. AreFoundOfTable relation (behavior_of left.now) (behavior_of right.now)
-        table.now limits calls.items) }
+    ensures { IfOk result (λ calls. AreFoundOfTable relation architecture
+        (behavior_of left.now) (behavior_of right.now) table.now limits calls.items) }
 {
     let calls = table.calls(alloc)?;
     let mut findings = Vec::new(alloc);
     let mut remaining = limits.total;
     for call in &calls {
+        let over = scope_of_call(architecture, number_in(table, call));
         let finding = compare_call(
             alloc,
             left,
             right,
+            over,
             call,
             relation,
             limits.each,
@@ -116,7 +135,15 @@ fn compare_named_calls(
 {
     let filters = Side::Stack(inputs.stack.filters());
     let profile = Side::Profile(&inputs.loaded.profile);
-    let calls = compare_calls(alloc, &filters, &profile, &inputs.names, relation, limits)?;
+    let calls = compare_calls(
+        alloc,
+        &filters,
+        &profile,
+        Architecture::X8664,
+        &inputs.names,
+        relation,
+        limits,
+    )?;
     let loaded = inputs.loaded;
     Ok(CallsOutcome {
         calls,

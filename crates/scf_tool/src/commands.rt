@@ -68,8 +68,10 @@ fn answer<R: Source>(alloc: Global, request: &Request, input: &mut R) -> Result<
         Request::Check => check_filter(alloc, input),
         Request::Compare(comparison) => compare_bundle(alloc, *comparison, input),
         Request::CompareBeside(comparison) => compare_beside(alloc, *comparison, input),
-        Request::CompareArchitectures { limits, relation } => compare_architectures(
-            alloc, *limits, *relation, input,
+        Request::CompareArchitectures(comparison) => compare_architectures(
+            alloc,
+            *comparison,
+            input,
         ),
         Request::Compile => compile_profile(alloc, input),
         Request::CompileArchitectures => compile_architectures(alloc, input),

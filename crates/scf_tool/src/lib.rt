@@ -1,6 +1,9 @@
 //! The program `scf`: its commands, what they read and what they print.
 #![tactic(auto)]
 
+mod architecture_call_verification;
+mod architecture_inputs;
+mod architecture_scope;
 mod architecture_verification;
 mod beside_verification;
 mod buffer;
@@ -25,6 +28,8 @@ mod status;
 mod verification;
 mod verify_fault;
 
+pub use architecture_call_verification::verify_calls_of;
+pub use architecture_scope::NumberRange;
 pub use architecture_verification::verify_architectures;
 pub use beside_verification::{verify_beside, verify_calls_beside};
 pub use call_reporting::{report_calls, report_calls_beside};

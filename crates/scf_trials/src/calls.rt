@@ -16,9 +16,9 @@ use scf_profile::{ArchitectureTable, CallTable, Loaded, Profile, Texts, load, lo
 use scf_request::{Contents, TableReader, parse};
 use scf_text::{assemble, tokens};
 use scf_tool::{
-    Limits, Outcome, report, report_beside, report_by, report_calls, report_calls_beside, split,
-    verify, verify_architectures, verify_beside, verify_by, verify_calls, verify_calls_beside,
-    verify_stack,
+    Limits, NumberRange, Outcome, report, report_beside, report_by, report_calls,
+    report_calls_beside, split, verify, verify_architectures, verify_beside, verify_by,
+    verify_calls, verify_calls_beside, verify_calls_of, verify_stack,
 };
 use std::alloc::Global;
 use std::io;
@@ -31,6 +31,9 @@ const LIMITS: Limits = Limits {
     each: LIMIT,
     total: LIMIT,
 };
+
+/// The first syscall numbers.
+const RANGE: NumberRange = NumberRange { first: 0, last: 99 };
 
 /// A call of x86-64.
 const CALL: CallRecord = CallRecord {
@@ -308,8 +311,24 @@ fn try_verify_architectures<R: Print>(lines: &mut Lines<R>, alloc: Global) {
                 table_reader(Architecture::X8664),
                 table_reader(Architecture::X86),
             ],
+            Some(RANGE),
             Relation::Same,
             LIMIT,
+        )
+    );
+}
+
+fn try_verify_calls_of<R: Print>(lines: &mut Lines<R>, alloc: Global) {
+    tell_twice!(
+        lines,
+        "verify_calls_of",
+        verify_calls_of(
+            alloc,
+            &mut [Counted::new(rows::clone())],
+            &mut Counted::new(rows::config()),
+            &mut [table_reader(Architecture::X32)],
+            Relation::NoMore,
+            LIMITS,
         )
     );
 }
@@ -427,6 +446,7 @@ pub(crate) fn make_all(rt: &HostRuntime) -> io::Result<()> {
     try_verify_stack(&mut lines, alloc);
     try_verify_by(&mut lines, alloc);
     try_verify_architectures(&mut lines, alloc);
+    try_verify_calls_of(&mut lines, alloc);
     try_verify_calls(&mut lines, alloc);
     try_verify_beside(&mut lines, alloc);
     try_verify_calls_beside(&mut lines, alloc);

@@ -15,20 +15,24 @@ ghost use Rattle.scf_tool.specs.Commands.{
   AreTaken,
   CantLoadEach,
   ComparesArchitectures,
+  ComparesProfiles,
   CompilesEach,
   EndsOnArchitectures,
   GivesReasonAmong,
   HoldsArchitectures,
   HoldsOtherParts,
+  IsAtLeastOne,
   ReadsInput,
   SpellsTable,
 };
 ghost use Rattle.scf_tool.specs.Statuses.{LeavesWhole};
 ghost use Rattle.scf_tool.specs.internal.Verification.{named_of};
 
+use crate::architecture_call_verification::verify_calls_of;
+use crate::architecture_scope::range_of;
 use crate::architecture_verification::verify_architectures;
 use crate::buffer::encoding_of;
-use crate::commands::compare::report_of;
+use crate::commands::compare::{report_of, report_of_calls};
 use crate::commands::{only, whole_input};
 use crate::fault::Fault;
 use crate::owned_table::{OwnedTable, load_under};
@@ -37,8 +41,8 @@ use crate::verify_fault::VerifyFault;
 use scf_compile::{CompileFault, compile_profiles};
 use scf_insn::{Architecture, CallRecord, Source};
 use scf_machine::Program;
-use scf_profile::{CallTable, LoadedProfiles, Relation, TableFault};
-use scf_request::{BundleFault, Contents, Limits, PartReader, TableReader};
+use scf_profile::{CallTable, LoadedProfiles, Relation, Scope, TableFault};
+use scf_request::{BundleFault, Comparison, Contents, Limits, PartReader, Scopes, TableReader};
 use std::alloc::Global;
 
 /// The parts of a bundle for several architectures.
@@ -87,8 +91,8 @@ fn are_distinct(tables: &[TableReader<PartReader<'_>>]) -> bool
 /// Whether a bundle holds what a command takes: some filters or none, one profile, and one table or more, no two of one
 /// architecture.
 fn are_taken(contents: &Contents<'_>, has_filters: bool) -> bool
-    ensures { IsTrue result ↔ AreTaken has_filters (of_kind Filter contents.now) (of_kind OfProfile contents.now)
-        (of_architectures contents.now) }
+    ensures { IsTrue result ↔ AreTaken has_filters IsAtLeastOne
+        (of_kind Filter contents.now) (of_kind OfProfile contents.now) (of_architectures contents.now) }
 {
     let has_some = !contents.filters.is_empty();
     has_some == has_filters
@@ -105,10 +109,10 @@ fn parts_of<'a>(
 ) -> Result<Option<ArchitectureParts<'a>>, BundleFault>
     ensures parts { (input : Option (List ℕ)) → ReadsInput input (Ok bytes.now) → IfOk result (λ parts.
         MatchOption parts
-        (HoldsOtherParts has_filters input)
+        (HoldsOtherParts has_filters IsAtLeastOne input)
         (λ own. HoldsArchitectures input (map rest_of own.filters.items) (rest_of own.profile ∷ [])
         (map rest_of_table own.tables.items)
-        × AreTaken has_filters (map rest_of own.filters.items) (rest_of own.profile ∷ [])
+        × AreTaken has_filters IsAtLeastOne (map rest_of own.filters.items) (rest_of own.profile ∷ [])
         (map rest_of_table own.tables.items))) }
     ensures fault { IfErr result (AreNoParts architecture_kinds bytes.now) }
 {
@@ -164,17 +168,21 @@ fn loaded(
     Ok(load_under(alloc, profile, &own)?)
 }
 
-/// The report on a stack and a profile, over the calls of each architecture that has a table.
-fn compare_parts(
+/// The report on a stack and a profile, over the calls of each architecture that has a table; if the scope is a range,
+/// over those with a number in it.
+fn compare_at_once(
     alloc: Global,
     parts: ArchitectureParts<'_>,
-    limits: Limits,
+    scope: Scope,
     relation: Relation,
+    limits: Limits,
 ) -> Result<Reply, VerifyFault>
-    ensures reply { IfOk result (λ reply. ComparesArchitectures relation limits (map rest_of parts.entry.filters.items)
-        (rest_of parts.entry.profile) (map rest_of_table parts.entry.tables.items) (Ok reply)) }
-    ensures fault { IfErr result (λ fault. ComparesArchitectures relation limits (map rest_of parts.entry.filters.items)
-        (rest_of parts.entry.profile) (map rest_of_table parts.entry.tables.items) (Err (Fault.Verify fault))) }
+    ensures reply { IfOk result (λ reply. ComparesProfiles (Scopes.AtOnce scope) relation limits
+        (map rest_of parts.entry.filters.items) (rest_of parts.entry.profile)
+        (map rest_of_table parts.entry.tables.items) (Ok reply)) }
+    ensures fault { IfErr result (λ fault. ComparesProfiles (Scopes.AtOnce scope) relation limits
+        (map rest_of parts.entry.filters.items) (rest_of parts.entry.profile)
+        (map rest_of_table parts.entry.tables.items) (Err (Fault.Verify fault))) }
 {
     let mut filters = parts.filters;
     let mut profile = parts.profile;
@@ -184,28 +192,67 @@ fn compare_parts(
         &mut filters,
         &mut profile,
         &mut tables,
+        range_of(scope),
         relation,
         limits.each,
     )?;
     report_of(alloc, relation, &outcome)
 }
 
+/// The report on a stack and a profile, call by call of the only table.
+fn compare_each_call(
+    alloc: Global,
+    parts: ArchitectureParts<'_>,
+    relation: Relation,
+    limits: Limits,
+) -> Result<Reply, VerifyFault>
+    requires { length parts.tables.items ≡ 1 }
+    ensures reply { IfOk result (λ reply. ComparesProfiles Scopes.EachCall relation limits
+        (map rest_of parts.entry.filters.items) (rest_of parts.entry.profile)
+        (map rest_of_table parts.entry.tables.items) (Ok reply)) }
+    ensures fault { IfErr result (λ fault. ComparesProfiles Scopes.EachCall relation limits
+        (map rest_of parts.entry.filters.items) (rest_of parts.entry.profile)
+        (map rest_of_table parts.entry.tables.items) (Err (Fault.Verify fault))) }
+{
+    let mut filters = parts.filters;
+    let mut profile = parts.profile;
+    let mut tables = parts.tables;
+    let outcome = verify_calls_of(
+        alloc,
+        &mut filters,
+        &mut profile,
+        &mut tables,
+        relation,
+        limits,
+    )?;
+    report_of_calls(alloc, relation, &outcome)
+}
+
 /// `compare --architectures`: whether a stack of filters answers as a profile does, or is no more or no less
-/// permissive, over the calls of each architecture that has a table.
+/// permissive, over the calls of each architecture that has a table, or call by call of the only one.
 pub(super) fn compare_architectures<R: Source>(
     alloc: Global,
-    limits: Limits,
-    relation: Relation,
+    comparison: Comparison,
     input: &mut R,
 ) -> Result<Reply, Fault>
-    ensures answer { EndsOnArchitectures true (R.remaining input.old) (ComparesArchitectures relation limits) result }
+    ensures answer { ComparesArchitectures comparison (R.remaining input.old) result }
     ensures left { LeavesWhole R.remaining R.failures input.old result input.new }
 {
+    let limits = comparison.limits;
+    let relation = comparison.relation;
     let bytes = whole_input(alloc, input)?;
     let Some(parts) = parts_of(alloc, &bytes, true)? else {
         return Err(Fault::Parts);
     };
-    Ok(compare_parts(alloc, parts, limits, relation)?)
+    match comparison.scopes {
+        Scopes::AtOnce(scope) => Ok(compare_at_once(alloc, parts, scope, relation, limits)?),
+        Scopes::EachCall => {
+            if parts.tables.len() != 1 {
+                return Err(Fault::Parts);
+            }
+            Ok(compare_each_call(alloc, parts, relation, limits)?)
+        }
+    }
 }
 
 /// The filter of a profile and tables.
@@ -244,7 +291,7 @@ fn filter_bytes(
 
 /// `compile --architectures`: the filter that answers as a profile does, for each architecture that has a table.
 pub(super) fn compile_architectures<R: Source>(alloc: Global, input: &mut R) -> Result<Reply, Fault>
-    ensures answer { EndsOnArchitectures false (R.remaining input.old) CompilesEach result }
+    ensures answer { EndsOnArchitectures false IsAtLeastOne (R.remaining input.old) CompilesEach result }
     ensures left { LeavesWhole R.remaining R.failures input.old result input.new }
 {
     let bytes = whole_input(alloc, input)?;
@@ -260,7 +307,7 @@ pub(super) fn ask_architectures<R: Source>(
     call: &CallRecord,
     input: &mut R,
 ) -> Result<Reply, Fault>
-    ensures answer { EndsOnArchitectures false (R.remaining input.old) (GivesReasonAmong call.now) result }
+    ensures answer { EndsOnArchitectures false IsAtLeastOne (R.remaining input.old) (GivesReasonAmong call.now) result }
     ensures left { LeavesWhole R.remaining R.failures input.old result input.new }
 {
     let bytes = whole_input(alloc, input)?;

@@ -18,7 +18,7 @@ ghost use Rattle.std.specs.Prelude.{
 };
 ghost use Rattle.std.specs.Option.{option_map_or};
 ghost use Rattle.scf_tool.specs.CallReports.{joint_of};
-ghost use Rattle.scf_tool.specs.Commands.{Compares, ComparesParts, HoldsBundle, IsReport, ReadsInput};
+ghost use Rattle.scf_tool.specs.Commands.{Compares, ComparesParts, HoldsBundle, IsCallsReport, IsReport, ReadsInput};
 ghost use Rattle.scf_tool.specs.Reports.{finding_status};
 ghost use Rattle.scf_tool.specs.Statuses.{LeavesWhole};
 ghost use Rattle.scf_request.specs.Bundle.{IsBundleFault};
@@ -26,7 +26,7 @@ ghost use Rattle.scf_request.specs.Contents.{rest_of};
 ghost use Rattle.scf_request.specs.declared.request.Comparison.{Comparison};
 
 use crate::call_reporting::{joint_finding, report_calls};
-use crate::call_verification::{CallFinding, verify_calls};
+use crate::call_verification::{CallFinding, CallsOutcome, verify_calls};
 use crate::commands::{only, whole_input};
 use crate::fault::Fault;
 use crate::reply::Reply;
@@ -73,6 +73,20 @@ pub(super) fn report_of(
     Ok(Reply::Compared { text, status })
 }
 
+/// The report on an outcome call by call.
+pub(super) fn report_of_calls(
+    alloc: Global,
+    relation: Relation,
+    outcome: &CallsOutcome,
+) -> Result<Reply, VerifyFault>
+    ensures reply { IfOk result (IsCallsReport relation outcome.now) }
+    ensures memory { IfErr result (λ fault. fault ≡ VerifyFault.Memory) }
+{
+    let status = status_of_calls(&outcome.calls);
+    let text = report_calls(alloc, relation, outcome)?;
+    Ok(Reply::Compared { text, status })
+}
+
 /// The report on a stack and a profile over the records of a scope.
 fn compare_at_once(
     alloc: Global,
@@ -107,9 +121,7 @@ fn compare_each_call(
         (map rest_of filters.old) (rest_of profile.old) (rest_of table.old) (Err (Fault.Verify fault))) }
 {
     let outcome = verify_calls(alloc, filters, profile, table, relation, limits)?;
-    let status = status_of_calls(&outcome.calls);
-    let text = report_calls(alloc, relation, &outcome)?;
-    Ok(Reply::Compared { text, status })
+    report_of_calls(alloc, relation, &outcome)
 }
 
 /// The report on a stack and a profile, over the records that are asked for.

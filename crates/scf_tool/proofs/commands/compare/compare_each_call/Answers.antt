@@ -1,6 +1,6 @@
-use Rattle.scf_tool.proofs.Common.{err_from_is_err_and}
+use Rattle.scf_tool.proofs.Common.{IfOk-weaker, err_from_is_err_and}
 use Rattle.scf_tool.specs.declared.call_verification.CallsOutcome.{CallsOutcome}
-use Rattle.scf_tool.proofs.PartyLemmas.{parties_were_read}
+use Rattle.scf_tool.proofs.PartyLemmas.{memory_fault, parties_were_read}
 use Rattle.scf_tool.proofs.StackLemmas.{memory_is_no_read, reads_well, told_of_parts}
 use Rattle.scf_tool.proofs.commands.compare.compare_each_call.Goals as goal
 
@@ -13,18 +13,15 @@ returns-in_err-outcome-clause-fault c =
       rw (told_of_parts c.args.filters.now) at left.answer,
     )
 
-pub returns-in_err-text-clause-fault : goal.returns-in_err-text-clause-fault
-returns-in_err-text-clause-fault c =
-    let p = err_from_is_err_and c.from_residual-in_err-text.result c.from_residual-in_err-text.ensures.1 in
-    rw (p.1, p.2) (
+pub returns-clause-reply : goal.returns-clause-reply
+returns-clause-reply c =
+    IfOk-weaker c.report_of_calls.result _ _
+    (λ reply is. (c.in_ok-outcome.outcome, rw (told_of_parts c.args.filters.now) at c.in_ok-outcome.ensures.answer, is))
+    c.report_of_calls.ensures.reply
+
+pub returns-clause-fault : goal.returns-clause-fault
+returns-clause-fault c =
+    memory_fault _ c.report_of_calls.result c.report_of_calls.ensures.memory (
       memory_is_no_read,
       parties_were_read _ _ _ _ _ (rw (told_of_parts c.args.filters.now) at c.in_ok-outcome.ensures.answer),
     )
-
-pub returns-clause-reply : goal.returns-clause-reply
-returns-clause-reply c = (
-  c.in_ok-outcome.outcome,
-  rw (told_of_parts c.args.filters.now) at c.in_ok-outcome.ensures.answer,
-  c.in_ok-text.ensures,
-  rw c.deref.ensures.value at c.status_of_calls-status.ensures,
-)

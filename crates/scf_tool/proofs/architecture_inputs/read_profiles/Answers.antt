@@ -2,7 +2,7 @@ use Rattle.scf_profile.specs.Loading.{RefusesEach}
 use Rattle.scf_tool.proofs.Common.{ℕ, List, map, subst, err_from_is_err_and, LoadFault}
 use Rattle.scf_tool.proofs.PartyLemmas.{refused_text}
 use Rattle.scf_tool.specs.internal.Verification.{named_of}
-use Rattle.scf_tool.proofs.architecture_verification.read_profiles.Goals as goal
+use Rattle.scf_tool.proofs.architecture_inputs.read_profiles.Goals as goal
 
 pub returns-in_err-load_under-in-Ok-clause-refused : goal.returns-in_err-load_under-in-Ok-clause-refused
 returns-in_err-load_under-in-Ok-clause-refused g c =
@@ -12,3 +12,6 @@ returns-in_err-load_under-in-Ok-clause-refused g c =
     c.deref.ensures.value c.in_err-load_under-in-Ok.ensures.err in
     rw (p.1, p.2) (refused_text refuses (g.R.Source.remaining c.args.reader.now) c.in-Ok.text.items
     c.in_err-load_under-in-Ok.field-0.0 c.in-Ok.ensures.input refused)
+
+pub returns-in_ok-load_under-in-Ok-clause-stated : goal.returns-in_ok-load_under-in-Ok-clause-stated
+returns-in_ok-load_under-in-Ok-clause-stated g c = (c.deref.result.now, c.in_ok-load_under-in-Ok.ensures.ok)

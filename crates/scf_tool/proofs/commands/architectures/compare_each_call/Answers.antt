@@ -2,15 +2,15 @@ use Rattle.scf_tool.proofs.Common.{IfOk-weaker, err_from_is_err_and}
 use Rattle.scf_tool.proofs.PartyLemmas.{memory_fault}
 use Rattle.scf_tool.proofs.StackLemmas.{memory_is_no_read, read_well_each, told_of_parts}
 use Rattle.scf_tool.proofs.TableLemmas.{each_was_read, told_of_tables}
-use Rattle.scf_tool.specs.declared.verification.Outcome.{Outcome}
-use Rattle.scf_tool.proofs.commands.architectures.compare_parts.Goals as goal
+use Rattle.scf_tool.specs.declared.call_verification.CallsOutcome.{CallsOutcome}
+use Rattle.scf_tool.proofs.commands.architectures.compare_each_call.Goals as goal
 
 pub returns-in_err-outcome-clause-fault : goal.returns-in_err-outcome-clause-fault
 returns-in_err-outcome-clause-fault c =
     let p = err_from_is_err_and c.from_residual.result c.from_residual.ensures.1 in
     let left = c.in_err-outcome.ensures in
     rw (p.1, p.2) (
-      read_well_each Outcome _ _ _ _ _ _ _ left.filter_readers left.table_readers left.profile_reader,
+      read_well_each CallsOutcome _ _ _ _ _ _ _ left.filter_readers left.table_readers left.profile_reader,
       rw (
         c.deref_mut.ensures.value,
         c.deref_mut-2.ensures.value,
@@ -27,7 +27,8 @@ returns-clause-reply c =
       told_of_parts c.args.parts.filters.items,
       told_of_tables c.args.parts.tables.items,
     ) at c.in_ok-outcome.ensures.answer in
-    IfOk-weaker c.report_of.result _ _ (λ reply is. (c.in_ok-outcome.outcome, verified, is)) c.report_of.ensures.reply
+    IfOk-weaker c.report_of_calls.result _ _ (λ reply is. (c.in_ok-outcome.outcome, verified, is))
+    c.report_of_calls.ensures.reply
 
 pub returns-clause-fault : goal.returns-clause-fault
 returns-clause-fault c =
@@ -37,5 +38,5 @@ returns-clause-fault c =
       told_of_parts c.args.parts.filters.items,
       told_of_tables c.args.parts.tables.items,
     ) at c.in_ok-outcome.ensures.answer in
-    memory_fault _ c.report_of.result c.report_of.ensures.memory
-    (memory_is_no_read, each_was_read _ _ _ _ _ _ verified)
+    memory_fault _ c.report_of_calls.result c.report_of_calls.ensures.memory
+    (memory_is_no_read, each_was_read _ _ _ _ _ verified)

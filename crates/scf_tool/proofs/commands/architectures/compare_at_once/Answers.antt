@@ -1,0 +1,42 @@
+use Rattle.scf_tool.proofs.Common.{IfOk-weaker, err_from_is_err_and}
+use Rattle.scf_tool.proofs.PartyLemmas.{memory_fault}
+use Rattle.scf_tool.proofs.StackLemmas.{memory_is_no_read, read_well_each, told_of_parts}
+use Rattle.scf_tool.proofs.TableLemmas.{each_was_read, told_of_tables}
+use Rattle.scf_tool.specs.declared.verification.Outcome.{Outcome}
+use Rattle.scf_tool.proofs.commands.architectures.compare_at_once.Goals as goal
+
+pub returns-in_err-outcome-clause-fault : goal.returns-in_err-outcome-clause-fault
+returns-in_err-outcome-clause-fault c =
+    let p = err_from_is_err_and c.from_residual.result c.from_residual.ensures.1 in
+    let left = c.in_err-outcome.ensures in
+    rw (p.1, p.2) (
+      read_well_each Outcome _ _ _ _ _ _ _ left.filter_readers left.table_readers left.profile_reader,
+      rw (
+        c.deref_mut.ensures.value,
+        c.deref_mut-2.ensures.value,
+        told_of_parts c.args.parts.filters.items,
+        told_of_tables c.args.parts.tables.items,
+      ) at left.answer,
+    )
+
+pub returns-clause-reply : goal.returns-clause-reply
+returns-clause-reply c =
+    let verified = rw (
+      c.range_of.ensures,
+      c.deref_mut.ensures.value,
+      c.deref_mut-2.ensures.value,
+      told_of_parts c.args.parts.filters.items,
+      told_of_tables c.args.parts.tables.items,
+    ) at c.in_ok-outcome.ensures.answer in
+    IfOk-weaker c.report_of.result _ _ (λ reply is. (c.in_ok-outcome.outcome, verified, is)) c.report_of.ensures.reply
+
+pub returns-clause-fault : goal.returns-clause-fault
+returns-clause-fault c =
+    let verified = rw (
+      c.deref_mut.ensures.value,
+      c.deref_mut-2.ensures.value,
+      told_of_parts c.args.parts.filters.items,
+      told_of_tables c.args.parts.tables.items,
+    ) at c.in_ok-outcome.ensures.answer in
+    memory_fault _ c.report_of.result c.report_of.ensures.memory
+    (memory_is_no_read, each_was_read _ _ _ _ _ verified)
