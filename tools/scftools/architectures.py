@@ -100,6 +100,15 @@ def name_in(text: str) -> str | None:
     return name if name in NUMBERS else None
 
 
+def judged_in(text: str | None) -> Architecture:
+    """The architecture that a word names; without one this machine's own. Raises ToolError if scf doesn't judge it."""
+    name = of_machine() if text is None else name_in(text)
+    if name not in JUDGED:
+        raise program.ToolError(f"no table of the architecture '{text}': scf has those of "
+                                f"{', '.join(it.name for it in JUDGED.values())}")
+    return JUDGED[name]
+
+
 def number_in(text: str) -> str:
     """The number of an architecture, as scf takes it, given by a name, a number, or as in the audit log
     (arch=c000003e, in hexadecimal). Raises Refused if it is unknown or ambiguous."""

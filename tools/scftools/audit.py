@@ -235,11 +235,11 @@ class Judge:
         if key not in self.foreign:
             self.foreign[key] = compare.foreign_of(comparison, comparison.scope)
         for one in self.foreign[key]:
-            if one.kind.profile_name in names:
+            if one.kind.of.oci in names:
                 continue
             if isinstance(one, other_abis.Proved) and not one.lets_none_through or \
                     isinstance(one, other_abis.Tried) and one.let_through:
-                return Judgement(WEAKER, why=f"the profile doesn't name {one.kind.profile_name}; {one.describe()}",
+                return Judgement(WEAKER, why=f"the profile doesn't name {one.kind.of.oci}; {one.describe()}",
                                  comparison=found.comparison)
             if isinstance(one, other_abis.Tried):
                 found = replace(found, verdict=NOT_KNOWN, why=one.describe())

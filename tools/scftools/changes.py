@@ -4,7 +4,7 @@ from __future__ import annotations
 import json
 from collections.abc import Iterator, Sequence
 
-from . import client, compare, entries, newer, program, reasons, tables, unnamed, views
+from . import client, compare, entries, newer, program, reasons, tables, unnamed
 from .answers import DISPOSITIONS, Answer
 from .architectures import JUDGED, NATIVE, Architecture
 from .calls import Call
@@ -90,14 +90,17 @@ class Given:
     table: Table
     limit: str | None
 
-    def _comparison(self, one: Architecture | None = None, table: Table | None = None) -> StackComparison | None:
-        """The comparison of the old profile's filter with the new one's, on request of their views; None if they have
-        none."""
-        data = [side.filter.data if one is None else views.of(side.filter.data, one) for side in self.sides.values()]
-        if None in data:
-            return None
-        old, new = ([Filter(name, it)] for name, it in zip(self.sides, data))
-        return StackComparison(old, new, table or self.table, self.limit)
+    @property
+    def _stacks(self) -> StackComparison:
+        """The comparison of the old profile's filter with the new one's."""
+        old, new = ([side.filter] for side in self.sides.values())
+        return StackComparison(old, new, self.table, self.limit)
+
+    @property
+    def _comparison(self) -> compare.Comparison:
+        """The comparison of the old profile's filter with the new profile."""
+        old, new = self.sides.values()
+        return compare.Comparison([old.filter], new.source.data, self.table, self.limit, stub=new.source.stub)
 
     @property
     def both(self) -> list[tuple[Architecture, Table]]:
@@ -112,23 +115,18 @@ class Given:
 
     def compared(self, relation: str) -> Report:
         """scf's report on the old profile's filter beside the new one's."""
-        status, report = self._comparison().run(self.whole, relation)
+        status, report = self._stacks.run(self.whole, relation)
         if report.fault is not None:
             raise Refusal(report.fault.line, status, (NEW, self.sides[NEW].source.data))
         return checked(status, report, self.whole)
 
-    def of_calls(self, one: Architecture, table: Table, relation: str) -> list[NamedCall]:
+    def of_calls(self, one: Architecture, relation: str) -> list[NamedCall]:
         """The same for each syscall in the table of an architecture."""
-        comparison = self._comparison(one, table)
-        if comparison is None:
-            return []
-        status, report = comparison.run(CALLS, relation)
-        return [it.on(one) for it in checked(status, report, CALLS).calls]
+        return self._comparison.calls_of(one.oci, relation)
 
     def of_number(self, one: Architecture, number: int) -> Verdict | None:
         """The verdict on the syscalls of an architecture with a number of its table."""
-        comparison = self._comparison(one)
-        return None if comparison is None else comparison.of_numbers(number, number)
+        return self._comparison.of_number(one.oci, number)
 
     def asked(self, call: Call) -> dict[str, Reason]:
         """What each profile answers to a syscall, and why."""
@@ -202,9 +200,9 @@ def _kinds(same: NamedCall | None, more: NamedCall | None, less: NamedCall | Non
 def _of_calls(given: Given) -> list[Change]:
     """The syscalls that differ: first more permissive, then stricter, then others."""
     found = []
-    for one, table in given.both:
+    for one, _ in given.both:
         # the new profile is more permissive where the old one is stricter
-        lists = [{line.number: line for line in given.of_calls(one, table, relation)}
+        lists = [{line.number: line for line in given.of_calls(one, relation)}
                  for relation in (SAME, NO_LESS, NO_MORE)]
         for number in sorted({number for lines in lists for number in lines}):
             for kind, line in _kinds(*(lines.get(number) for lines in lists)):
@@ -223,7 +221,7 @@ def _of_unnamed(given: Given) -> Change | None:
     """Whether the defaults differ, which answer all numbers that a table doesn't name: by the least of them."""
     for one, table in given.both:
         stubs = [side.source.stub[one.oci] - one.first for side in given.sides.values() if one.oci in side.source.stub]
-        number = next((first for first, _ in unnamed.gaps(table) if first < min(stubs, default=unnamed.X32)), None)
+        number = next((first for first, _ in unnamed.gaps(table, one) if first < min(stubs, default=unnamed.X32)), None)
         verdict = None if number is None else given.of_number(one, number)
         if number is None or verdict is None or verdict.holds:
             continue

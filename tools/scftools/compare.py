@@ -1,12 +1,11 @@
 """Comparisons of filters with a profile: scf's verdict, and the lines that explain it."""
 from __future__ import annotations
 
-from collections.abc import Iterator, Sequence
+from collections.abc import Iterable, Iterator, Sequence
 
 from . import (architectures, bundles, client, explanation, newer, other_abis, profiles, program, reasons, refusals,
-               tables, verdicts, views)
+               tables, verdicts)
 from .answers import DENIED, Answer
-from .architectures import Architecture
 from .client import Refusal
 from .filters import RETURN_CONSTANT, Filter, instruction, looks_at_pointer
 from .profiles import Origin, Profile
@@ -14,16 +13,14 @@ from .explanation import join_names
 from .refusals import faulty_filters
 from .tables import Table, Tables
 from .values import dataclass, field, replace
-from .verdicts import (ALL, CALLS, DIFFERS, FOR_OTHER_ABI, LESS, LISTED, MORE, NATIVE, NO_LESS, NO_MORE, SAME,
-                       SAME_DISPOSITION, UNDECIDED, UNDETERMINED, NamedCall, Report, Verdict)
+from .verdicts import (ALL, CALLS, DIFFERS, FOR_OTHER_ABI, LESS, LISTED, MORE, NATIVE, NO_LESS, NO_MORE, RELATIONS,
+                       SAME, SCOPES, UNDECIDED, UNDETERMINED, NamedCall, Report, Verdict)
 
-SCOPES = {ALL: [], NATIVE: ["--native"], CALLS: ["--calls"], LISTED: ["--architectures"]}
 # What is compared in a scope, which leaves out other ABIs.
-LOOKED_AT = {NATIVE: "x86-64 syscalls", CALLS: "each x86-64 syscall in the table", LISTED: "{} syscalls"}
+LOOKED_AT = {NATIVE: "x86-64 syscalls", CALLS: "each {} syscall in the table{}", LISTED: "{} syscalls"}
 ABIS_CHECKED = "; other ABIs are only checked for any allowed syscall:"
 NOTHING_ELSE = b'{"defaultAction": "SCMP_ACT_KILL_PROCESS"}'
-# The options for each relation, by the verdict if it holds; and what is printed of syscalls that fail it.
-RELATIONS = {SAME: [], NO_MORE: ["--no-more"], NO_LESS: ["--no-less"], SAME_DISPOSITION: ["--disposition"]}
+# What is printed of syscalls that fail a relation.
 FAILED = {DIFFERS: "that differ", MORE: "answered more permissively than by {}",
           LESS: "answered more strictly than by {}"}
 PROFILE = "the profile"
@@ -66,10 +63,14 @@ class Comparison:
 
     def _run(self, scope: str, filters: Sequence[bytes], relation: str) -> tuple[int, Report]:
         judged = self.tables if scope == LISTED else tables.native_alone(self.table.data)
+        return self._run_by(judged, SCOPES[scope], filters, relation, scope == CALLS)
+
+    def _run_by(self, judged: Tables, scope: Sequence[str], filters: Sequence[bytes], relation: str,
+                is_by_call: bool = False) -> tuple[int, Report]:
         given = bundles.of_comparison(filters, self.profile, judged)
-        done = client.compare([*SCOPES[scope], *RELATIONS[relation]], given, self.limit)
+        done = client.compare([*scope, *RELATIONS[relation]], given, self.limit)
         known = self.facts if b"\nskipped " in done.out else None
-        pointer = None if scope == CALLS and any(map(looks_at_pointer, filters)) else 0
+        pointer = None if is_by_call and any(map(looks_at_pointer, filters)) else 0
         return done.status, verdicts.report(done.text, known.names if known else None, judged.has, pointer)
 
     def _run_others(self, filters: Sequence[bytes], relation: str) -> tuple[int, Report]:
@@ -85,6 +86,8 @@ class Comparison:
         that are judged. Over all records the verdict is `undetermined` if the syscall that decides is of an
         architecture that the profile names, and scf has no table of it."""
         relation, filters = relation or self.relation, [one.data for one in self.filters]
+        if scope == CALLS and not self.tables.is_native:
+            return self._run_calls(relation)
         if scope != ALL:
             return self._run(scope or self.scope, filters, relation)
         listed = None
@@ -105,37 +108,56 @@ class Comparison:
             return program.UNKNOWN, as_undetermined(report)
         return ended, others
 
+    def _run_calls(self, relation: str) -> tuple[int, Report]:
+        """Call by call in the tables of several architectures: the first verdict that fails, else the first that doesn't
+        hold, speaks for all."""
+        filters, reports = [one.data for one in self.filters], []
+        for name in self.tables.of:
+            judged = self.tables.only(name)
+            status, report = self._run_by(judged, [*judged.words, *SCOPES[CALLS]], filters, relation, True)
+            if report.verdict is None:
+                return status, report
+            reports.append((status, report.on(architectures.JUDGED[name])))
+        first = min(reports, key=lambda it: (not it[1].verdict.fails, it[1].verdict.holds))
+        calls = tuple(call for _, report in reports for call in report.calls)
+        found = replace(first[1], lines=(first[1].lines[0], *(call.line for call in calls)), calls=calls)
+        return first[0], replace(found, skipped=_in_all(it.skipped for _, it in reports),
+                                 architectures=_in_all(it.architectures for _, it in reports))
+
     def alone(self, one: Filter, scope: str) -> Report:
         return self._run(scope, [one.data], self.relation)[1]
 
-    def answers(self) -> bytes:
-        """A filter that answers as the profile, with runc's stub where it has one. Raises Refusal."""
-        return newer.with_stub(client.compile_profile(self.profile, self.tables), self.stub)
+    def _reports_on(self, name: str, scope: Sequence[str], relation: str) -> Iterator[Report]:
+        """scf's reports on the syscalls of one of the architectures, with a stub those on both sides of its numbers.
+        Raises Refusal."""
+        judged = self.tables.only(name)
+        for one in newer.around_stub(self):
+            status, report = one._run_by(judged, [*judged.words, *scope], [it.data for it in one.filters], relation,
+                                         scope == SCOPES[CALLS])
+            if report.verdict is None:
+                raise Refusal(report.lines[0] if report.lines else "", status)
+            yield report.on(architectures.JUDGED[name])
+
+    def calls_of(self, name: str, relation: str | None = None) -> list[NamedCall]:
+        """The syscalls in the table of an architecture of which the relation isn't proved. Raises Refusal."""
+        reports = self._reports_on(name, SCOPES[CALLS], relation or self.relation)
+        return [call for report in reports for call in report.calls]
 
     def of_calls(self, relation: str | None = None) -> list[NamedCall]:
-        """The syscalls in the tables of which the relation isn't proved. Raises Refusal."""
-        relation, found = relation or self.relation, []
-        for one, table in ((architectures.JUDGED[name], its) for name, its in self.tables.of.items()):
-            if one.oci == architectures.NATIVE and not self.stub:
-                status, report = self.run(CALLS, relation)
-                if report.verdict is None:
-                    raise Refusal(report.lines[0] if report.lines else "", status)
-                found += report.calls
-            else:
-                found += self._of_calls(one, table, relation)
-        return found
+        """The same of the tables of all architectures that are judged."""
+        return [call for name in self.tables.of for call in self.calls_of(name, relation)]
 
-    def _of_calls(self, one: Architecture, table: Table, relation: str) -> list[NamedCall]:
-        """The same of one architecture: of a filter that answers as the profile, seen as by x86-64."""
-        sides = [[views.of(data, one) for data in side] for side in ([it.data for it in self.filters], [self.answers()])]
-        if any(it is None for side in sides for it in side):
-            return []
-        given = bundles.of_stacks(sides[0], sides[1], table.data)
-        done = client.compare(["--beside", "--calls", *RELATIONS[relation]], given, self.limit)
-        report = verdicts.report(done.text, pointer=None if any(map(looks_at_pointer, sides[0])) else 0)
-        if report.verdict is None:
-            raise Refusal(done.line, done.status)
-        return [it.on(one) for it in report.calls]
+    def of_number(self, name: str, number: int) -> Verdict | None:
+        """The verdict on the syscalls of an architecture with a number of its table. Raises Refusal."""
+        at = architectures.JUDGED[name].first + number
+        reports = list(self._reports_on(name, [f"--nr-from={at}", f"--nr-to={at}"], self.relation))
+        return next((it.verdict for it in reports if not it.verdict.holds), reports[0].verdict if reports else None)
+
+
+def _in_all(lists: Iterable[Sequence[str]]) -> tuple[str, ...]:
+    """What is in each of some lists, in the order of the first."""
+    first, *others = lists
+    return tuple(it for it in first if all(it in other for other in map(set, others)))
 
 
 def as_undetermined(report: Report) -> Report:
@@ -241,7 +263,7 @@ def of_left_out(comparison: Comparison, report: Report) -> Iterator[str]:
 
 def foreign_of(comparison: Comparison, scope: str) -> list[other_abis.Proved | other_abis.Tried]:
     """What is known of the syscalls of other ABIs that a scope doesn't cover."""
-    judged = comparison.tables.of if scope == LISTED else ()
+    judged = comparison.tables.of if scope in (LISTED, CALLS) else ()
     return other_abis.let_through([one.data for one in comparison.filters], comparison.limit, judged)
 
 
@@ -250,12 +272,13 @@ def of_foreign(comparison: Comparison, report: Report, scope: str, is_quiet: boo
     some may be."""
     if scope not in LOOKED_AT or report.verdict is None:
         return
-    compared = f"compared: {LOOKED_AT[scope].format(join_names(comparison.tables.names))}"
+    names = comparison.tables.names
+    compared = f"compared: {LOOKED_AT[scope].format(join_names(names), 's' * (len(names) > 1))}"
     found = foreign_of(comparison, scope)
     if found and not (is_quiet and other_abis.are_none(found)):
         yield compared + ABIS_CHECKED
         yield from other_abis.describe(found, report.architectures)
-    elif scope == LISTED and not is_quiet:
+    elif not is_quiet and not comparison.tables.is_native:
         yield f"{compared}; an x86-64 kernel has no others" if architectures.NATIVE in comparison.tables.of else compared
 
 

@@ -10,7 +10,7 @@ from collections.abc import Iterator, Sequence
 
 from . import entries, filters
 from .answers import Answer
-from .architectures import JUDGED, NATIVE
+from .architectures import JUDGED
 from .calls import Call
 from .explanation import join_names
 from .tables import Table
@@ -32,11 +32,6 @@ def _split(data: bytes, bounds: Bounds, answer: Answer, runs_beyond: bool) -> by
     """A filter that gives an answer to the numbers from the bounds on, or to all others."""
     those = [(JUDGED[it].number, first, JUDGED[it].last) for it, first in bounds.items()]
     return filters.split(data, those, answer.word, runs_beyond)
-
-
-def with_stub(data: bytes, bounds: Bounds) -> bytes:
-    """A filter behind runc's stub."""
-    return _split(data, bounds, ENOSYS, False) if bounds else data
 
 
 def _can_split(comparison: Comparison, bounds: Bounds) -> bool:
@@ -67,6 +62,21 @@ def _beyond(comparison: Comparison, bounds: Bounds, answer: Answer) -> Compariso
     """The comparison of the numbers from the bounds on with one answer."""
     profile = answer.as_profile(list(comparison.tables.of)) or b""
     return replace(_only(comparison, bounds, answer, True), profile=profile, _facts=[])
+
+
+def with_stub(data: bytes, bounds: Bounds) -> bytes:
+    """A filter behind runc's stub."""
+    return _split(data, bounds, ENOSYS, False) if bounds else data
+
+
+def around_stub(comparison: Comparison) -> list[Comparison]:
+    """The comparisons that together are one with a profile behind runc's stub, where it has one: of the numbers below
+    those that the stub answers, and of these. None where the filters leave no room for it."""
+    if not comparison.stub:
+        return [comparison]
+    if not _can_split(comparison, comparison.stub):
+        return []
+    return [_below(comparison, comparison.stub), _beyond(comparison, comparison.stub, ENOSYS)]
 
 
 def expecting_stub(comparison: Comparison, bounds: Bounds) -> Comparison:
@@ -175,10 +185,10 @@ def another_call(comparison: Comparison, found: Newer) -> Verdict | None:
 
 
 def of_named_calls(comparison: Comparison, calls: Sequence[NamedCall]) -> Iterator[str]:
-    """The lines about x86-64 syscalls of the table that differ: those above all that the profile names apart, if both
-    sides deny them."""
-    first = _bounds_of(comparison).get(NATIVE)
-    above = [call for call in calls if first is not None and call.number >= first and call.verdict.both_deny]
+    """The lines about syscalls of the tables that differ: those above all that the profile names apart, if both sides
+    deny them."""
+    bounds = _bounds_of(comparison)
+    above = [it for it in calls if it.record.number >= bounds.get(it.record.abi or "", 1 << 32) and it.verdict.both_deny]
     if not above:
         return
     others = [call.verdict.word for call in calls if call not in above]

@@ -3,17 +3,19 @@
 A filter that doesn't test the architecture takes the number of an i386 syscall for one of x86-64; and x32 syscalls have
 the architecture of x86-64, with numbers from 0x40000000 on. An x86-64 kernel has no other ABIs. Each profile denies
 foreign syscalls, so one comparison with a profile that allows every x86-64 syscall tells whether all are denied. If
-not, the filters are compared with one that denies a kind and allows all else, for each kind: no scope of scf has these
-syscalls alone. If scf can't decide, some syscalls are tried by `scf decide`, and the result says so.
+not, the filters are compared with a denial of each kind. If scf can't decide, some syscalls are tried by `scf decide`,
+and the result says so.
 """
 from __future__ import annotations
 
 from collections.abc import Collection, Iterable, Sequence
 
 from . import architectures, bundles, client, tables, verdicts
-from .answers import ALLOWED, I386, X32, X86_64, Answer
+from .answers import ALLOWED, Answer
+from .architectures import JUDGED, Architecture
 from .calls import NO_CALL, Call, number_text
-from .filters import JEQ, JGE, JSET, JUMP, LOAD_WORD, RETURN_CONSTANT, instruction, split
+from .filters import RETURN_CONSTANT, instruction, split
+from .questions import IS_REFUSED, Asker
 from .tables import Table
 from .values import dataclass
 
@@ -22,66 +24,57 @@ if TYPE_CHECKING:
     from .verdicts import Verdict
 
 ALLOWS_NATIVE = b'{"defaultAction": "SCMP_ACT_ALLOW"}'
-ALLOW, KILL = (instruction(RETURN_CONSTANT, Answer(action, 0).word) for action in ("ALLOW", "KILL_PROCESS"))
-# struct seccomp_data in linux/seccomp.h
-NUMBER, ARCHITECTURE = instruction(LOAD_WORD, 0), instruction(LOAD_WORD, 4)
+ALLOW, KILL = Answer("ALLOW", 0).word, Answer("KILL_PROCESS", 0).word
 OTHERS = "other ABIs: the kernel has no others"
 NONE = "other ABIs: every i386 and x32 syscall is denied; the kernel has no others"
 
 
-def jump(test: int, k: int, if_true: int, if_false: int) -> bytes:
-    return instruction(JUMP | test, k, if_true, if_false)
-
-
 @dataclass(frozen=True)
 class Kind:
-    """Foreign syscalls of one kind: their ABI, its architecture and OCI name, some of them by name, and the tests of a
-    filter that continue behind them for these syscalls only, and else skip one more instruction."""
+    """Foreign syscalls of one kind: their architecture, and some of them by name, with the numbers of its table."""
 
-    name: str
-    architecture: int
-    profile_name: str
+    of: Architecture
     calls: tuple[tuple[str, int], ...]
-    tests: bytes
+
+    @property
+    def name(self) -> str:
+        return self.of.name
+
+    @property
+    def last(self) -> int:
+        """The last number of a record that a kernel of this kind may make."""
+        return NO_CALL - 1
 
     @property
     def alone(self) -> bytes:
         """The filter that allows only these syscalls."""
-        return self.tests + ALLOW + KILL
-
-    @property
-    def denial(self) -> bytes:
-        """The filter that denies these syscalls, and allows all else."""
-        return self.tests + KILL + ALLOW
+        return split(instruction(RETURN_CONSTANT, ALLOW), [(self.of.number, self.of.first, self.last)], KILL, True)
 
     def describe(self, number: int) -> str:
         """A syscall's name and number."""
-        shown, names = number_text(number, self.architecture), self.names(number)
+        shown, names = number_text(number, self.of.number), self.names(number)
         return f"{names[0]} ({shown.partition(' ')[2]})" if names else shown
 
     def names(self, number: int) -> list[str]:
         """The names of a syscall in the table of its architecture."""
-        return Call(number, self.architecture).names(Table(b""))
+        return Call(number, self.of.number).names(Table(b""))
 
 
 # arch/x86/entry/syscalls/syscall_32.tbl, and the x32 rows of syscall_64.tbl.
 KINDS = (
-    Kind("i386", I386, "SCMP_ARCH_X86",
+    Kind(JUDGED["SCMP_ARCH_X86"],
          (("read", 3), ("write", 4), ("open", 5), ("execve", 11), ("ptrace", 26), ("mount", 21), ("socketcall", 102),
-          ("clone", 120), ("mmap2", 192), ("openat", 295), ("socket", 359), ("clone3", 435)),
-         ARCHITECTURE + jump(JEQ, I386, 0, 3) + NUMBER + jump(JSET, NO_CALL, 1, 0)),
-    Kind("x32", X86_64, "SCMP_ARCH_X32",
-         tuple((name, X32 + number) for name, number in (
-             ("read", 0), ("write", 1), ("open", 2), ("mmap", 9), ("socket", 41), ("clone", 56), ("mount", 165),
-             ("openat", 257), ("clone3", 435), ("execve", 520), ("ptrace", 521))),
-         ARCHITECTURE + jump(JEQ, X86_64, 0, 4) + NUMBER + jump(JSET, NO_CALL, 2, 0) + jump(JGE, X32, 0, 1)),
+          ("clone", 120), ("mmap2", 192), ("openat", 295), ("socket", 359), ("clone3", 435))),
+    Kind(JUDGED["SCMP_ARCH_X32"],
+         (("read", 0), ("write", 1), ("open", 2), ("mmap", 9), ("socket", 41), ("clone", 56), ("mount", 165),
+          ("openat", 257), ("clone3", 435), ("execve", 520), ("ptrace", 521))),
 )
 
 
 def denial_filters(names: Iterable[str]) -> list[bytes]:
     """A filter that denies every record of the architectures with these OCI names, and allows all else; none for none."""
     bounds = [architectures.bounds_of(it) for it in dict.fromkeys(names) if it in architectures.NUMBERS]
-    return [split(ALLOW, bounds, Answer("KILL_PROCESS", 0).word, False)] if bounds else []
+    return [split(instruction(RETURN_CONSTANT, ALLOW), bounds, KILL, False)] if bounds else []
 
 
 @dataclass(frozen=True)
@@ -132,8 +125,10 @@ class Tried:
 
 def _proved(filters: Sequence[bytes], kind: Kind, limit: str | None) -> Proved | None:
     """scf's result for all syscalls of a kind, or None if it can't decide."""
-    done = client.compare(["--beside", "--no-more"], bundles.of_stacks(filters, [kind.denial]), limit)
-    verdict = verdicts.report(done.text).verdict
+    try:
+        verdict = Asker(filters, limit, kind.of).of_numbers(IS_REFUSED, 0, kind.last - kind.of.first)
+    except client.Refusal:
+        return None
     if verdict is None:
         return None
     if verdict.holds:
@@ -145,8 +140,8 @@ def _tried(filters: Sequence[bytes], kind: Kind) -> Tried | None:
     """What filters answer to some syscalls of a kind, or None if scf refuses the filters."""
     given = bundles.of_stack(filters)
     found = []
-    for name, number in kind.calls:
-        done = client.run(["decide", *Call(number, kind.architecture).words()], given)
+    for name, number in ((name, kind.of.first + number) for name, number in kind.calls):
+        done = client.run(["decide", *Call(number, kind.of.number).words()], given)
         answer = verdicts.decision(done.text).answer
         if answer is None:
             return None
@@ -165,7 +160,7 @@ def describe(found: Sequence[Proved | Tried], profile_names: Sequence[str] = ())
     if are_none(found):
         return [NONE]
     named = {name: f"; the profile also names {name}, which is judged without --native" for name in profile_names}
-    return [*(one.describe() + named.get(one.kind.profile_name, "") for one in found), OTHERS]
+    return [*(one.describe() + named.get(one.kind.of.oci, "") for one in found), OTHERS]
 
 
 def all_denied() -> list[Proved | Tried]:
@@ -179,15 +174,15 @@ def of_each(filters: Sequence[bytes], limit: str | None, example: Verdict | None
     that they allow, if there is one; nothing if scf refuses the filters."""
     call = example.call if example is not None else None
     abi = call.abi if call is not None and call.number < NO_CALL else None
-    found = (Proved(kind, call, example.filters) if kind.profile_name == abi else
+    found = (Proved(kind, call, example.filters) if kind.of.oci == abi else
              _proved(filters, kind, limit) or _tried(filters, kind)
-             for kind in KINDS if kind.profile_name not in judged)
+             for kind in KINDS if kind.of.oci not in judged)
     return [one for one in found if one is not None]
 
 
 def let_through(filters: Sequence[bytes], limit: str | None = None, judged: Collection[str] = ()) -> list[Proved | Tried]:
     """The same, and if all are denied by one comparison, but where some kinds are judged otherwise."""
-    if any(kind.profile_name in judged for kind in KINDS):
+    if any(kind.of.oci in judged for kind in KINDS):
         return of_each(filters, limit, None, judged)
     given = bundles.of_comparison(filters, ALLOWS_NATIVE, tables.native_alone(b""))
     done = client.compare(["--no-more"], given, limit)

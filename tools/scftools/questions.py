@@ -1,28 +1,29 @@
-"""Questions: whether filters always deny or allow syscalls, by comparison with a filter of a single answer.
+"""Questions: whether filters always deny or allow syscalls, by comparison with a profile of a single answer.
 
-A syscall is always denied if the filters are no more permissive than one that denies everything, and always allowed if
-they are no stricter than one that allows everything. Compared with a filter that delegates everything to a tracer, no
-more means never allowed, and no less never denied. If a relation fails, scf gives an example.
+A syscall is always denied if the filters are no more permissive than a profile that denies everything, and always
+allowed if they are no stricter than one that allows everything. Compared with a profile that delegates everything to a
+tracer, no more means never allowed, and no less never denied. If a relation fails, scf gives an example.
 """
 from __future__ import annotations
 
 import json
 from collections.abc import Sequence
 
-from . import bundles, client, program, tables, verdicts
+from . import bundles, client, program, verdicts
 from .answers import Answer
+from .architectures import JUDGED, NATIVE, Architecture
 from .calls import Call
-from .compare import CALLS, RELATIONS, SCOPES
 from .filters import RETURN_CONSTANT, instruction, looks_at_pointer
+from .tables import Table, Tables
 from .values import dataclass
-from .verdicts import NO_LESS, NO_MORE, Report, Verdict
+from .verdicts import ALL, CALLS, LISTED, NO_LESS, NO_MORE, RELATIONS, SCOPES, Report, Verdict
 
 NOTHING, EVERYTHING = Answer("KILL_PROCESS", 0), Answer("ALLOW", 0)
 
 
 @dataclass(frozen=True)
 class Question:
-    """A relation to a filter that gives this answer to every syscall."""
+    """A relation to a profile, or a filter, that gives this answer to every syscall."""
 
     relation: str
     answer: Answer
@@ -47,18 +48,24 @@ def checked(status: int, report: Report, scope: str) -> Report:
 
 @dataclass(frozen=True)
 class Asker:
-    """Filters, oldest first, and the step limit as a text, or None for scf's."""
+    """Filters, oldest first, the step limit as a text, or None for scf's, and the architecture whose syscalls are asked
+    about. A number is one of its table."""
 
     filters: Sequence[bytes]
     limit: str | None = None
+    architecture: Architecture = JUDGED[NATIVE]
 
-    def _compared(self, question: Question, words: Sequence[str], table: bytes | None = None) -> Report:
-        done = client.compare(["--beside", *words, *RELATIONS[question.relation]],
-                              bundles.of_stacks(self.filters, [question.filter], table), self.limit)
+    def _done(self, profile: bytes, table: bytes, words: Sequence[str], relation: str) -> client.Run:
+        given = bundles.of_comparison(self.filters, profile, Tables({self.architecture.oci: Table(table)}))
+        return client.compare([*words, *RELATIONS[relation]], given, self.limit)
+
+    def _asked(self, question: Question, words: Sequence[str], table: bytes = b"", scope: str = "") -> Report:
+        profile = question.answer.as_profile([self.architecture.oci]) or b""
+        done = self._done(profile, table, [*SCOPES[LISTED], *words], question.relation)
         report = verdicts.report(done.text)
         if report.fault is not None:
             raise client.Refusal(done.line, done.status)
-        return checked(done.status, report, CALLS if table is not None else "")
+        return checked(done.status, report, scope)
 
     @property
     def looks_at_pointer(self) -> bool:
@@ -66,19 +73,20 @@ class Asker:
 
     def of_named(self, question: Question, table: bytes) -> Report:
         """The report on each syscall in a table."""
-        return self._compared(question, SCOPES[CALLS], table)
+        return self._asked(question, SCOPES[CALLS], table, CALLS).on(self.architecture)
 
     def of_numbers(self, question: Question, first: int, last: int) -> Verdict | None:
-        """The verdict on all x86-64 syscalls with numbers from `first` to `last`, with a complete record as example."""
-        return self._compared(question, [f"--nr-from={first}", f"--nr-to={last}"]).verdict
+        """The verdict on all syscalls with numbers from `first` to `last`, with a complete record as example."""
+        added = self.architecture.first
+        return self._asked(question, [f"--nr-from={added + first}", f"--nr-to={added + last}"]).verdict
 
-    def of_rest(self, names: Sequence[str], table: bytes, scope: str) -> Verdict | None:
-        """The verdict on whether every syscall of a scope is denied but those with these names."""
+    def of_rest(self, names: Sequence[str], table: bytes, is_foreign: bool = False) -> Verdict | None:
+        """The verdict on whether every syscall is denied but those with these names; on request of all architectures,
+        though these names are x86-64's."""
         entries = [{"names": names, "action": "SCMP_ACT_ALLOW"}] if names else []
-        profile = json.dumps({"defaultAction": "SCMP_ACT_KILL_PROCESS", "syscalls": entries}).encode()
-        bundle = bundles.of_comparison(self.filters, profile, tables.native_alone(table))
-        done = client.compare([*SCOPES[scope], *RELATIONS[NO_MORE]], bundle, self.limit)
-        return verdicts.report(done.text).verdict
+        profile = json.dumps({"defaultAction": "SCMP_ACT_KILL_PROCESS", "architectures": [self.architecture.oci],
+                              "syscalls": entries}).encode()
+        return verdicts.report(self._done(profile, table, SCOPES[ALL if is_foreign else LISTED], NO_MORE).text).verdict
 
     def decided(self, call: Call) -> Answer | None:
         """What the filters answer to a record."""

@@ -8,7 +8,7 @@ from .compare import ALL, CALLS, NATIVE
 from .filters import Filter, looks_at_pointer
 from .tables import Table
 from .values import dataclass
-from .verdicts import DIFFERS, NO_LESS, NO_MORE, SAME, Report, Verdict
+from .verdicts import DIFFERS, NO_LESS, NO_MORE, RELATIONS, SAME, SCOPES, Report, Verdict
 
 
 @dataclass(frozen=True)
@@ -28,7 +28,7 @@ class StackComparison:
         with numbers from one to another; `Verdict.profile` is the answer of the right side."""
         left, right = ([one.data for one in side] for side in (self.left, self.right))
         given = bundles.of_stacks(left, right, self.table.data if scope == CALLS else None)
-        words = ["--beside", *compare.SCOPES[scope], *compare.RELATIONS[relation or self.relation]]
+        words = ["--beside", *SCOPES[scope], *RELATIONS[relation or self.relation]]
         words += [] if numbers is None else [f"--nr-from={numbers[0]}", f"--nr-to={numbers[1]}"]
         done = client.compare(words, given, self.limit)
         pointer = None if scope == CALLS and any(map(looks_at_pointer, left + right)) else 0

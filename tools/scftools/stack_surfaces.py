@@ -4,6 +4,7 @@ from __future__ import annotations
 from collections.abc import Iterator, Sequence
 
 from . import beside, client, explanation, output, program, row_conditions, surface_output, surfaces, verify
+from .architectures import JUDGED, NATIVE, Architecture
 from .beside import Beside
 from .client import Fault, Refusal
 from .explanation import join_names
@@ -22,7 +23,8 @@ class Asked:
 
     table: Table
     limit: str | None
-    other: Sequence[Filter]
+    other: Sequence[Filter] = ()
+    architecture: Architecture = JUDGED[NATIVE]
     # whether to say which arguments get which answer
     has_conditions: bool = False
 
@@ -46,7 +48,7 @@ class Block:
 
 def _surface(filters: Sequence[Filter], asked: Asked) -> Surface:
     data = [one.data for one in filters]
-    found = surfaces.of_filters(data, asked.table, asked.limit)
+    found = surfaces.of_filters(data, asked.table, asked.limit, asked.architecture)
     if asked.has_conditions:
         row_conditions.add(data, asked.table, asked.limit, found.rows)
     return found

@@ -5,6 +5,7 @@ import os
 from collections.abc import Iterable, Iterator, Sequence
 
 from . import other_abis
+from .architectures import NATIVE
 from .groups import Groups
 from .surfaces import DEPENDS, MADE, REFUSED, SAID, Row, Surface, word_of
 
@@ -41,16 +42,14 @@ def fitted(told: Iterable[str], width: int | None) -> Iterator[str]:
 def _summary(surface: Surface) -> str:
     counts = surface.counts
     shown = [said for said in SAID if counts[said] or said in (MADE, DEPENDS, REFUSED)]
-    return ", ".join(f"{word_of(said)} {counts[said]}" for said in shown)
-
-
-def _foreign(surface: Surface) -> str:
-    return "; ".join(other_abis.describe(surface.foreign))
+    one = surface.asker.architecture
+    return ("" if one.oci == NATIVE else f"{one.name}: ") + ", ".join(f"{word_of(said)} {counts[said]}" for said in shown)
 
 
 def of_whole(surface: Surface) -> list[str]:
-    """How many syscalls are allowed, denied and so on; those of other ABIs; numbers without a name."""
-    return [_summary(surface), _foreign(surface), f"numbers without a name: {surface.unnamed.describe()}"]
+    """How many syscalls are allowed, denied and so on; those of other ABIs, beside x86-64; numbers without a name."""
+    foreign = ["; ".join(other_abis.describe(surface.foreign))] if surface.asker.architecture.oci == NATIVE else []
+    return [_summary(surface), *foreign, f"numbers without a name: {surface.unnamed.describe()}"]
 
 
 def details(row: Row) -> list[str]:
@@ -140,5 +139,6 @@ def row_json(row: Row, groups: Groups) -> dict[str, object]:
 
 def as_json(surface: Surface, groups: Groups) -> dict[str, object]:
     counts = surface.counts
-    return {"counts": {said: counts[said] for said in SAID}, "foreign": [one.as_json() for one in surface.foreign],
+    return {"architecture": surface.asker.architecture.name, "counts": {said: counts[said] for said in SAID},
+            "foreign": [one.as_json() for one in surface.foreign],
             "unnamed": surface.unnamed.as_json(), "calls": [row_json(row, groups) for row in surface.rows]}

@@ -1,4 +1,4 @@
-"""Surfaces: what filters allow of each syscall in a table, by verdicts of scf over all syscalls of a number."""
+"""Surfaces: what filters allow of each syscall of an architecture, by verdicts of scf over all syscalls of a number."""
 from __future__ import annotations
 
 from collections import Counter
@@ -6,12 +6,13 @@ from collections.abc import Iterable, Sequence
 
 from . import answers, constants, other_abis, unnamed
 from .answers import Answer
+from .architectures import JUDGED, NATIVE, Architecture
 from .calls import Call
 from .questions import IS_MADE, IS_NEVER_MADE, IS_NEVER_REFUSED, IS_REFUSED, Asker, Question
 from .tables import Table
 from .unnamed import Unnamed
 from .values import dataclass, field
-from .verdicts import ALL, NATIVE, UNDECIDED, UNFINISHED, NamedCall
+from .verdicts import UNDECIDED, UNFINISHED, NamedCall
 
 TYPE_CHECKING = False
 if TYPE_CHECKING:
@@ -189,19 +190,22 @@ def _of_unnamed(rows: Iterable[Row], count: int) -> Unnamed:
 
 def _of_rest(asker: Asker, rows: Sequence[Row], table: Table,
              found: Unnamed) -> list[other_abis.Proved | other_abis.Tried]:
-    """What filters allow of other ABIs; and adds the numbers that no row has. Both are asked at once if the numbers
-    before these are denied."""
-    ranges, denied = list(unnamed.gaps(table)), {row.number for row in rows if row.holds(IS_REFUSED)}
-    names, verdict, native = [row.names[0] for row in rows], None, None
-    if all(first - 1 in denied for first, _ in ranges):
-        verdict = asker.of_rest(names, table.data, ALL)
+    """What filters allow of other ABIs, beside x86-64; and adds the numbers that no row has. Both are asked at once if
+    the numbers before these are denied."""
+    ranges, denied = list(unnamed.gaps(table, asker.architecture)), {it.number for it in rows if it.holds(IS_REFUSED)}
+    names, verdict, own = [row.names[0] for row in rows], None, None
+    has_foreign, are_denied = asker.architecture.oci == NATIVE, all(first - 1 in denied for first, _ in ranges)
+    if are_denied and has_foreign:
+        verdict = asker.of_rest(names, table.data, is_foreign=True)
     is_foreign = verdict is not None and verdict.call is not None and not verdict.call.is_native
-    if is_foreign:
-        native = asker.of_rest(names, table.data, NATIVE)
-    if any(it is not None and it.holds for it in (verdict, native)):
+    if is_foreign or are_denied and not has_foreign:
+        own = asker.of_rest(names, table.data)
+    if any(it is not None and it.holds for it in (verdict, own)):
         found.are_made = found.are_made and not ranges
     else:
         unnamed.count(asker, ranges, found)
+    if not has_foreign:
+        return []
     if verdict is not None and verdict.holds:
         return other_abis.all_denied()
     if verdict is not None and is_foreign:
@@ -209,14 +213,15 @@ def _of_rest(asker: Asker, rows: Sequence[Row], table: Table,
     return other_abis.let_through(asker.filters, asker.limit)
 
 
-def of_filters(filters: Sequence[bytes], table: Table, limit: str | None) -> Surface:
-    """The surface of filters, oldest first."""
-    asker, wider = Asker(filters, limit), unnamed.with_more_names(table, *filters)
+def of_filters(filters: Sequence[bytes], table: Table, limit: str | None,
+               one: Architecture = JUDGED[NATIVE]) -> Surface:
+    """The surface of filters, oldest first, to an architecture with this table."""
+    asker, wider = Asker(filters, limit, one), unnamed.with_more_names(table, one, *filters)
     rows = rows_of(asker, wider)
     named = [row for row in rows if table.names_of(row.number)]
     for row in named:
         if row.said not in (MADE, REFERRED, REFUSED):
             row.shown = {disposition: _shown(asker, *found) for disposition, found in row.failed.items()}
     found = _of_unnamed((row for row in rows if not table.names_of(row.number)),
-                        sum(end - first for first, end in unnamed.gaps(table)))
+                        sum(end - first for first, end in unnamed.gaps(table, one)))
     return Surface(asker, table, named, _of_rest(asker, rows, wider, found), found)

@@ -5,7 +5,7 @@ import functools
 from collections.abc import Iterable, Sequence
 
 from . import architectures, bundles, inputs, profiles, program
-from .architectures import JUDGED, NATIVE
+from .architectures import JUDGED, NATIVE, Architecture
 from .values import Pattern, dataclass
 
 LINE = Pattern(rb"[ \t]*([A-Za-z_][A-Za-z0-9_]*)[ \t]+0*([0-9]{1,10})[ \t]*\r?")
@@ -53,9 +53,9 @@ class Table:
         return self._read().keys()
 
 
-def read(name: str | None) -> Table:
-    """The table in a file, or by default the one that comes with scf."""
-    return Table(inputs.read_whole(program.TABLE if name is None else name, "table"))
+def read(name: str | None, one: Architecture = JUDGED[NATIVE]) -> Table:
+    """The table in a file, or by default the one of an architecture that comes with scf."""
+    return Table(inputs.read_whole(one.file if name is None else name, "table"))
 
 
 @functools.lru_cache(None)

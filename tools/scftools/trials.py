@@ -3,35 +3,41 @@ from __future__ import annotations
 
 from collections.abc import Sequence
 
-from . import bundles, client, tables, verdicts
+from . import bundles, client, verdicts
+from .architectures import JUDGED, NATIVE, Architecture
 from .client import Refusal
-from .tables import Table
+from .tables import Table, Tables
 from .values import dataclass
 from .verdicts import UNFINISHED, Report, Verdict
 
 
 @dataclass
 class Trial:
-    """Runs of scf's compiler and comparison with a table and a step limit; counts the comparisons."""
+    """Runs of scf's compiler and comparison with the table of an architecture and a step limit; counts the
+    comparisons."""
 
     table: Table
     limit: str | None = None
     count: int = 0
+    architecture: Architecture = JUDGED[NATIVE]
 
     @property
-    def tables(self) -> tables.Tables:
+    def tables(self) -> Tables:
         """The table alone."""
-        return tables.native_alone(self.table.data)
+        return self._with(self.table.data)
+
+    def _with(self, table: bytes) -> Tables:
+        return Tables({self.architecture.oci: Table(table)})
 
     def filter_of(self, profile: bytes) -> bytes:
-        """The filter of a profile for x86-64."""
+        """The filter of a profile for the architecture."""
         return client.compile_profile(profile, self.tables)
 
     def report(self, filters: Sequence[bytes], profile: bytes, table: bytes, *words: str) -> Report:
         """scf's report on filters compared with a profile, by a table."""
         self.count += 1
-        given = bundles.of_comparison(filters, profile, tables.native_alone(table))
-        done = client.compare(words, given, self.limit)
+        given = bundles.of_comparison(filters, profile, self._with(table))
+        done = client.compare([*self.tables.words, *words], given, self.limit)
         report = verdicts.report(done.text)
         if report.verdict is None:
             raise Refusal(report.lines[0] if report.lines else "", done.status)

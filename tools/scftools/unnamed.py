@@ -1,9 +1,11 @@
-"""x86-64 syscall numbers that a table doesn't name: how many of them filters don't always deny."""
+"""Syscall numbers that the table of an architecture doesn't name: how many of them filters don't always deny. All are as
+in the table: those of x32 without 0x40000000."""
 from __future__ import annotations
 
 from collections.abc import Iterator, Sequence
 
 from .answers import X32
+from .architectures import JUDGED, NATIVE, Architecture
 from .filters import INSTRUCTION, JEQ, JGE, JGT, JUMP
 from .questions import IS_MADE, IS_NEVER_REFUSED, IS_REFUSED, Asker
 from .tables import Table
@@ -54,33 +56,34 @@ class Unnamed:
         return found
 
 
-def gaps(table: Table) -> Iterator[tuple[int, int]]:
-    """The ranges of x86-64 numbers that a table doesn't name: the first of each, and the one after the last."""
+def gaps(table: Table, one: Architecture = JUDGED[NATIVE]) -> Iterator[tuple[int, int]]:
+    """The ranges of numbers of an architecture that its table doesn't name: the first of each, and the one after the
+    last."""
     before = 0
-    for number in [*sorted(table.numbers()), X32]:
+    for number in [*sorted(table.numbers()), one.last - one.first + 1]:
         if before < number:
             yield before, number
         before = number + 1
 
 
-def tested(filters: Sequence[bytes]) -> set[int]:
-    """The numbers at which tests of the filters change."""
+def tested(filters: Sequence[bytes], one: Architecture = JUDGED[NATIVE]) -> set[int]:
+    """The numbers at which tests of the filters change, as far as a table can name them."""
     found: set[int] = set()
     for data in filters:
         whole = data[:len(data) // INSTRUCTION.size * INSTRUCTION.size]
         for code, _, _, k in INSTRUCTION.iter_unpack(whole):
             if code in (JUMP | JEQ, JUMP | JGT, JUMP | JGE):
-                found.update((k, k + 1))
-    return found
+                found.update((k - one.first, k - one.first + 1))
+    return {it for it in found if 0 <= it < X32}
 
 
-def with_more_names(table: Table, *filters: bytes) -> Table:
+def with_more_names(table: Table, one: Architecture, *filters: bytes) -> Table:
     """A table that also names numbers without a name, by which they are checked one by one: all of a small gap, and of
     any other the first, and those at which tests of the filters change."""
-    prefix, turns, numbers = "_", sorted(tested(filters)), []
+    prefix, turns, numbers = "_", sorted(tested(filters, one)), []
     while any(name.startswith(prefix) for name in table.names()):
         prefix += "_"
-    for first, end in gaps(table):
+    for first, end in gaps(table, one):
         few = range(first, end) if end - first <= FEW else [it for it in turns if first < it < end]
         numbers += dict.fromkeys([first, *few])
     before = b"" if table.data[-1:] in (b"", b"\n") else b"\n"

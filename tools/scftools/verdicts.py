@@ -21,6 +21,8 @@ from .values import Pattern, dataclass, replace
 # architecture that the profile names and scf has a table of.
 ALL, NATIVE, CALLS, LISTED = "all", "native", "calls", "listed"
 SAME, DIFFERS, UNDECIDED, UNFINISHED = "same", "differs", "undecided", "unfinished"
+# The options of scf for each of them.
+SCOPES = {ALL: [], NATIVE: ["--native"], CALLS: ["--calls"], LISTED: ["--architectures"]}
 # Only from the tools: the syscall that decides is of an architecture that the profile names, and scf has no table of it.
 UNDETERMINED = "undetermined"
 FOR_OTHER_ABI = f"{UNDETERMINED}: the profile is for this architecture, too"
@@ -28,6 +30,8 @@ FOR_OTHER_ABI = f"{UNDETERMINED}: the profile is for this architecture, too"
 NO_MORE, MORE, NO_LESS, LESS = "no more", "more", "no less", "less"
 # With --disposition.
 SAME_DISPOSITION = "same disposition"
+# The options for each relation, by the verdict if it holds.
+RELATIONS = {SAME: [], NO_MORE: ["--no-more"], NO_LESS: ["--no-less"], SAME_DISPOSITION: ["--disposition"]}
 HOLDS, FAILS = (SAME, NO_MORE, NO_LESS, SAME_DISPOSITION), (DIFFERS, MORE, LESS)
 NAMED = Pattern(r"([0-9]+) ([A-Za-z0-9_,]+) (differs|more|less|undecided|unfinished)\b(.*)")
 ANSWERED = Pattern(r" args((?: 0x[0-9a-f]+){6}) filter (\w+ \w+) (?:profile|beside) (\w+ \w+)")
@@ -77,14 +81,13 @@ class NamedCall:
         return Call(self.architecture.first + self.number, self.architecture.number)
 
     def on(self, one: Architecture) -> NamedCall:
-        """The syscall of this architecture that has the number and the example of one of x86-64, as a view of filters
-        has them."""
+        """The same line as that of a table of this architecture."""
         verdict, call = self.verdict, self.verdict.call
         if call is not None:
-            call = replace(call, number=one.first + call.number, architecture=one.number)
+            call = replace(call, number=one.first + self.number, architecture=one.number)
             verdict = replace(verdict, call=call)
-        line = self.line.replace(" beside ", " profile ")
-        return replace(self, line=line if one.oci == X86_64 else f"{one.name} {line}", verdict=verdict, architecture=one)
+        line = self.line if one.oci == X86_64 else f"{one.name} {self.line}"
+        return replace(self, line=line, verdict=verdict, architecture=one)
 
     def as_json(self) -> dict[str, object]:
         found: dict[str, object] = {"number": self.number, "names": list(self.names), "verdict": self.verdict.word}
@@ -106,6 +109,10 @@ class Report:
     calls: tuple[NamedCall, ...] = ()
     skipped: tuple[str, ...] = ()
     architectures: tuple[str, ...] = ()
+
+    def on(self, one: Architecture) -> Report:
+        """The same report as one on the table of this architecture."""
+        return replace(self, calls=tuple(it.on(one) for it in self.calls))
 
     @property
     def printed(self) -> list[str]:

@@ -82,7 +82,7 @@ class Request:
         """The comparison of filters with the profile."""
         origins = self.applied.origins if self.applied is not None else None
         return Comparison(filters, self.profile, self.table, self.limit, relation or self.relation, origins,
-                          is_native=self.scope in (verdicts.NATIVE, verdicts.CALLS))
+                          is_native=self.scope == verdicts.NATIVE)
 
     def notes(self, block: Block) -> Iterator[str]:
         """What is added to scf's lines."""

@@ -94,6 +94,11 @@ class Parser(argparse.ArgumentParser):
         """Adds `--table`."""
         self.add_argument("--table", metavar="FILE", help=f"the syscall table{dash} [default: tables/x86_64.table]")
 
+    def arch(self) -> None:
+        """Adds `--arch`."""
+        self.add_argument("--arch", metavar="ARCH", help="the architecture of the syscalls: x86-64, i386, x32, aarch64 "
+                          "or arm [default: this machine's]")
+
     def limit(self) -> None:
         """Adds `--limit`."""
         self.add_argument("--limit", metavar="N", help=client.LIMIT_HELP)
@@ -110,7 +115,7 @@ class Parser(argparse.ArgumentParser):
         if of_all:
             group.add_argument("--all", dest="scope", action="store_const", const=verdicts.ALL, help=of_all)
         group.add_argument("--calls", dest="scope", action="store_const", const=verdicts.CALLS,
-                           help="each x86-64 syscall in the table by itself, and no other")
+                           help="each syscall that a table names by itself, and no other")
 
     def native(self) -> None:
         """Adds `--native` alone."""

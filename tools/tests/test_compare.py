@@ -7,6 +7,7 @@ import unittest
 
 from common import (ALLOW, EPERM, I386, KILL_PROCESS, KILL_THREAD, SCF, TABLE, X86_64, Case, filter_of, insn, jeq, jge,
                     load, needs, part, profile_of, ret, tool)
+from scftools import tables
 
 READ, WRITE, EXIT_GROUP = 0, 1, 231
 
@@ -289,10 +290,24 @@ class OtherAbis(Case):
 
     def test_native_leaves_them_out(self):
         for filters in (self.lets_i386, self.lets_x32, self.lets_both):
-            for words in (("--native",), ("--calls",), ("--native", "--no-more")):
+            for words in (("--native",), ("--native", "--no-more")):
                 status, lines = self.said(*words, filters, self.profile("X86", "X32"))
                 self.assertEqual((status, lines[0]), (0, "no more" if "--no-more" in words else "same"))
+            self.assertEqual(self.said("--calls", filters, self.profile())[1][0], "same")
         self.assertEqual(self.said("--native", self.wrong, self.profile("X86", "X32"))[0], 1)
+
+    def test_each_call_of_each_architecture(self):
+        """A line of another architecture than x86-64 has its name first."""
+        profile = self.profile("X86", "X32")
+        status, lines = self.said("--calls", self.lets_both, profile)
+        named = [line for line in lines if not line.startswith("#")][1:-1]
+        numbers = sorted(set(tables.of_architecture("SCMP_ARCH_X32").numbers()) - {READ})
+        self.assertEqual((status, lines[0]), (1, "differs"))
+        self.assertEqual(named[0], "i386 3 read differs args 0x0 0x0 0x0 0x0 0x0 0x0 filter ERRNO 1 profile ALLOW 0")
+        self.assertEqual([line.split()[:2] for line in named[1:]], [["x32", str(number)] for number in numbers])
+        found = json.loads(self.run_tool("compare", "--calls", "--json", self.lets_both, profile)[1])
+        self.assertEqual([(it["architecture"], it["call"]["number"], it["call"]["architecture"]) for it in found["calls"]],
+                         [("i386", 3, hex(I386)), *(("x32", 0x40000000 + number, hex(X86_64)) for number in numbers)])
 
     def test_each_architecture_that_is_named_is_judged(self):
         """Its syscalls have the names and the entries that they have there."""
@@ -424,7 +439,9 @@ class WithAnotherScf(Case):
         with open(os.path.join(self.folder, "kept.relations"), encoding="ascii") as handed:
             self.assertEqual(handed.read().split("\n"), [f"compare --native --no-{it} --limit=7"
                                                          for it in ("more", "less")]
-                             + ["compare --no-more --limit=7", *["compare --beside --no-more --limit=7"] * 2, ""])
+                             + ["compare --no-more --limit=7",
+                                *(f"compare --architectures --nr-from={first} --nr-to={0x7FFFFFFF} --no-more --limit=7"
+                                  for first in (0, 0x40000000)), ""])
         self.assertEqual(self.run_fake("--all", "--table", "t", "a.bpf", "p.json")[2], "compare\n")
 
 

@@ -353,9 +353,13 @@ class Objects(Case):
         self.assertEqual(found("--native", wrong, profile),
                          {"status": 1, "scope": "native", "verdict": "differs", **sides, **why, **fates,
                           "calls": [line], **left_out, **foreign})
-        self.assertEqual(found("--calls", wrong, profile),
+        self.assertEqual(found("--calls", wrong, alone),
                          {"status": 1, "scope": "calls", "verdict": "differs", **fates, "calls": [line], **left_out,
-                          **foreign})
+                          "other": [], **foreign})
+        of_both = found("--calls", wrong, profile)
+        self.assertEqual((of_both["calls"][0], of_both["other"], of_both["foreign"]),
+                         (line, [], foreign["foreign"][1:]))
+        self.assertEqual({it.get("architecture") for it in of_both["calls"]}, {None, "i386"})
         jump = found(same, self.file("bad.bpf", jeq(0, 9, 0) + ret(ALLOW)), profile)
         self.assertEqual((jump["verdict"], jump["files"]), (None, [os.path.join(self.folder, "bad.bpf")]))
         self.assertEqual({key: jump["fault"][key] for key in ("source", "kind", "numbers")},

@@ -15,7 +15,7 @@ from stand_in import StandIn, unpacked
 
 sys.path.append(os.path.join(TOP, "tools"))
 
-from scftools import bundles, client, filters, runtimes, tables, verdicts, verify, views  # noqa: E402
+from scftools import bundles, client, filters, runtimes, tables, verdicts, verify  # noqa: E402
 from scftools.architectures import JUDGED  # noqa: E402
 from scftools.calls import Call  # noqa: E402
 from scftools.filters import Filter  # noqa: E402
@@ -132,60 +132,6 @@ class SecondReading(unittest.TestCase):
                     self.test_filters()
             finally:
                 several.ARCHITECTURES.update(known)
-
-
-class Views(unittest.TestCase):
-    """A view of a filter answers an x86-64 record as the filter answers the architecture's."""
-
-    def agrees(self, data, architecture, records):
-        """Whether there is a view; over all records it has the filter's answer."""
-        view, one = views.of(data, JUDGED[architecture]), JUDGED[architecture]
-        if view is None:
-            return False
-        for number, arguments in records:
-            if number < X32:
-                self.assertEqual(MACHINE.answer(unpacked(view), words_of(X86_64, number, arguments)),
-                                 MACHINE.answer(unpacked(data), words_of(one.number, one.first + number, arguments)),
-                                 (architecture, number, arguments))
-        return True
-
-    def test_drawn_filters(self):
-        count = 0
-        for seed in range(60):
-            random_of = random.Random(f"views {seed}")
-            profile = several.drawn_profile(random_of)
-            judged = [it for it in several.ARCHITECTURES if it in profile["architectures"]]
-            data = several.compiled(profile, judged)
-            for name in several.ARCHITECTURES:
-                first = several.ARCHITECTURES[name][1]
-                tried = [(number - first, arguments) for it, _, number, arguments in
-                         several.records(profile, [name], random_of, 5)]
-                self.assertTrue(self.agrees(data, name, tried))
-                count += self.agrees(several.changed(random_of, data), name, tried)
-        self.assertGreater(count, 200)
-
-    def test_tests_of_the_number(self):
-        """Each test of x32's number, at the edges of what it may be."""
-        records = [(number, [0] * 6) for number in (0, 1, 2, 7, 8, 255, X32 - 2, X32 - 1)]
-        edges = (0, 1, X32 - 1, X32, X32 + 1, X32 + 7, 2 * X32 - 2, 2 * X32 - 1, 2 * X32, 0xFFFFFFFF, 0x80000001, 3)
-        for code in (0x15, 0x25, 0x35, 0x45):
-            for k in edges:
-                data = load(0) + insn(code, k, 0, 1) + ret(ALLOW) + ret(EPERM)
-                self.assertTrue(self.agrees(data, "SCMP_ARCH_X32", records), (code, k))
-        masked = load(0) + insn(0x54, X32 - 1) + jeq(7, 0, 1) + ret(ALLOW) + ret(EPERM)
-        self.assertTrue(self.agrees(masked, "SCMP_ARCH_X32", records))
-        # (X is stored and read, and the number stays where it is)
-        kept = load(0) + insn(0x01, 5) + insn(0x03, 2) + jeq(X32 + 7, 0, 1) + ret(ALLOW) + ret(EPERM)
-        self.assertTrue(self.agrees(kept, "SCMP_ARCH_X32", records))
-
-    def test_what_has_none(self):
-        for computed in (insn(0x54, X32 | 1), insn(0x04, 1), insn(0x84, 0), insn(0x02, 0) + insn(0x60, 0), insn(0x07, 0),
-                         insn(0x16, 0), insn(0x1D, 0, 0, 0)):
-            data = load(0) + computed + jeq(7, 0, 1) + ret(ALLOW) + ret(EPERM)
-            self.assertIsNone(views.of(data, JUDGED["SCMP_ARCH_X32"]), computed)
-            self.assertIsNotNone(views.of(data, JUDGED["SCMP_ARCH_X86"]))
-        either = load(4) + jeq(1, 0, 1) + load(0) + jeq(7, 0, 1) + ret(ALLOW) + ret(EPERM)
-        self.assertIsNone(views.of(either, JUDGED["SCMP_ARCH_X32"]))
 
 
 WORKED = """ld 4; jeq 0xc000003e 2 0; jeq 0x40000003 11 0; ret 0x80000000; ld 0; jge 0x40000000 6 0; jeq 0x0 12 0; jeq 0x87 0 12;
