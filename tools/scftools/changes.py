@@ -1,6 +1,7 @@
 """Changes: two profiles compared syscall by syscall, by verdicts of scf on the filters of both."""
 from __future__ import annotations
 
+import functools
 import json
 from collections.abc import Iterator, Sequence
 
@@ -44,22 +45,26 @@ def _some(holder: dict[str, object], *names: str) -> dict[str, object]:
 
 
 class Side:
-    """A profile, the tables that it is judged by, its filter, and its entries by their syscalls, so that scf can be
-    asked about one without the other entries. Raises Refusal, whose subject is the side."""
+    """A profile, the tables that it is judged by, and its entries by their syscalls, so that scf can be asked about one
+    without the other entries."""
 
     def __init__(self, name: str, source: Source, judged: Tables) -> None:
-        self.source, self.judged = source, judged
-        try:
-            data = client.compile_profile(source.data, judged)
-        except Refusal as why:
-            why.subject = name, source.data
-            raise
-        self.filter = Filter(name, newer.with_stub(data, source.stub))
+        self.name, self.source, self.judged = name, source, judged
         self.top = entries.read(source.data)
         self.indices: dict[str, dict[int, str]] = {}
         for index, entry in enumerate(self.top.get("syscalls", []) if self.top is not None else []):
             for it in entry["names"]:
                 self.indices.setdefault(it, {}).setdefault(index, it)
+
+    @functools.cached_property
+    def filter(self) -> Filter:
+        """Its filter. Raises Refusal, whose subject is the side."""
+        try:
+            data = client.compile_profile(self.source.data, self.judged)
+        except Refusal as why:
+            why.subject = self.name, self.source.data
+            raise
+        return Filter(self.name, newer.with_stub(data, self.source.stub))
 
     def reason(self, call: Call) -> Reason:
         """What the profile answers to a syscall and why, by scf on the entries that have its number."""
@@ -89,6 +94,7 @@ class Given:
     sides: dict[str, Side]
     table: Table
     limit: str | None
+    is_native: bool
 
     @property
     def _stacks(self) -> StackComparison:
@@ -100,7 +106,15 @@ class Given:
     def _comparison(self) -> compare.Comparison:
         """The comparison of the old profile's filter with the new profile."""
         old, new = self.sides.values()
-        return compare.Comparison([old.filter], new.source.data, self.table, self.limit, stub=new.source.stub)
+        return compare.Comparison([old.filter], new.source.data, self.table, self.limit, stub=new.source.stub,
+                                  is_native=self.is_native)
+
+    @property
+    def are_alike(self) -> bool:
+        """Whether both are judged for the same architectures, and neither has a stub: then all that isn't one of these
+        is killed by both."""
+        old, new = self.sides.values()
+        return list(old.judged.of) == list(new.judged.of) and not old.source.stub and not new.source.stub
 
     @property
     def both(self) -> list[tuple[Architecture, Table]]:
@@ -114,11 +128,17 @@ class Given:
         return compare.NATIVE if all(it.judged.is_native for it in self.sides.values()) else ALL
 
     def compared(self, relation: str) -> Report:
-        """scf's report on the old profile's filter beside the new one's."""
-        status, report = self._stacks.run(self.whole, relation)
+        """scf's report on the old profile's filter beside the new profile."""
+        status, report = self._comparison.run(None, relation) if self.are_alike else self._stacks.run(self.whole, relation)
         if report.fault is not None:
             raise Refusal(report.fault.line, status, (NEW, self.sides[NEW].source.data))
         return checked(status, report, self.whole)
+
+    def left_out_beside(self, compared: Report) -> dict[str, Report]:
+        """What scf leaves out of each profile; of the new one a report on the comparison with it says so."""
+        old, new = self.sides.values()
+        return {OLD: compare.left_out(old.source.data, old.judged),
+                NEW: compared if self.are_alike else compare.left_out(new.source.data, new.judged)}
 
     def of_calls(self, one: Architecture, relation: str) -> list[NamedCall]:
         """The same for each syscall in the table of an architecture."""
@@ -246,10 +266,11 @@ def of_profiles(old: Source, new: Source, table: Table, limit: str | None, relat
                 is_native: bool = False) -> Changes:
     """What changes from one profile to another."""
     given = Given({name: Side(name, source, tables.of_profile(source.data, table, is_native))
-                   for name, source in ((OLD, old), (NEW, new))}, table, limit)
-    same = given.compared(SAME).verdict
+                   for name, source in ((OLD, old), (NEW, new))}, table, limit, is_native)
+    compared = given.compared(SAME)
+    same = compared.verdict
     assert same is not None
-    left_out = {name: compare.left_out(side.source.data, side.judged) for name, side in given.sides.items()}
+    left_out = given.left_out_beside(compared)
     both = {one.oci for one, _ in given.both}
     return Changes(relation, _whole(given, same, relation), [] if same.holds else _of_calls(given),
                    None if same.holds else _of_unnamed(given),
