@@ -10,9 +10,10 @@ import json
 import re
 from collections.abc import Callable, Iterator, Sequence
 
-from . import output, profiles
+from . import architectures, output, profiles
+from .architectures import AARCH64, NATIVE
 from .profiles import NUMBER, SECCOMP, TEXT, VERSION, Origin, where_in
-from .values import Any, dataclass
+from .values import Any, dataclass, field
 
 # What a container has by default: moby's oci/caps, and containers-common's containers.conf.
 DOCKER = (
@@ -28,9 +29,15 @@ CAPABILITIES = (
     "SYS_ADMIN SYS_BOOT SYS_NICE SYS_RESOURCE SYS_TIME SYS_TTY_CONFIG MKNOD LEASE AUDIT_WRITE AUDIT_CONTROL SETFCAP "
     "MAC_OVERRIDE MAC_ADMIN SYSLOG WAKE_ALARM BLOCK_SUSPEND AUDIT_READ PERFMON BPF CHECKPOINT_RESTORE"
 ).split()
-# The engines' name of x86-64 in `arches`, and the OCI specification's in `archMap` and `architectures`.
-ENGINE_ARCH = "amd64"
-OCI_ARCH = "SCMP_ARCH_X86_64"
+# The machines that engines resolve profiles for: their names in `arches`, and the OCI names of their own syscalls, in
+# `archMap` and `architectures`.
+MACHINES = {"amd64": NATIVE, "arm64": AARCH64}
+
+
+def machine_here() -> str:
+    """The engines' name of this machine."""
+    return next(name for name, oci in MACHINES.items() if oci == architectures.of_machine())
+
 
 # The members that an engine doesn't read of those that another one does: moby since version 23, moby 20.10, and
 # containers-common. Without an engine all are read.
@@ -65,11 +72,12 @@ class Refused(Exception):
 
 @dataclass(frozen=True)
 class Setting:
-    """What decides which entries hold: a container's capabilities and its kernel; and which architectures are kept."""
+    """What decides which entries hold: a container's capabilities, its kernel and its machine; and which architectures
+    are kept."""
 
     capabilities: Sequence[str]
     kernel: tuple[int, int]
-    # Whether only x86-64 is handed on of the architectures that the engine names.
+    # Whether only the machine's own is handed on of the architectures that the engine names.
     is_native: bool = False
     # One of ENGINES; without one the members of all are read.
     engine: str | None = None
@@ -77,6 +85,13 @@ class Setting:
     ignored: Sequence[str] | None = ()
     # Where the capabilities come from, if no word names them.
     source: str | None = None
+    # One of MACHINES.
+    machine: str = field(default_factory=machine_here)
+
+    @property
+    def native(self) -> str:
+        """The OCI name of the machine's own architecture."""
+        return MACHINES[self.machine]
 
     @property
     def unread(self) -> Sequence[str]:
@@ -227,13 +242,13 @@ def why_left_out(entry: dict[str, Any], setting: Setting, where: str) -> str | N
     without = [it for it in excludes.get("caps", ()) if it in held]
     lacking = [it for it in includes.get("caps", ()) if it not in held]
     arches, most, least = includes.get("arches"), excludes.get("minKernel"), includes.get("minKernel")
-    if ENGINE_ARCH in excludes.get("arches", ()):
-        return f"not on {ENGINE_ARCH}"
+    if setting.machine in excludes.get("arches", ()):
+        return f"not on {setting.machine}"
     if without:
         return f"only without {without[0]}"
     if most is not None and setting.kernel >= version_of(most, f"{where}: excludes: minKernel"):
         return f"only below kernel {most}" if most else "for no kernel, since excludes: minKernel is empty"
-    if arches and ENGINE_ARCH not in arches:
+    if arches and setting.machine not in arches:
         return f"only on {excerpts(arches)}"
     if lacking:
         return f"only with {excerpts(lacking)}"
@@ -284,19 +299,19 @@ class Resolver:
 
     def architectures_of(self, top: dict[str, Any]) -> list[str]:
         """The architectures that the engine hands on."""
-        names, mapped = top.get("architectures", []), top.get("archMap", [])
+        names, mapped, own = top.get("architectures", []), top.get("archMap", []), self.setting.native
         if names and mapped:
             raise Refused("the profile has both architectures and archMap, and the engines take one")
         for one in mapped:
-            if one.get("architecture") == OCI_ARCH:
-                names = [OCI_ARCH, *(one.get("subArchitectures") or [])]
+            if one.get("architecture") == own:
+                names = [own, *(one.get("subArchitectures") or [])]
                 break
-        others = [it for it in names if it != OCI_ARCH]
+        others = [it for it in names if it != own]
         if self.setting.is_native and others:
-            if OCI_ARCH not in names:
-                raise Refused(f"the profile isn't for {OCI_ARCH}")
+            if own not in names:
+                raise Refused(f"the profile isn't for {own}")
             self.note(f"architectures left out: {excerpts(others)}")
-            return [OCI_ARCH]
+            return [own]
         return names
 
     def entry_of(self, entry: dict[str, Any], where: str) -> dict[str, Any] | None:

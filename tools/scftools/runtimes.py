@@ -20,7 +20,7 @@ from collections.abc import Callable, Iterator, Sequence
 
 from . import engines, libseccomp, multiplexed, profile_inputs, program, tables
 from .architectures import JUDGED, NATIVE
-from .engines import MAX_RULES, OCI_ARCH, Origin, Refused, Setting, excerpt, excerpts
+from .engines import MAX_RULES, Origin, Refused, Setting, excerpt, excerpts
 from .explanation import join_names
 from .libseccomp import Library
 from .values import Any, dataclass, field, replace
@@ -79,8 +79,8 @@ def add_options(parser: Parser, without_caps: str = "podman for podman, or docke
                              f"sets, as in docker,SYS_ADMIN [default: {without_caps}]")
     parser.add_argument("--kernel", metavar="X.Y", help="the kernel that the engine runs on [default: this one]")
     parser.add_argument("--arch", choices=("native", "all"),
-                        help="whether only x86-64 or all architectures are passed on [default: all, as the engine "
-                             "does]")
+                        help="whether only the machine's own or all architectures are passed on [default: all, as the "
+                             "engine does]")
     parser.add_argument("--ignore", metavar="MEMBER", action="append",
                         help="ignore a member of entries that no engine reads, which may be a condition")
 
@@ -98,7 +98,7 @@ def setting_of_words(options: Any, parser: Parser) -> Setting:
         return Setting(engines.capabilities_of(options.caps if options.caps is not None else
                                                "podman" if is_podman else "docker"),
                        engines.kernel_of(options.kernel or os.uname().release), options.arch == "native", engine,
-                       options.ignore or ())
+                       options.ignore or (), machine=getattr(options, "machine", None) or engines.machine_here())
     except ValueError as why:
         parser.error(str(why))
 
@@ -179,6 +179,8 @@ class _Application:
     library: Library | None
     # what a name has as its number on an architecture: by the library, or without one by the tables
     number_of: Callable[[str, str], int | None]
+    # the OCI name of the machine's own architecture
+    native: str
     # the architectures of the list that scf judges
     judged: Sequence[str] = ()
     remarks: list[str] = field(default_factory=list)
@@ -230,7 +232,7 @@ class _Application:
         for name in dict.fromkeys(names):
             if not name and self.runtime.program == RUNC:
                 self.refuse(f"a name of {where} is empty")
-            if self.number_of(name, NATIVE) is None:
+            if self.number_of(name, self.native) is None:
                 self.unknown[name] = None
                 continue
             found.append(name)
@@ -282,13 +284,14 @@ class _Application:
                            f"no conditions, covers all such syscalls" for origin, names in gone.items()]
 
     def architectures_of(self, names: Sequence[str]) -> list[str]:
-        """The architectures, x86-64 among them."""
+        """The architectures, the machine's own among them."""
         if self.runtime.program == CRUN:
             names = [PREFIX + it.removeprefix(PREFIX).upper() for it in names]
-        if not names or OCI_ARCH in names:
+        if not names or self.native in names:
             return list(names)
-        self.remarks.append(f"x86-64 syscalls are confined too, though architectures lacks {OCI_ARCH}")
-        return [OCI_ARCH, *names]
+        self.remarks.append(f"{JUDGED[self.native].name} syscalls are confined too, though architectures lacks "
+                            f"{self.native}")
+        return [self.native, *names]
 
     def stub_of(self, default: Answer) -> dict[str, int]:
         """By architecture the least number that runc's stub answers (findLastSyscalls of patchbpf), where it has one."""
@@ -384,7 +387,7 @@ def applied(value: Any, name: str, setting: Setting | None = None) -> AppliedPro
     resolved = resolver.resolved(value)
     library = libseccomp.installed()
     number_of = _number_in_tables if library is None else library.number_of
-    found = _Application(runtime, library, number_of).run(resolved, resolver.origins)
+    found = _Application(runtime, library, number_of, setting.native).run(resolved, resolver.origins)
     remarks = list(found.remarks)
     if setting.engine is not None and setting.source is not None:
         names = ", ".join(it[4:] for it in setting.capabilities) or "none"

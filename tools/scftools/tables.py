@@ -170,14 +170,15 @@ def nearest(name: str, table: Table) -> str | None:
     return next(iter(get_close_matches(name.lower(), list(table.names()), n=1, cutoff=NEAR)), None)
 
 
-def classify(names: Sequence[str], table: Table) -> Skipped:
-    """What the names are that a table doesn't have; each once, in order."""
+def classify(names: Sequence[str], table: Table, is_native: bool = True) -> Skipped:
+    """What the names are that a table, as a rule of x86-64, doesn't have; each once, in order."""
     elsewhere, known = names_elsewhere(), read(None)
     found = Skipped([], [], [])
     for name in dict.fromkeys(names):
-        if name in elsewhere:
+        is_known = known.number_of(name) is not None
+        if name in elsewhere or is_known and not is_native:
             found.elsewhere.append(name)
-        elif known.number_of(name) is not None:
+        elif is_known:
             found.left_out.append(name)
         else:
             found.unknown.append((name, nearest(name, table) if len(found.unknown) < MOST_LISTED else None))

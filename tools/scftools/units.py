@@ -14,7 +14,7 @@ import re
 from collections.abc import Callable, Iterator, Sequence
 
 from . import libseccomp, output, program
-from .engines import OCI_ARCH
+from .architectures import NATIVE
 from .values import Pattern, dataclass, field
 
 PROPERTIES = ("Id", "LoadState", "NeedDaemonReload", "FragmentPath", "DropInPaths", "SystemCallFilter",
@@ -39,7 +39,7 @@ ARCHITECTURES = {name: f"SCMP_ARCH_{oci}" for name, oci in (
     ("parisc64", "PARISC64"), ("ppc", "PPC"), ("ppc64", "PPC64"), ("ppc64-le", "PPC64LE"), ("riscv64", "RISCV64"),
     ("s390", "S390"), ("s390x", "S390X"))}
 # What an x86-64 kernel runs, of which systemd filters each.
-LOCAL = (OCI_ARCH, "SCMP_ARCH_X86", "SCMP_ARCH_X32")
+LOCAL = (NATIVE, "SCMP_ARCH_X86", "SCMP_ARCH_X32")
 # The most bytes of what a command of systemd prints, and the deepest nesting of groups.
 MOST_PRINTED, DEEPEST = 1 << 20, 16
 # The most bytes of a unit's file, and the most names that are listed as left out.
@@ -125,7 +125,7 @@ def architectures_of(text: str) -> list[str]:
     for word in words:
         if word not in ARCHITECTURES:
             raise SettingError(f"'{word[:64]}' isn't an architecture")
-    return list(dict.fromkeys([OCI_ARCH, *(ARCHITECTURES[word] for word in words)])) if words else list(LOCAL)
+    return list(dict.fromkeys([NATIVE, *(ARCHITECTURES[word] for word in words)])) if words else list(LOCAL)
 
 
 def groups_of(text: str) -> dict[str, list[str]]:

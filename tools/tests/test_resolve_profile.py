@@ -132,6 +132,21 @@ class ResolveProfile(Case):
         self.refused(engine(architectures=["SCMP_ARCH_ARM"]), "isn't for SCMP_ARCH_X86_64", "--arch", "native")
         self.assertEqual(self.resolved(engine(architectures=["SCMP_ARCH_ARM"]))[0]["architectures"], ["SCMP_ARCH_ARM"])
 
+    def test_another_machine(self):
+        """Engines call it arm64; its own syscalls are AARCH64's."""
+        given = engine(entry("a", includes={"arches": ["arm64"]}), entry("b", excludes={"arches": ["arm64"]}),
+                       entry("c", includes={"arches": ["arm", "arm64"]}), archMap=MAP)
+        found, said = self.resolved(given, "--machine", "arm64")
+        self.assertEqual(found["architectures"], ["SCMP_ARCH_AARCH64", "SCMP_ARCH_ARM"])
+        self.assertEqual([it["names"] for it in found["syscalls"]], [["a"], ["c"]])
+        self.assertIn("entry 1 (b) left out: not on arm64\n", said)
+        self.assertEqual(self.names(given, "--machine", "amd64"), ["b"])
+        self.assertEqual(self.resolved(given, "--machine", "arm64", "--arch", "native")[0]["architectures"],
+                         ["SCMP_ARCH_AARCH64"])
+        applied, said = self.resolved(given, "--machine", "arm64", "--runtime", "docker")
+        self.assertEqual(applied["architectures"], ["SCMP_ARCH_AARCH64", "SCMP_ARCH_ARM"])
+        self.assertNotIn("x86-64", said)
+
     def test_a_single_name(self):
         self.assertEqual(self.resolved(engine({"name": "read", "action": ALLOW}))[0], engine(entry("read")))
         self.assertEqual(self.resolved(engine({"name": "read", "names": [], "action": ALLOW}))[0],
