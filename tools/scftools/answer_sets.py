@@ -1,9 +1,10 @@
-"""Answer sets: for each x86-64 syscall number the answers that filters give, each with the arguments that get it.
+"""Answer sets: for each syscall number of an architecture the answers that filters give, each with the arguments that
+get it.
 
 A filter is followed instruction by instruction, over all arguments at once: jumps go forwards, so all that reaches an
 instruction is known when it is its turn. What isn't followed (an argument compared with another one, a product) is a
-variable of its own that no profile can test, as the instruction pointer is. The results only propose profiles: what is
-printed was compared by scf.
+variable of its own that no profile can test, as are the instruction pointer and the upper half of an argument that has
+32 bits. The results only propose profiles: what is printed was compared by scf.
 """
 from __future__ import annotations
 
@@ -11,10 +12,10 @@ import bisect
 from collections.abc import Callable, Iterator, Sequence
 
 from . import listing
-from .answers import X86_64
-from .argument_sets import ALL, BITS, NONE, OTHERS, Sets
+from .architectures import Architecture
+from .argument_sets import ALL, NONE, OTHERS, Sets
 from .filters import BY_X, JEQ, JGE, JGT, JSET, JUMP
-from .listing import ALU, ARCHITECTURE, ARGUMENTS, JUMPS, NUMBER, RETURNS, TXA, Instruction
+from .listing import ALU, ARCHITECTURE, ARGUMENTS, END, JUMPS, NUMBER, RETURNS, TXA, Instruction
 from .values import dataclass, replace
 
 WORD = (1 << 32) - 1
@@ -28,6 +29,9 @@ LENGTH = 64
 OF_DIVISION, ACTION = 0x00000000, 0xFFFF0000
 # The answer of a computation that isn't followed.
 UNFOLLOWED = None
+# The bits of a word of a record that no condition tests are variables, by its index: those of the instruction pointer,
+# from UPPER on those of upper halves of arguments. From COMPUTED on variables stand for what isn't followed.
+UPPER, COMPUTED = OTHERS + 32 * ARGUMENTS, OTHERS + 32 * END
 # The most values of a computed answer.
 VALUES = 16
 
@@ -91,10 +95,10 @@ class Shares(dict):
 
 
 class Machine:
-    """Follows filters over all arguments of some syscall numbers."""
+    """Follows filters over all arguments of some syscall numbers of an architecture, which are those of its table."""
 
-    def __init__(self, sets: Sets, numbers: Sequence[int]):
-        self.sets, self.numbers = sets, tuple(numbers)
+    def __init__(self, sets: Sets, one: Architecture, numbers: Sequence[int]):
+        self.sets, self.architecture, self.numbers = sets, one, tuple(one.first + it for it in numbers)
         # the variables for what isn't followed, by what it is
         self._variables: dict[object, int] = {}
         self._unknown: dict[object, Unknown] = {}
@@ -104,7 +108,7 @@ class Machine:
     def _variable(self, what: object) -> int:
         """The set where something that isn't followed is so."""
         at = self._variables.setdefault(what, len(self._variables))
-        return self.sets.node(OTHERS + BITS + at, NONE, ALL)
+        return self.sets.node(COMPUTED + at, NONE, ALL)
 
     def _opaque(self, origin: object) -> Unknown:
         """A word that isn't followed, by what it was computed from."""
@@ -114,11 +118,10 @@ class Machine:
         if word == NUMBER:
             return Numbers(self.numbers)
         if word == ARCHITECTURE:
-            return X86_64
-        if word < ARGUMENTS:
-            first = OTHERS + (0 if word % 2 else 32)
-            return Bits(tuple(self.sets.node(first + at, NONE, ALL) for at in range(32)))
-        return Bits(self.sets.bits_of((word - ARGUMENTS) // 2, word % 2))
+            return self.architecture.number
+        if word >= ARGUMENTS and 32 * (word % 2) < self.sets.bits:
+            return Bits(self.sets.bits_of((word - ARGUMENTS) // 2, word % 2))
+        return Bits(tuple(self.sets.node(OTHERS + 32 * word + at, NONE, ALL) for at in range(32)))
 
     def _numbers_where(self, holds: Callable[[int, int], bool], a: Word, value: Word) -> int:
         ones = a.values if isinstance(a, Numbers) else (a,) * len(self.numbers)
@@ -330,12 +333,12 @@ def _stricter(sets: Sets, newer: dict[int | None, int], older: Answers) -> dict[
     return found
 
 
-def of_filters(sets: Sets, filters: Sequence[bytes], numbers: Sequence[int]) -> list[Answers]:
-    """For each number the answers of a stack of accepted filters, oldest first.
+def of_filters(sets: Sets, filters: Sequence[bytes], one: Architecture, numbers: Sequence[int]) -> list[Answers]:
+    """For each number in an architecture's table the answers of a stack of accepted filters, oldest first.
 
     Raises TooMany if the filters compute too much.
     """
-    machine = Machine(sets, numbers)
+    machine = Machine(sets, one, numbers)
     of_each: list[list[dict[int | None, int]]] = []
     for data in filters:
         ours: list[dict[int | None, int]] = [{} for _ in numbers]

@@ -1,19 +1,19 @@
 """Sets of syscall arguments as binary decision diagrams: ordered and reduced, so that equal sets are equal numbers.
 
-A variable is a bit of an argument, from the highest bit of argument 0 to the lowest of argument 5. The variables after
-these stand for what a profile can't test. The results only propose profiles: what is printed was compared by scf.
+A variable is a bit of an argument, from the highest bit of argument 0 to the lowest of argument 5. The variables from
+`OTHERS` on stand for what a profile can't test. The results only propose profiles: what is printed was compared by scf.
 """
 from __future__ import annotations
 
 from collections.abc import Iterable
 
-from .entries import MOST, Condition
+from .entries import Condition
 
 # The sets without and with all arguments.
 NONE, ALL = 0, 1
-BITS, ARGUMENTS = 64, 6
+ARGUMENTS = 6
 # The first variable that isn't a bit of an argument; the most nodes of all sets together, and the most steps.
-OTHERS, NODES, STEPS = BITS * ARGUMENTS, 1 << 18, 1 << 21
+OTHERS, NODES, STEPS = 64 * ARGUMENTS, 1 << 18, 1 << 21
 
 
 class TooMany(Exception):
@@ -21,9 +21,10 @@ class TooMany(Exception):
 
 
 class Sets:
-    """All sets that were made, by their numbers."""
+    """All sets that were made, by their numbers; of arguments with so many bits, 64 or 32."""
 
-    def __init__(self) -> None:
+    def __init__(self, bits: int) -> None:
+        self.bits, self.most = bits, (1 << bits) - 1
         # of each set the variable that divides it, and its parts where that is 0 and 1
         self.nodes: list[tuple[int, int, int]] = [(1 << 32, NONE, NONE), (1 << 32, ALL, ALL)]
         self._numbers: dict[tuple[int, int, int], int] = {}
@@ -155,7 +156,7 @@ class Sets:
 
     def of_argument(self, one: int, index: int) -> int:
         """The values of an argument in a set, as the set of all arguments with such a value."""
-        return self._project(one, BITS * index, BITS * (index + 1))
+        return self._project(one, self.bits * index, self.bits * (index + 1))
 
     def _from(self, one: int, index: int, value: int, flip: int) -> int | None:
         """The least value of an argument from this one on that is in a set, or None; with every bit flipped if `flip`
@@ -163,12 +164,12 @@ class Sets:
         found, now = 0, one
         # where to go on if the bits of `value` lead nowhere
         greater: tuple[int, int, int] | None = None
-        for at in range(BITS):
+        for at in range(self.bits):
             variable, *parts = self.nodes[now]
-            if variable != BITS * index + at:
+            if variable != self.bits * index + at:
                 parts = [now, now]
             low, high = parts[flip], parts[1 - flip]
-            if value >> (BITS - 1 - at) & 1:
+            if value >> (self.bits - 1 - at) & 1:
                 found, now = found << 1 | 1, high
             else:
                 greater = (at + 1, found << 1 | 1, high) if high else greater
@@ -179,9 +180,9 @@ class Sets:
 
     def _least(self, index: int, at: int, found: int, now: int, flip: int) -> int:
         """The least value in a set that isn't empty, from a bit on, after the bits found before."""
-        for place in range(at, BITS):
+        for place in range(at, self.bits):
             variable, *parts = self.nodes[now]
-            if variable != BITS * index + place:
+            if variable != self.bits * index + place:
                 found <<= 1
                 continue
             low = parts[flip]
@@ -192,14 +193,14 @@ class Sets:
         """The first and the last value of the longest run of values of an argument around one that is in a set."""
         others = self.complement(one)
         after = self._from(others, index, value, 0)
-        before = self._from(others, index, value ^ MOST, 1)
-        return 0 if before is None else (before ^ MOST) + 1, MOST if after is None else after - 1
+        before = self._from(others, index, value ^ self.most, 1)
+        return 0 if before is None else (before ^ self.most) + 1, self.most if after is None else after - 1
 
     def _has(self, one: int, index: int, value: int) -> bool:
         """Whether a set of an argument's values has this one."""
         while one > ALL:
             variable, *parts = self.nodes[one]
-            one = parts[value >> (BITS * (index + 1) - 1 - variable) & 1]
+            one = parts[value >> (self.bits * (index + 1) - 1 - variable) & 1]
         return one == ALL
 
     def widest_mask(self, one: int, index: int, value: int, lowest: int, kept: int) -> int:
@@ -208,10 +209,10 @@ class Sets:
         It has the bits to be kept. It lacks the lowest bits, so many of them, which must be possible, those that don't
         matter, and as many others as can be dropped, from the highest on.
         """
-        mask, now = kept, self._project(one, 0, BITS * (index + 1) - lowest, is_for_all=True)
+        mask, now = kept, self._project(one, 0, self.bits * (index + 1) - lowest, is_for_all=True)
         while now > ALL:
             variable, *parts = self.nodes[now]
-            bit = 1 << (BITS * (index + 1) - 1 - variable)
+            bit = 1 << (self.bits * (index + 1) - 1 - variable)
             without = NONE if kept & bit else self.both(*parts)
             if without and self._has(without, index, value):
                 now = without
@@ -225,31 +226,31 @@ class Sets:
         while now != ALL:
             variable, low, high = self.nodes[now]
             if not low:
-                index, at = divmod(variable, BITS)
-                found[index] |= 1 << (BITS - 1 - at)
+                index, at = divmod(variable, self.bits)
+                found[index] |= 1 << (self.bits - 1 - at)
             now = low or high
         return tuple(found)
 
     def bits_of(self, index: int, half: int) -> tuple[int, ...]:
         """The bits of an argument's upper (1) or lower (0) half, the highest first, each as the set where it is 1."""
-        first = BITS * index + (0 if half else 32)
+        first = self.bits * (index + 1) - 32 * (half + 1)
         return tuple(self.node(variable, NONE, ALL) for variable in range(first, first + 32))
 
     def cube(self, index: int, value: int, mask: int) -> int:
         """The arguments of which one agrees with a value in these bits."""
         found = ALL
-        for at in range(BITS):
+        for at in range(self.bits):
             if mask >> at & 1:
                 parts = (NONE, found) if value >> at & 1 else (found, NONE)
-                found = self.node(BITS * (index + 1) - 1 - at, *parts)
+                found = self.node(self.bits * (index + 1) - 1 - at, *parts)
         return found
 
     def from_on(self, index: int, value: int) -> int:
         """The arguments of which one is at least this value."""
         found = ALL
-        for at in range(BITS):
+        for at in range(self.bits):
             parts = (NONE, found) if value >> at & 1 else (found, ALL)
-            found = self.node(BITS * (index + 1) - 1 - at, *parts)
+            found = self.node(self.bits * (index + 1) - 1 - at, *parts)
         return found
 
     def of_condition(self, one: Condition) -> int:
@@ -258,11 +259,11 @@ class Sets:
         if op == "SCMP_CMP_MASKED_EQ":
             return self.cube(index, two, value)
         if op in ("SCMP_CMP_EQ", "SCMP_CMP_NE"):
-            found = self.cube(index, value, MOST)
+            found = self.cube(index, value, self.most)
             return found if op == "SCMP_CMP_EQ" else self.complement(found)
         # at least `value`, or above it
         least = value + (op in ("SCMP_CMP_GT", "SCMP_CMP_LE"))
-        found = self.from_on(index, least) if least <= MOST else NONE
+        found = self.from_on(index, least) if least <= self.most else NONE
         return found if op in ("SCMP_CMP_GE", "SCMP_CMP_GT") else self.complement(found)
 
     def of_conditions(self, those: Iterable[Condition]) -> int:

@@ -32,7 +32,8 @@ MOST_UNDECIDED = 20
 class Comparison:
     """Filters, oldest first, a profile and x86-64's table; the step limit as a text, or None for scf's; a relation; of a
     resolved profile the index of each entry in the user's, and for each architecture the least number that runc answers
-    with ENOSYS; and whether x86-64 alone is judged, whatever the profile names."""
+    with ENOSYS; whether x86-64 alone is judged, whatever the profile names; and the OCI name of the table's
+    architecture, if that isn't x86-64."""
 
     filters: Sequence[Filter]
     profile: bytes
@@ -42,12 +43,13 @@ class Comparison:
     origins: Sequence[Origin] | None = None
     stub: newer.Bounds = field(default_factory=dict)
     is_native: bool = False
+    architecture: str = architectures.NATIVE
     _facts: list[Profile | None] = field(default_factory=list)
 
     @property
     def tables(self) -> Tables:
         """The tables of the architectures that are judged."""
-        return tables.of_profile(self.profile, self.table, self.is_native)
+        return tables.of_profile(self.profile, self.table, self.is_native, self.architecture)
 
     @property
     def scope(self) -> str:

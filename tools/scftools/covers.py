@@ -8,8 +8,8 @@ from __future__ import annotations
 import itertools
 from collections.abc import Sequence
 
-from .argument_sets import ALL, BITS, NONE, Sets, TooMany
-from .entries import MOST, Condition
+from .argument_sets import ALL, NONE, Sets, TooMany
+from .entries import Condition
 
 # The most alternatives for a set, and for all sets of a table together; the first of a set are tried in so many orders
 # of the arguments, and the later ones in two.
@@ -30,7 +30,7 @@ class _Cover:
 
     def __init__(self, sets: Sets, whole: int, is_listing: bool):
         self.sets, self.whole, self.outside, self.is_listing = sets, whole, sets.complement(whole), is_listing
-        self.indices = sorted({variable // BITS for variable in sets.variables(whole)})
+        self.indices = sorted({variable // sets.bits for variable in sets.variables(whole)})
 
     def _cube(self, values: int, index: int, value: int, run: tuple[int, int]) -> Condition:
         """A wide masked condition that holds of a value, and only of some values, given the run around it.
@@ -38,13 +38,13 @@ class _Cover:
         In a listing, of a half that is compared as a whole, or from some bit on, only the lowest bits are dropped, to
         cover a long run.
         """
-        first, last = run
+        (first, last), width = run, self.sets.bits
         lowest = 0
         while last - first >= LISTED and value & ~((2 << lowest) - 1) >= first and value | (2 << lowest) - 1 <= last:
             lowest += 1
-        matter = {BITS - 1 - variable % BITS for variable in self.sets.variables(values)}
+        matter = {width - 1 - variable % width for variable in self.sets.variables(values)}
         kept = 0
-        for half in (0, 32):
+        for half in range(0, width, 32):
             bits = range(min((it for it in matter if half <= it < half + 32), default=half + 32), half + 32)
             if self.is_listing and matter.issuperset(bits):
                 kept |= sum(1 << bit for bit in bits if bit >= lowest)
@@ -56,13 +56,13 @@ class _Cover:
         if values == ALL:
             return None
         others = self.sets.complement(values)
-        if self.sets.weight(others) << BITS == self.sets.weight(ALL):
+        if self.sets.weight(others) << self.sets.bits == self.sets.weight(ALL):
             return Condition(index, "SCMP_CMP_NE", self.sets.least(others)[index], 0)
         first, last = self.sets.run_around(values, index, value)
         found = [Condition(index, "SCMP_CMP_EQ", value, 0)]
         if first == 0 and last:
             found.append(Condition(index, "SCMP_CMP_LE", last, 0))
-        if last == MOST and first < MOST:
+        if last == self.sets.most and first < last:
             found.append(Condition(index, "SCMP_CMP_GE", first, 0))
         found.append(self._cube(values, index, value, (first, last)))
         return max(found, key=lambda it: self.sets.weight(self.sets.of_condition(it)))
@@ -132,7 +132,7 @@ class Covers:
         return found
 
     def _search(self, arguments: int, is_listing: bool) -> list[Alternative] | None:
-        sets = Sets()
+        sets = Sets(self.sets.bits)
         try:
             found = _Cover(sets, sets.copy(arguments, self.sets), is_listing).find()
         except (TooMany, TooManyAlternatives):

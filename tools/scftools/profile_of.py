@@ -1,4 +1,5 @@
-"""Profiles of filters: what filters answer to x86-64 syscalls, as a profile that scf proves to answer the same.
+"""Profiles of filters: what filters answer to the syscalls of an architecture, as a profile that scf proves to answer
+the same; and which other architectures it also says so of.
 
 Where no profile can say it there are two: the nearest that is nowhere stricter than the filters, and the nearest that
 is nowhere more permissive. What is drafted here is printed only if scf has proved it.
@@ -8,20 +9,22 @@ from __future__ import annotations
 from collections import Counter
 from collections.abc import Iterable, Iterator, Sequence
 
-from . import answer_sets, compare, engines, newer, output, program, reasons, runtimes, tables, unnamed
-from .answer_sets import UNFOLLOWED, Answers
-from .answers import DISPOSITIONS, X32, Answer
-from .argument_sets import ALL, BITS, NONE, OTHERS, Sets, TooMany
-from .calls import Call
+from . import answer_sets, architectures, engines, newer, output, program, reasons, runtimes, tables, unnamed
+from .answer_sets import COMPUTED, UNFOLLOWED, UPPER, Answers
+from .answers import ALLOWED, DISPOSITIONS, X32, Answer
+from .architectures import JUDGED, NATIVE, Architecture
+from .argument_sets import ALL, NONE, OTHERS, Sets, TooMany
+from .calls import NO_CALL, Call
 from .client import Refusal
-from .compare import CALLS, NATIVE, Comparison
+from .compare import Comparison
 from .covers import Alternative, Covers
+from .explanation import join_names
 from .filters import Filter
 from .newer import ENOSYS
-from .questions import EVERYTHING, NOTHING, Asker
-from .tables import Table
+from .questions import EVERYTHING, IS_REFUSED, NOTHING, Asker
+from .tables import Table, Tables
 from .values import dataclass, field, replace
-from .verdicts import NO_LESS, NO_MORE, SAME, Report
+from .verdicts import NO_LESS, NO_MORE, SAME, NamedCall, Report
 
 # The actions whose data a profile says.
 WITH_DATA = ("ERRNO", "TRACE")
@@ -55,15 +58,22 @@ def entry_of(names: Sequence[str], answer: Answer, alternative: Alternative) -> 
 
 @dataclass(frozen=True)
 class FilterAnswers:
-    """What filters answer to some syscall numbers: those in a table, and those at which the filters' tests change."""
+    """What filters answer to some syscall numbers of an architecture: those in its table, and those at which the
+    filters' tests change."""
 
+    architecture: Architecture
     sets: Sets
     table: Table
     numbers: Sequence[int]
     answers: Sequence[Answers]
     covers: Covers
-    # the least number that runc's stub answers, or one that no x86-64 syscall has
+    # the least number that runc's stub answers, or one that no table has
     end: int = X32
+
+    @property
+    def are_kills(self) -> bool:
+        """Whether they kill every syscall of the architecture."""
+        return all(nearest(word, True).action.startswith("KILL") for found in self.answers for word, _ in found)
 
     def with_stub(self) -> FilterAnswers:
         """The same without the numbers that all get ENOSYS, from one on."""
@@ -105,10 +115,12 @@ class FilterAnswers:
         if any(word is UNFOLLOWED for word, _ in found):
             return "its answer is computed"
         variables = set().union(*(self.sets.variables(arguments) for _, arguments in found))
-        if any(OTHERS <= it < OTHERS + BITS for it in variables):
+        if any(OTHERS <= it < UPPER for it in variables):
             return "its answer depends on the instruction pointer"
-        if any(it >= OTHERS + BITS for it in variables):
+        if any(it >= COMPUTED for it in variables):
             return "its answer depends on a comparison or computation that no operator makes"
+        if any(it >= UPPER for it in variables):
+            return "its answer depends on the upper half of an argument"
         return None
 
     def why_not(self, found: Answers) -> str | None:
@@ -156,19 +168,30 @@ class Draft:
         if answer != default:
             yield answer, ()
 
-    def profile(self) -> dict[str, object]:
-        default, entries = self.default(), {}
+    def _add_to(self, entries: dict[tuple[Answer, Alternative], list[str]], default: Answer, known: set[str]) -> None:
+        """Adds the names of each entry beside a default, but for syscalls with a known name."""
+        table = self.filters.table
         for number, name, found in self.filters.named():
-            for answer, alternative in self._alternatives(number, found, default):
-                entries.setdefault((answer, alternative), []).append(name)
-        last = self.filters.table.names_of(self.filters.end - 1)
+            if known.isdisjoint(table.names_of(number)):
+                for answer, alternative in self._alternatives(number, found, default):
+                    entries.setdefault((answer, alternative), []).append(name)
+        last = table.names_of(self.filters.end - 1)
         if last and not any(last[0] in names for names in entries.values()):
             # runc's stub begins after the greatest number that a profile names
-            entries[default, ()] = [last[0]]
+            entries.setdefault((default, ()), []).append(last[0])
+
+    def profile(self, others: Sequence[FilterAnswers] = ()) -> dict[str, object]:
+        """The profile, which also lists other architectures, with those names that it and the ones before lack."""
+        drafts = [self, *(Draft(it, self.is_permissive) for it in others)]
+        default, entries = self.default(), {}
+        known: set[str] = set()
+        for draft in drafts:
+            draft._add_to(entries, default, known)
+            known.update(draft.filters.table.names())
         order = sorted(entries.items(), key=lambda it: (bool(it[0][1]), -DISPOSITIONS.index(it[0][0].disposition)))
         listed = [entry_of(sorted(names), *key) for key, names in order]
-        return {**members_of(default, "defaultAction", "defaultErrnoRet"), "architectures": [engines.OCI_ARCH],
-                "syscalls": listed}
+        return {**members_of(default, "defaultAction", "defaultErrnoRet"),
+                "architectures": [it.filters.architecture.oci for it in drafts], "syscalls": listed}
 
 
 # What holds of filters beside a profile that is no less, or no more, permissive than they.
@@ -180,12 +203,14 @@ OPPOSITE = {NO_LESS: (NO_MORE, "more permissive"), NO_MORE: (NO_LESS, "stricter"
 
 @dataclass(frozen=True)
 class ProvedProfile:
-    """A profile of which scf proved how permissive it is beside the filters; scf's report on each syscall in the table;
-    and the least number that runc's stub answers, if the profile has one."""
+    """A profile of which scf proved how permissive it is beside the filters; the OCI names of the architectures that it
+    lists; the syscalls in the table that aren't proved to get the same answer; and by architecture the least number
+    that runc's stub answers, if the profile has one."""
 
     profile: dict[str, object]
     relations: tuple[str, ...]
-    report: Report
+    architectures: Sequence[str]
+    calls: Sequence[NamedCall] = ()
     stub: dict[str, int] = field(default_factory=dict)
 
     @property
@@ -195,54 +220,92 @@ class ProvedProfile:
 
 @dataclass(frozen=True)
 class Request:
-    """Filters, oldest first, a table, the step limit as a text, and the name of the runtime that reads the profile."""
+    """Filters, oldest first, the table of an architecture, the step limit as a text, the architecture, the name of the
+    runtime that reads the profile, and the OCI names of other architectures that the profile may list, too."""
 
     filters: Sequence[Filter]
     table: Table
     limit: str | None = None
+    architecture: Architecture = JUDGED[NATIVE]
     runtime: str | None = None
+    others: Sequence[str] = ()
+
+    @property
+    def data(self) -> list[bytes]:
+        return [it.data for it in self.filters]
 
     def comparison(self, profile: dict[str, object], relation: str = SAME) -> tuple[Comparison, dict[str, int]]:
         """The comparison of the filters with a profile, and the numbers from which on the runtime may put a stub."""
-        found = Comparison(self.filters, engines.to_bytes(profile), self.table, self.limit, OF_FILTERS[relation])
+        found = Comparison(self.filters, engines.to_bytes(profile), self.table, self.limit, OF_FILTERS[relation],
+                           architecture=self.architecture.oci)
         if self.runtime is None:
             return found, {}
         applied = runtimes.applied(engines.read(found.profile), self.runtime)
         return replace(found, profile=applied.data, origins=applied.origins), applied.stub
 
-    def compared(self, profile: dict[str, object], relation: str, scope: str = NATIVE) -> \
-            tuple[Report, dict[str, int]]:
-        """scf's report on whether a profile has this relation to the filters, and where runc's stub begins.
+    def compared(self, profile: dict[str, object], relation: str = SAME) -> tuple[Report, dict[str, int]]:
+        """scf's report on whether a profile has this relation to the filters, in each architecture that it lists, and
+        where runc's stub begins.
 
         Raises Refusal if scf refuses the filters, the table or the limit.
         """
         comparison, first = self.comparison(profile, relation)
-        status, report, has_stub = newer.compared_with_stub(comparison, scope, first)
+        status, report, has_stub = newer.compared_with_stub(comparison, comparison.scope, first)
         if report.fault is not None and report.fault.source != "profile":
             raise Refusal(report.fault.line, status)
         return report, first if has_stub else {}
 
+    def calls(self, profile: dict[str, object], relation: str) -> list[NamedCall]:
+        """The syscalls in the table of which this relation isn't proved, of a profile that scf takes."""
+        comparison, first = self.comparison(profile, relation)
+        expected = newer.expecting_stub(comparison, first if relation == SAME else {})
+        return expected.calls_of(self.architecture.oci)
+
+    def check(self) -> None:
+        """Raises Refusal if scf refuses the filters, the table or the limit."""
+        self.compared({"defaultAction": "SCMP_ACT_ALLOW", "architectures": [self.architecture.oci], "syscalls": []})
+
     def answers(self) -> FilterAnswers:
-        """What the filters answer, number by number; nothing is known if they compute too much."""
-        self.compared({"defaultAction": "SCMP_ACT_ALLOW", "syscalls": []}, SAME)
-        filters, sets = [it.data for it in self.filters], Sets()
-        turns = {it for it in unnamed.tested(filters) if it < X32}
-        numbers = sorted({*self.table.numbers(), *turns, *(first for first, _ in unnamed.gaps(self.table))})
+        """What accepted filters answer, number by number; nothing is known if they compute too much."""
+        one, sets = self.architecture, Sets(self.architecture.bits)
+        numbers = sorted({*self.table.numbers(), *unnamed.tested(self.data, one),
+                          *(first for first, _ in unnamed.gaps(self.table, one))})
         try:
-            found = answer_sets.of_filters(sets, filters, numbers)
+            found = answer_sets.of_filters(sets, self.data, one, numbers)
         except TooMany:
-            sets, found = Sets(), [((UNFOLLOWED, ALL),)] * len(numbers)
-        answers = FilterAnswers(sets, self.table, numbers, found, Covers(sets))
+            sets, found = Sets(one.bits), [((UNFOLLOWED, ALL),)] * len(numbers)
+        answers = FilterAnswers(one, sets, self.table, numbers, found, Covers(sets))
         is_runc = self.runtime is not None and runtimes.RUNTIMES[self.runtime].program == runtimes.RUNC
         return answers.with_stub() if is_runc else answers
 
+    def answers_to_others(self) -> list[FilterAnswers]:
+        """What the filters answer in each other architecture, but those of which they kill every syscall."""
+        known = {it: tables.of_architecture(it) for it in self.others}
+        found = [replace(self, table=table, architecture=JUDGED[it]).answers() for it, table in known.items()
+                 if table is not None]
+        return [it for it in found if not it.are_kills]
 
-def _same(request: Request, answers: FilterAnswers) -> ProvedProfile | None:
-    """The profile that answers as the filters do, if scf proves it."""
-    profile = Draft(answers, True).profile()
-    report, stub = request.compared(profile, SAME)
+
+def _same(request: Request, answers: FilterAnswers, others: Sequence[FilterAnswers] = ()) -> ProvedProfile | None:
+    """The profile that answers as the filters do, also in other architectures, if scf proves it."""
+    profile, listed = Draft(answers, True).profile(others), [it.architecture.oci for it in (answers, *others)]
+    report, stub = request.compared(profile)
     is_proved = report.verdict is not None and report.verdict.holds
-    return ProvedProfile(profile, (SAME,), report, stub) if is_proved else None
+    return ProvedProfile(profile, (SAME,), listed, stub=stub) if is_proved else None
+
+
+def _with_others(request: Request, answers: FilterAnswers, alone: ProvedProfile) -> ProvedProfile:
+    """The profile, which lists each other architecture too in which scf proves the same of it."""
+    others = request.answers_to_others()
+    found = _same(request, answers, others) if others else alone
+    if found is not None:
+        return found
+    kept: list[FilterAnswers] = []
+    for one in others if len(others) > 1 else ():
+        found = _same(request, answers, [*kept, one])
+        if found is not None:
+            alone, kept = found, [*kept, one]
+    return alone
 
 
 def _bound(request: Request, answers: FilterAnswers, relation: str) -> ProvedProfile | None:
@@ -253,10 +316,12 @@ def _bound(request: Request, answers: FilterAnswers, relation: str) -> ProvedPro
         profile = draft.profile()
         report, _ = request.compared(profile, relation)
         if report.verdict is not None and report.verdict.holds:
-            return ProvedProfile(profile, (relation,), request.compared(profile, SAME, CALLS)[0])
-        failed: Iterable[int | None] = {it.number for it in request.compared(profile, relation, CALLS)[0].calls}
+            return ProvedProfile(profile, (relation,), [request.architecture.oci], request.calls(profile, SAME))
+        failed: Iterable[int | None]
         if report.fault is not None:
             failed = {number for number, _, found in answers.named() if len(found) > 1}
+        else:
+            failed = {it.number for it in request.calls(profile, relation)}
         draft.levels.update({it: min(draft.levels.get(it, EXACT) + 1, UTMOST) for it in failed or [None]})
     return None
 
@@ -271,15 +336,16 @@ def _bounds(request: Request, answers: FilterAnswers) -> list[ProvedProfile]:
 
 def _other_number(request: Request, answers: FilterAnswers, profile: dict[str, object]) -> Iterator[str]:
     """A line with an example of a number that the table doesn't name, if the profile's default isn't its answer."""
-    asker, data = Asker([it.data for it in request.filters], request.limit), engines.to_bytes(profile)
+    asker, data, one = Asker(request.data), engines.to_bytes(profile), request.architecture
     default = {it: profile[it] for it in ("defaultAction", "defaultErrnoRet") if it in profile}
     for number, found in answers.others():
         for word, arguments in found:
             answer = nearest(word, True)
             if word == answer.word and members_of(answer, "defaultAction", "defaultErrnoRet") == default:
                 continue
-            call = Call(number, arguments=answers.sets.least(answers.sets.possible(arguments)))
-            ours, theirs = asker.decided(call), reasons.of(data, tables.native_alone(request.table.data), call.words()).answer
+            least = answers.sets.least(answers.sets.possible(arguments))
+            call = Call(one.first + number, one.number, arguments=least)
+            ours, theirs = asker.decided(call), reasons.of(data, Tables({one.oci: request.table}), call.words()).answer
             if ours is not None and theirs is not None and ours != theirs:
                 yield (f"numbers that the table doesn't name differ, such as {number}: filter {ours} profile {theirs}")
                 return
@@ -288,24 +354,51 @@ def _other_number(request: Request, answers: FilterAnswers, profile: dict[str, o
 def _differences(request: Request, answers: FilterAnswers, one: ProvedProfile) -> Iterator[str]:
     """How a profile differs from the filters: each syscall by scf's line, and why no profile answers so."""
     yield f"proved: {' and '.join(SAID[it] for it in one.relations)} than the filters"
-    whys = {number: answers.why_not(found) or "scf doesn't prove more" for number, _, found in answers.named()}
-    farther = []
+    # (of numbers that runc's stub answers nothing is known)
+    whys = {it: "scf doesn't prove more" for it in answers.table.numbers()}
+    whys.update((number, why) for number, _, found in answers.named() for why in [answers.why_not(found)] if why)
+    farther: list[NamedCall] = []
     if len(one.relations) == 1:
         other, word = OPPOSITE[one.relations[0]]
-        farther = request.compared(one.profile, other, CALLS)[0].calls
+        farther = request.calls(one.profile, other)
         yield f"syscalls in the table for which the profile is, or may be, {word}: {len(farther)}"
     for it in farther:
         yield it.line
         yield f"{it.names[0]}: {whys[it.number]}"
     numbers = {it.number for it in farther}
     alike: dict[str, list[str]] = {}
-    for it in one.report.calls:
+    for it in one.calls:
         if it.number not in numbers:
             how = f"only other answers, since {whys[it.number]}" if it.verdict.fails else \
                 f"as permissive, but not proved to get the same answers ({it.verdict.word})"
             alike.setdefault(how, []).append(it.names[0])
     yield from (f"{how}: {', '.join(names)}" for how, names in alike.items())
     yield from _other_number(request, answers, one.profile)
+
+
+def _covered(request: Request, listed: Sequence[str], count: int = 1) -> Iterator[str]:
+    """Which architectures a profile lists, or so many, if it is more than one, or if the filters may allow syscalls of
+    others; and these."""
+    others = [line for it in request.others if it not in listed for line in _allowed(request, JUDGED[it])]
+    if others or len(listed) > 1:
+        who = "the profile covers" if count == 1 else "the profiles cover"
+        yield f"{who} {join_names(architectures.names_of(listed))} syscalls"
+    yield from others
+
+
+def _allowed(request: Request, one: Architecture) -> Iterator[str]:
+    """A line if scf doesn't prove that the filters deny every syscall of an architecture."""
+    # no syscall has a number from NO_CALL on
+    verdict = Asker(request.data, request.limit, one).of_numbers(IS_REFUSED, 0, min(one.last, NO_CALL - 1) - one.first)
+    if verdict is None or verdict.holds:
+        return
+    said = "undecided whether any syscall is allowed"
+    if verdict.call is not None and verdict.filters is not None:
+        which = "some syscalls are allowed" if verdict.filters.disposition == ALLOWED else "not every syscall is denied"
+        number, table = verdict.call.number - one.first, tables.of_architecture(one.oci)
+        names = [] if table is None else table.names_of(number)
+        said = f"{which}, such as {f'{names[0]} ({number})' if names else f'number {number}'}: {verdict.filters}"
+    yield f"{one.name}: {said}; --arch {one.name} prints its profile"
 
 
 @dataclass(frozen=True)
@@ -317,26 +410,35 @@ class Result:
     remarks: Sequence[str]
 
 
+def _both_sides(request: Request, answers: FilterAnswers) -> Iterator[str]:
+    """The nearest profiles on both sides of the filters, each after lines about it."""
+    yield "# no profile was found that scf proves to answer as the filters do"
+    if request.runtime is None and answers.with_stub().end != answers.end:
+        yield "# if runc loaded the filter, --runtime runc expects the ENOSYS that it adds"
+    bounds = _bounds(request, answers)
+    yield from output.notes(_covered(request, [request.architecture.oci], len(bounds)))
+    for bound in bounds:
+        yield from output.notes(_differences(request, answers, bound))
+        yield bound.text.rstrip("\n")
+    for relation in (NO_LESS, NO_MORE):
+        if not any(relation in bound.relations for bound in bounds):
+            yield f"# nor one that is {SAID[relation]} than the filters"
+
+
 def of_request(request: Request, relation: str) -> Result:
     """The profile of filters; with a relation other than the same, the nearest one that has it."""
+    request.check()
     answers = request.answers()
     same = _same(request, answers)
     if same is not None:
-        comparison, _ = request.comparison(same.profile)
-        remarks = list(compare.of_foreign(comparison, same.report, NATIVE, is_quiet=True))
-        return Result(program.SUCCESS, same.text, remarks + ([runtimes.stub_note(same.stub)] if same.stub else []))
-    if relation != SAME:
-        bound = _bound(request, answers, relation)
-        if bound is None:
-            return Result(program.UNKNOWN, "", [f"no profile was found that scf proves to be {SAID[relation]} than the "
-                                                f"filters"])
-        return Result(program.SUCCESS, bound.text, list(_differences(request, answers, bound)))
-    lines = ["# no profile was found that scf proves to answer as the filters do"]
-    if request.runtime is None and answers.with_stub().end != X32:
-        lines.append("# if runc loaded the filter, --runtime runc expects the ENOSYS that it adds")
-    missing = [NO_LESS, NO_MORE]
-    for bound in _bounds(request, answers):
-        lines += [*output.notes(_differences(request, answers, bound)), bound.text.rstrip("\n")]
-        missing = [it for it in missing if it not in bound.relations]
-    lines += [f"# nor one that is {SAID[it]} than the filters" for it in missing]
-    return Result(program.UNKNOWN, "\n".join(lines) + "\n", [])
+        same = _with_others(request, answers, same)
+        stub = [runtimes.stub_note(same.stub)] if same.stub else []
+        return Result(program.SUCCESS, same.text, [*_covered(request, same.architectures), *stub])
+    if relation == SAME:
+        return Result(program.UNKNOWN, "".join(f"{line}\n" for line in _both_sides(request, answers)), [])
+    bound = _bound(request, answers, relation)
+    if bound is None:
+        return Result(program.UNKNOWN, "", [f"no profile was found that scf proves to be {SAID[relation]} than the "
+                                            f"filters"])
+    return Result(program.SUCCESS, bound.text,
+                  [*_differences(request, answers, bound), *_covered(request, bound.architectures)])

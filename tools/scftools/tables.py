@@ -121,20 +121,20 @@ def of_bundle(bundle: bytes) -> Tables | None:
         it is not None for it in found.values()) else None
 
 
-def of_architectures(names: Iterable[str], table: Table) -> Tables:
-    """The tables of those architectures with these OCI names that scf judges, with this one for x86-64's; x86-64's alone
-    if scf judges none of them."""
-    found = {name: table if name == NATIVE else of_architecture(name) for name in JUDGED if name in set(names)}
+def of_architectures(names: Iterable[str], table: Table, own: str = NATIVE) -> Tables:
+    """The tables of those architectures with these OCI names that scf judges, with this one for x86-64's, or another's
+    own; this one alone if scf judges none of them."""
+    found = {name: table if name == own else of_architecture(name) for name in JUDGED if name in set(names)}
     known = {name: its for name, its in found.items() if its is not None}
-    return Tables(known or {NATIVE: table})
+    return Tables(known or {own: table})
 
 
-def of_profile(profile: bytes, table: Table, is_native: bool = False) -> Tables:
-    """The tables of the architectures that a profile names, with this one for x86-64's; on request x86-64's alone. One
-    that names none is for this machine's own."""
+def of_profile(profile: bytes, table: Table, is_native: bool = False, own: str = NATIVE) -> Tables:
+    """The tables of the architectures that a profile names, with this one for x86-64's, or another's own; on request
+    this one alone. A profile that names none is for this machine's own."""
     if is_native:
-        return Tables({NATIVE: table})
-    return of_architectures(profiles.architectures_of(profile) or [architectures.of_machine()], table)
+        return Tables({own: table})
+    return of_architectures(profiles.architectures_of(profile) or [architectures.of_machine()], table, own)
 
 
 def names_elsewhere() -> set[str]:

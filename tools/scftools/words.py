@@ -96,8 +96,9 @@ class Parser(argparse.ArgumentParser):
 
     def arch(self) -> None:
         """Adds `--arch`."""
-        self.add_argument("--arch", metavar="ARCH", help="the architecture of the syscalls: x86-64, i386, x32, aarch64 "
-                          "or arm [default: this machine's]")
+        self.add_argument("--arch", metavar="ARCH",
+                          help="the architecture of the syscalls, and of the table if none is given: x86-64, i386, "
+                               "x32, aarch64 or arm [default: this machine's]")
 
     def limit(self) -> None:
         """Adds `--limit`."""

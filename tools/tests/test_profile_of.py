@@ -2,9 +2,13 @@
 import json
 import os
 import random
+import subprocess
 import sys
+from unittest import mock
 
-from common import ALLOW, EPERM, KILL_PROCESS, KILL_THREAD, TOP, X86_64, Case, insn, jeq, jge, load, ret
+import several
+from common import ALLOW, EPERM, KILL_PROCESS, KILL_THREAD, TOP, X86_64, Case, insn, jeq, jge, load, ret, tool
+from seccomp_library import NEEDED, Library
 from stand_in import StandIn, unpacked
 
 sys.path.append(os.path.join(TOP, "tools"))
@@ -164,6 +168,12 @@ def entry(answer, *names, **condition):
     return {**found, "args": [condition]} if condition else found
 
 
+def members_of_default(answer):
+    """The members of a profile that give a default answer."""
+    action, _, errno = answer.partition(" ")
+    return {"defaultAction": f"SCMP_ACT_{action}", **({"defaultErrnoRet": int(errno)} if errno else {})}
+
+
 class Profiles(Case):
     """What the tool prints for made and drawn filters."""
 
@@ -179,10 +189,8 @@ class Profiles(Case):
         """The whole profile of filters, which are answered by it."""
         status, out, err = self.run_on(filters, *words)
         self.assertEqual((status, err), (0, ""))
-        action, _, errno = default.partition(" ")
-        self.assertEqual(json.loads(out), {
-            "defaultAction": f"SCMP_ACT_{action}", **({"defaultErrnoRet": int(errno)} if errno else {}),
-            "architectures": ["SCMP_ARCH_X86_64"], "syscalls": list(entries)})
+        self.assertEqual(json.loads(out), {**members_of_default(default), "architectures": ["SCMP_ARCH_X86_64"],
+                                           "syscalls": list(entries)})
         profile = self.file("printed.json", out)
         names = [self.file(f"{at}.bpf", data) for at, data in enumerate(filters)]
         self.assertEqual(self.run_tool("compare", "--table", self.table, *names, profile)[:2], (0, "same\n"))
@@ -219,7 +227,7 @@ class Profiles(Case):
                                   16: ret(USER_NOTIF)}, KILL_PROCESS)], "KILL_PROCESS",
                      entry("ALLOW", "read", "write"), entry("NOTIFY", "ioctl"), entry("TRACE 7", "personality"),
                      entry("ERRNO 22", "socket"))
-        self.is_read([ret(TRAP)], "TRAP")
+        self.is_read([gate(ret(TRAP))], "TRAP")
         self.is_read([gate(ret(LOG))], "LOG")
         self.is_read([of_numbers({0: ret(KILL_THREAD)}, TRACE | 65535)], "TRACE 65535", entry("KILL_THREAD", "read"))
 
@@ -340,11 +348,6 @@ class Profiles(Case):
         self.assertEqual(json.loads(out)["syscalls"], [entry("ALLOW", "read"), entry("ERRNO 1", "personality")])
         self.assertEqual(self.run_on([stubbed])[0], 4)
 
-    def test_other_abis_are_told(self):
-        status, _, err = self.run_on([ret(ALLOW)])
-        self.assertEqual(status, 0)
-        self.assertIn("profile-of: i386: ", err)
-
     def test_refusals(self):
         for filters, table, status, says in (
                 ([jeq(0, 9, 0) + ret(ALLOW)], OWN, 1, "profile-of: fault filter Jump at 0\nprofile-of: This jump"),
@@ -370,3 +373,265 @@ class Profiles(Case):
         status, out, _ = self.run_on([gate(many + jset(1, 0, 1) + ret(ALLOW) + ret(EPERM))], seconds=60)
         self.assertEqual(status, 4)
         self.assertIn("# no profile was found", out)
+
+
+NATIVE, X86, X32_NAME, AARCH64, ARM = several.ARCHITECTURES
+FILES = {NATIVE: "x86_64", X86: "i386", X32_NAME: "x32", AARCH64: "aarch64", ARM: "arm"}
+
+
+def table_of(name):
+    """The names of a table that comes with scf."""
+    with open(os.path.join(TOP, "tables", f"{FILES[name]}.table"), encoding="ascii") as file:
+        return {syscall: int(number) for syscall, number in (line.split() for line in file if line[0] != "#")}
+
+
+# The second reading of profiles, with these tables.
+WITH_TABLES = {name: (*it[:5], table_of(name)) for name, it in several.ARCHITECTURES.items()}
+
+
+def of_records(codes):
+    """Answers the records of each architecture by a piece of code that has the number loaded, and kills all others."""
+    pieces = b""
+    for name, code in codes.items():
+        arch, first, last = several.ARCHITECTURES[name][:3]
+        if arch == X86_64:
+            # a jump over the code if the number isn't the architecture's
+            code = jge(first, 0, 1) + jgt(last, 0, 1) + insn(5, len(code) // 8) + code
+        code = load(0) + code
+        pieces += load(4) + jeq(arch, 1, 0) + insn(5, len(code) // 8) + code
+    return pieces + ret(KILL_PROCESS)
+
+
+def tests_of(codes, other):
+    """Answers each of these numbers by a piece of code, and all others so."""
+    return b"".join(jeq(number, 0, len(code) // 8) + code for number, code in codes.items()) + ret(other)
+
+
+class OtherArchitectures(Case):
+    """The profile of each architecture, and those that one profile covers."""
+
+    def printed(self, data, *words):
+        """The status, the profile, and what is said of it."""
+        status, out, err = self.run_tool("profile-of", *words, self.file("f.bpf", data))
+        return status, json.loads(out) if status == 0 else out, err
+
+    def is_read(self, data, name, default, *entries, said=""):
+        """The whole profile of one architecture, which scf compares again."""
+        status, found, err = self.printed(data, "--arch", FILES[name])
+        self.assertEqual((status, err), (0, said))
+        self.assertEqual(found, {**members_of_default(default), "architectures": [name], "syscalls": list(entries)})
+        done = self.run_tool("compare", self.file("f.bpf", data), self.file("p.json", json.dumps(found)))
+        self.assertEqual((done[0], done[1].splitlines()[0]), (0, "same"))
+
+    def covers(self, data, names, *entries, default="ERRNO 1", said=(), words=()):
+        """The architectures that the profile covers, its entries, and what is said of others."""
+        status, found, err = self.printed(data, *words)
+        self.assertEqual((status, found), (0, {**members_of_default(default), "architectures": list(names),
+                                               "syscalls": list(entries)}))
+        self.assertEqual(err.splitlines(), [f"profile-of: {line}" for line in said])
+        if not words:
+            done = self.run_tool("compare", self.file("f.bpf", data), self.file("p.json", json.dumps(found)))
+            self.assertEqual((done[0], done[1].splitlines()[0]), (0, "same"))
+
+    def test_one_architecture(self):
+        """Numbers are those of its table, and the profile is for it alone."""
+        for name, first, read in ((X86, 0, 3), (X32_NAME, X32, 0), (AARCH64, 0, 63), (ARM, 0, 3)):
+            with self.subTest(name):
+                data = of_records({NATIVE: ret(ALLOW), name: tests_of({first + read: ret(ALLOW)}, EPERM)})
+                self.is_read(data, name, "ERRNO 1", entry("ALLOW", "read"))
+                self.is_read(data, NATIVE, "ALLOW")
+        # x86-64's numbers aren't x32's
+        self.is_read(of_records({NATIVE: ret(ALLOW)}), X32_NAME, "KILL_PROCESS")
+
+    def test_halves(self):
+        """Of an argument with 32 bits a condition compares the lower half, with one of 64 bits all of it."""
+        low = load(16) + jeq(2, 0, 1) + ret(ALLOW) + ret(EPERM)
+        for name, number in ((X86, 359), (X32_NAME, X32 + 41), (ARM, 281)):
+            with self.subTest(name):
+                self.is_read(of_records({name: tests_of({number: low}, EPERM)}), name, "ERRNO 1",
+                             entry("ALLOW", "socket", index=0, value=2, op="SCMP_CMP_EQ"))
+        for name, number in ((NATIVE, 41), (AARCH64, 198)):
+            with self.subTest(name):
+                self.is_read(of_records({name: tests_of({number: low}, EPERM)}), name, "ERRNO 1", entry(
+                    "ALLOW", "socket", index=0, value=0xFFFFFFFF, valueTwo=2, op="SCMP_CMP_MASKED_EQ"))
+
+    def test_operators_of_32_bits(self):
+        """What each operator tests of the lower half is read back as that condition."""
+        def tested(code):
+            return of_records({X86: tests_of({359: load(24) + code}, EPERM)})
+
+        at = {"index": 1}
+        self.is_read(tested(jeq(16, 1, 0) + ret(ALLOW) + ret(EPERM)), X86, "ERRNO 1",
+                     entry("ALLOW", "socket", **at, value=16, op="SCMP_CMP_NE"))
+        self.is_read(tested(jge(16, 0, 1) + ret(ALLOW) + ret(EPERM)), X86, "ERRNO 1",
+                     entry("ALLOW", "socket", **at, value=16, op="SCMP_CMP_GE"))
+        self.is_read(tested(jgt(16, 1, 0) + ret(ALLOW) + ret(EPERM)), X86, "ERRNO 1",
+                     entry("ALLOW", "socket", **at, value=16, op="SCMP_CMP_LE"))
+        self.is_read(tested(insn(0x54, 0xF0) + jeq(16, 0, 1) + ret(ALLOW) + ret(EPERM)), X86, "ERRNO 1",
+                     entry("ALLOW", "socket", **at, value=0xF0, valueTwo=16, op="SCMP_CMP_MASKED_EQ"))
+        # from 6 to 15: 6 and 7, and 8 to 15
+        self.is_read(tested(jge(6, 0, 2) + jgt(15, 1, 0) + ret(ALLOW) + ret(EPERM)), X86, "ERRNO 1",
+                     *(entry("ALLOW", "socket", **at, value=mask, valueTwo=value, op="SCMP_CMP_MASKED_EQ")
+                       for mask, value in ((0xFFFFFFFE, 6), (0xFFFFFFF8, 8))))
+
+    def test_upper_halves(self):
+        """No condition of an architecture with 32 bits tests them."""
+        high = load(20) + jeq(0, 0, 1) + ret(ALLOW) + ret(EPERM)
+        status, out, err = self.printed(of_records({X86: tests_of({359: high}, EPERM)}), "--arch", "i386")
+        self.assertEqual((status, err), (4, ""))
+        self.assertIn("# socket: its answer depends on the upper half of an argument\n", out)
+        found = profiles_in(out)
+        self.assertEqual([(it["architectures"], it["syscalls"]) for it in found],
+                         [([X86], [entry("ALLOW", "socket")]), ([X86], [])])
+        self.is_read(of_records({AARCH64: tests_of({198: high}, EPERM)}), AARCH64, "ERRNO 1",
+                     entry("ALLOW", "socket", index=0, value=0xFFFFFFFF, op="SCMP_CMP_LE"))
+
+    def test_drawn(self):
+        """The profile of each architecture, beside the second reading, at records with all kinds of upper halves."""
+        seen, tables = 0, {name: self.file(f"{name}.table", part) for name in several.ARCHITECTURES
+                           for _, part in several.tables_of([name])}
+        for seed in range(12):
+            source = random.Random(f"profile-of {seed}")
+            profile = several.drawn_profile(source)
+            judged = [it for it in several.ARCHITECTURES if it in profile["architectures"]]
+            if several.conflicting(profile, judged, source):
+                continue
+            data = several.compiled(profile, judged)
+            for name in judged:
+                status, found, _ = self.printed(data, "--arch", FILES[name], "--table", tables[name])
+                self.assertEqual(status, 0, (seed, name))
+                self.is_judged(data, found, [name], several.records(profile, [name], source, 20))
+                seen += 1
+        self.assertGreater(seen, 12)
+
+    def is_judged(self, data, profile, judged, records):
+        """A filter answers records as a profile does for these architectures, beside the second reading."""
+        for _, arch, number, values in records:
+            ours = answers.Answer.read(StandIn().decide([data], Call(number, arch, 0, tuple(values)))).word
+            theirs = several.answer(profile, judged, arch, number, values)
+            self.assertEqual(ours, theirs, (profile, hex(arch), number, values))
+
+    def test_several(self):
+        """Names that x86-64 lacks have entries of their own; an engine's filter is for three architectures at once."""
+        one = jeq(1, 0, 1) + ret(ALLOW) + ret(EPERM)
+        data = of_records({NATIVE: tests_of({0: ret(ALLOW)}, EPERM),
+                           X86: tests_of({3: ret(ALLOW), 102: load(16) + one}, EPERM),
+                           X32_NAME: tests_of({X32: ret(ALLOW)}, EPERM)})
+        self.covers(data, [NATIVE, X86, X32_NAME], entry("ALLOW", "read"),
+                    entry("ALLOW", "socketcall", index=0, value=1, op="SCMP_CMP_EQ"),
+                    said=["the profile covers x86-64, i386 and x32 syscalls"])
+        # a filter that doesn't look at the architecture
+        self.covers(ret(TRAP), several.ARCHITECTURES, default="TRAP",
+                    said=["the profile covers x86-64, i386, x32, aarch64 and arm syscalls"])
+
+    def test_one_that_differs(self):
+        """It isn't listed, and that is said; --arch gives its profile."""
+        data = of_records({NATIVE: tests_of({0: ret(ALLOW)}, EPERM), X86: tests_of({4: ret(ALLOW)}, EPERM),
+                           X32_NAME: tests_of({X32: ret(ALLOW)}, EPERM), AARCH64: tests_of({63: ret(ALLOW)}, EPERM)})
+        self.covers(data, [NATIVE, X32_NAME, AARCH64], entry("ALLOW", "read"),
+                    said=["the profile covers x86-64, x32 and aarch64 syscalls",
+                          "i386: some syscalls are allowed, such as write (4): ALLOW; --arch i386 prints its profile"])
+        self.is_read(data, X86, "ERRNO 1", entry("ALLOW", "write"))
+        # one whose syscalls are all denied isn't mentioned
+        data = of_records({NATIVE: tests_of({0: ret(ALLOW)}, EPERM), X86: ret(EPERM),
+                           ARM: tests_of({9: ret(TRACE)}, EPERM)})
+        self.covers(data, [NATIVE], entry("ALLOW", "read"),
+                    said=["the profile covers x86-64 syscalls",
+                          "arm: not every syscall is denied, such as link (9): TRACE 0; --arch arm prints its profile"])
+
+    def test_one_that_differs_by_a_name_of_two(self):
+        """A name that i386 and arm have, and x86-64 lacks, answers for the first."""
+        stat64 = {195: ret(ALLOW)}
+        data = of_records({NATIVE: ret(EPERM), X86: tests_of(stat64, EPERM), ARM: tests_of(stat64, EPERM)})
+        self.covers(data, [NATIVE, X86, ARM], entry("ALLOW", "stat64"),
+                    said=["the profile covers x86-64, i386 and arm syscalls"])
+        data = of_records({NATIVE: ret(EPERM), X86: tests_of(stat64, EPERM), ARM: tests_of({196: ret(ALLOW)}, EPERM)})
+        self.covers(data, [NATIVE, X86], entry("ALLOW", "stat64"),
+                    said=["the profile covers x86-64 and i386 syscalls", "arm: some syscalls are allowed, such as "
+                          "lstat64 (196): ALLOW; --arch arm prints its profile"])
+
+    def test_what_is_killed(self):
+        """An architecture whose syscalls are all killed isn't listed, whatever the default is."""
+        for kill, default in ((KILL_PROCESS, "KILL_PROCESS"), (KILL_THREAD, "KILL_THREAD")):
+            data = of_records({NATIVE: tests_of({0: ret(ALLOW)}, kill), X86: ret(KILL_THREAD)})
+            self.covers(data, [NATIVE], entry("ALLOW", "read"), default=default)
+            self.covers(ret(kill), [NATIVE], default=default)
+
+    def test_both_sides(self):
+        """Profiles on both sides are for one architecture, and those of others are told."""
+        data = of_records({NATIVE: tests_of({0: ret(TRAP | 9)}, EPERM), X86: ret(ALLOW)})
+        status, out, err = self.printed(data)
+        self.assertEqual((status, err), (4, ""))
+        self.assertIn("# the profile covers x86-64 syscalls\n# i386: some syscalls are allowed, such as ", out)
+        status, found, err = self.printed(data, "--no-more")
+        self.assertEqual((status, found["architectures"]), (0, [NATIVE]))
+        self.assertIn("profile-of: i386: some syscalls are allowed, such as ", err)
+
+    def test_the_stub_of_runc(self):
+        """It begins at a number of its own in each architecture: after that of faccessat2, on x32 of execve."""
+        enosys = ret(0x00050000 | 38)
+        data = of_records({NATIVE: jge(440, 0, 1) + enosys + tests_of({0: ret(ALLOW), 59: ret(ALLOW)}, EPERM),
+                           X86: jge(440, 0, 1) + enosys + tests_of({3: ret(ALLOW), 11: ret(ALLOW)}, EPERM),
+                           X32_NAME: jge(X32 + 521, 0, 1) + enosys + tests_of({X32: ret(ALLOW), X32 + 520: ret(ALLOW)},
+                                                                              EPERM)})
+        self.covers(data, [NATIVE, X86, X32_NAME], entry("ALLOW", "execve", "read"), entry("ERRNO 1", "faccessat2"),
+                    words=("--runtime", "runc"),
+                    said=["the profile covers x86-64, i386 and x32 syscalls",
+                          "runc answers the numbers from 440 on, of i386 from 440 on and of x32 from 521 on, above all "
+                          "that the profile names, with ENOSYS"])
+
+    def test_compiled(self):
+        """A filter that scf compiles of a profile for several architectures is read back for all of them."""
+        profile = {"defaultAction": "SCMP_ACT_ERRNO", "architectures": list(several.ARCHITECTURES), "syscalls": [
+            entry("ALLOW", "read", "stat64", "waitpid"),
+            entry("ALLOW", "personality", index=0, value=8, op="SCMP_CMP_EQ")]}
+        done = subprocess.run([tool("compile"), self.file("p.json", json.dumps(profile))], stdout=subprocess.PIPE,
+                              check=True)
+        self.covers(done.stdout, profile["architectures"], *profile["syscalls"],
+                    said=["the profile covers x86-64, i386, x32, aarch64 and arm syscalls"])
+
+    @mock.patch.dict(several.ARCHITECTURES, WITH_TABLES)
+    def test_drawn_for_several(self):
+        """A filter that one profile answers as is read back in each architecture of that, beside the second reading."""
+        seen = 0
+        for seed in range(40):
+            source = random.Random(f"several of {seed}")
+            profile = several.drawn_profile(source)
+            judged = [it for it in several.ARCHITECTURES if it in profile["architectures"]]
+            if NATIVE not in judged or profile["defaultAction"] == "SCMP_ACT_KILL_PROCESS" or \
+                    several.conflicting(profile, judged, source):
+                continue
+            data = several.compiled(profile, judged)
+            status, found, _ = self.printed(data)
+            self.assertEqual((status, found["architectures"]), (0, judged), seed)
+            self.is_judged(data, found, judged, several.records(profile, judged, source, 10))
+            seen += 1
+        self.assertGreater(seen, 5)
+
+    @NEEDED
+    def test_libseccomp(self):
+        """It adds to a rule of a socket's syscall one of i386's socketcall, by the number of linux/net.h in place of a
+        condition on argument 0."""
+        profile = {"defaultAction": "SCMP_ACT_ERRNO", "architectures": [NATIVE, X86, X32_NAME], "syscalls": [
+            entry("ALLOW", "read", "waitpid"),
+            entry("ALLOW", "socket", index=0, value=2, op="SCMP_CMP_EQ"),
+            entry("ERRNO 22", "accept4", index=3, value=0, op="SCMP_CMP_NE")]}
+        read, socket, accept4 = profile["syscalls"]
+        of_accept4 = {**accept4, "names": ["socketcall"],
+                      "args": [{"index": 0, "value": 18, "op": "SCMP_CMP_EQ"}, *accept4["args"]]}
+        self.covers(Library().filter_of(profile), profile["architectures"], read, socket,
+                    entry("ALLOW", "socketcall", index=0, value=1, op="SCMP_CMP_EQ"), accept4, of_accept4,
+                    said=["the profile covers x86-64, i386 and x32 syscalls"])
+
+    def test_usage(self):
+        one = self.file("f.bpf", ret(ALLOW))
+        for words, says in ((["--arch", "i386", "--runtime", "runc"], "give either --arch or --runtime"),
+                            (["--arch", "mips"], "no table of the architecture 'mips'")):
+            status, out, err = self.run_tool("profile-of", *words, one)
+            self.assertEqual((status, out), (2, ""))
+            self.assertIn(says, err)
+        # a table is the architecture's
+        own = self.file("own.table", "mine 7\n")
+        data = of_records({X86: tests_of({7: ret(ALLOW)}, EPERM)})
+        status, found, _ = self.printed(data, "--arch", "i386", "--table", own)
+        self.assertEqual((status, found["syscalls"]), (0, [entry("ALLOW", "mine")]))
