@@ -140,9 +140,9 @@ class Family:
             pattern = re.escape(word.removeprefix("-")).replace(r"\*", r"\w*")
             self.patterns.append((word[0] != "-", pattern))
 
-    def fill(self) -> None:
+    def fill(self, known: dict[str, int]) -> None:
         """Finds its constants. Of two with one number the first in the table is kept."""
-        for name, number in numbers().items():
+        for name, number in known.items():
             rank = max((at for at, it in enumerate(self.patterns) if re.fullmatch(it[1], name)), default=None)
             # a bit of the sign of 32 bits would be 33 bits of a register
             if rank is not None and self.patterns[rank][0] and number > -SMALL:
@@ -179,8 +179,9 @@ class Family:
 
 
 @functools.lru_cache(None)
-def _families() -> tuple[dict[str, Family], dict[str, list[str]]]:
-    """The families by their names, and the family of each argument by the syscall, `-` for none."""
+def _families(architecture: str = architectures.NATIVE) -> tuple[dict[str, Family], dict[str, list[str]]]:
+    """The families by their names, of constants that are on an architecture what they are on x86-64; and the family of
+    each argument by the syscall, `-` for none."""
     families: dict[str, Family] = {}
     calls: dict[str, list[str]] = {}
     with open(FAMILIES, encoding="ascii") as file:
@@ -191,8 +192,9 @@ def _families() -> tuple[dict[str, Family], dict[str, list[str]]]:
                     families.setdefault(rest[0], Family()).add(word)
             elif first != "#":
                 calls[first] = rest
+    unlike = _unlike()[architecture]
     for family in families.values():
-        family.fill()
+        family.fill({name: number for name, number in numbers().items() if name not in unlike})
     return families, calls
 
 
@@ -213,9 +215,9 @@ def _value_text(value: int, kind: str, family: Family | None) -> str:
     return _number_text(value, kind) if named is None else named
 
 
-def family_of(name: str, index: int, first: int | None) -> Family | None:
-    """The constants of an argument, given the first one, if that is known."""
-    families, calls = _families()
+def family_of(name: str, index: int, first: int | None, architecture: str = architectures.NATIVE) -> Family | None:
+    """The constants of an argument on the architecture of this OCI name, given the first one, if that is known."""
+    families, calls = _families(architecture)
     words = calls.get(name, [])
     if index and first is not None and words and words[0] in families and first < WORD:
         words = calls.get(f"{name}[{families[words[0]].describe(first)}]", words)

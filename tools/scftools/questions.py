@@ -59,9 +59,12 @@ class Asker:
         given = bundles.of_comparison(self.filters, profile, Tables({self.architecture.oci: Table(table)}))
         return client.compare([*words, *RELATIONS[relation]], given, self.limit)
 
-    def _asked(self, question: Question, words: Sequence[str], table: bytes = b"", scope: str = "") -> Report:
-        profile = question.answer.as_profile([self.architecture.oci]) or b""
-        done = self._done(profile, table, [*SCOPES[LISTED], *words], question.relation)
+    def _profile_of(self, question: Question) -> bytes:
+        return question.answer.as_profile([self.architecture.oci]) or b""
+
+    def _asked(self, profile: bytes, relation: str, words: Sequence[str], table: bytes = b"",
+               scope: str = "") -> Report:
+        done = self._done(profile, table, [*SCOPES[LISTED], *words], relation)
         report = verdicts.report(done.text)
         if report.fault is not None:
             raise client.Refusal(done.line, done.status)
@@ -71,14 +74,19 @@ class Asker:
     def looks_at_pointer(self) -> bool:
         return any(map(looks_at_pointer, self.filters))
 
+    def of_calls(self, profile: bytes, relation: str, table: bytes) -> Report:
+        """The report on each syscall in a table, beside what a profile answers to it. Raises Refusal."""
+        return self._asked(profile, relation, SCOPES[CALLS], table, CALLS).on(self.architecture)
+
     def of_named(self, question: Question, table: bytes) -> Report:
         """The report on each syscall in a table."""
-        return self._asked(question, SCOPES[CALLS], table, CALLS).on(self.architecture)
+        return self.of_calls(self._profile_of(question), question.relation, table)
 
     def of_numbers(self, question: Question, first: int, last: int) -> Verdict | None:
         """The verdict on all syscalls with numbers from `first` to `last`, with a complete record as example."""
         added = self.architecture.first
-        return self._asked(question, [f"--nr-from={added + first}", f"--nr-to={added + last}"]).verdict
+        words = [f"--nr-from={added + first}", f"--nr-to={added + last}"]
+        return self._asked(self._profile_of(question), question.relation, words).verdict
 
     def of_rest(self, names: Sequence[str], table: bytes, is_foreign: bool = False) -> Verdict | None:
         """The verdict on whether every syscall is denied but those with these names; on request of all architectures,

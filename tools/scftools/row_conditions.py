@@ -6,16 +6,17 @@ import json
 import os
 from collections.abc import Iterator, Sequence
 
-from . import bundles, client, constants, program, tables, verdicts
+from . import constants, program
 from .answer_sets import Answers
+from .architectures import I386, Architecture
 from .answers import ERRNOS, Answer
 from .argument_sets import NONE
-from .compare import CALLS, RELATIONS, SCOPES
+from .client import Refusal
 from .covers import ALL_LISTED, Alternative
 from .entries import Condition
 from .filters import Filter
 from .profile_of import FilterAnswers, Request, entry_of, members_of
-from .questions import EVERYTHING, NOTHING, checked
+from .questions import EVERYTHING, NOTHING, Asker
 from .surfaces import Row, disposition_of, word_of
 from .tables import Table
 from .values import dataclass
@@ -24,6 +25,8 @@ from .verdicts import NO_LESS, NO_MORE, SAME
 NAMES = os.path.join(program.TOP, "tables", "argument.names")
 SIGNS = {"SCMP_CMP_EQ": "==", "SCMP_CMP_NE": "!=", "SCMP_CMP_LE": "<=", "SCMP_CMP_GE": ">="}
 HALF = (1 << 32) - 1
+# The syscall of i386 whose first argument points to the others.
+IN_MEMORY = (I386, "mmap")
 # For each disposition the answer that stands for all of it.
 ANSWERS = EVERYTHING, Answer("TRACE", 0), NOTHING
 
@@ -49,10 +52,11 @@ def _together(text: str) -> str:
     return f"({text})" if "|" in text else text
 
 
-def _condition_text(one: Condition, syscall: str, others: Alternative) -> str:
-    """A condition as people write it, among those that hold together."""
+def _condition_text(one: Condition, syscall: str, others: Alternative, architecture: str) -> str:
+    """A condition as people write it, among those that hold together, on the architecture of this OCI name."""
+    syscall = syscall if (architecture, syscall) != IN_MEMORY else ""
     first = next((it.value for it in others if it.index == 0 and it.op == "SCMP_CMP_EQ"), None)
-    family, name = constants.family_of(syscall, one.index, first), _name_of(syscall, one.index)
+    family, name = constants.family_of(syscall, one.index, first, architecture), _name_of(syscall, one.index)
     is_whole = one.op != "SCMP_CMP_MASKED_EQ" or one.value == HALF
     value = one.value if one.op != "SCMP_CMP_MASKED_EQ" else one.two
     shown = None
@@ -76,7 +80,8 @@ def answer_text(answer: Answer) -> str:
 
 @dataclass(frozen=True)
 class Conditions:
-    """The answers to all calls of a syscall: one for each of some alternatives, and one for all other arguments.
+    """The answers to all calls of an architecture's syscall: one for each of some alternatives, and one for all other
+    arguments.
 
     If they aren't whole, each stands for all answers of its disposition: no profile gives the filters' own.
     """
@@ -85,13 +90,15 @@ class Conditions:
     parts: Sequence[tuple[Answer, Sequence[Alternative]]]
     otherwise: Answer
     is_whole: bool
+    architecture: Architecture
 
     def _answer_text(self, answer: Answer) -> str:
         return answer_text(answer) if self.is_whole else word_of(disposition_of(answer))
 
     def describe(self) -> str:
         def shown(alternative: Alternative) -> str:
-            return " and ".join(_condition_text(it, self.names[0], alternative) for it in alternative)
+            return " and ".join(_condition_text(it, self.names[0], alternative, self.architecture.oci)
+                                for it in alternative)
 
         parts = [f"{self._answer_text(answer)} where {' or '.join(map(shown, those))}" for answer, those in self.parts]
         return f"{'; '.join(parts)}, else {self._answer_text(self.otherwise)}"
@@ -135,33 +142,34 @@ def _of_number(answers: FilterAnswers, names: Sequence[str], found: Answers) -> 
             dispositions[one] = answers.sets.either(dispositions.get(one, NONE), those)
         parts = dispositions
     otherwise, others = _fewest(answers, parts)
-    return Conditions(names, list(others.items()), otherwise, is_whole) if others else None
+    return Conditions(names, list(others.items()), otherwise, is_whole, answers.architecture) if others else None
 
 
-def _failed(filters: Sequence[bytes], limit: str | None, those: Sequence[tuple[Row, Conditions]]) -> set[int]:
+def _failed(asker: Asker, those: Sequence[tuple[Row, Conditions]]) -> set[int]:
     """The numbers for which scf doesn't prove these conditions, which have one answer otherwise."""
-    numbers = {row.number for row, _ in those}
     table = "".join(f"{it.names[0]} {row.number}\n" for row, it in those).encode()
     profile = {**members_of(those[0][1].otherwise, "defaultAction", "defaultErrnoRet"),
+               "architectures": [asker.architecture.oci],
                "syscalls": [entry for _, it in those for entry in it.entries()]}
-    given, found = bundles.of_comparison(filters, json.dumps(profile).encode(), tables.native_alone(table)), set()
+    found: set[int] = set()
     for relation in (SAME,) if those[0][1].is_whole else (NO_MORE, NO_LESS):
-        done = client.compare([*SCOPES[CALLS], *RELATIONS[relation]], given, limit)
-        report = verdicts.report(done.text)
-        found |= numbers if report.fault else {it.number for it in checked(done.status, report, CALLS).calls}
+        try:
+            found |= {it.number for it in asker.of_calls(json.dumps(profile).encode(), relation, table).calls}
+        except Refusal:
+            return {row.number for row, _ in those}
     return found
 
 
-def add(filters: Sequence[bytes], table: Table, limit: str | None, rows: Sequence[Row]) -> None:
-    """Adds the conditions to the rows that have several answers, where scf proves them."""
-    answers = Request([Filter("", data) for data in filters], table, limit).answers()
-    of_number = {number: found for number, _, found in answers.named()}
+def add(filters: Sequence[bytes], table: Table, limit: str | None, rows: Sequence[Row], one: Architecture) -> None:
+    """Adds the conditions to the rows of an architecture that have several answers, where scf proves them."""
+    answers = Request([Filter("", data) for data in filters], table, limit, one).answers()
+    asker, of_number = Asker(filters, limit, one), {number: found for number, _, found in answers.named()}
     groups: dict[tuple[Answer, bool], list[tuple[Row, Conditions]]] = {}
     for row in rows:
         found = _of_number(answers, row.names, of_number[row.number])
         if found is not None:
             groups.setdefault((found.otherwise, found.is_whole), []).append((row, found))
     for those in groups.values():
-        failed = _failed(filters, limit, those)
+        failed = _failed(asker, those)
         for row, found in those:
             row.conditions = None if row.number in failed else found

@@ -50,7 +50,7 @@ def _surface(filters: Sequence[Filter], asked: Asked) -> Surface:
     data = [one.data for one in filters]
     found = surfaces.of_filters(data, asked.table, asked.limit, asked.architecture)
     if asked.has_conditions:
-        row_conditions.add(data, asked.table, asked.limit, found.rows)
+        row_conditions.add(data, asked.table, asked.limit, found.rows, asked.architecture)
     return found
 
 

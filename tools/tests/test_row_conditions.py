@@ -2,16 +2,20 @@
 arguments and values."""
 import json
 import os
+import random
 import re
 import sys
 
-from common import ALLOW, EPERM, TOP, Case, jeq, load, ret
+import several
+from common import ALLOW, EPERM, TOP, Case, jeq, jge, load, ret
 from stand_in import StandIn
-from test_profile_of import HOLDS, OWN, TRAP, Drawn, of_numbers, rank_of, where
+from test_profile_of import (AARCH64, ARM, FILES, HOLDS, NATIVE, OWN, TRAP, X32_NAME, X86, Drawn, jset, of_numbers,
+                             of_records, rank_of, tests_of, where)
 
 sys.path.append(os.path.join(TOP, "tools"))
 
 from scftools import answers, arguments, row_conditions, tables  # noqa: E402
+from scftools.calls import Call  # noqa: E402
 
 EINVAL = 0x00050000 | 22
 AUDIT = where(0, "SCMP_CMP_EQ", 16, 0, where(2, "SCMP_CMP_EQ", 9, 0, ret(EINVAL), ret(ALLOW)), ret(ALLOW))
@@ -101,6 +105,61 @@ class Lines(Case):
                     self.assertEqual(theirs.get("answer", ours.as_json()), ours.as_json(), (seed, call))
                     self.assertEqual(RANKS.index(theirs["disposition"]), rank_of(ours.word), (seed, call))
         self.assertGreater(seen, 15)
+
+    def is_said_of(self, name, number, code, text):
+        """What is said of a number of an architecture, which this code answers."""
+        data = of_records({name: tests_of({several.ARCHITECTURES[name][1] + number: code}, EPERM)})
+        status, out = self.shown([data], "--arch", FILES[name], table=f"{text.split()[0]} {number}\n")
+        self.assertEqual(status, 0)
+        self.assertIn(f" depends {number} {text}", out)
+
+    def test_other_architectures(self):
+        """Of an argument with 32 bits a condition says the lower half."""
+        low = load(16) + jeq(2, 0, 1) + ret(ALLOW) + ret(EPERM)
+        for name, number in ((X86, 359), (X32_NAME, 41), (ARM, 281)):
+            self.is_said_of(name, number, low, "socket allowed where domain == AF_INET, else denied (EPERM)\n")
+            self.is_said_of(name, number, load(24) + jge(9, 0, 1) + ret(ALLOW) + ret(EPERM),
+                            "socket denied (EPERM) where type <= 8, else allowed\n")
+        self.is_said_of(AARCH64, 198, low, "socket allowed where domain & 0xffffffff == AF_INET, else denied (EPERM)\n")
+        # no condition is on the upper half
+        self.is_said_of(X86, 359, load(20) + jeq(2, 0, 1) + ret(ALLOW) + ret(EPERM),
+                        "socket allowed args 0x200000000 0x0 0x0 0x0 0x0 0x0 ALLOW denied args ")
+
+    def test_names_of_other_architectures(self):
+        """A constant is named where it is what it is on x86-64, as O_DIRECTORY isn't on arm and aarch64 (asm/fcntl.h).
+        The arguments of i386's mmap are in memory."""
+        flag = where(2, "SCMP_CMP_MASKED_EQ", 0x10000, 0x10000, ret(EPERM), ret(ALLOW))
+        low = load(32) + jset(0x10000, 0, 1) + ret(EPERM) + ret(ALLOW)
+        for name, number, code, shown in ((NATIVE, 257, flag, "O_DIRECTORY"), (AARCH64, 56, flag, "0x10000"),
+                                          (X86, 295, low, "O_DIRECTORY"), (ARM, 322, low, "0x10000")):
+            self.is_said_of(name, number, code,
+                            f"openat denied (EPERM) where flags & {shown} == {shown}, else allowed\n")
+        prot = load(32) + jeq(4, 0, 1) + ret(EPERM) + ret(ALLOW)
+        self.is_said_of(X86, 90, prot, "mmap denied (EPERM) where a2 == 4, else allowed\n")
+        self.is_said_of(X86, 125, prot, "mprotect denied (EPERM) where prot == PROT_EXEC, else allowed\n")
+
+    def test_drawn_of_other_architectures(self):
+        """Each call gets the answer that its conditions say, whatever the upper halves of its arguments are."""
+        seen = 0
+        for seed in range(12):
+            source = random.Random(f"conditions {seed}")
+            profile = several.drawn_profile(source)
+            judged = [it for it in several.ARCHITECTURES if it in profile["architectures"]]
+            if several.conflicting(profile, judged, source):
+                continue
+            data = several.compiled(profile, judged)
+            for name in judged:
+                arch, first, _, bits, _, table = several.ARCHITECTURES[name]
+                own = "".join(f"{syscall} {number}\n" for syscall, number in table.items())
+                out = json.loads(self.shown([data], "--arch", FILES[name], "--json", table=own)[1])
+                rows = {first + row["number"]: row["conditions"] for row in out["calls"] if "conditions" in row}
+                seen += len(rows)
+                for _, _, number, values in several.records(profile, [name], source, 20):
+                    if number in rows:
+                        ours = answers.Answer.read(StandIn().decide([data], Call(number, arch, 0, tuple(values))))
+                        theirs = self.answer_of(rows[number], [it % (1 << bits) for it in values])
+                        self.assertEqual(theirs["answer"], ours.as_json(), (seed, name, number))
+        self.assertGreater(seen, 8)
 
     def answer_of(self, conditions, arguments):
         """The answer that conditions say of some arguments; no two that hold say another one."""
