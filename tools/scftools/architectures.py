@@ -11,7 +11,7 @@ from .answers import X86_64
 from .values import dataclass
 
 PREFIX = "SCMP_ARCH_"
-NATIVE, X32, I386, AARCH64 = (f"{PREFIX}{it}" for it in ("X86_64", "X32", "X86", "AARCH64"))
+NATIVE, X32, I386, AARCH64, ARM = (f"{PREFIX}{it}" for it in ("X86_64", "X32", "X86", "AARCH64", "ARM"))
 # By the names of libseccomp (seccomp.h), the numbers of linux/audit.h: a machine of linux/elf-em.h, with 0x80000000
 # where it has 64 bits, 0x40000000 where it is little-endian, and 0x20000000 for the N32 calls of MIPS. The record of an
 # x32 syscall has x86-64's.
@@ -46,6 +46,11 @@ class Architecture:
         return answers.X32 - 1 if self.oci == NATIVE else 0xFFFFFFFF
 
     @property
+    def greatest(self) -> int:
+        """The greatest value of an argument."""
+        return (1 << self.bits) - 1
+
+    @property
     def file(self) -> str:
         """The file of its table."""
         return os.path.join(program.TOP, "tables", f"{self.name.replace('-', '_')}.table")
@@ -56,7 +61,7 @@ JUDGED = {it.oci: it for it in (
     Architecture(NATIVE, "x86-64", "table"), Architecture(I386, "i386", "table-x86", bits=32),
     Architecture(X32, "x32", "table-x32", first=answers.X32, bits=32),
     Architecture(AARCH64, "aarch64", "table-aarch64"),
-    Architecture(f"{PREFIX}ARM", "arm", "table-arm", bits=32))}
+    Architecture(ARM, "arm", "table-arm", bits=32))}
 
 
 def of_machine() -> str:

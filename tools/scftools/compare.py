@@ -372,7 +372,7 @@ def as_json(comparison: Comparison, report: Report, scope: str, status: int) -> 
     found["skipped"], found["other"] = list(report.skipped), list(report.architectures)
     if report.skipped:
         found["unknown"] = [{"name": name, "nearest": near}
-                            for name, near in tables.classify(report.skipped, table).unknown]
+                            for name, near in tables.classify(report.skipped, comparison.tables).unknown]
     if scope in LOOKED_AT and report.verdict is not None:
         found["foreign"] = [one.as_json() for one in foreign_of(comparison, scope)]
     files = [name for name, _ in responsible(comparison, report, scope)]

@@ -1,21 +1,24 @@
 """Odd conditions of a profile, given what the kernel reads of an argument (tables/x86_64.arguments).
 
-A filter compares all 64 bits of a register. The kernel reads only the lower half of an `int`, so a bit in the upper
-half evades a denial by its value (CVE-2019-10063 was that). An evaded denial is shown by two answers of scf.
+On an architecture of 64 bits a filter compares all of a register. The kernel reads only the lower half of an `int`, so
+a bit in the upper half evades a denial by its value (CVE-2019-10063 was that). An evaded denial is shown by two answers
+of scf. On an architecture of 32 bits only the lower half is compared.
 """
 from __future__ import annotations
 
-from collections.abc import Callable, Iterator, Sequence
+from collections.abc import Callable, Iterator, Mapping, Sequence
 
-from . import arguments, entries
+from . import arguments
 from .answers import Answer
+from .architectures import JUDGED
 from .calls import Call
-from .entries import Condition, Entry, Reading, profile_of, record_of
-from .findings import MOST, Finding, listed
+from .entries import Condition, Entry, Reading, record_of, where_met
+from .findings import MOST, Finding, Owners, listed
 from .questions import IS_MADE
 from .reasons import Reason
-from .tables import Table
-from .trials import Trial
+from .tables import Tables
+from .trials import JointTrial
+from .values import dataclass
 
 LOW = (1 << 32) - 1
 DENIES = "SCMP_ACT_ERRNO", 1
@@ -25,23 +28,32 @@ LOOKS = 200000
 UPPER = 1 << 32
 
 
-def _always_holds(one: Condition) -> bool:
-    return (one.op, one.value) in (("SCMP_CMP_GE", 0), ("SCMP_CMP_LE", entries.MOST)) or \
-        (one.op == "SCMP_CMP_MASKED_EQ" and one.value == 0)
-
-
-def _is_null_test(one: Condition) -> bool:
-    """Whether a condition only tests whether an address is 0."""
+def _always_holds(one: Condition, greatest: int) -> bool:
+    """Whether every argument up to the greatest meets a condition."""
     if one.op == "SCMP_CMP_MASKED_EQ":
-        return one.value == entries.MOST and one.two == 0
+        return not one.value & greatest and not one.value & one.two
+    return (one.op, one.value) == ("SCMP_CMP_GE", 0) or one.op == "SCMP_CMP_LE" and one.value >= greatest or \
+        one.op in ("SCMP_CMP_LT", "SCMP_CMP_NE") and one.value > greatest
+
+
+def _is_null_test(one: Condition, greatest: int) -> bool:
+    """Whether a condition only tests whether an address, up to the greatest, is 0."""
+    if one.op == "SCMP_CMP_MASKED_EQ":
+        return one.value & greatest == greatest and one.two == 0
     return (one.op, one.value) in (("SCMP_CMP_EQ", 0), ("SCMP_CMP_NE", 0), ("SCMP_CMP_GT", 0), ("SCMP_CMP_LE", 0),
                                    ("SCMP_CMP_GE", 1), ("SCMP_CMP_LT", 1))
 
 
-def _of_value(entry: Entry, place: int, one: Condition) -> Iterator[Finding]:
+def _greatest(entry: Entry, judged: Tables) -> int:
+    """The greatest argument of an entry's syscalls on any architecture that is judged."""
+    on = {it for name in entry.names for it in judged.numbers_of(name)} or judged.of
+    return max(JUDGED[it].greatest for it in on)
+
+
+def _of_value(entry: Entry, place: int, one: Condition, greatest: int) -> Iterator[Finding]:
     """What is odd about a condition by itself."""
     where, more = f"entry {entry.place}, condition {place}", {"entry": entry.place, "condition": place}
-    if _always_holds(one):
+    if _always_holds(one, greatest):
         swapped = "; value is the mask, and valueTwo what is compared with: they may be swapped" if one.two else ""
         yield Finding("always-met", f"{where}: {one.op} {one.value} holds for every value{swapped}", more)
     elif one.op == "SCMP_CMP_MASKED_EQ" and one.two & ~one.value:
@@ -49,36 +61,72 @@ def _of_value(entry: Entry, place: int, one: Condition) -> Iterator[Finding]:
                       "these aren't compared", more)
 
 
-def _of_argument(entry: Entry, place: int, one: Condition, known: dict[str, str]) -> Iterator[Finding]:
+# Names of syscalls by the architectures of which something is true.
+Named = Mapping[Owners, Sequence[str]]
+
+
+@dataclass(frozen=True)
+class Argument:
+    """Which of an entry's syscalls lack an argument, of which it is an address, and of which it has 64 bits and the
+    kernel reads 32."""
+
+    lacking: Named
+    addresses: Named
+    halves: Named
+
+    @classmethod
+    def of(cls, entry: Entry, index: int, judged: Tables) -> Argument:
+        found: tuple[dict[Owners, list[str]], ...] = ({}, {}, {})
+        for name in entry.names:
+            having = list(judged.numbers_of(name))
+            kinds = {it: arguments.of_architecture(it)[name] for it in having if name in arguments.of_architecture(it)}
+            whole = [it for it in having if JUDGED[it].greatest > LOW]
+            for its, among, letter in zip(found, (having, having, whole), ("", arguments.ADDRESS, arguments.HALF)):
+                on = [it for it in among if it in kinds and kinds[it][index:index + 1] == letter]
+                if on:
+                    its.setdefault(Owners.of(on, among, judged), []).append(name)
+        return cls(*found)
+
+
+def _of_argument(entry: Entry, place: int, one: Condition, argument: Argument, greatest: int) -> Iterator[Finding]:
     """What is odd about a condition, given its argument."""
     where, more = f"entry {entry.place}, condition {place}", {"entry": entry.place, "condition": place}
-    has = [name for name in entry.names if name in known]
-    lacking = [name for name in has if one.index >= len(known[name])]
-    addresses = [name for name in has if known[name][one.index:one.index + 1] == arguments.ADDRESS]
-    halves = [name for name in has if known[name][one.index:one.index + 1] == arguments.HALF]
-    if lacking:
-        yield Finding("no-such-argument", f"{where}: {listed(lacking, 'and')} {'has' if len(lacking) == 1 else 'have'} "
-                      f"no argument {one.index} (the first is 0), and the kernel doesn't read its register",
-                      {**more, "names": lacking})
-    if addresses and not _is_null_test(one):
-        yield Finding("pointer-argument", f"{where}: argument {one.index} of {listed(addresses, 'and')} is an address: "
-                      "a filter can't see what it points to", {**more, "names": addresses})
-    if halves and one.op == "SCMP_CMP_EQ" and one.value > LOW:
+    for on, names in argument.lacking.items():
+        yield Finding("no-such-argument", f"{where}: {listed(names, 'and')} {'has' if len(names) == 1 else 'have'} "
+                      f"no argument {one.index} (the first is 0){on.where}, and the kernel doesn't read its register",
+                      {**more, "names": names, **on.as_json()})
+    for on, names in argument.addresses.items() if not _is_null_test(one, greatest) else ():
+        yield Finding("pointer-argument", f"{where}: argument {one.index} of {listed(names, 'and')}{on.where} is an "
+                      "address: a filter can't see what it points to", {**more, "names": names, **on.as_json()})
+    for on, names in argument.halves.items() if one.op == "SCMP_CMP_EQ" and one.value > LOW else ():
         yield Finding("high-half", f"{where}: the kernel reads 32 bits of argument {one.index} of "
-                      f"{listed(halves, 'and')}, and {one.value:#x} has more: a program that passes "
-                      f"{one.value & LOW:#x} doesn't meet it", {**more, "names": halves})
+                      f"{listed(names, 'and')}{on.where}, and {one.value:#x} has more: a program that passes "
+                      f"{one.value & LOW:#x} doesn't meet it", {**more, "names": names, **on.as_json()})
 
 
-def of_conditions(found: Sequence[Entry]) -> Iterator[Finding]:
+def of_conditions(found: Sequence[Entry], judged: Tables) -> Iterator[Finding]:
     """Conditions that can't be meant: they always hold, or are on the wrong argument."""
-    known = arguments.read()
     for entry in found:
+        greatest = _greatest(entry, judged)
+        kinds = {index: Argument.of(entry, index, judged) for index in {it.index for it in entry.conditions}}
         for place, one in enumerate(entry.conditions):
-            yield from _of_value(entry, place, one)
-            yield from _of_argument(entry, place, one, known)
+            yield from _of_value(entry, place, one, greatest)
+            yield from _of_argument(entry, place, one, kinds[one.index], greatest)
 
 
-def of_unions(trial: Trial, found: Sequence[Entry]) -> Iterator[Finding]:
+def _not_covered(trial: JointTrial, its: Mapping[str, Sequence[Entry]]) -> Iterator[str]:
+    """The names of syscalls of which scf doesn't prove that each call, on each architecture, meets one of some
+    entries."""
+    allowed = [it.allowing([name]) for name, entries_of in its.items() for it in entries_of]
+    for one in map(trial.only, trial.tables.of):
+        numbers = {name: one.table.number_of(name) for name in its if one.table.number_of(name) is not None}
+        calls = "".join(f"{name} {number}\n" for name, number in numbers.items()).encode()
+        report = one.report([IS_MADE.filter], one.profile_of(DENIES, allowed), calls, "--calls", "--no-more")
+        left_out = {it.number for it in report.calls}
+        yield from (name for name, number in numbers.items() if number in left_out)
+
+
+def of_unions(trial: JointTrial, found: Sequence[Entry]) -> Iterator[Finding]:
     """Entries with conditions and one answer that together cover every call of a syscall: they were meant to hold all
     at once, and one of them is enough."""
     having: dict[tuple[str, tuple[str, int]], list[Entry]] = {}
@@ -86,26 +134,47 @@ def of_unions(trial: Trial, found: Sequence[Entry]) -> Iterator[Finding]:
         for name in entry.names:
             having.setdefault((name, entry.answer), []).append(entry)
     doubtful = {key: its for key, its in having.items() if len(its) > 1 and all(it.conditions for it in its)
-                and record_of([], [it.conditions for it in its]) is None}
+                and not where_met([], [it.conditions for it in its], trial.tables.numbers_of(key[0]))}
     for answer in dict.fromkeys(answer for _, answer in doubtful):
         its = {name: entries_of for (name, one), entries_of in doubtful.items() if one == answer}
-        number_of = trial.table.number_of
-        calls = "".join(f"{name} {number_of(name)}\n" for name in its).encode()
-        allowed = [it.allowing([name]) for name, entries_of in its.items() for it in entries_of]
-        left_out = {it.number for it in trial.report([IS_MADE.filter], profile_of(DENIES, allowed), calls, "--calls",
-                                                     "--no-more").calls}
+        left_out = set(_not_covered(trial, its))
         for name, entries_of in its.items():
-            if number_of(name) not in left_out:
+            if name not in left_out:
                 places = [it.place for it in entries_of]
                 yield Finding("always-met", f"entries {listed(list(map(str, places)), 'and')}: every call of {name} "
                               "meets one of them, so one entry is enough", {"entries": places, "name": name})
 
 
-class Denials:
-    """Searches for denials that a bit in the upper half of a register evades."""
+@dataclass(frozen=True)
+class Evasion:
+    """A denial that a bit in the upper half of a register evades: the syscall, the argument's index, the value that is
+    denied and the one that is allowed, those of other arguments, the denial, and the entry that allows, None for the
+    default."""
 
-    def __init__(self, table: Table, ask: Callable[[Call], Reason], reading: Reading):
-        self.table, self.ask, self.reading = table, ask, reading
+    name: str
+    index: int
+    low: int
+    high: int
+    others: tuple[tuple[int, int], ...]
+    denied: Answer
+    entry: int | None
+
+    def finding(self, owners: Owners, number: int) -> Finding:
+        low, high, others = hex(self.low), hex(self.high), {at: hex(value) for at, value in self.others}
+        where = "by the default" if self.entry is None else f"by entry {self.entry}"
+        beside = "".join(f", beside {value} as argument {at}" for at, value in others.items())
+        return Finding("high-half", f"{owners.named(self.name, number)} is denied with {low} as argument {self.index}"
+                       f"{beside} ({self.denied}), and allowed with {high} {where}: the kernel reads only the lower 32 "
+                       f"bits, and executes the same syscall for both{owners.also}",
+                       {"name": self.name, "argument": self.index, "denied": low, "allowed": high, "entry": self.entry,
+                        "others": {str(at): value for at, value in others.items()}, **owners.as_json()})
+
+
+class Denials:
+    """Searches for denials of an architecture's syscalls that a bit in the upper half of a register evades."""
+
+    def __init__(self, ask: Callable[[Call], Reason], reading: Reading):
+        self.ask, self.reading = ask, reading
         self.looks = LOOKS
 
     def _allows(self, number: int, record: dict[int, int]) -> bool:
@@ -123,38 +192,46 @@ class Denials:
         return None
 
     def _answer(self, number: int, record: dict[int, int]) -> tuple[Answer | None, int | None]:
-        reason = self.ask(Call(number, arguments=tuple(record.get(at, 0) for at in range(6))))
+        reason = self.ask(self.reading.call(number, *(record.get(at, 0) for at in range(6))))
         return reason.answer, reason.entry
 
-    def _finding(self, name: str, number: int, one: Condition, pair: tuple[dict[int, int], dict[int, int]]) -> \
-            Finding | None:
+    def _evasion(self, name: str, number: int, one: Condition, pair: tuple[dict[int, int], dict[int, int]]) -> \
+            Evasion | None:
         (denied, _), (allowed, by) = (self._answer(number, it) for it in pair)
         if denied is None or allowed is None or not denied.denies or not allowed.allows:
             return None
         low, high = (it[one.index] for it in pair)
-        where = "by the default" if by is None else f"by entry {by}"
         asked_of = {it.index for entry in self.reading.having(number) for it in entry.conditions}
-        others = {at: hex(pair[0].get(at, 0)) for at in sorted(asked_of - {one.index})}
-        beside = "".join(f", beside {value} as argument {at}" for at, value in others.items())
-        return Finding("high-half", f"{name} ({number}) is denied with {low:#x} as argument {one.index}{beside} "
-                       f"({denied}), and allowed with {high:#x} {where}: the kernel reads only the lower 32 bits, and "
-                       "executes the same syscall for both",
-                       {"name": name, "argument": one.index, "denied": hex(low), "allowed": hex(high), "entry": by,
-                        "others": {str(at): value for at, value in others.items()}})
+        others = tuple((at, pair[0].get(at, 0)) for at in sorted(asked_of - {one.index}))
+        return Evasion(name, one.index, low, high, others, denied, by)
 
-    def run(self, found: Sequence[Entry]) -> Iterator[Finding]:
+    def run(self, found: Sequence[Entry]) -> Iterator[Evasion]:
         """The evaded denials, each syscall and argument once."""
-        known, seen, count = arguments.read(), set(), 0
+        known, seen, count = arguments.of_architecture(self.reading.one.oci), set(), 0
         for entry in found:
             for one in entry.conditions:
                 for name in entry.names:
-                    number = self.table.number_of(name)
+                    number = self.reading.table.number_of(name)
                     is_half = known.get(name, "")[one.index:one.index + 1] == arguments.HALF
                     if number is None or not is_half or (number, one.index) in seen or self.looks <= 0:
                         continue
                     pair = self._evaded(number, entry, one)
-                    finding = self._finding(name, number, one, pair) if pair and count < MOST else None
-                    if finding:
+                    evasion = self._evasion(name, number, one, pair) if pair and count < MOST else None
+                    if evasion:
                         seen.add((number, one.index))
                         count += 1
-                        yield finding
+                        yield evasion
+
+
+def of_denials(judged: Tables, ask: Callable[[Call], Reason], readings: Mapping[str, Reading],
+               found: Sequence[Entry]) -> Iterator[Finding]:
+    """The evaded denials on architectures whose arguments have an upper half."""
+    evaded: dict[Evasion, list[str]] = {}
+    whole = [it for it in readings if JUDGED[it].greatest > LOW]
+    for one in whole:
+        for evasion in Denials(ask, readings[one]).run(found):
+            evaded.setdefault(evasion, []).append(one)
+    for evasion, on in evaded.items():
+        numbers = judged.numbers_of(evasion.name)
+        owners = Owners.of(on, [it for it in whole if it in numbers], judged)
+        yield evasion.finding(owners, numbers[owners.first])

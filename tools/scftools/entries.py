@@ -8,6 +8,8 @@ import itertools
 import json
 from collections.abc import Callable, Iterable, Iterator, Sequence
 
+from .architectures import JUDGED, Architecture
+from .calls import Call
 from .profiles import LONGEST_NUMBER
 from .reasons import HOLDS
 from .tables import Table
@@ -39,7 +41,7 @@ class Condition:
         return HOLDS[self.op](argument, self.value, self.two)
 
     def edges(self) -> Iterator[int]:
-        """Values that meet it, and values that don't."""
+        """Values of 64 bits that meet it, and values that don't."""
         yield from ((self.value + step) & MOST for step in (0, 1, -1))
         if self.op == "SCMP_CMP_MASKED_EQ":
             yield self.two & self.value
@@ -73,11 +75,12 @@ class Entry:
         return replace(self, names=tuple(names), answer=("SCMP_ACT_ALLOW", 0))
 
 
-def profile_of(default: tuple[str, int], entries: Iterable[Entry]) -> bytes:
-    """The text of a profile for x86-64, without entries that have no names."""
+def profile_of(default: tuple[str, int], entries: Iterable[Entry], architectures: Iterable[str] = ()) -> bytes:
+    """The text of a profile for these architectures, by default x86-64, without entries that have no names."""
     errno = {"defaultErrnoRet": default[1]} if default[0] in WITH_ERRNO else {}
     listed = [it.as_json() for it in entries if it.names]
-    return json.dumps({"defaultAction": default[0], **errno, "syscalls": listed}).encode()
+    return json.dumps({"defaultAction": default[0], **errno, "architectures": list(architectures),
+                       "syscalls": listed}).encode()
 
 
 def answer_of(action: str, errno: object) -> tuple[str, int]:
@@ -136,27 +139,29 @@ def entries_of(top: Object, number_of: Callable[[str], int | None]) -> list[Entr
     return [entry_of(place, entry, number_of) for place, entry in enumerate(top.get("syscalls", []))]
 
 
-def _values(conditions: Iterable[Condition], index: int) -> list[int]:
-    """Values of an argument at which some condition on it changes, alone or combined with the bits of another."""
+def _values(conditions: Iterable[Condition], index: int, most: int) -> list[int]:
+    """Values of an argument, up to the greatest, at which some condition on it changes, alone or combined with the bits
+    of another."""
     on_it = [it for it in conditions if it.index == index]
     edges = list(itertools.islice(itertools.chain((edge for it in on_it for edge in it.edges()), (0, MOST)), VALUES))
     mixed = ((it.two & it.value) | edge & ~it.value for it in on_it if it.op == "SCMP_CMP_MASKED_EQ" for edge in edges)
-    return list(dict.fromkeys([*edges, *itertools.islice(mixed, VALUES)]))
+    return list(dict.fromkeys(it & most for it in (*edges, *itertools.islice(mixed, VALUES))))
 
 
 def meet(conditions: Conditions, record: dict[int, int]) -> bool:
     return all(it.holds(record.get(it.index, 0)) for it in conditions)
 
 
-def record_of(all_of: Sequence[Conditions], none_of: Sequence[Conditions]) -> dict[int, int] | None:
-    """Arguments that meet all of the first conditions and none of the second, or None if none are found."""
+def record_of(all_of: Sequence[Conditions], none_of: Sequence[Conditions], most: int = MOST) -> dict[int, int] | None:
+    """Arguments, each up to the greatest, that meet all of the first conditions and none of the second, or None if none
+    are found."""
     if any(not conditions for conditions in none_of):
         return None
     wanted = [condition for conditions in all_of for condition in conditions]
     every = [*wanted, *(condition for conditions in none_of for condition in conditions)]
     indices = sorted({it.index for it in every})
-    values = [[value for value in _values(every, index) if all(it.holds(value) for it in wanted if it.index == index)]
-              for index in indices]
+    values = [[value for value in _values(every, index, most)
+               if all(it.holds(value) for it in wanted if it.index == index)] for index in indices]
     for found in itertools.islice(itertools.product(*values), max(1, RECORDS // (1 + len(none_of) // 16))):
         record = dict(zip(indices, found))
         if not any(meet(conditions, record) for conditions in none_of):
@@ -164,23 +169,41 @@ def record_of(all_of: Sequence[Conditions], none_of: Sequence[Conditions]) -> di
     return None
 
 
-class Reading:
-    """What a profile answers, by its entries as they are read here; scf has the last word."""
+def where_met(all_of: Sequence[Conditions], none_of: Sequence[Conditions], on: Iterable[str]) -> list[str]:
+    """Those of some architectures, by OCI names, on which arguments are found that meet all of the first conditions and
+    none of the second."""
+    names = list(dict.fromkeys(on))
+    is_met = {most: record_of(all_of, none_of, most) is not None for most in {JUDGED[it].greatest for it in names}}
+    return [it for it in names if is_met[JUDGED[it].greatest]]
 
-    def __init__(self, table: Table, default: tuple[str, int], found: Iterable[Entry]):
-        self.default = default
+
+class Reading:
+    """What a profile answers to the syscalls of an architecture, by its entries as they are read here; scf has the last
+    word. A number is one of the architecture's table."""
+
+    def __init__(self, one: Architecture, table: Table, default: tuple[str, int], found: Iterable[Entry]):
+        self.one, self.table, self.default = one, table, default
         self._of_number: dict[int | None, list[Entry]] = {}
         for entry in found:
             for name in entry.names:
                 self._of_number.setdefault(table.number_of(name), []).append(entry)
 
+    def call(self, number: int, *arguments: int) -> Call:
+        """The record of a syscall with these arguments, and zeros behind them."""
+        return Call(self.one.first + number, self.one.number, arguments=(*arguments, *[0] * (6 - len(arguments))))
+
     def having(self, number: int | None) -> list[Entry]:
         """The entries that have a number."""
         return self._of_number.get(number, [])
 
+    def deciding(self, number: int | None, record: dict[int, int]) -> Entry | None:
+        """The entry that decides on a syscall with these arguments, the first that it meets; None for the default."""
+        return next((it for it in self.having(number) if meet(it.conditions, record)), None)
+
     def answer(self, number: int | None, record: dict[int, int]) -> tuple[str, int]:
         """The answer to a syscall with these arguments."""
-        return next((it.answer for it in self.having(number) if meet(it.conditions, record)), self.default)
+        decides = self.deciding(number, record)
+        return self.default if decides is None else decides.answer
 
     def allows(self, number: int | None, record: dict[int, int]) -> bool:
         return self.answer(number, record)[0] in ALLOWING

@@ -87,7 +87,7 @@ def of_skipped(report: Report, judged: Tables, default_lets_through: bool) -> It
     """What the skipped names are, and what is lost with them."""
     if not report.skipped:
         return
-    found = tables.classify(report.skipped, judged.native, architectures.NATIVE in judged.of)
+    found = tables.classify(report.skipped, judged)
     why = "the table doesn't have them" if len(judged.of) == 1 else "no table has them"
     yield (f"names in the profile that were skipped because {why}: {len(report.skipped)}"
            + (", all of them syscalls of other architectures" if not found.left_out and not found.unknown else ""))

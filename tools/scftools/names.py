@@ -5,12 +5,12 @@ import difflib
 from collections.abc import Iterator, Sequence
 
 from . import tables
-from .architectures import NUMBERS, PREFIX, X32
+from .architectures import NATIVE, NUMBERS, PREFIX, X32
 from .entries import Object
 from .findings import Finding, listed, shown
 from .profiles import ACTIONS, ALLOWING
 from .reasons import HOLDS
-from .tables import Table
+from .tables import Tables
 
 # The names of the OCI runtime specification (config-linux, seccomp), which are libseccomp's.
 ARCHITECTURES = tuple(NUMBERS)
@@ -28,10 +28,10 @@ def _places(top: Object) -> dict[str, int]:
     return found
 
 
-def of_names(top: Object, table: Table) -> Iterator[Finding]:
-    """Names that no syscall has, and a count of names that only other architectures have."""
+def of_names(top: Object, judged: Tables) -> Iterator[Finding]:
+    """Names that no syscall has, and a count of names that only other architectures have than those that are judged."""
     places = _places(top)
-    skipped = tables.classify([name for name in places if table.number_of(name) is None], table)
+    skipped = tables.classify([name for name in places if not judged.has(name)], judged)
     for name, near in skipped.unknown:
         nearest = f"; the nearest name in the table is {near}" if near else ""
         yield Finding("unknown-name", f"entry {places[name]}: no known syscall is named {shown(name)}{nearest}",
@@ -98,14 +98,14 @@ def of_flags(top: Object) -> Iterator[Finding]:
 
 
 def of_architectures(top: Object) -> Iterator[Finding]:
-    """Architectures that the OCI specification doesn't have, and a list without x32."""
+    """Architectures that the OCI specification doesn't have, and a list with x86-64 and without x32."""
     architectures = top.get("architectures", [])
     unknown = (it for it in dict.fromkeys(architectures) if it not in ARCHITECTURES)
     for at, name in enumerate(unknown):
         near = _near(name, PREFIX, ARCHITECTURES, at)
         yield Finding("unknown-architecture", f"architectures: the OCI specification has no {shown(name)}, and runc "
                       f"and crun refuse what they don't know{_nearest(near)}", {"name": name, "nearest": near})
-    if architectures and X32 not in architectures:
+    if NATIVE in architectures and X32 not in architectures:
         default = top["defaultAction"]
         then = f"the default, {default}, allows them all" if default in ALLOWING else \
             f"the default, {default}, answers them all"

@@ -7,11 +7,13 @@ entries can be removed together, and each by itself.
 """
 from __future__ import annotations
 
-from collections.abc import Callable, Iterator, Sequence
+from collections.abc import Iterable, Iterator, Sequence
 
 from .calls import Call
-from .entries import Conditions, Entry, profile_of, record_of
-from .trials import Trial
+from .entries import Entry, where_met
+from .findings import Owners
+from .tables import Tables
+from .trials import JointTrial, Trial
 from .values import dataclass, replace
 from .verdicts import MORE, SAME, Verdict
 
@@ -44,39 +46,43 @@ class Untold:
     verdict: Verdict | None
 
 
-# A name of an entry, by the entry's index.
+# A name of an entry, by the entry's index; and a syscall: the OCI name of an architecture, and a number of its table.
 Named = tuple[int, str]
+Syscall = tuple[str, int]
 
 
 class Search:
-    """The entries of a profile, its filter, and the names of entries that are still kept."""
+    """The entries of a profile, its filter for all architectures that are judged, and the names of entries that are
+    still kept."""
 
-    def __init__(self, trial: Trial, data: bytes, default: tuple[str, int], entries: Sequence[Entry]):
+    def __init__(self, trial: JointTrial, data: bytes, default: tuple[str, int], entries: Sequence[Entry]):
         self.trial, self.filter, self.default = trial, data, default
         self.entries = {it.place: it for it in entries}
         self.looks = LOOKS
         self.gone: set[Named] = set()
         self.untold: list[Untold] = []
-        self._by_number: dict[int | None, dict[Named, Entry]] = {}
+        self._having: dict[Syscall, dict[Named, Entry]] = {}
         for entry in entries:
             for name in entry.names:
-                self._having(name)[entry.place, name] = entry
+                for call in self._syscalls(name):
+                    self._having.setdefault(call, {})[entry.place, name] = entry
 
-    def _having(self, name: str) -> dict[Named, Entry]:
-        """The entries that have a syscall."""
-        return self._by_number.setdefault(self.trial.table.number_of(name), {})
+    def _syscalls(self, name: str) -> Iterable[Syscall]:
+        return self.trial.tables.numbers_of(name).items()
 
-    def _beside(self, entry: Entry, name: str) -> list[Entry]:
-        """The other entries that have the syscall, without what is removed."""
-        return [it for at, it in self._having(name).items() if at not in self.gone and it.place != entry.place]
+    def _beside(self, entry: Entry, call: Syscall) -> list[Entry]:
+        """The other entries that have a syscall, without what is removed."""
+        return [it for at, it in self._having[call].items() if at not in self.gone and it.place != entry.place]
+
+    def _is_alone(self, entry: Entry, call: Syscall) -> bool:
+        """Whether arguments of a syscall are found that no other entry answers."""
+        others = self._beside(entry, call)
+        self.looks -= len(others)
+        return self.looks <= 0 or bool(where_met([entry.conditions], [it.conditions for it in others], call[:1]))
 
     def _is_doubtful(self, entry: Entry, name: str) -> bool:
         """Whether no syscall is found that only this entry answers by this name, and differently than the default."""
-        if entry.answer == self.default:
-            return True
-        others = self._beside(entry, name)
-        self.looks -= len(others)
-        return self.looks > 0 and record_of([entry.conditions], [it.conditions for it in others]) is None
+        return entry.answer == self.default or not any(self._is_alone(entry, call) for call in self._syscalls(name))
 
     def _doubtful(self) -> list[Named]:
         """What may be without effect together: whole entries first, then names of others, from the last on."""
@@ -102,7 +108,7 @@ class Search:
             self.untold += [Untold(*it, None) for it in doubtful]
             return
         gone = self.gone | set(doubtful)
-        verdict = self.trial.verdict([self.filter], profile_of(self.default, self._kept(gone)))
+        verdict = self.trial.verdict([self.filter], self.trial.profile_of(self.default, self._kept(gone)))
         if verdict.word == SAME:
             self.gone = gone
         elif len(doubtful) > 1:
@@ -114,21 +120,23 @@ class Search:
     def _is_within(self, entry: Entry, names: Sequence[str], others: Sequence[Entry]) -> bool:
         """Whether scf proves that others cover an entry."""
         wider = [other.allowing(names) for other in others]
-        beside = profile_of(REFUSES, [*wider, entry.allowing(names)])
-        return self.trial.verdict([self.trial.filter_of(profile_of(REFUSES, wider))], beside).word == SAME
+        alone, beside = (self.trial.profile_of(REFUSES, its) for its in (wider, [*wider, entry.allowing(names)]))
+        return self.trial.verdict([self.trial.filter_of(alone)], beside).word == SAME
 
     def _why(self, entry: Entry, names: Sequence[str]) -> tuple[str, tuple[int, ...]]:
         if entry.answer == self.default:
             return BY_DEFAULT, ()
-        having = [{it.place for it in self._beside(entry, name)} for name in names]
+        calls = [call for name in names for call in self._syscalls(name)]
+        on = [one for one, _ in calls]
+        having = [{it.place for it in self._beside(entry, call)} for call in calls]
         around = [self.entries[place] for place in sorted(set.intersection(*having))]
-        around = [it for it in around if record_of([entry.conditions], [it.conditions]) is None][:COVERS]
+        around = [it for it in around if not where_met([entry.conditions], [it.conditions], on)][:COVERS]
         if self.trial.count >= COMPARISONS:
             return TOGETHER, tuple(sorted(set.union(*having)))
         for other in around:
             if self._is_within(entry, names, [other]):
                 return ONE, (other.place,)
-        if record_of([entry.conditions], []) is None and self._is_within(entry, names, []):
+        if not where_met([entry.conditions], [], on) and self._is_within(entry, names, []):
             return BY_NONE, ()
         return TOGETHER, tuple(sorted(set.union(*having)))
 
@@ -146,41 +154,47 @@ class Search:
 
 @dataclass(frozen=True)
 class Conflict:
-    """Two entries that give a syscall two answers, and an example, if scf gives one."""
+    """Two entries that give a syscall two answers, on which architectures, and an example on the first of them, if scf
+    gives one."""
 
     first: Entry
     second: Entry
     name: str
+    owners: Owners
     call: Call | None
 
 
 def _call_of_both(trial: Trial, first: Entry, second: Entry, name: str) -> Call | None:
     """A syscall that two entries have: one that filters of both allow."""
-    filters = [trial.filter_of(profile_of(REFUSES, [it.allowing([name])])) for it in (first, second)]
-    verdict = trial.verdict(filters, profile_of(REFUSES, []), "--no-more")
+    filters = [trial.filter_of(trial.profile_of(REFUSES, [it.allowing([name])])) for it in (first, second)]
+    verdict = trial.verdict(filters, trial.profile_of(REFUSES, []), "--no-more")
     return verdict.call if verdict.word == MORE else None
 
 
-def _pairs(entries: Sequence[Entry], number_of: Callable[[str], int | None]) -> Iterator[tuple[Entry, Entry, str]]:
-    """Pairs of entries with different answers to one syscall number, in the order of the second."""
-    by_number: dict[int | None, list[Entry]] = {}
+def _pairs(entries: Sequence[Entry], judged: Tables) -> Iterator[tuple[Entry, Entry, str, list[str]]]:
+    """Pairs of entries with different answers to one syscall, and the architectures that have it, in the order of the
+    second."""
+    having: dict[Syscall, list[Entry]] = {}
     for entry in entries:
         for name in entry.names:
-            before = by_number.setdefault(number_of(name), [])
-            yield from ((other, entry, name) for other in before if other.answer != entry.answer)
-            before.append(entry)
+            others: dict[int, tuple[Entry, list[str]]] = {}
+            for call in judged.numbers_of(name).items():
+                for other in having.setdefault(call, []):
+                    if other.answer != entry.answer:
+                        others.setdefault(other.place, (other, []))[1].append(call[0])
+                having[call].append(entry)
+            yield from ((other, entry, name, on) for other, on in others.values())
 
 
-def _overlap(one: Conditions, other: Conditions) -> bool:
-    return record_of([one, other], []) is not None
-
-
-def conflicts(trial: Trial, entries: Sequence[Entry], most: int) -> Iterator[Conflict]:
+def conflicts(trial: JointTrial, entries: Sequence[Entry], most: int) -> Iterator[Conflict]:
     """Entries that conflict, each two once, at most so many of them."""
     seen: set[tuple[int, int]] = set()
-    for count, (first, second, name) in enumerate(_pairs(entries, trial.table.number_of)):
+    for count, (first, second, name, on) in enumerate(_pairs(entries, trial.tables)):
         if count >= PAIRS or len(seen) >= most:
             return
-        if (first.place, second.place) not in seen and _overlap(first.conditions, second.conditions):
-            seen.add((first.place, second.place))
-            yield Conflict(first, second, name, _call_of_both(trial, first, second, name))
+        places = first.place, second.place
+        met = [] if places in seen else where_met([first.conditions, second.conditions], [], on)
+        if met:
+            seen.add(places)
+            owners = Owners.of(met, on, trial.tables)
+            yield Conflict(first, second, name, owners, _call_of_both(trial.only(owners.first), first, second, name))

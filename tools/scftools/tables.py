@@ -1,4 +1,4 @@
-"""Syscall tables: the names of numbers, which tables go with a profile, and what names are that a table doesn't have."""
+"""Syscall tables: the names of numbers, which tables go with a profile, and what names are that no table has."""
 from __future__ import annotations
 
 import functools
@@ -80,9 +80,18 @@ class Tables:
         """Whether they are x86-64's alone."""
         return list(self.of) == [NATIVE]
 
+    def numbers_of(self, name: str) -> dict[str, int]:
+        """The numbers of a syscall in those that have it, by OCI names."""
+        found = {one: table.number_of(name) for one, table in self.of.items()}
+        return {one: number for one, number in found.items() if number is not None}
+
+    def number_of(self, name: str) -> int | None:
+        """The number of a syscall in the first one that has it."""
+        return next(iter(self.numbers_of(name).values()), None)
+
     def has(self, name: str) -> bool:
         """Whether any of them has a syscall by this name."""
-        return any(table.number_of(name) is not None for table in self.of.values())
+        return self.number_of(name) is not None
 
     @property
     def names(self) -> list[str]:
@@ -148,38 +157,39 @@ def names_elsewhere() -> set[str]:
 
 @dataclass(frozen=True)
 class Skipped:
-    """The names in a profile that a table doesn't have, by what they are."""
+    """The names in a profile that no table has, by what they are."""
 
     # Linux has them only on other architectures
     elsewhere: list[str]
     # x86-64 syscalls in the table that comes with scf, which this table leaves out
     left_out: list[str]
-    # unknown names, each with the nearest name in the table
+    # unknown names, each with the nearest name in a table
     unknown: list[tuple[str, str | None]]
 
     def __bool__(self) -> bool:
         return bool(self.elsewhere or self.left_out or self.unknown)
 
 
-def nearest(name: str, table: Table) -> str | None:
-    """The name in the table most similar to this one in small letters, or None if none is similar."""
+def nearest(name: str, *among: Table) -> str | None:
+    """The name in the tables most similar to this one in small letters, or None if none is similar."""
     if len(name) > LONGEST:
         return None
     from difflib import get_close_matches  # pylint: disable=import-outside-toplevel
 
-    return next(iter(get_close_matches(name.lower(), list(table.names()), n=1, cutoff=NEAR)), None)
+    known = list(dict.fromkeys(it for table in among for it in table.names()))
+    return next(iter(get_close_matches(name.lower(), known, n=1, cutoff=NEAR)), None)
 
 
-def classify(names: Sequence[str], table: Table, is_native: bool = True) -> Skipped:
-    """What the names are that a table, as a rule of x86-64, doesn't have; each once, in order."""
+def classify(names: Sequence[str], judged: Tables) -> Skipped:
+    """What the names are that no table has; each once, in order."""
     elsewhere, known = names_elsewhere(), read(None)
     found = Skipped([], [], [])
     for name in dict.fromkeys(names):
-        is_known = known.number_of(name) is not None
-        if name in elsewhere or is_known and not is_native:
+        if name in elsewhere:
             found.elsewhere.append(name)
-        elif is_known:
-            found.left_out.append(name)
+        elif known.number_of(name) is not None:
+            (found.left_out if NATIVE in judged.of else found.elsewhere).append(name)
         else:
-            found.unknown.append((name, nearest(name, table) if len(found.unknown) < MOST_LISTED else None))
+            near = nearest(name, *judged.of.values()) if len(found.unknown) < MOST_LISTED else None
+            found.unknown.append((name, near))
     return found

@@ -1,47 +1,59 @@
 """Many runs of scf for one result of a tool, each of which may be refused."""
 from __future__ import annotations
 
-from collections.abc import Sequence
+from collections.abc import Iterable, Sequence
 
-from . import bundles, client, verdicts
+from . import bundles, client, entries, verdicts
 from .architectures import JUDGED, NATIVE, Architecture
 from .client import Refusal
+from .entries import Entry
 from .tables import Table, Tables
 from .values import dataclass
 from .verdicts import UNFINISHED, Report, Verdict
 
 
 @dataclass
-class Trial:
-    """Runs of scf's compiler and comparison with the table of an architecture and a step limit; counts the
+class JointTrial:
+    """Runs of scf's compiler and comparison with the tables of some architectures and a step limit; counts the
     comparisons."""
 
-    table: Table
+    tables: Tables
     limit: str | None = None
     count: int = 0
-    architecture: Architecture = JUDGED[NATIVE]
 
-    @property
-    def tables(self) -> Tables:
-        """The table alone."""
-        return self._with(self.table.data)
+    def only(self, name: str) -> Trial:
+        """The same with the table of one of the architectures, by its OCI name."""
+        return Trial(self.tables.of[name], self.limit, JUDGED[name])
 
-    def _with(self, table: bytes) -> Tables:
-        return Tables({self.architecture.oci: Table(table)})
+    def profile_of(self, default: tuple[str, int], found: Iterable[Entry]) -> bytes:
+        """The text of a profile for the architectures, without entries that have no names."""
+        return entries.profile_of(default, found, self.tables.of)
 
     def filter_of(self, profile: bytes) -> bytes:
-        """The filter of a profile for the architecture."""
+        """The filter of a profile for the architectures."""
         return client.compile_profile(profile, self.tables)
 
-    def report(self, filters: Sequence[bytes], profile: bytes, table: bytes, *words: str) -> Report:
-        """scf's report on filters compared with a profile, by a table."""
+    def _report(self, filters: Sequence[bytes], profile: bytes, tables: Tables, words: Sequence[str]) -> Report:
         self.count += 1
-        given = bundles.of_comparison(filters, profile, self._with(table))
-        done = client.compare([*self.tables.words, *words], given, self.limit)
+        given = bundles.of_comparison(filters, profile, tables)
+        done = client.compare([*tables.words, *words], given, self.limit)
         report = verdicts.report(done.text)
         if report.verdict is None:
             raise Refusal(report.lines[0] if report.lines else "", done.status)
         return report
 
     def verdict(self, filters: Sequence[bytes], profile: bytes, *words: str) -> Verdict:
-        return self.report(filters, profile, self.table.data, *words).verdict or Verdict(UNFINISHED)
+        """scf's verdict on filters compared with a profile."""
+        return self._report(filters, profile, self.tables, words).verdict or Verdict(UNFINISHED)
+
+
+class Trial(JointTrial):
+    """The same with the table of one architecture."""
+
+    def __init__(self, table: Table, limit: str | None = None, architecture: Architecture = JUDGED[NATIVE]):
+        super().__init__(Tables({architecture.oci: table}), limit)
+        self.table, self.architecture = table, architecture
+
+    def report(self, filters: Sequence[bytes], profile: bytes, table: bytes, *words: str) -> Report:
+        """scf's report on filters compared with a profile, by another table of the architecture."""
+        return self._report(filters, profile, Tables({self.architecture.oci: Table(table)}), words)

@@ -1,20 +1,22 @@
 """Syscalls that `lint` looks for in what a profile allows: those that make a sandbox useless (tables/dangerous.calls),
 those that need another one, as sleeps need restart_syscall, and those that libc replaces only if they are ENOSYS.
 
-scf compares the profile's filter with a profile that delegates these syscalls, with the arguments that are meant, and
-allows all else: what is more permissive than that is allowed.
+For each architecture scf compares the profile's filter with a profile that delegates these syscalls, with the arguments
+that are meant, and allows all else: what is more permissive than that is allowed.
 """
 from __future__ import annotations
 
+import functools
 import os
-from collections.abc import Callable, Iterator, Sequence
+from collections.abc import Callable, Iterator, Mapping, Sequence
 
 from . import program
 from .answers import Answer
 from .calls import Call
-from .entries import ALLOWING, Condition, Entry, Reading, profile_of
-from .findings import Finding, listed
+from .entries import ALLOWING, Condition, Entry, Reading
+from .findings import Finding, Owners, by_owners, listed
 from .reasons import Reason
+from .tables import Tables
 from .trials import Trial
 from .values import Pattern, dataclass
 from .verdicts import NamedCall
@@ -22,7 +24,6 @@ from .verdicts import NamedCall
 FILE = os.path.join(program.TOP, "tables", "dangerous.calls")
 LINE = Pattern(r"(\w+) (?:\[(\d) has (0x[0-9a-f]+)\] )?(\S.*)")
 DELEGATES, ALLOWS = ("SCMP_ACT_TRACE", 1), ("SCMP_ACT_ALLOW", 0)
-ALLOWS_ALL = b'{"defaultAction": "SCMP_ACT_ALLOW"}'
 
 
 def _has(index: int, mask: int, value: int) -> Condition:
@@ -31,11 +32,12 @@ def _has(index: int, mask: int, value: int) -> Condition:
 
 # What the kernel ends with -ERESTART_RESTARTBLOCK (hrtimer_nanosleep and its like, do_restart_poll,
 # futex_wait_restart): sleeps that aren't until a time (TIMER_ABSTIME is 1), poll, and FUTEX_WAIT and FUTEX_WAIT_BITSET
-# (0 and 9 under FUTEX_CMD_MASK) with a timeout. Others, as ppoll and select, begin anew or end with EINTR.
-_TIMEOUT = Condition(3, "SCMP_CMP_NE", 0, 0)
+# (0 and 9 under FUTEX_CMD_MASK) with a timeout. Others, as ppoll and select, begin anew or end with EINTR. Those of
+# time64 are i386's and arm's.
+_IS_NO_TIME, _WAITS = (_has(1, 1, 0),), [(_has(1, 0x7F, it), Condition(3, "SCMP_CMP_NE", 0, 0)) for it in (0, 9)]
 RESTARTED: tuple[tuple[str, tuple[Condition, ...]], ...] = (
-    ("nanosleep", ()), ("clock_nanosleep", (_has(1, 1, 0),)), ("poll", ()), ("futex", (_has(1, 0x7F, 0), _TIMEOUT)),
-    ("futex", (_has(1, 0x7F, 9), _TIMEOUT)))
+    ("nanosleep", ()), ("clock_nanosleep", _IS_NO_TIME), ("clock_nanosleep_time64", _IS_NO_TIME), ("poll", ()),
+    *((name, waits) for name in ("futex", "futex_time64") for waits in _WAITS))
 
 
 @dataclass(frozen=True)
@@ -50,14 +52,19 @@ class Needed:
 
 
 # The program itself doesn't call these (arch/x86/kernel/signal.c; vdso and libc return from a handler by sigreturn(2)).
+# On i386 and arm those without SA_SIGINFO do so by sigreturn (setup_frame in signal_32.c and arch/arm/kernel/signal.c).
 NEEDED = (
     Needed("no-restart", "restart_syscall", RESTARTED, "a thread stopped in such a syscall, by SIGSTOP or a "
            "debugger, calls it to continue, and"),
-    Needed("no-return", "rt_sigreturn", (("rt_sigaction", ()),), "each signal handler ends with it, and it"))
+    Needed("no-return", "rt_sigreturn", (("rt_sigaction", ()),), "each signal handler ends with it, and it"),
+    Needed("no-return", "sigreturn", (("rt_sigaction", ()), ("sigaction", ()), ("signal", ())),
+           "each signal handler without SA_SIGINFO ends with it, and it"))
 # What libc calls instead of newer syscalls if they fail with ENOSYS, and not with any other errno (glibc's
 # __clone_internal and faccessat); with arguments of a thread and of a fork, by linux/sched.h.
 FALLBACKS = (("clone3", "clone", (0x3D0F00, 0x1200011)), ("faccessat2", "faccessat", (0,)))
 ENOSYS = 38
+# How a syscall is allowed.
+ALWAYS, SOMETIMES = "always", "sometimes"
 
 
 @dataclass(frozen=True)
@@ -68,6 +75,7 @@ class Dangerous:
     conditions: tuple[Condition, ...] = ()
 
 
+@functools.lru_cache(None)
 def dangerous() -> dict[str, Dangerous]:
     """The syscalls that make a sandbox useless, from the list."""
     found: dict[str, Dangerous] = {}
@@ -81,102 +89,152 @@ def dangerous() -> dict[str, Dangerous]:
     return found
 
 
-class Watch:
-    """What a profile allows of the list, with some or with all arguments, by syscall number."""
+def _by(entry: int | None) -> str:
+    return "by the default" if entry is None else f"by entry {entry}"
 
-    def __init__(self, trial: Trial, ask: Callable[[Call], Reason], data: bytes, reading: Reading | None):
-        self.trial, self.ask, self.data, self.reading = trial, ask, data, reading
-        self.dangerous = dangerous()
-        listed_calls = [(name, it.conditions) for name, it in self.dangerous.items()]
-        listed_calls += [it for one in NEEDED for it in (*one.users, (one.name, ()))]
-        watched = [Entry(0, (name,), DELEGATES, conditions) for name, conditions in listed_calls]
-        self.numbers = {name: trial.table.number_of(name) for name, _ in listed_calls}
-        self.allowed = self._compare(profile_of(ALLOWS, watched), "--no-more")
+
+class Watch:
+    """What a profile allows of the list to an architecture, with some or with all arguments, by syscall number."""
+
+    def __init__(self, trial: Trial, ask: Callable[[Call], Reason], data: bytes, reading: Reading, is_read: bool):
+        self.trial, self.ask, self.data, self.reading, self.is_read = trial, ask, data, reading, is_read
+        calls = [(name, it.conditions) for name, it in dangerous().items()]
+        calls += [it for one in NEEDED for it in (*one.users, (one.name, ()))]
+        numbers = {name: trial.table.number_of(name) for name, _ in calls}
+        self.numbers = {name: number for name, number in numbers.items() if number is not None}
+        watched = [Entry(0, (name,), DELEGATES, conditions) for name, conditions in calls if name in self.numbers]
+        self.allowed = self._compare(watched, "--no-more")
         self._not_always: dict[int, NamedCall] | None = None
 
-    def _compare(self, profile: bytes, relation: str) -> dict[int, NamedCall]:
-        """The syscalls of the list that fail a relation to a profile or are undecided, by number."""
-        calls = "".join(f"{name} {at}\n" for name, at in self.numbers.items() if at is not None).encode()
-        return {it.number: it for it in self.trial.report([self.data], profile, calls, "--calls", relation).calls}
+    def _compare(self, beside: Sequence[Entry], relation: str) -> dict[int, NamedCall]:
+        """The syscalls of the list that fail a relation to a profile of some entries that else allows all, or are
+        undecided, by number."""
+        calls = "".join(f"{name} {number}\n" for name, number in self.numbers.items()).encode()
+        report = self.trial.report([self.data], self.trial.profile_of(ALLOWS, beside), calls, "--calls", relation)
+        return {it.number: it.on(self.trial.architecture) for it in report.calls}
 
     @property
     def not_always(self) -> dict[int, NamedCall]:
         """Those that aren't always allowed, or of which that is undecided."""
         if self._not_always is None:
-            self._not_always = self._compare(ALLOWS_ALL, "--no-less")
+            self._not_always = self._compare([], "--no-less")
         return self._not_always
 
-    def _found(self, name: str) -> NamedCall | None:
-        number = self.numbers[name]
-        return None if number is None else self.allowed.get(number)
+    def found(self, name: str) -> NamedCall | None:
+        """A syscall that is allowed, or of which that is undecided."""
+        return self.allowed.get(self.numbers[name]) if name in self.numbers else None
 
-    def _is_always(self, name: str) -> bool:
+    def is_always(self, name: str) -> bool:
+        """Whether a syscall is always allowed."""
         number = self.numbers[name]
-        if number is None or number not in self.allowed:
+        if number not in self.allowed:
             return False
-        return self.reading is not None and self.reading.always_allows(number) or number not in self.not_always
+        return self.is_read and self.reading.always_allows(number) or number not in self.not_always
 
-    def _answer(self, call: Call) -> tuple[Answer | None, str, int | None]:
+    def how(self, name: str) -> str | None:
+        """How a syscall is allowed, None if it isn't: a verdict if that is undecided."""
+        found = self.found(name)
+        if found is None or found.verdict.call is None:
+            return None if found is None else found.verdict.word
+        return ALWAYS if self.is_always(name) else SOMETIMES
+
+    def answer(self, call: Call) -> tuple[Answer | None, str, int | None]:
         """What the profile answers to a record, and which entry or default decides."""
         reason = self.ask(call)
-        return reason.answer, "by the default" if reason.entry is None else f"by entry {reason.entry}", reason.entry
+        return reason.answer, _by(reason.entry), reason.entry
 
-    def of_dangerous(self) -> Iterator[tuple[bool, Finding]]:
-        """The dangerous syscalls that are allowed, always or with some arguments; and whether that is decided."""
-        for name, danger in self.dangerous.items():
-            found = self._found(name)
-            if found is None:
-                continue
-            more: dict[str, object] = {"name": name, "number": found.number, "reason": danger.reason}
-            if found.verdict.call is None:
-                yield False, Finding("dangerous-call", f"undecided whether {name} ({found.number}) is "
-                                     f"allowed: {found.verdict.word}", more)
-            else:
-                yield True, self._allowed(name, found.verdict.call, danger, more)
+    def deciding(self, name: str, arguments: Sequence[int]) -> int | None:
+        """The entry that decides on a syscall with these arguments; None for the default. scf isn't asked, if it proved
+        that the entries are as they are read."""
+        number = self.numbers[name]
+        if not self.is_read:
+            return self.ask(self.reading.call(number, *arguments)).entry
+        decides = self.reading.deciding(number, dict(enumerate(arguments)))
+        return None if decides is None else decides.place
 
-    def _allowed(self, name: str, call: Call, danger: Dangerous, more: dict[str, object]) -> Finding:
-        is_always, arguments = self._is_always(name), [hex(it) for it in call.arguments]
-        _, where, entry = self._answer(call)
-        how = "" if is_always else f" with some arguments, such as {' '.join(arguments)},"
-        return Finding("dangerous-call", f"{call.describe(self.trial.table)} is allowed{how} {where}: {danger.reason}",
-                       {**more, "is_always": is_always, "arguments": arguments, "entry": entry})
+    def users(self, one: Needed) -> list[str]:
+        """The users of a syscall that are allowed."""
+        return [name for name in dict.fromkeys(name for name, _ in one.users) if self.found(name)]
 
-    def of_needed(self) -> Iterator[tuple[bool, Finding]]:
-        """A finding if a syscall isn't always allowed, but others that need it are; and whether that is decided."""
-        for one in NEEDED:
-            users = [name for name in dict.fromkeys(name for name, _ in one.users) if self._found(name)]
-            number = self.numbers[one.name]
-            if users and number is not None and not self._is_always(one.name):
-                yield self._lacking(one, users, number)
-
-    def _lacking(self, one: Needed, users: Sequence[str], number: int) -> tuple[bool, Finding]:
-        less, more = self.not_always.get(number), {"names": list(users)}
-        answer, where, entry = self._answer(less.verdict.call) if less and less.verdict.call else (None, "", None)
-        if answer is None:
-            return False, Finding(one.kind, f"undecided whether {one.name} ({number}) is always allowed",
-                                  more)
-        return True, Finding(one.kind, f"{listed(users, 'and')} {'is' if len(users) == 1 else 'are'} allowed, and "
-                             f"{one.name} ({number}) is not: {one.why} is answered {where} {answer.describe()}",
-                             {**more, "entry": entry})
+    def lacks(self, one: Needed) -> NamedCall | None:
+        """A syscall that isn't always allowed, but users of it are; None if there is none."""
+        number = self.numbers.get(one.name)
+        if number is None or not self.users(one) or self.is_always(one.name):
+            return None
+        return self.not_always.get(number)
 
     def _may_keep_from(self, newer: int, older: int, first_arguments: Sequence[int]) -> bool:
         """Whether a syscall may be denied other than with ENOSYS and the older one allowed, as the entries are read."""
-        if self.reading is None:
+        if not self.is_read:
             return True
         answer = self.reading.answer(newer, {})
         return answer[0] not in ALLOWING and answer != ("SCMP_ACT_ERRNO", ENOSYS) and \
             any(self.reading.allows(older, {0: it}) for it in first_arguments)
 
-    def of_fallbacks(self) -> Iterator[Finding]:
-        """A finding if a newer syscall is denied so that libc doesn't call the older one, which is allowed."""
-        for newer, older, first_arguments in FALLBACKS:
-            numbers = [self.trial.table.number_of(name) for name in (newer, older)]
-            if None in numbers or not self._may_keep_from(numbers[0], numbers[1], first_arguments):
-                continue
-            answer, where, entry = self._answer(Call(numbers[0]))
-            instead = [self._answer(Call(numbers[1], arguments=(it, *[0] * 5)))[0] for it in first_arguments]
-            if answer and answer.denies and (answer.action, answer.data) != ("ERRNO", ENOSYS) and \
-                    any(it and it.allows for it in instead):
-                yield Finding("no-fallback", f"{newer} ({numbers[0]}) is answered {where} {answer}, and {older} is "
-                              f"allowed: libc calls {older} instead only after ENOSYS, which is errno {ENOSYS}",
-                              {"name": newer, "instead": older, "entry": entry})
+    def keeps_from(self, newer: str, older: str, first_arguments: Sequence[int]) -> \
+            tuple[Answer, str, int | None] | None:
+        """The denial of a newer syscall by which libc doesn't call the older one, which is allowed; None if there is
+        none."""
+        numbers = [self.trial.table.number_of(name) for name in (newer, older)]
+        if None in numbers or not self._may_keep_from(numbers[0], numbers[1], first_arguments):
+            return None
+        answer, where, entry = self.answer(self.reading.call(numbers[0]))
+        instead = [self.answer(self.reading.call(numbers[1], it))[0] for it in first_arguments]
+        is_kept = answer and answer.denies and (answer.action, answer.data) != ("ERRNO", ENOSYS) and \
+            any(it and it.allows for it in instead)
+        return (answer, where, entry) if is_kept else None
+
+
+def _allowed(name: str, danger: Dangerous, watch: Watch, owners: Owners) -> tuple[bool, Finding]:
+    """A dangerous syscall that is allowed, always or with some arguments; and whether that is decided."""
+    number, how, call = watch.numbers[name], watch.how(name), watch.allowed[watch.numbers[name]].verdict.call
+    more: dict[str, object] = {"name": name, "number": number, "reason": danger.reason}
+    if call is None:
+        return False, Finding("dangerous-call", f"undecided whether {owners.named(name, number)} is allowed: {how}"
+                              f"{owners.also}", {**more, **owners.as_json()})
+    arguments = [it & watch.trial.architecture.greatest for it in call.arguments]
+    entry, shown = watch.deciding(name, arguments), list(map(hex, arguments))
+    some = "" if how == ALWAYS else f" with some arguments, such as {' '.join(shown)},"
+    called = owners.named(" or ".join(watch.trial.table.names_of(number)), number)
+    return True, Finding("dangerous-call", f"{called} is allowed{some} {_by(entry)}: {danger.reason}{owners.also}",
+                         {**more, "is_always": how == ALWAYS, "arguments": shown, "entry": entry, **owners.as_json()})
+
+
+def of_dangerous(judged: Tables, watches: Mapping[str, Watch]) -> Iterator[tuple[bool, Finding]]:
+    """The dangerous syscalls that are allowed, and whether that is decided."""
+    for name, danger in dangerous().items():
+        how = {one: watch.how(name) for one, watch in watches.items() if name in watch.numbers}
+        for _, owners in by_owners(how, judged):
+            yield _allowed(name, danger, watches[owners.first], owners)
+
+
+def _lacking(one: Needed, watch: Watch, owners: Owners) -> tuple[bool, Finding]:
+    users, number, less = watch.users(one), watch.numbers[one.name], watch.lacks(one)
+    more: dict[str, object] = {"names": users, **owners.as_json()}
+    answer, where, entry = watch.answer(less.verdict.call) if less and less.verdict.call else (None, "", None)
+    called = owners.named(one.name, number)
+    if answer is None:
+        return False, Finding(one.kind, f"undecided whether {called} is always allowed{owners.also}", more)
+    return True, Finding(one.kind, f"{listed(users, 'and')} {'is' if len(users) == 1 else 'are'} allowed, and {called} "
+                         f"is not: {one.why} is answered {where} {answer.describe()}{owners.also}",
+                         {**more, "entry": entry})
+
+
+def of_needed(judged: Tables, watches: Mapping[str, Watch]) -> Iterator[tuple[bool, Finding]]:
+    """A finding if a syscall isn't always allowed, but others that need it are; and whether that is decided."""
+    for one in NEEDED:
+        less = {name: watch.lacks(one) for name, watch in watches.items() if one.name in watch.numbers}
+        is_told = {name: None if it is None else it.verdict.call is not None for name, it in less.items()}
+        yield from (_lacking(one, watches[owners.first], owners) for _, owners in by_owners(is_told, judged))
+
+
+def of_fallbacks(judged: Tables, watches: Mapping[str, Watch]) -> Iterator[Finding]:
+    """A finding if a newer syscall is denied so that libc doesn't call the older one, which is allowed."""
+    for newer, older, first_arguments in FALLBACKS:
+        numbers = judged.numbers_of(newer)
+        kept = {name: watches[name].keeps_from(newer, older, first_arguments) for name in numbers}
+        for (answer, where, entry), owners in by_owners(kept, judged):
+            yield Finding("no-fallback", f"{owners.named(newer, numbers[owners.first])} is answered {where} {answer}, "
+                          f"and {older} is allowed: libc calls {older} instead only after ENOSYS, which is errno "
+                          f"{ENOSYS}{owners.also}",
+                          {"name": newer, "instead": older, "entry": entry, **owners.as_json()})

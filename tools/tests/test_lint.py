@@ -16,6 +16,9 @@ import kernel_profiles  # noqa: E402
 from scftools import actions, arguments, client, siblings, tables, watchlist  # noqa: E402
 
 ALLOW, ERRNO, TOP_OF = "SCMP_ACT_ALLOW", "SCMP_ACT_ERRNO", (1 << 64) - 1
+NATIVE, I386, X32, AARCH64, ARM = (f"SCMP_ARCH_{it}" for it in ("X86_64", "X86", "X32", "AARCH64", "ARM"))
+# What the list of an engine names on x86-64; and the first value that no argument of 32 bits has.
+ENGINES, WIDE = [NATIVE, I386, X32], 1 << 32
 ACTIONS = ("ALLOW", "LOG", "ERRNO", "TRACE", "TRAP", "NOTIFY", "KILL", "KILL_THREAD", "KILL_PROCESS")
 with open(TABLE, "rb") as opened:
     TABLE_TEXT = opened.read()
@@ -473,7 +476,8 @@ class Restart(Running):
                 restarted.add((name, what))
         self.assertEqual(restarted, {("nanosleep", ""), ("clock_nanosleep", ""), ("poll", ""), ("poll", "without end"),
                                      ("futex", ""), ("futex", "bits")})
-        self.assertEqual({name for name, _ in restarted}, {name for name, _ in watchlist.RESTARTED})
+        self.assertEqual({name for name, _ in restarted},
+                         {name for name, _ in watchlist.RESTARTED if table.number_of(name) is not None})
 
     def missing(self, given):
         return [it["names"] for it in self.found(given, kinds=("no-restart",))]
@@ -936,6 +940,284 @@ class Conflicts(Linted):
                    entry("write")]
         found = self.found(profile(*entries), kinds=("conflict",), status=1)
         self.assertEqual([(it["first"], it["second"]) for it in found], [(0, 1), (0, 2), (1, 2), (2, 3)])
+
+
+class Several(Linted):
+    """Profiles for other architectures than x86-64, and for several: numbers by asm/unistd.h of each, arguments of 32
+    bits on i386, x32 and arm."""
+
+    def listing(self, architectures, *entries, kinds, status=0, words=(), **members):
+        """The texts of the findings of some kinds, each with the architectures of which it is true."""
+        given = profile(*entries, architectures=architectures, **members)
+        return [(it["text"].partition(": it ")[0], it.get("architectures")) for it in
+                self.found(given, *words, kinds=kinds, status=status)]
+
+    def test_aarch64_and_arm(self):
+        """They have ptrace as 117 and 26; open and poll are arm's alone, and arch_prctl neither has."""
+        given = profile(entry("read", "ptrace", "poll", "restart_syscall"), entry("open"), entry("arch_prctl"),
+                        entry("read"), architectures=[AARCH64, ARM])
+        report = self.report(given)
+        self.assertEqual([(it["kind"], it.get("entry"), it.get("architectures")) for it in report["findings"]], [
+            ("other-architectures", None, None), ("unlisted", 2, ["x86-64", "i386", "x32"]), ("covered", 3, None),
+            ("dangerous-call", 0, ["aarch64", "arm"])])
+        self.assertEqual((report["findings"][0]["names"], report["verdict"]), (["arch_prctl"], "same"))
+        self.assertIn("\ndangerous-call: ptrace (117) is allowed by entry 0: it ", self.run_lint(given)[1])
+
+    def test_aarch64_alone(self):
+        self.assertEqual(self.run_lint(profile(entry("read", "openat"), architectures=[AARCH64])),
+                         (0, "# no findings\n", ""))
+        kinds = ("left-out-name", "unknown-name", "other-architectures", "unlisted")
+        found = self.found(profile(entry("read", "open", "opemat"), architectures=[AARCH64]), kinds=kinds)
+        self.assertEqual([(it["kind"], it.get("name"), it.get("nearest"), it.get("names")) for it in found], [
+            ("unknown-name", "opemat", "openat", None), ("other-architectures", None, None, ["open"]),
+            ("unlisted", None, None, ["open"])])
+
+    def test_i386_alone(self):
+        """A value of more than 32 bits is one that no argument has, and each is up to the greatest of 32."""
+        entries = [entry("waitpid"), entry("waitpid", "ptrace"), entry("personality", args=[(0, "EQ", WIDE)]),
+                   entry("umask", args=[(0, "LE", WIDE - 1)])]
+        report = self.report(profile(*entries, architectures=[I386]))
+        found = [(it["kind"], it.get("entry"), it.get("by") or it.get("why")) for it in report["findings"]]
+        self.assertEqual(found, [("wide", 2, None), ("always-met", 3, None), ("covered", 0, 1),
+                                 ("without-effect", 2, "none"), ("dangerous-call", 1, None)])
+        self.assertEqual(self.listing([I386], *entries, kinds=("dangerous-call",)),
+                         [("ptrace (26) is allowed by entry 1", ["i386"])])
+
+    def test_x32_is_named_where_x86_64_is(self):
+        for architectures, is_found in (([NATIVE], True), ([NATIVE, AARCH64], True), ([AARCH64], False),
+                                        ([I386], False), (ENGINES, False)):
+            found = self.found(profile(architectures=architectures), kinds=("x32",))
+            self.assertEqual(len(found), is_found, architectures)
+
+    def test_an_entry_that_has_an_effect_on_one_of_them(self):
+        """waitpid is i386's alone; no i386 call meets what is said of greater numbers."""
+        later = entry("read"), entry("read", "waitpid")
+        self.assertEqual(self.effects(*later, architectures=[NATIVE]), [(1, False, 0)])
+        self.assertEqual(self.effects(*later, architectures=ENGINES), [(0, True, 1)])
+        twice = entry("waitpid"), entry("waitpid")
+        self.assertEqual(self.effects(*twice, architectures=[NATIVE, X32]), [])
+        self.assertEqual(self.effects(*twice, architectures=ENGINES), [(1, True, 0)])
+        self.assertEqual(self.effects(entry("read"), entry("waitpid"), architectures=ENGINES), [])
+        halves = entry("umask", args=[(0, "LT", WIDE)]), entry("umask")
+        for architectures in ([NATIVE], ENGINES, [AARCH64, ARM]):
+            self.assertEqual(self.effects(*halves, architectures=architectures), [(0, True, 1)])
+        self.assertEqual(self.effects(*halves, architectures=[I386]), [(1, True, 0)])
+        self.assertEqual(self.effects(entry("umask", args=[(0, "GE", WIDE)]), architectures=ENGINES), [])
+        self.assertEqual(self.effects(entry("umask", args=[(0, "GE", WIDE)]), architectures=[I386, X32, ARM]),
+                         [(0, True, "none")])
+
+    def test_entries_that_are_covered_on_all(self):
+        self.assertEqual(self.effects(entry("read", "write"), entry("read"), architectures=ENGINES), [(1, True, 0)])
+        halves = entry("read", args=[(0, "LT", 5)]), entry("read", args=[(0, "GE", 5)])
+        self.assertEqual(self.effects(*halves, entry("read"), architectures=ENGINES), [(2, True, "together")])
+        self.assertEqual(self.effects(entry("read", action=ERRNO), architectures=ENGINES), [(0, True, "default")])
+        # 500 is what a short search doesn't try, and the last entry alone has
+        most = [("EQ", it) for it in range(6, 18)] + [("LE", 5), ("GE", 1000), ("NE", 7)]
+        self.assertEqual(self.effects(*(entry("read", args=[(0, *it)]) for it in most), architectures=ENGINES), [])
+
+    def test_a_dangerous_call_on_one_of_them(self):
+        """By a table without ptrace, and for arguments that no call of 32 bits has."""
+        own, kinds = self.file("own.table", b"read 0\n"), ("dangerous-call",)
+        self.assertEqual(self.listing(ENGINES, entry("ptrace"), kinds=kinds),
+                         [("ptrace (101) is allowed by entry 0", ["x86-64", "i386", "x32"])])
+        texts = [it["text"] for it in self.found(profile(entry("ptrace"), architectures=ENGINES), f"--table={own}",
+                                                 kinds=kinds)]
+        self.assertEqual([(it.partition(": ")[0], it.rpartition("; ")[2]) for it in texts],
+                         [("ptrace (26) of i386 is allowed by entry 0", "the same on x32")])
+        self.assertEqual(self.listing([NATIVE, X32], entry("ptrace"), kinds=kinds, words=[f"--table={own}"]),
+                         [("ptrace (0x40000000 + 521) of x32 is allowed by entry 0", ["x32"])])
+        found, = self.listing(ENGINES, entry("ptrace", args=[(0, "EQ", WIDE + 1)]), kinds=kinds)
+        self.assertEqual(found, ("ptrace (101) of x86-64 is allowed with some arguments, such as 0x100000001 0x0 0x0 "
+                                 "0x0 0x0 0x0, by entry 0", ["x86-64"]))
+        self.assertEqual(self.listing([I386], entry("ptrace", args=[(0, "EQ", WIDE + 1)]), kinds=kinds), [])
+
+    def test_a_dangerous_call_always_or_with_some_arguments(self):
+        given = profile(entry("ptrace", action=ERRNO, args=[(0, "GE", WIDE)]), default=ALLOW, architectures=ENGINES)
+        found = [it for it in self.found(given, kinds=("dangerous-call",)) if it["name"] == "ptrace"]
+        self.assertEqual([(it["number"], it["is_always"], it["architectures"]) for it in found],
+                         [(101, False, ["x86-64"]), (26, True, ["i386", "x32"])])
+        self.assertIn("\ndangerous-call: ptrace (26) of i386 is allowed by the default: it ", self.run_lint(given)[1])
+
+    def test_what_could_not_be_told(self):
+        """It is said once, as what is told is."""
+        given = profile(entry("ptrace", "nanosleep"), architectures=ENGINES)
+        untold = [it for it in self.report(given, "--limit=0", "--strict", status=4)["untold"]
+                  if it.get("name") == "ptrace" or it["kind"] == "no-restart"]
+        self.assertEqual([(it["text"], it["architectures"]) for it in untold], [
+            ("undecided whether ptrace (101) is allowed: unfinished", ["x86-64", "i386", "x32"]),
+            ("undecided whether restart_syscall (219) is always allowed", ["x86-64", "i386", "x32"])])
+
+    def test_findings_on_x86_64_alone_name_no_architecture(self):
+        given = profile(entry("ptrace", "poll"), entry("personality", args=[(1, "EQ", 8)]))
+        for words, listed in (((), []), ((), [NATIVE]), (("--native",), ENGINES)):
+            for it in self.report({**given, "architectures": listed}, *words)["findings"]:
+                self.assertEqual("architectures" in it, it["kind"] == "x32", it)
+
+    def test_syscalls_that_others_need(self):
+        """sigreturn is i386's 119 and arm's; aarch64 has no poll; restart_syscall is 128 on aarch64, and 0 on arm."""
+        handlers = entry("rt_sigaction", "rt_sigreturn")
+        self.assertEqual(self.listing([NATIVE], handlers, kinds=("no-return",)), [])
+        found, = self.found(profile(handlers, architectures=ENGINES), kinds=("no-return",))
+        self.assertEqual((found["names"], found["architectures"]), (["rt_sigaction"], ["i386"]))
+        self.assertTrue(found["text"].startswith("rt_sigaction is allowed, and sigreturn (119) of i386 is not: "))
+        self.assertEqual(self.listing(ENGINES, handlers, entry("sigreturn"), kinds=("no-return",)), [])
+        for name, number, owners in (("nanosleep", "128", ["aarch64", "arm"]), ("poll", "0) of arm", ["arm"]),
+                                     ("futex_time64", "0) of arm", ["arm"])):
+            found, = self.found(profile(entry(name), architectures=[AARCH64, ARM]), kinds=("no-restart",))
+            self.assertEqual((found["names"], found["architectures"]), ([name], owners))
+            self.assertTrue(found["text"].startswith(f"{name} is allowed, and restart_syscall ({number}"), found)
+
+    def test_what_libc_calls_instead(self):
+        threads = entry("clone", args=[(0, "MASKED_EQ", 0x7E020000, 0)])
+        for architectures, number in ((ENGINES, 435), ([AARCH64, ARM], 435), ([I386], 435)):
+            found = self.listing(architectures, threads, kinds=("no-fallback",))
+            self.assertEqual([it[0].partition(" is answered")[0] for it in found], [f"clone3 ({number})"])
+
+    def test_denials_that_others_make_void(self):
+        """aarch64 has no mkdir."""
+        deny = {"action": ERRNO, "errnoRet": 1}
+        for names, architectures, expected in (
+                (["mkdir"], ENGINES, [("mkdir is denied by entry 0 (ERRNO 1)", ["x86-64", "i386", "x32"])]),
+                (["mkdir"], [AARCH64, ARM], [("mkdir is denied on arm by entry 0 (ERRNO 1)", ["arm"])]),
+                (["mkdir"], [AARCH64], []),
+                (["renameat"], [AARCH64, ARM], [("renameat is denied by entry 0 (ERRNO 1)", ["aarch64", "arm"])])):
+            found = self.listing(architectures, entry(*names, **deny), default=ALLOW, kinds=("sibling-allowed",))
+            self.assertEqual([(text.partition(", and ")[0], on) for text, on in found], expected)
+
+    def test_entries_that_conflict_on_one_of_them(self):
+        """By a name of i386, and by values that only arguments of 64 bits have; personality is 135, 136 and 92."""
+        log, wide = {"action": "SCMP_ACT_LOG"}, ((0, "GE", WIDE), (0, "EQ", WIDE + 7))
+        names = entry("read"), entry("waitpid"), entry("waitpid", args=[(1, "EQ", 7)], **log)
+        values = entry("read"), entry("personality", args=wide[:1]), entry("personality", args=wide[1:], **log)
+        for entries, architectures, called, number, arguments in (
+                (names, ENGINES, "waitpid (7) of i386", 7, "0x0 0x7 0x0 0x0 0x0 0x0"),
+                (names, [I386], "waitpid (7)", 7, "0x0 0x7 0x0 0x0 0x0 0x0"),
+                (values, ENGINES, "personality (135) of x86-64", 135, "0x100000007 0x0 0x0 0x0 0x0 0x0"),
+                (values, [AARCH64, ARM], "personality (92) of aarch64", 92, "0x100000007 0x0 0x0 0x0 0x0 0x0")):
+            status, out, _ = self.run_lint(profile(*entries, architectures=architectures))
+            self.assertEqual((status, out.split("\n")[0]), (
+                1, f"fault profile Conflict number {number} first 1 second 2"))
+            self.assertIn(f"\nconflict: entries 1 and 2 answer {called} by ALLOW and by LOG: arguments {arguments} "
+                          "meet both\n", out)
+        for entries, architectures in ((names, [NATIVE, X32]), (values, [I386, X32, ARM])):
+            self.assertEqual(self.found(profile(*entries, architectures=architectures), kinds=("conflict",)), [])
+        found, = self.found(profile(*names, architectures=ENGINES), kinds=("conflict",), status=1)
+        self.assertEqual((found["call"]["number"], found["call"]["architecture"], found["architectures"]),
+                         (7, "0x40000003", ["i386"]))
+        found, = self.found(profile(entry("read"), entry("read", **log), architectures=ENGINES), kinds=("conflict",),
+                            status=1)
+        self.assertEqual(found["architectures"], ["x86-64", "i386", "x32"])
+        self.assertIn("answer read (0) by ALLOW and by LOG: ", found["text"])
+
+    def test_arguments(self):
+        """i386 takes the offset of pread64 in two arguments, and an aarch64 process its clone's in another order."""
+        kinds = ("no-such-argument", "pointer-argument")
+        for name, index, architectures, expected in (
+                ("personality", 1, ENGINES, (", and", ["x86-64", "i386", "x32"])), ("pread64", 4, [I386], None),
+                ("pread64", 4, ENGINES, (" on x86-64 and x32, and", ["x86-64", "x32"])),
+                ("clone", 3, [NATIVE, AARCH64], (" on x86-64 is", ["x86-64"])), ("clone", 3, [AARCH64], None),
+                ("mmap", 2, [I386], None), ("openat", 1, [AARCH64, ARM], (" is", ["aarch64", "arm"]))):
+            found = self.found(profile(entry(name, args=[(index, "EQ", 8)]), architectures=architectures), kinds=kinds)
+            self.assertEqual([it["architectures"] for it in found], [] if expected is None else [expected[1]], name)
+            for it in found:
+                self.assertIn((f"{name}" if index == 3 or name == "openat" else "(the first is 0)") + expected[0],
+                              it["text"])
+        null = entry("openat", args=[(1, "MASKED_EQ", WIDE - 1, 0)])
+        for architectures, is_found in ((ENGINES, True), ([I386], False)):
+            self.assertEqual(len(self.found(profile(null, architectures=architectures), kinds=kinds)), is_found)
+        for oci, names in arguments.UNLIKE.items():
+            for name in names:
+                self.assertIsNotNone(tables.read(TABLE).number_of(name), name)
+                self.assertTrue(oci != I386 or tables.of_architecture(oci).number_of(name), name)
+
+    def test_conditions_that_always_hold_on_all(self):
+        """Up to 2^32-1 each argument of 32 bits is, and not each of 64."""
+        for condition, is_for_32 in (((0, "LE", WIDE - 1), True), ((0, "LT", WIDE), True), ((0, "NE", WIDE), True),
+                                     ((0, "MASKED_EQ", WIDE, 1), True), ((0, "LE", WIDE - 2), False),
+                                     ((0, "LT", WIDE - 1), False), ((0, "NE", WIDE - 1), False),
+                                     ((0, "MASKED_EQ", WIDE, WIDE), False), ((0, "EQ", WIDE), False)):
+            given = entry("umask", args=[condition])
+            for architectures, is_found in (([I386, ARM], is_for_32), (ENGINES, False), ([AARCH64], False)):
+                found = self.found(profile(given, architectures=architectures), kinds=("always-met",))
+                self.assertEqual(len(found), is_found, (condition, architectures))
+
+    def test_entries_of_which_each_call_meets_one_on_all(self):
+        def of(architectures, *conditions):
+            given = profile(*(entry("socket", args=[it]) for it in conditions), architectures=architectures)
+            return [it["entries"] for it in self.found(given, kinds=("always-met",)) if "entries" in it]
+        other, wide = ((0, "NE", 40), (0, "NE", 16)), ((0, "LT", WIDE), (1, "EQ", 5))
+        for architectures in (ENGINES, [AARCH64, ARM], [I386]):
+            self.assertEqual(of(architectures, *other), [[0, 1]])
+        # a short search tries no value above the first ones
+        many = [(0, "EQ", it) for it in range(1, 13)] + [(0, "LT", WIDE)]
+        for architectures, is_found in ((ENGINES, False), ([I386, X32], True)):
+            self.assertEqual(of(architectures, *wide), [[0, 1]] * is_found)
+            self.assertEqual(of(architectures, *many), [list(range(13))] * is_found)
+
+    def test_upper_halves(self):
+        """ioctl is 16 on x86-64, and 29 on aarch64; arguments of i386, x32 and arm have none."""
+        denied = entry("ioctl", action=ERRNO, args=[(1, "EQ", 0x5412)])
+        for architectures, called, owners in (
+                (ENGINES, "ioctl (16) is", ["x86-64"]), ([AARCH64, ARM], "ioctl (29) is", ["aarch64"]),
+                ([NATIVE, AARCH64], "ioctl (16) is", ["x86-64", "aarch64"]), ([I386], "", None),
+                ([I386, AARCH64], "ioctl (29) of aarch64 is", ["aarch64"])):
+            found = self.listing(architectures, denied, default=ALLOW, kinds=("high-half",))
+            self.assertEqual([it[1] for it in found], [owners] if owners else [])
+            self.assertTrue(all(text.startswith(called) for text, _ in found), found)
+        value = entry("openat", args=[(0, "EQ", TOP_OF - 99)])
+        for architectures, owners in ((ENGINES, [["x86-64"]]), ([I386, X32], [])):
+            self.assertEqual([it[1] for it in self.listing(architectures, value, kinds=("high-half",))], owners)
+
+
+# Values of conditions, and arguments: each value, some on both sides, and some of both parities, with and without 2^32.
+EDGES = (0, 1, 5, WIDE - 1, WIDE, WIDE + 6, TOP_OF)
+GRID = sorted({it + step for it in EDGES for step in range(-2, 3) if 0 <= it + step <= TOP_OF} |
+              {2 * WIDE + at + step for at in (0, WIDE) for step in (0, 1)})
+
+
+class BesideSeveral(Linted):
+    """Random profiles for several architectures: what is told is without effect on all of them, each by itself and all
+    together, and nothing else is, as their entries are read here for arguments at which a condition may change."""
+
+    CONDITIONS = [(op, value) for op in ("EQ", "NE", "LT", "LE", "GT", "GE") for value in EDGES]
+    CONDITIONS += [("MASKED_EQ", mask, two) for mask in (1, WIDE) for two in (0, mask)]
+    HAVE = {"read": (NATIVE, I386, X32, AARCH64), "waitpid": (I386,), "poll": (NATIVE, I386, X32)}
+
+    def random_profile(self, random_of):
+        made = []
+        for _ in range(random_of.randint(2, 5)):
+            indices = random_of.sample((0, 1), random_of.randint(0, 2))
+            args = [(index, *random_of.choice(self.CONDITIONS)) for index in indices]
+            made.append(entry(*random_of.sample(sorted(self.HAVE), random_of.randint(1, 3)), args=args))
+        return made
+
+    def answers(self, entries, architectures):
+        """Of each syscall the arguments that are allowed."""
+        found = set()
+        for name, having in self.HAVE.items():
+            conditions = [it.get("args", []) for it in entries if name in it["names"]]
+            for bits in {64 if it in (NATIVE, AARCH64) else 32 for it in having if it in architectures}:
+                grid = [it for it in GRID if it < 1 << bits]
+                found |= {(name, bits, one, two) for one in grid for two in grid if any(
+                    all(kernel_profiles.holds(it, (one, two)) for it in its) for its in conditions)}
+        return found
+
+    def test_random_profiles(self):
+        random_of, told, kept = random.Random(13), 0, 0
+        for _ in range(24):
+            entries = self.random_profile(random_of)
+            architectures = random_of.choice((ENGINES, [NATIVE, I386], [I386], [AARCH64], [I386, AARCH64]))
+            found = self.found(profile(*entries, architectures=architectures), kinds=("covered", "without-effect"))
+            gone = {(it["entry"], name) for it in found for name in it["names"]}
+            expected, without = self.answers(entries, architectures), Beside.without
+            self.assertEqual(self.answers(without(entries, gone), architectures), expected, (entries, architectures))
+            for at in ((place, name) for place, it in enumerate(entries) for name in it["names"]):
+                if at not in gone and set(self.HAVE[at[1]]) & set(architectures):
+                    kept += 1
+                    left = self.answers(without(entries, gone | {at}), architectures)
+                    self.assertNotEqual(left, expected, (entries, architectures, at))
+            told += len(gone)
+        self.assertGreater(min(told, kept), 20)
 
 
 class Hostile(Linted):

@@ -57,6 +57,11 @@ class Starts(Counting):
 
     def test_lint(self):
         self.assertEqual(self.starts("lint", self.file("p.json", profile_of(*NAMES))), 3)
+        # the calls of each architecture are compared by themselves; by which entry ptrace is allowed, the entries say
+        listed = [f"SCMP_ARCH_{it}" for it in ("X86_64", "X86", "X32")]
+        several = {"defaultAction": "SCMP_ACT_ERRNO", "architectures": listed, "syscalls": [
+            {"names": [*NAMES, "sigreturn", "ptrace"], "action": "SCMP_ACT_ALLOW"}]}
+        self.assertEqual(self.starts("lint", self.file("p.json", json.dumps(several))), 5)
 
     def test_compare_profiles(self):
         one, other = (self.file(f"{at}.json", profile_of(*names)) for at, names in enumerate((NAMES, NAMES[::-1])))
