@@ -1,26 +1,30 @@
-"""Profiles for several architectures read a second way, from seccomp.h, linux/audit.h and the OCI specification: what
-one answers to a record, drawn profiles, and filters that a small compiler makes of them."""
+"""Profiles for several architectures read a second way, from seccomp.h, linux/audit.h, seccomp(2) and the OCI
+specification: what one states and answers, drawn profiles, and filters that a small compiler makes of them."""
+import functools
+import itertools
 import json
 import struct
 
 # By the OCI name: the architecture of a record, the first and the last number, the bits of an argument, the kind of the
-# table in a bundle, and a table.
+# table in a bundle, and a table. Each table gives two names one number, and lacks a name that another has.
 X32_BIT = 0x40000000
 ARCHITECTURES = {
-    "SCMP_ARCH_X86_64": (0xC000003E, 0, X32_BIT - 1, 64, "table", {"read": 0, "write": 1, "both": 7, "also": 7,
-                                                                   "personality": 135, "clone": 56, "far": 450}),
-    "SCMP_ARCH_X86": (0x40000003, 0, 0xFFFFFFFF, 32, "table-x86", {"read": 3, "write": 4, "mine": 0, "both": 135,
-                                                                   "personality": 136, "clone": 120, "far": 983040}),
-    "SCMP_ARCH_X32": (0xC000003E, X32_BIT, 0xFFFFFFFF, 32, "table-x32", {"read": 0, "write": 1, "both": 8, "clone": 56,
-                                                                         "personality": 135, "far": 547}),
-    "SCMP_ARCH_AARCH64": (0xC00000B7, 0, 0xFFFFFFFF, 64, "table-aarch64", {"read": 63, "write": 64, "both": 1,
-                                                                           "personality": 92, "clone": 220}),
-    "SCMP_ARCH_ARM": (0x40000028, 0, 0xFFFFFFFF, 32, "table-arm", {"read": 3, "write": 4, "mine": 0xF0002,
-                                                                   "personality": 136, "clone": 120}),
+    "SCMP_ARCH_X86_64": (0xC000003E, 0, X32_BIT - 1, 64, "table", {
+        "read": 0, "write": 1, "both": 7, "also": 7, "native": 2, "personality": 135, "clone": 56, "far": 450}),
+    "SCMP_ARCH_X86": (0x40000003, 0, 0xFFFFFFFF, 32, "table-x86", {
+        "read": 3, "write": 4, "also": 4, "mine": 0, "both": 135, "personality": 136, "clone": 120, "far": 983040}),
+    "SCMP_ARCH_X32": (0xC000003E, X32_BIT, 0xFFFFFFFF, 32, "table-x32", {
+        "read": 0, "write": 1, "both": 8, "clone": 56, "personality": 135, "far": 547, "mine": 547}),
+    "SCMP_ARCH_AARCH64": (0xC00000B7, 0, 0xFFFFFFFF, 64, "table-aarch64", {
+        "read": 63, "write": 64, "both": 1, "native": 5, "personality": 92, "clone": 220, "far": 220}),
+    "SCMP_ARCH_ARM": (0x40000028, 0, 0xFFFFFFFF, 32, "table-arm", {
+        "read": 3, "both": 3, "write": 4, "mine": 0xF0002, "personality": 136, "clone": 120}),
 }
-ACTIONS = {"KILL_PROCESS": 0x80000000, "KILL_THREAD": 0, "TRAP": 0x30000, "ERRNO": 0x50000, "TRACE": 0x7FF00000,
-           "LOG": 0x7FFC0000, "ALLOW": 0x7FFF0000}
-KILLS = ACTIONS["KILL_PROCESS"]
+# "nowhere" is a name that no table has.
+NAMES = sorted({"nowhere", *(name for it in ARCHITECTURES.values() for name in it[5])})
+ACTIONS = {"KILL": 0, "KILL_THREAD": 0, "KILL_PROCESS": 0x80000000, "TRAP": 0x30000, "ERRNO": 0x50000,
+           "NOTIFY": 0x7FC00000, "TRACE": 0x7FF00000, "LOG": 0x7FFC0000, "ALLOW": 0x7FFF0000}
+KILLS, ALLOW = ACTIONS["KILL_PROCESS"], ACTIONS["ALLOW"]
 OPERATORS = {
     "NE": lambda it, value, two: it != value, "LT": lambda it, value, two: it < value,
     "LE": lambda it, value, two: it <= value, "EQ": lambda it, value, two: it == value,
@@ -37,107 +41,177 @@ def word_of(action, number=None):
     return ACTIONS[name] | ((1 if number is None else number) if name in ("ERRNO", "TRACE") else 0)
 
 
+def disposition(answer):
+    """0 denied, 1 delegated, 2 allowed."""
+    action = answer & 0xFFFF0000
+    return 2 if action in (ACTIONS["LOG"], ALLOW) else 1 if action in (ACTIONS["NOTIFY"], ACTIONS["TRACE"]) else 0
+
+
 def tables_of(names):
-    """The parts of a bundle: the tables of some architectures."""
-    return [(ARCHITECTURES[it][4], "".join(f"{name} {number}\n" for name, number in ARCHITECTURES[it][5].items()).encode())
-            for it in ARCHITECTURES if it in names]
+    """The parts of a bundle: the tables of some architectures, in this order."""
+    return [(kind, "".join(f"{name} {number}\n" for name, number in table.items()).encode())
+            for *_, kind, table in map(ARCHITECTURES.get, names)]
 
 
-def is_met(entry, arguments, bits):
+def text(profile):
+    return json.dumps(profile).encode()
+
+
+def is_met(conditions, arguments, bits):
     return all(OPERATORS[it["op"][9:]](arguments[it["index"]] % (1 << bits), it["value"], it.get("valueTwo", 0))
-               for it in entry.get("args", ()))
+               for it in conditions)
 
 
-def met(profile, architecture, number, arguments):
-    """The answers of the entries that a record of an architecture meets."""
-    _, first, _, bits, _, table = ARCHITECTURES[architecture]
-    return [word_of(it["action"], it.get("errnoRet")) for it in profile["syscalls"]
-            if any(name in table and first + table[name] == number for name in it["names"])
-            and is_met(it, arguments, bits)]
+@functools.cache
+def is_possible(conditions, bits):
+    """Whether some argument of that many bits meets all of these conditions, each an operator and its two values.
+
+    Reads the argument bit by bit from the highest. Of each condition a state is kept: whether the bits so far are below
+    (-1), equal to (0) or above (1) those of its value; for a mask, whether they fit (0) or don't (1)."""
+    states = {(0,) * len(conditions)}
+    for at in reversed(range(64)):
+        states = {tuple(state or ((bit ^ two >> at) & value >> at & 1 if op == "MASKED_EQ" else bit - (value >> at & 1))
+                        for state, (op, value, two) in zip(known, conditions))
+                  for known in states for bit in ((0, 1) if at < bits else (0,))}
+    return any(all(OPERATORS["EQ" if op == "MASKED_EQ" else op](state, 0, 0)
+                   for state, (op, _, _) in zip(known, conditions)) for known in states)
 
 
-def answer(profile, judged, arch, number, arguments):
-    """What a profile answers to a record, whose architectures with a table are these."""
-    for name in judged:
-        own, first, last = ARCHITECTURES[name][:3]
-        if arch == own and first <= number <= last:
-            found = met(profile, name, number, arguments)
-            return found[0] if found else word_of(profile["defaultAction"], profile.get("defaultErrnoRet"))
-    return KILLS
+def overlap(one, other, bits):
+    """Whether some record meets the conditions of two rules."""
+    return all(is_possible(tuple((it["op"][9:], it["value"], it.get("valueTwo", 0)) for it in (*one, *other)
+                                 if it["index"] == index), bits)
+               for index in {it["index"] for it in (*one, *other)})
+
+
+class Reading:
+    """What a profile states with the tables of the architectures `given`, which a bundle has in this order."""
+
+    def __init__(self, profile, given):
+        self.profile, self.given = profile, given
+        self.listed = profile.get("architectures") or [
+            "SCMP_ARCH_X86_64" if "SCMP_ARCH_X86_64" in given else "SCMP_ARCH_AARCH64"]
+        self.default = word_of(profile["defaultAction"], profile.get("defaultErrnoRet"))
+        # By the architecture and the number: the index of the entry, the conditions and the answer of each rule.
+        self.rules = {name: {} for name in ARCHITECTURES if name in given}
+        for name, rules in self.rules.items():
+            _, first, _, _, _, table = ARCHITECTURES[name]
+            for index, entry in enumerate(profile["syscalls"]):
+                for number in sorted({first + table[it] for it in entry["names"] if it in table}):
+                    rule = index, entry.get("args", ()), word_of(entry["action"], entry.get("errnoRet"))
+                    rules.setdefault(number, []).append(rule)
+
+    def conflicts(self, name, bits=None):
+        """The later entry, the earlier one and the number of each conflict of an architecture."""
+        bits = bits or ARCHITECTURES[name][3]
+        return [(second[0], first[0], number) for number, rules in self.rules[name].items()
+                for first, second in itertools.combinations(rules, 2)
+                if first[2] != second[2] and overlap(first[1], second[1], bits)]
+
+    def fault(self):
+        """Why the profile is refused, as scf prints it; None if it isn't."""
+        for at, name in enumerate(self.given):
+            if name not in self.listed:
+                return f"NotListed table {at}"
+        for second, first, number in (min(found) for found in map(self.conflicts, self.rules) if found):
+            return f"Conflict number {number} first {first} second {second}"
+        return None
+
+    def notes(self):
+        """The lines that `scf compare` prints after its verdict."""
+        known = {name for it in self.rules for name in ARCHITECTURES[it][5]}
+        return [*(f"skipped {name}" for it in self.profile["syscalls"] for name in it["names"] if name not in known),
+                *(f"other {name}" for name in self.listed if name not in self.given)]
+
+    def architecture(self, arch, number):
+        """The architecture with a table that a record is of, or None."""
+        return next((name for name in self.rules if ARCHITECTURES[name][0] == arch
+                     and ARCHITECTURES[name][1] <= number <= ARCHITECTURES[name][2]), None)
+
+    def answer(self, arch, number, arguments):
+        """What the profile answers to a record, and why: as scf prints it."""
+        name = self.architecture(arch, number)
+        if name is None:
+            return KILLS, "foreign"
+        bits = ARCHITECTURES[name][3]
+        return next(((answer, f"entry {index}") for index, conditions, answer in self.rules[name].get(number, ())
+                     if is_met(conditions, arguments, bits)), (self.default, "default"))
+
+    def records(self, name, random_of, count, words=(0,)):
+        """Records of an architecture in which a filter and the profile may differ: by number all that its table has,
+        those beside them, and numbers that no syscall has; so many of each number whose rules have conditions. An
+        argument that no condition is on has one of these words in both halves, or any bits."""
+        arch, first, last, bits, _, table = ARCHITECTURES[name]
+        numbers = {first + it + step for it in table.values() for step in (-1, 0, 1)} | {first, last, first + 1000}
+        for number in sorted(it for it in numbers.union(words) if first <= it <= last):
+            rules = [conditions for _, conditions, _ in self.rules[name].get(number, ()) if conditions]
+            for _ in range(count if rules else 1):
+                arguments = [random_of.choice(words) * 0x100000001, random_of.getrandbits(64)] * 3
+                random_of.shuffle(arguments)
+                random_of.shuffle(rules)
+                # most meet the last rule, or all its conditions but one
+                for one in (it for conditions in rules for it in conditions):
+                    met, unmet = edges(one["op"][9:], one["value"], one.get("valueTwo", 0), bits)
+                    own = met if met and (not unmet or random_of.random() < 0.7) else unmet
+                    flipped = 1 << random_of.randrange(64) if random_of.random() < 0.1 else 0
+                    arguments[one["index"]] = random_of.choice(own) ^ flipped
+                yield arch, number, arguments
+
+
+@functools.cache
+def edges(op, value, two, bits):
+    """Values of an argument at which a condition changes, with and without bits of the upper half: those that meet it,
+    and those that don't."""
+    near = {(it + step) % (1 << 64) for it in (value, two, value & two) for step in (-1, 0, 1)}
+    near |= {it for one in near for it in (one & 0xFFFFFFFF, one & 0xFFFFFFFF | 1 << 32, one | 0xFFFFFFFF << 32)}
+    met = [it for it in sorted(near) if OPERATORS[op](it % (1 << bits), value, two)]
+    return met, sorted(near.difference(met))
 
 
 # Drawn profiles
 
-def drawn_condition(random_of, index):
-    op = random_of.choice(tuple(OPERATORS))
-    value = random_of.choice(VALUES)
-    found = {"index": index, "op": f"SCMP_CMP_{op}", "value": value}
+def draw_condition(random_of, index):
+    op, value = random_of.choice(tuple(OPERATORS)), random_of.choice(VALUES)
     if op == "MASKED_EQ":
-        found.update(value=random_of.choice(MASKS), valueTwo=value)
-    return found
+        return {"index": index, "op": "SCMP_CMP_MASKED_EQ", "value": random_of.choice(MASKS), "valueTwo": value}
+    return {"index": index, "op": f"SCMP_CMP_{op}", "value": value}
 
 
-def drawn_answer(random_of):
-    action = random_of.choice(("ALLOW", "ALLOW", "ERRNO", "ERRNO", "TRAP", "LOG", "TRACE", "KILL_THREAD",
-                               "KILL_PROCESS"))
-    number = random_of.choice((1, 2, 38)) if action in ("ERRNO", "TRACE") else None
-    return {"action": f"SCMP_ACT_{action}", **({} if number is None else {"errnoRet": number})}
+def draw_answer(random_of, actions, names=("action", "errnoRet")):
+    action = random_of.choice(actions)
+    number = random_of.choice((None, 1, 2, 38)) if action in ("ERRNO", "TRACE") else None
+    return {names[0]: f"SCMP_ACT_{action}", **({} if number is None else {names[1]: number})}
 
 
-def drawn_profile(random_of):
-    """A profile in which two entries of a name may have different answers."""
-    judged = [it for it in ARCHITECTURES if random_of.random() < 0.55] or ["SCMP_ARCH_X86"]
-    names = sorted({name for it in ARCHITECTURES.values() for name in it[5]})
-    syscalls = []
-    for name in random_of.sample(names, random_of.randrange(1, 6)):
-        # (the numbers of `both` and `also` are one on x86-64)
-        said = drawn_answer(random_of)
-        for _ in range(random_of.choice((1, 1, 2, 3))):
-            args = [drawn_condition(random_of, it) for it in random_of.sample(range(6), random_of.choice((0, 1, 1, 2)))]
-            said = said if random_of.random() < 0.9 else drawn_answer(random_of)
-            syscalls.append({"names": [name, *random_of.sample(names, random_of.choice((0, 0, 1)))], **said,
-                             **({"args": args} if args else {})})
-    default = random_of.choice(({"defaultAction": "SCMP_ACT_ERRNO"}, {"defaultAction": "SCMP_ACT_KILL_PROCESS"},
-                                {"defaultAction": "SCMP_ACT_ALLOW"}))
-    named = random_of.sample(judged, len(judged))
-    return {**default, "architectures": [*named, *random_of.choice(((), ("SCMP_ARCH_MIPS",)))], "syscalls": syscalls}
+def draw_entries(random_of, name, actions):
+    """Entries of a name, of which a later one may have another answer than the first."""
+    answer = draw_answer(random_of, actions)
+    for _ in range(random_of.choice((1, 1, 2, 3))):
+        args = [draw_condition(random_of, it) for it in random_of.sample(range(6), random_of.choice((0, 1, 1, 2)))]
+        answer = answer if random_of.random() < 0.9 else draw_answer(random_of, actions)
+        names = [name, *random_of.sample(NAMES, random_of.choice((0, 0, 0, 1)))]
+        yield {"names": names, **answer, **({"args": args} if args else {})}
 
 
-def edges(profile, bits=64):
-    """Values of arguments at which conditions change, with and without bits of the upper half."""
-    found = {0}
-    for entry in profile["syscalls"]:
-        for one in entry.get("args", ()):
-            for value in (one["value"], one.get("valueTwo", 0), one["value"] & one.get("valueTwo", 0)):
-                for near in (value - 1, value, value + 1):
-                    low = near & 0xFFFFFFFF
-                    found.update((near % (1 << 64), low, low | 1 << 32, low | 0xFFFFFFFF << 32))
-    return sorted(found)
-
-
-def records(profile, judged, random_of, count):
-    """Records in which profiles and filters may differ: by number all that some table has, those beside them, and
-    numbers that no syscall has."""
-    values = edges(profile)
-    for name, (arch, first, last, _, _, table) in ARCHITECTURES.items():
-        if name not in judged:
-            continue
-        numbers = {it for number in table.values() for it in (first + number - 1, first + number, first + number + 1)}
-        for number in sorted(it for it in {*numbers, first, last, first + 1000} if first <= it <= last):
-            used = sorted({one["index"] for entry in profile["syscalls"] for one in entry.get("args", ())
-                           if any(first + table.get(it, -1 << 33) == number for it in entry["names"])})
-            some = 1 if not used else count
-            for _ in range(some):
-                arguments = [random_of.getrandbits(64)] * 6
-                for index in used:
-                    arguments[index] = random_of.choice(values)
-                yield name, arch, number, arguments
-
-
-def conflicting(profile, judged, random_of, count=60):
-    """A record that meets two entries of different answers, None if none is found."""
-    return next((it for it in records(profile, judged, random_of, count) if len(set(met(profile, it[0], it[2], it[3]))) > 1),
-                None)
+def draw(random_of):
+    """A profile with the tables of some architectures, not each of which it must list."""
+    given = random_of.sample(tuple(ARCHITECTURES), random_of.choice((1, 2, 2, 3, 3, 4, 5)))
+    actions = random_of.sample(tuple(ACTIONS), 2)
+    others = [it for it in (*ARCHITECTURES, "SCMP_ARCH_MIPS") if it not in given and random_of.random() < 0.2]
+    listed = [*given, *others]
+    random_of.shuffle(listed)
+    how = random_of.random()
+    if how < 0.08:
+        missing = random_of.sample(given, random_of.choice((1, 1, len(given))))
+        listed = [it for it in listed if it not in missing]
+    elif how < 0.14:
+        # (an empty list, or none, stands for x86-64 or aarch64)
+        given, listed = random_of.choice((["SCMP_ARCH_X86_64"], ["SCMP_ARCH_AARCH64"], given)), []
+    entries = [it for name in random_of.sample(NAMES, random_of.randrange(1, 6))
+               for it in draw_entries(random_of, name, actions)]
+    return Reading({**draw_answer(random_of, tuple(ACTIONS), ("defaultAction", "defaultErrnoRet")),
+                    **({"architectures": listed} if listed or random_of.random() < 0.5 else {}),
+                    "syscalls": entries}, given)
 
 
 # Filters
@@ -147,16 +221,20 @@ class Code:
 
     def __init__(self):
         self.insns = []
+        # The architecture that alone runs each instruction, None if several do, and that of those put from now on.
+        self.owners, self.owner = [], None
 
     def put(self, code, k, *targets):
         """Puts an instruction before all others; its place, counted from the end."""
         at = len(self.insns) + 1
         self.insns.append((code, *([at - it - 1 for it in targets] or [0, 0]), k))
+        self.owners.append(self.owner)
         return at
 
     def put_jump(self, target):
         at = len(self.insns) + 1
         self.insns.append((5, 0, 0, at - target - 1))
+        self.owners.append(self.owner)
         return at
 
     def data(self):
@@ -207,54 +285,48 @@ def put_condition(code, one, bits, holds, fails):
     return code.put(0x20, high)
 
 
-def compiled(profile, judged):
-    """A filter that answers as a profile without conflicts, entry by entry."""
+def compile_filter(reading):
+    """A filter that answers as a profile without conflicts, entry by entry, and the owners of its instructions."""
     code = Code()
-    default = code.put(6, word_of(profile["defaultAction"], profile.get("defaultErrnoRet")))
+    default = code.put(6, reading.default)
     starts = {}
-    for name in judged:
-        _, first, _, bits, _, table = ARCHITECTURES[name]
-        then = default
-        for entry in reversed(profile["syscalls"]):
-            for number in sorted({first + table[it] for it in entry["names"] if it in table}):
-                holds = code.put(6, word_of(entry["action"], entry.get("errnoRet")))
-                for one in entry.get("args", ()):
-                    holds = put_condition(code, one, bits, holds, then)
+    for name, rules in reading.rules.items():
+        code.owner, then = name, default
+        for number in sorted(rules):
+            for _, conditions, answer in reversed(rules[number]):
+                holds = code.put(6, answer)
+                for one in conditions:
+                    holds = put_condition(code, one, ARCHITECTURES[name][3], holds, then)
                 put_test(code, 0x15, number, holds, then)
                 then = code.put(0x20, 0)
         starts[name] = then
+    code.owner = None
     kills = code.put(6, KILLS)
     native, x32 = (starts.get(f"SCMP_ARCH_{it}", kills) for it in ("X86_64", "X32"))
     put_test(code, 0x35, X32_BIT, *[code.put_jump(it) for it in (x32, native)])
     then, found = code.put(0x20, 0), kills
-    for arch, start in [(0xC000003E, then), *((ARCHITECTURES[it][0], starts[it]) for it in judged
+    for arch, start in [(0xC000003E, then), *((ARCHITECTURES[it][0], starts[it]) for it in reading.rules
                                               if ARCHITECTURES[it][0] != 0xC000003E)]:
         found = put_test(code, 0x15, arch, code.put_jump(start), found)
     code.put(0x20, 4)
-    return code.data()
+    return code.data(), code.owners[::-1]
 
 
-def changed(random_of, data):
-    """A filter with one of its instructions changed, which scf still accepts."""
+def change_filter(random_of, data, places):
+    """A filter with one of these instructions changed, which scf still accepts."""
     insns = [list(it) for it in struct.iter_unpack("<HBBI", data)]
-    at = random_of.randrange(len(insns))
-    one = insns[at]
+    one = insns[random_of.choice([it for it in places if insns[it][0] != 5])]
+    how = random_of.randrange(3)
     if one[0] == 0x20:
-        one[3] = random_of.choice((one[3] ^ 4, 0, 4)) if one[3] >= 16 else random_of.choice((0, 4, 16))
+        one[3] = random_of.choice([it for it in (one[3] ^ 4, 0, 4, 16) if it != one[3]])
     elif one[0] == 6:
-        one[3] = random_of.choice((0x7FFF0000, 0x50001, 0x50026, KILLS))
-    elif one[0] in (0x15, 0x25, 0x35):
-        how = random_of.randrange(3)
-        if how == 0:
-            one[1], one[2] = one[2], one[1]
-        elif how == 1:
-            one[3] = (one[3] + random_of.choice((1, -1, 1 << 30))) % (1 << 32)
-        else:
-            one[0] = random_of.choice((0x15, 0x25, 0x35))
+        one[3] = random_of.choice([it for it in (ALLOW, 0x50001, 0x50026, 0x7FF00001, KILLS) if it != one[3]])
+    elif one[0] == 0x54:
+        one[3] ^= 1 << random_of.randrange(32)
+    elif how == 0:
+        one[1], one[2] = one[2], one[1]
+    elif how == 1:
+        one[3] = (one[3] + random_of.choice((1, -1, 1 << 30))) % (1 << 32)
     else:
-        one[3] ^= random_of.choice((0, 1)) if one[0] == 0x54 else 0
+        one[0] = random_of.choice([it for it in (0x15, 0x25, 0x35) if it != one[0]])
     return b"".join(struct.pack("<HBBI", *it) for it in insns)
-
-
-def text(profile):
-    return json.dumps(profile).encode()

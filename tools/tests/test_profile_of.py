@@ -492,23 +492,23 @@ class OtherArchitectures(Case):
                            for _, part in several.tables_of([name])}
         for seed in range(12):
             source = random.Random(f"profile-of {seed}")
-            profile = several.drawn_profile(source)
-            judged = [it for it in several.ARCHITECTURES if it in profile["architectures"]]
-            if several.conflicting(profile, judged, source):
+            reading = several.draw(source)
+            if reading.fault():
                 continue
-            data = several.compiled(profile, judged)
-            for name in judged:
+            data, _ = several.compile_filter(reading)
+            for name in reading.rules:
                 status, found, _ = self.printed(data, "--arch", FILES[name], "--table", tables[name])
                 self.assertEqual(status, 0, (seed, name))
-                self.is_judged(data, found, [name], several.records(profile, [name], source, 20))
+                self.is_judged(data, found, [name], reading.records(name, source, 20))
                 seen += 1
         self.assertGreater(seen, 12)
 
     def is_judged(self, data, profile, judged, records):
         """A filter answers records as a profile does for these architectures, beside the second reading."""
-        for _, arch, number, values in records:
+        reading = several.Reading(profile, judged)
+        for arch, number, values in records:
             ours = answers.Answer.read(StandIn().decide([data], Call(number, arch, 0, tuple(values)))).word
-            theirs = several.answer(profile, judged, arch, number, values)
+            theirs, _ = reading.answer(arch, number, values)
             self.assertEqual(ours, theirs, (profile, hex(arch), number, values))
 
     def test_several(self):
@@ -591,20 +591,21 @@ class OtherArchitectures(Case):
                     said=["the profile covers x86-64, i386, x32, aarch64 and arm syscalls"])
 
     @mock.patch.dict(several.ARCHITECTURES, WITH_TABLES)
+    @mock.patch.object(several, "NAMES", sorted({name for it in WITH_TABLES.values() for name in it[5]}))
     def test_drawn_for_several(self):
         """A filter that one profile answers as is read back in each architecture of that, beside the second reading."""
         seen = 0
         for seed in range(40):
             source = random.Random(f"several of {seed}")
-            profile = several.drawn_profile(source)
-            judged = [it for it in several.ARCHITECTURES if it in profile["architectures"]]
-            if NATIVE not in judged or profile["defaultAction"] == "SCMP_ACT_KILL_PROCESS" or \
-                    several.conflicting(profile, judged, source):
+            reading = several.draw(source)
+            judged = list(reading.rules)
+            if NATIVE not in judged or reading.default in (several.KILLS, several.ACTIONS["KILL"]) or reading.fault():
                 continue
-            data = several.compiled(profile, judged)
+            data, _ = several.compile_filter(reading)
             status, found, _ = self.printed(data)
             self.assertEqual((status, found["architectures"]), (0, judged), seed)
-            self.is_judged(data, found, judged, several.records(profile, judged, source, 10))
+            for name in judged:
+                self.is_judged(data, found, judged, reading.records(name, source, 10))
             seen += 1
         self.assertGreater(seen, 5)
 

@@ -143,18 +143,17 @@ class Lines(Case):
         seen = 0
         for seed in range(12):
             source = random.Random(f"conditions {seed}")
-            profile = several.drawn_profile(source)
-            judged = [it for it in several.ARCHITECTURES if it in profile["architectures"]]
-            if several.conflicting(profile, judged, source):
+            reading = several.draw(source)
+            if reading.fault():
                 continue
-            data = several.compiled(profile, judged)
-            for name in judged:
+            data, _ = several.compile_filter(reading)
+            for name in reading.rules:
                 arch, first, _, bits, _, table = several.ARCHITECTURES[name]
                 own = "".join(f"{syscall} {number}\n" for syscall, number in table.items())
                 out = json.loads(self.shown([data], "--arch", FILES[name], "--json", table=own)[1])
                 rows = {first + row["number"]: row["conditions"] for row in out["calls"] if "conditions" in row}
                 seen += len(rows)
-                for _, _, number, values in several.records(profile, [name], source, 20):
+                for _, number, values in reading.records(name, source, 20):
                     if number in rows:
                         ours = answers.Answer.read(StandIn().decide([data], Call(number, arch, 0, tuple(values))))
                         theirs = self.answer_of(rows[number], [it % (1 << bits) for it in values])

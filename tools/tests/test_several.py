@@ -1,17 +1,24 @@
 """All architectures of a profile: `scf compare --architectures` and `scf ask --architectures` beside a second reading,
 and what the tools say of each."""
+import collections
+import functools
+import itertools
 import json
+import operator
 import os
 import random
+import re
 import struct
 import subprocess
 import sys
 import unittest
+from unittest import mock
 
 import several
 from common import TOP, Case, insn, jeq, jge, load, ret
 from seccomp_library import NEEDED, Conflict, Library
 from stand_in import StandIn, unpacked
+from test_library import OUT, RELATIONS, python_module
 
 sys.path.append(os.path.join(TOP, "tools"))
 
@@ -21,8 +28,10 @@ from scftools.calls import Call  # noqa: E402
 from scftools.filters import Filter  # noqa: E402
 
 PROGRAM = os.path.join(TOP, "crates", "scf", "out", "scf")
-# How many profiles are drawn, each with a filter that answers as it and changed ones, and how many filters are changed.
-PROFILES, CHANGED = int(os.environ.get("SCF_SEVERAL_PROFILES", "60")), 3
+# How many profiles are drawn to be held against libscf, against the program, and to be counted by kinds; and how many
+# records are tried of a syscall that has conditions.
+PROFILES, BY_PROGRAM, DRAWS, RECORDS = int(os.environ.get("SCF_SEVERAL_PROFILES", "4000")), 60, 4000, 12
+IN_PROCESS = unittest.skipUnless(os.path.exists(os.path.join(OUT, "libscf.so.0")), "libscf isn't built: library/build")
 ALLOW, EPERM, KILLS = 0x7FFF0000, 0x50001, 0x80000000
 X86_64, I386, X32 = 0xC000003E, 0x40000003, 0x40000000
 NAMED = ["SCMP_ARCH_X86_64", "SCMP_ARCH_X86", "SCMP_ARCH_X32"]
@@ -35,7 +44,8 @@ def words_of(arch, number, arguments):
 
 def scf(words, parts):
     """What scf prints of a bundle."""
-    return subprocess.run([PROGRAM, *words], input=bundles.bundle(parts), stdout=subprocess.PIPE, check=False).stdout.decode()
+    done = subprocess.run([PROGRAM, *words], input=bundles.bundle(parts), stdout=subprocess.PIPE, check=False)
+    return done.stdout.decode()
 
 
 def numbers_of(line):
@@ -44,104 +54,325 @@ def numbers_of(line):
     return int(words[4], 16), int(words[2]), [int(it, 16) for it in words[8:]]
 
 
+def answer_of(program, arch, number, arguments):
+    return MACHINE.answer(program, words_of(arch, number, arguments))
+
+
+class ByProgram:
+    """What scf says of a profile with its tables, by a process for each question."""
+
+    def __init__(self, reading):
+        self.reading = reading
+        self.parts = [("profile", several.text(reading.profile)), *several.tables_of(reading.given)]
+
+    def printed(self, command, *words, parts=()):
+        return subprocess.run([PROGRAM, command, "--architectures", *words], stdout=subprocess.PIPE, check=False,
+                              input=bundles.bundle([*parts, *self.parts])).stdout
+
+    def compile(self):
+        return self.printed("compile")
+
+    def ask(self, arch, number, arguments):
+        return self.printed("ask", *Call(number, arch, 0, tuple(arguments)).words())
+
+    def compare(self, data, relation=0):
+        return self.printed("compare", *RELATIONS[relation], parts=[("filter", data)])
+
+
+library = functools.cache(python_module)
+
+
+class ByLibrary:
+    """The same by libscf, in this process; in the program's words."""
+
+    NUMBERS = {"Conflict": ("number", "first", "second"), "NotListed": ("table",)}
+
+    def __init__(self, reading):
+        self.reading, self.scf = reading, library()
+        tables = {self.scf.Architecture[name.removeprefix("SCMP_ARCH_")]: table
+                  for name, (_, table) in zip(reading.given, several.tables_of(reading.given))}
+        self.profiles = self.scf.Profiles(several.text(reading.profile), tables)
+
+    def printed(self, text_of, function, *given):
+        try:
+            return text_of(function(*given))
+        except self.scf.Refused as refused:
+            kind = refused.kind.name.title().replace("_", "")
+            numbers = (f" {name} {number}" for name, number in zip(self.NUMBERS[kind], refused.numbers))
+            return f"fault {refused.source.name.lower()} {kind}{''.join(numbers)}\n".encode()
+
+    def compile(self):
+        return self.printed(bytes, self.scf.compile_architectures, self.profiles)
+
+    def ask(self, arch, number, arguments):
+        def text_of(found):
+            answer, why, entry = found
+            return f"{MACHINE.printed(answer)} {why.name.lower()}{'' if entry is None else f' {entry}'}\n".encode()
+
+        call = self.scf.Call(number, tuple(arguments), arch)
+        return self.printed(text_of, self.scf.ask_architectures, self.profiles, call)
+
+    def compare(self, data, relation=0):
+        return self.printed(lambda found: found.report.encode(), self.scf.compare_architectures, [data], self.profiles,
+                            self.scf.Relation(relation))
+
+
+def draw(seed):
+    random_of = random.Random(f"several {seed}")
+    return several.draw(random_of), random_of
+
+
+def kinds_of(reading):
+    """What the draws are counted by, of one of them."""
+    conflicts = [name for name in reading.rules if reading.conflicts(name)]
+    fault = reading.fault()
+    if fault is not None:
+        yield " ".join(fault.split()[:3]) if fault.startswith("NotListed") else "Conflict"
+        if fault.startswith("Conflict") and len(conflicts) == 1 < len(reading.given):
+            yield "conflict in", conflicts[0]
+        return
+    yield "tables", tuple(reading.rules)
+    yield "architectures", str(reading.profile.get("architectures", "absent"))[:2], reading.listed[0]
+    yield from {line.split()[0] for line in reading.notes()}
+    named = {name for entry in reading.profile["syscalls"] for name in entry["names"]}
+    for name, rules in reading.rules.items():
+        _, _, _, bits, _, table = several.ARCHITECTURES[name]
+        yield from (("lacks", name) for it in named if it not in table and any(
+            it in several.ARCHITECTURES[other][5] for other in reading.rules))
+        if bits == 32 and reading.conflicts(name, 64):
+            yield "a conflict by 64 bits alone", name
+        for it in (it for own in rules.values() for _, conditions, _ in own for it in conditions):
+            yield bits, it["op"][9:], "wide" if it.get("valueTwo", it["value"]) >> 32 else "narrow"
+            if it["op"] == "SCMP_CMP_MASKED_EQ":
+                yield "mask", it["value"]
+
+
+class Draws(unittest.TestCase):
+    """Each kind of profile is drawn often enough to be held. Nothing here asks scf."""
+
+    def test_kinds(self):
+        counts = collections.Counter(kind for seed in range(DRAWS) for kind in set(kinds_of(draw(seed)[0])))
+        names, narrow = list(several.ARCHITECTURES), ["SCMP_ARCH_X86", "SCMP_ARCH_X32", "SCMP_ARCH_ARM"]
+        wanted = {"Conflict", "skipped", "other", *(f"NotListed table {at}" for at in range(3)),
+                  *(("tables", it) for count in range(1, 6) for it in itertools.combinations(names, count)),
+                  *(("conflict in", name) for name in names),
+                  *(("lacks", name) for name in names), *(("a conflict by 64 bits alone", name) for name in narrow),
+                  *(("architectures", how, names[at]) for how in ("ab", "[]") for at in (0, 3)),
+                  *((bits, op, how) for bits in (32, 64) for op in several.OPERATORS for how in ("wide", "narrow")),
+                  *(("mask", it) for it in several.MASKS)}
+        self.assertEqual({kind: counts[kind] for kind in wanted if counts[kind] < DRAWS // 200}, {})
+
+    def test_is_possible(self):
+        """By all numbers of few bits."""
+        for conditions in itertools.product(((op, value, two) for op in several.OPERATORS for value in (0, 1, 5, 9)
+                                             for two in ((0, 1, 4, 8) if op == "MASKED_EQ" else (0,))), repeat=2):
+            by_trial = any(all(several.OPERATORS[op](it, value, two) for op, value, two in conditions)
+                           for it in range(8))
+            self.assertEqual(several.is_possible(conditions, 3), by_trial, conditions)
+
+
+def by_disposition(test):
+    return lambda ours, theirs: test(several.disposition(ours), several.disposition(theirs))
+
+
+# By scf's relation: what it prints where it holds and where it fails, and whether two answers have it.
+VERDICTS = (("same", "differs", operator.eq), ("no more", "more", by_disposition(operator.le)),
+             ("no less", "less", by_disposition(operator.ge)),
+             ("same disposition", "differs", by_disposition(operator.eq)))
+# The instructions of a filter that computes nothing. scf decides each question of one without masks.
+PLAIN = {0x20, 0x05, 0x15, 0x25, 0x35, 0x06}
+# Records of no architecture.
+FOREIGN = [(0x40000008, 3, [0] * 6), (0, 0, [0] * 6)]
+
+
+def compile_wrong(right, scf):
+    data = right(scf)
+    return data if data.startswith(b"fault") else several.change_filter(random.Random(0), data, range(len(data) // 8))
+
+
+def compare_to_hold(right, scf, data, relation=0):
+    verdict, *lines = right(scf, data, relation).decode().split("\n")
+    holds, fails, _ = VERDICTS[relation]
+    return "\n".join([holds, *lines[3:]] if verdict == fails else [verdict, *lines]).encode()
+
+
+def compare_from_last(right, scf, data, relation=0):
+    """The verdict is that of the last architecture in which the relation fails."""
+    lines = right(scf, data, relation).decode().split("\n")
+    for name in reversed(scf.reading.rules if lines[0] == VERDICTS[relation][1] else ()):
+        alone = right(ByLibrary(several.Reading(scf.reading.profile, [name])), data, relation).decode().split("\n")
+        if alone[0] == lines[0]:
+            return "\n".join([*alone[:4], *lines[4:]]).encode()
+    return "\n".join(lines).encode()
+
+
+# What can be made wrong, in the second reading and in scf: a function of the right one and what that is given.
+WRONG = {
+    "each two rules overlap": (several, "overlap", lambda *_: True),
+    "no two rules overlap": (several, "overlap", lambda *_: False),
+    "allowed is delegated": (several, "disposition", lambda right, answer: min(right(answer), 1)),
+    "the last conflict": (several.Reading, "conflicts", lambda right, *given: sorted(right(*given))[-1:]),
+    "the next table": (several.Reading, "fault",
+                       lambda right, it: (right(it) or "").replace("table 0", "table 1") or None),
+    "a note is missing": (several.Reading, "notes", lambda right, it: right(it)[:-1]),
+    "each answer is by default": (several.Reading, "answer", lambda right, *given: (right(*given)[0], "default")),
+    "another filter is compiled": (ByLibrary, "compile", compile_wrong),
+    "each record is of x86-64": (ByLibrary, "ask", lambda right, scf, _, *given: right(scf, X86_64, *given)),
+    "what fails holds": (ByLibrary, "compare", compare_to_hold),
+    "the next number": (ByLibrary, "compare", lambda right, *given: re.sub(
+        rb"call nr (\d+)", lambda it: b"call nr %d" % (int(it[1]) + 1), right(*given))),
+    "the last architecture": (ByLibrary, "compare", compare_from_last),
+}
+WRONG_OPERATORS = {
+    "NE": lambda it, value, two: it % 2 ** 32 != value % 2 ** 32, "LT": lambda it, value, two: it <= value,
+    "EQ": lambda it, value, two: it % 2 ** 32 == value % 2 ** 32, "LE": lambda it, value, two: it < value,
+    "GE": lambda it, value, two: it > value, "GT": lambda it, value, two: it >= value,
+    "MASKED_EQ": lambda it, value, two: it & value == two,
+}
+
+
+def patch_function(place, name, wrong):
+    right = getattr(place, name)
+    return mock.patch.object(place, name, lambda *given: wrong(right, *given))
+
+
+def plants():
+    """What is made wrong, and a patch that does it."""
+    # (arguments of 64 bits, x32's first number and x86-64's last)
+    for name, at, value in (("X86", 3, 64), ("X32", 3, 64), ("ARM", 3, 64), ("X32", 1, X32 + 1),
+                            ("X86_64", 2, 0xFFFFFFFF)):
+        row = list(several.ARCHITECTURES[f"SCMP_ARCH_{name}"])
+        row[at] = value
+        yield (name, at), mock.patch.dict(several.ARCHITECTURES, {f"SCMP_ARCH_{name}": tuple(row)})
+    for op, wrong in WRONG_OPERATORS.items():
+        yield op, mock.patch.dict(several.OPERATORS, {op: wrong})
+    for what, (place, name, wrong) in WRONG.items():
+        yield what, patch_function(place, name, wrong)
+
+
 class SecondReading(unittest.TestCase):
-    """Drawn profiles and filters: each verdict is that of the second reading, over the records that it tries."""
+    """Drawn profiles and filters: each answer of scf is that of the second reading, over the records that it tries."""
 
-    def drawn(self, count):
-        """Profiles without a conflict, with their tables, and a filter of the second reading's own."""
+    def hold(self, way, count):
+        """What was held of so many draws, counted."""
+        self.counts = collections.Counter()
         for seed in range(count):
-            random_of = random.Random(f"several {seed}")
-            profile = several.drawn_profile(random_of)
-            judged = [it for it in several.ARCHITECTURES if it in profile["architectures"]]
-            at = several.conflicting(profile, judged, random_of)
-            parts = [("profile", several.text(profile)), *several.tables_of(judged)]
-            said = scf(["ask", "--architectures"], parts).split("\n")[0]
-            if at is not None:
-                # one that is found is one that scf finds
-                self.assertRegex(said, "^fault profile Conflict ", (seed, profile, at))
-            if not said.startswith("fault"):
-                yield seed, random_of, profile, judged, parts
+            reading, self.random_of = draw(seed)
+            scf, fault, self.about = way(reading), reading.fault(), (seed, reading.given, reading.profile)
+            self.counts["accepted" if fault is None else fault.split()[0]] += 1
+            if fault is None:
+                data, owners = several.compile_filter(reading)
+                self.hold_answers(scf, data)
+                self.hold_comparisons(scf, way, data, owners)
+            else:
+                for printed in (scf.compile(), scf.ask(*FOREIGN[0]), scf.compare(ret(ALLOW))):
+                    self.assertEqual(printed, f"fault profile {fault}\n".encode(), self.about)
+        return self.counts
 
-    def says(self, data, parts, relation=()):
-        return scf(["compare", "--architectures", *relation], [("filter", data), *parts]).split("\n")
+    def hold_answers(self, scf, data):
+        """The answers of the profile, of the filter that scf compiles and of the second reading's; also to records of
+        architectures without a table."""
+        records = [it for name in scf.reading.rules for it in scf.reading.records(name, self.random_of, RECORDS)]
+        records += [*FOREIGN, *((arch, number, [0] * 6) for arch, first, last, *_ in several.ARCHITECTURES.values()
+                                for number in (first, last))]
+        compiled = scf.compile()
+        self.assertFalse(compiled.startswith(b"fault"), (self.about, compiled))
+        for program in (unpacked(compiled), unpacked(data)):
+            for record in records:
+                self.assertEqual(answer_of(program, *record), scf.reading.answer(*record)[0], (self.about, record))
+        for record in self.random_of.sample(records, 6):
+            answer, why = scf.reading.answer(*record)
+            self.assertEqual(scf.ask(*record).decode(), f"{MACHINE.printed(answer)} {why}\n", (self.about, record))
 
-    def agrees(self, seed, profile, judged, data, lines, tried):
-        """That an example differs by the second reading, too, and `same` holds of all records that it tries."""
-        program = unpacked(data)
-        if lines[0] == "differs":
-            arch, number, arguments = numbers_of(lines[1])
-            ours = MACHINE.printed(MACHINE.answer(program, words_of(arch, number, arguments)))
-            theirs = MACHINE.printed(several.answer(profile, judged, arch, number, arguments))
-            self.assertEqual(lines[2:4], [f"filter {ours}", f"profile {theirs}"], (seed, profile, lines))
-            self.assertNotEqual(ours, theirs)
-            self.assertTrue(any(arch == several.ARCHITECTURES[it][0] and
-                                several.ARCHITECTURES[it][1] <= number <= several.ARCHITECTURES[it][2]
-                                for it in judged), (seed, lines))
-            return
-        self.assertEqual(lines[0], "same", (seed, profile, lines))
-        for _, arch, number, arguments in tried:
-            self.assertEqual(MACHINE.answer(program, words_of(arch, number, arguments)),
-                             several.answer(profile, judged, arch, number, arguments), (seed, profile, number, arguments))
+    def hold_comparisons(self, scf, way, data, owners):
+        """scf's own filter and the second reading's are as the profile. Of two with an instruction changed, one may
+        differ in one architecture alone, which alone runs the instruction."""
+        reading, random_of = scf.reading, self.random_of
+        self.assertTrue(self.holds(scf, data, random_of.randrange(4), ()))
+        self.assertTrue(self.holds(scf, scf.compile(), 0, ()))
+        wrong = several.change_filter(random_of, data, range(len(owners)))
+        self.counts["any", self.holds(scf, wrong, 0, reading.rules)] += 1
+        name = random_of.choice(reading.given)
+        places = [at for at, owner in enumerate(owners) if owner == name]
+        if places:
+            wrong, relation = several.change_filter(random_of, data, places), random_of.choice((0, 0, 1, 2, 3))
+            holds = self.holds(scf, wrong, relation, (name,))
+            self.counts.update([(name, holds), (VERDICTS[relation][0], holds)])
+            others = [it for it in reading.given if it != name]
+            if others and reading.profile.get("architectures"):
+                self.assertTrue(self.holds(way(several.Reading(reading.profile, others)), wrong, relation, ()))
+                self.counts[name, holds, "alone"] += 1
 
-    def test_filters(self):
-        verdicts_ = {"same": 0, "differs": 0}
-        for seed, random_of, profile, judged, parts in self.drawn(PROFILES):
-            data = several.compiled(profile, judged)
-            tried = list(several.records(profile, judged, random_of, 20))
-            lines = self.says(data, parts)
-            self.assertEqual(lines[0], "same", (seed, profile, lines))
-            self.agrees(seed, profile, judged, data, lines, tried)
-            for _ in range(CHANGED):
-                other = several.changed(random_of, data)
-                lines = self.says(other, parts)
-                verdicts_[lines[0].split()[0]] = verdicts_.get(lines[0].split()[0], 0) + 1
-                # (a changed filter may compute more than scf decides)
-                if not lines[0].startswith(("fault filter", "undecided")):
-                    self.agrees(seed, profile, judged, other, lines, tried)
-        self.assertGreater(verdicts_["differs"], PROFILES // 2)
-        self.assertGreater(verdicts_["same"], PROFILES // 10)
+    def holds(self, scf, data, relation, names):
+        """Whether scf says that a filter has a relation to the profile, None if it doesn't decide it. A record that
+        shows that it hasn't can only be of these architectures, in their order."""
+        holds_word, fails_word, has = VERDICTS[relation]
+        reading, program = scf.reading, unpacked(data)
+        verdict, *lines = scf.compare(data, relation).decode().split("\n")
+        about = self.about, data.hex(), relation, verdict, *lines
+        words = sorted({it[3] for it in program if it[0] & 7 == 5 and it[0] != 5})
+        found = next((name for name in names if not all(
+            has(answer_of(program, *it), reading.answer(*it)[0])
+            for it in reading.records(name, self.random_of, RECORDS, words))), None)
+        if verdict.startswith("undecided"):
+            self.assertFalse({it[0] for it in program} <= PLAIN, about)
+            return None
+        if verdict == fails_word:
+            record = numbers_of(lines[0])
+            ours, theirs = answer_of(program, *record), reading.answer(*record)[0]
+            self.assertEqual(lines[1:3], [f"filter {MACHINE.printed(ours)}", f"profile {MACHINE.printed(theirs)}"],
+                             about)
+            self.assertFalse(has(ours, theirs), about)
+            # the verdict is that of the first architecture in which it fails, so of none after one that is found
+            order = list(names)
+            self.assertIn(reading.architecture(*record[:2]), order[:order.index(found) + 1 if found else None], about)
+            self.counts["fails", found is not None] += 1
+            del lines[:3]
+        else:
+            self.assertEqual((verdict, found), (holds_word, None), about)
+        self.assertEqual(lines, [*reading.notes(), ""], about)
+        return verdict == holds_word
 
-    def test_what_a_profile_answers(self):
-        count = 0
-        for seed, random_of, profile, judged, parts in self.drawn(PROFILES // 3):
-            tried = list(several.records(profile, judged, random_of, 4))
-            others = [(None, 0x40000008, 3, [0] * 6), (None, X86_64, X32 - 1, [0] * 6), (None, X86_64, X32, [0] * 6),
-                      (None, I386, 3, [0] * 6)]
-            for _, arch, number, arguments in random_of.sample(tried, min(8, len(tried))) + others:
-                call = Call(number, arch, 0, tuple(arguments))
-                said = scf(["ask", "--architectures", *call.words()], parts).split("\n")[0]
-                expected = MACHINE.printed(several.answer(profile, judged, arch, number, arguments))
-                self.assertTrue(said.startswith(expected + " "), (seed, profile, call, said, expected))
-                count += 1
-        self.assertGreater(count, PROFILES)
+    def test_by_the_program(self):
+        counts = self.hold(ByProgram, BY_PROGRAM)
+        self.assertGreater(counts["accepted"], BY_PROGRAM // 2)
+        self.assertGreater(counts["fails", True], BY_PROGRAM // 4)
 
+    @IN_PROCESS
+    def test_by_the_library(self):
+        counts = self.hold(ByLibrary, PROFILES)
+        self.assertGreater(counts["accepted"], PROFILES // 2)
+        self.assertGreater(min(counts["Conflict"], counts["NotListed"]), PROFILES // 40)
+        for name in several.ARCHITECTURES:
+            self.assertGreater(min(counts[name, it, "alone"] for it in (True, False)), PROFILES // 50, name)
+        for words in VERDICTS:
+            self.assertGreater(min(counts[words[0], it] for it in (True, False)), PROFILES // 50, words)
+        self.assertGreater(min(counts["any", it] for it in (True, False)), PROFILES // 10)
+        # what scf finds, the second reading mostly finds by itself
+        self.assertGreater(counts["fails", True], 4 * counts["fails", False])
+
+    @IN_PROCESS
     def test_that_it_would_be_noticed(self):
-        """A reading that is wrong in one rule disagrees with scf."""
-        def whole_arguments():
-            several.ARCHITECTURES.update({it: (*one[:3], 64, *one[4:]) for it, one in several.ARCHITECTURES.items()})
-
-        def x32_without_its_bit():
-            arch, _, last, bits, kind, table = several.ARCHITECTURES["SCMP_ARCH_X32"]
-            several.ARCHITECTURES["SCMP_ARCH_X32"] = arch, X32 + 1, last, bits, kind, table
-
-        known = dict(several.ARCHITECTURES)
-        for plant in (whole_arguments, x32_without_its_bit):
-            try:
-                plant()
-                with self.assertRaises(AssertionError):
-                    self.test_filters()
-            finally:
-                several.ARCHITECTURES.update(known)
+        """A second reading that is wrong in one rule disagrees with scf, and so does scf where an answer is wrong."""
+        for what, patch in plants():
+            with self.subTest(what), patch:
+                try:
+                    several.is_possible.cache_clear()
+                    several.edges.cache_clear()
+                    self.assertRaises(AssertionError, self.hold, ByLibrary, PROFILES)
+                finally:
+                    several.is_possible.cache_clear()
+                    several.edges.cache_clear()
 
 
-WORKED = """ld 4; jeq 0xc000003e 2 0; jeq 0x40000003 11 0; ret 0x80000000; ld 0; jge 0x40000000 6 0; jeq 0x0 12 0; jeq 0x87 0 12;
-ld 20; jeq 0x0 0 10; ld 16; jeq 0x8 7 8; jeq 0x40000000 6 0; jeq 0x40000087 3 6; ld 0; jeq 0x3 3 0; jeq 0x88 0 3; ld 16;
-jeq 0x8 0 1; ret 0x7fff0000; ret 0x50001"""
+WORKED = """ld 4; jeq 0xc000003e 2 0; jeq 0x40000003 11 0; ret 0x80000000; ld 0; jge 0x40000000 6 0; jeq 0x0 12 0;
+jeq 0x87 0 12; ld 20; jeq 0x0 0 10; ld 16; jeq 0x8 7 8; jeq 0x40000000 6 0; jeq 0x40000087 3 6; ld 0; jeq 0x3 3 0;
+jeq 0x88 0 3; ld 16; jeq 0x8 0 1; ret 0x7fff0000; ret 0x50001"""
 CODES = {"ld": 0x20, "jeq": 0x15, "jge": 0x35, "ret": 0x06}
 
 
 class Worked(Case):
-    """The worked rows of the definition, by the tools: real tables have the syscalls at other numbers of i386 and x32."""
+    """The worked rows of the definition, by the tools: real tables have the syscalls at other numbers of i386, x32."""
 
     def setUp(self):
         super().setUp()
@@ -221,7 +452,8 @@ class Worked(Case):
                                                 "syscalls": entries}))
         for tool, words in (("compare", (self.filter(),)), ("ask", ()), ("lint", ())):
             status, out, _ = self.run_tool(tool, *words, given)
-            self.assertEqual((status, out.split("\n")[0]), (1, "fault profile Conflict number 7 first 0 second 1"), tool)
+            self.assertEqual((status, out.split("\n")[0]), (1, "fault profile Conflict number 7 first 0 second 1"),
+                             tool)
             self.assertIn("# the syscall is waitpid (7) of the architecture i386\n", out)
             self.assertFalse(self.run_tool(tool, "--native", *words, given)[1].startswith("fault"), tool)
 
@@ -294,7 +526,8 @@ class BesideLibseccomp(unittest.TestCase):
 
     def test_drawn_profiles(self):
         library, count = Library(), 0
-        names = ["read", "write", "socket", "bind", "shmat", "semop", "clone", "personality", "openat", "waitpid", "mmap2"]
+        names = ["read", "write", "socket", "bind", "shmat", "semop", "clone", "personality", "openat", "waitpid",
+                 "mmap2"]
         for seed in range(12):
             random_of = random.Random(f"libseccomp {seed}")
             syscalls = []
