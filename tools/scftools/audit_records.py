@@ -11,8 +11,8 @@ import os
 import re
 from collections.abc import Iterator
 
-from . import architectures, output, program, tables
-from .answers import ACTIONS, X86_64
+from . import architectures, output, program
+from .answers import ACTIONS
 from .calls import SKIPPED
 from .tables import Table
 from .values import dataclass
@@ -95,21 +95,19 @@ def architecture_of(text: str | None) -> int:
     return int(text, 16)
 
 
-def named_number(name: str, architecture: int, table: Table) -> int | None:
+def named_number(name: str, architecture: int, tables: dict[str, Table]) -> int | None:
     """The number of a syscall by its name in an architecture, None if no table has it."""
-    if architecture == X86_64:
-        return table.number_of(name)
-    own = tables.of_architecture(architectures.profile_name(architecture) or "")
+    own = tables.get(architectures.profile_name(architecture) or "")
     return None if own is None else own.number_of(name)
 
 
-def number_of(text: str, architecture: int, table: Table) -> int:
+def number_of(text: str, architecture: int, tables: dict[str, Table]) -> int:
     """`syscall=`: a number, -1, or a name."""
     if text == "-1":
         return SKIPPED
     if re.fullmatch("[0-9]{1,20}", text):
         return _number(text, "syscall", 0xFFFFFFFF)
-    number = named_number(text, architecture, table)
+    number = named_number(text, architecture, tables)
     if number is None:
         raise Malformed(f"syscall={_shown(text)}: the table has no such name: print the record without -i")
     return number
@@ -143,7 +141,7 @@ def kind_of(line: str) -> tuple[str, int] | None:
     return (found[1] or found[2], found.end() - 1) if found else None
 
 
-def record_in(line: str, at: int, table: Table) -> Record:
+def record_in(line: str, at: int, tables: dict[str, Table]) -> Record:
     """The record of seccomp that begins there; the last fields count, since those before may have a process's words."""
     text = line[at:].partition(ENRICHED)[0]
     tails, who = list(TAIL.finditer(text)), WHO.search(text)
@@ -152,19 +150,19 @@ def record_in(line: str, at: int, table: Table) -> Record:
     _, arch, number, _, pointer, code = tails[-1].groups()
     architecture, time = architecture_of(arch), TIME.search(line, at, at + 64)
     process = who[1] if who and re.fullmatch("[0-9]{1,10}", who[1]) else None
-    return Record(number_of(number, architecture, table), architecture, _number(pointer, "ip", (1 << 64) - 1, 16),
+    return Record(number_of(number, architecture, tables), architecture, _number(pointer, "ip", (1 << 64) - 1, 16),
                   halves_of(code), int(process) if process else None, name_of(who[2]) if who else "",
                   float(f"{time[1]}.{time[2]}") if time else None)
 
 
-def syscall_in(line: str, at: int, table: Table) -> Syscall:
+def syscall_in(line: str, at: int, tables: dict[str, Table]) -> Syscall:
     """The record of a syscall that begins there. The kernel writes the arguments in hexadecimal."""
     text = line[at:].partition(ENRICHED)[0]
     found = CALL.search(text)
     if not found:
         raise Malformed("the record is cut: it has no arch= syscall= a0= a1= a2= a3=")
     architecture = architecture_of(found[1])
-    return Syscall(number_of(found[2], architecture, table), architecture,
+    return Syscall(number_of(found[2], architecture, tables), architecture,
                    tuple(f"0x{it}" if re.fullmatch("[0-9a-f]{1,16}", it) else it for it in found.groups()[2:]))
 
 

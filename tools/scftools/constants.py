@@ -51,6 +51,13 @@ def _unlike() -> dict[str, set[str]]:
     return found
 
 
+@functools.lru_cache(None)
+def numbers_on(architecture: str) -> dict[str, int]:
+    """The constants that are on the architecture of this OCI name what they are on x86-64, and their numbers."""
+    unlike = _unlike().get(architecture)
+    return {} if unlike is None else {name: number for name, number in numbers().items() if name not in unlike}
+
+
 def _nearest(name: str) -> str:
     """What a message says of the constant most like a name."""
     from difflib import get_close_matches  # pylint: disable=import-outside-toplevel

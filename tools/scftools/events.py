@@ -7,8 +7,8 @@ import re
 from collections.abc import Iterable, Iterator, Sequence
 
 from . import audit_records, strace, tables
-from .answers import ACTIONS, DOES, I386, MAX_ERRNO, X86_64, Answer
-from .architectures import PREFIX
+from .answers import ACTIONS, DOES, MAX_ERRNO, Answer
+from .architectures import JUDGED, Architecture
 from .audit_records import Malformed
 from .calls import Call
 from .tables import Table
@@ -22,8 +22,6 @@ RECORD, CORE, STRACE = "the record", "the core", "strace's line"
 KILLS = ("KILL_THREAD", "KILL_PROCESS", "UNNAMED")
 # What may let a syscall fail.
 FAILS = ("ERRNO", "TRACE", "USER_NOTIF")
-# The architectures of strace's modes.
-MODES = {strace.NATIVE: X86_64, "32 bit": I386}
 NUMBERS_OF_ERRNOS = {name: number for number, name in errno.errorcode.items()}
 SIGSYS = Pattern(r"--- SIGSYS \{([^}]{0,1000})\} ---")
 MEMBER = Pattern(r"(si_\w+)=(\w+)")
@@ -147,9 +145,8 @@ def of_record(record: audit_records.Record) -> Event:
 class _Ends(strace.Log):
     """A strace log, of which the last syscall of each process is kept, and those that SIGSYS ended."""
 
-    def __init__(self, table: Table):
-        super().__init__(lambda name: (), lambda name: strace.number_of(name, table))
-        self.table = table
+    def __init__(self, known: dict[str, Table]):
+        super().__init__(lambda *_: (), known)
         # the last syscall, and that of each process
         self.final: _Printed | None = None
         self.last: dict[str | None, _Printed] = {}
@@ -157,40 +154,46 @@ class _Ends(strace.Log):
         # each SIGSYS: the process, the signal's members, and the syscall before it
         self.signals: list[tuple[str | None, str, _Printed | None]] = []
 
-    def _call(self, number: int, who: str | None, text: str, name: re.Match[str], is_cut: bool = False) -> None:
-        if text.startswith(strace.FORKS):
-            self._forked(who, text)
+    def _call(self, who: str | None, line: strace.Line, name: re.Match[str], is_cut: bool = False) -> None:
+        if line.text.startswith(strace.FORKS):
+            self._forked(who, line.text)
         self.last.pop(who, None)
-        architecture = MODES.get(self._mode_of(who))
-        own = {X86_64: self.table, I386: tables.of_architecture(f"{PREFIX}X86")}.get(architecture)
-        nr = None if own is None else strace.number_of(name[1], own)
-        if architecture is None or nr is None:
-            self._count(self.foreign, number)
+        architecture = self.architecture_of(who, name[1], line.nr)
+        nr = self.number_of(architecture, name[1])
+        # (what socketcall and ipc do strace prints by its own name)
+        if nr is None or line.nr not in (None, nr):
+            self._count(self.foreign, line.number)
             return
-        self.last[who] = self.final = _Printed(who, text[:strace.BEGINNING], name, nr, architecture)
+        self.last[who] = self.final = _Printed(who, line.text[:strace.BEGINNING], name, nr, JUDGED[architecture])
         if len(self.last) > strace.PENDING:
             self.last.pop(next(iter(self.last)))
 
-    def _add(self, number: int, who: str | None, text: str) -> None:
-        super()._add(number, who, text)
-        signal = SIGSYS.match(text)
+    def _add(self, who: str | None, line: strace.Line) -> None:
+        super()._add(who, line)
+        signal = SIGSYS.match(line.text)
         if signal and len(self.signals) < EVENTS:
             self.signals.append((who, signal[1], self.last.pop(who, None)))
-        elif text.startswith("+++ "):
+        elif line.text.startswith("+++ "):
             ended = self.last.pop(who, None)
-            if ended and KILLED.match(text) and len(self.killed) < EVENTS:
+            if ended and KILLED.match(line.text) and len(self.killed) < EVENTS:
                 self.killed.append(ended)
 
 
 @dataclass(frozen=True)
 class _Printed:
-    """A syscall as strace prints it: its process, the text, the match of its name, its number and architecture."""
+    """A syscall as strace prints it: its process, the text, the match of its name, its number in the table of its
+    architecture, and this."""
 
     who: str | None
     text: str
     name: re.Match[str]
     number: int
-    architecture: int
+    architecture: Architecture
+
+    @property
+    def record(self) -> tuple[int, int]:
+        """The numbers that a record of it has, the syscall's and the architecture's."""
+        return self.architecture.first + self.number, self.architecture.number
 
     @property
     def end(self) -> int:
@@ -201,17 +204,15 @@ class _Printed:
     def is_its_number(self) -> bool:
         """Whether it returned its own number, as the kernel shows one that it kills for."""
         result = strace.RESULT.match(self.text, self.end)
-        return result is not None and result[1] in (str(self.number), hex(self.number))
+        return result is not None and result[1] in (str(self.record[0]), hex(self.record[0]))
 
     def event(self, outcome: Outcome, pointer: int | None = None) -> Event:
-        shown, most = strace.registers_in(self.text, self.name), 1 << (32 if self.architecture == I386 else 64)
-        values = (shown.get(at) for at in range(6))
-        arguments = tuple(None if it is None else tuple(one for one in it if one < most) or None for it in values)
-        return Event(STRACE, Call(self.number, self.architecture, pointer), outcome, arguments,
+        shown = strace.registers_in(self.text, self.name, self.architecture.oci)
+        return Event(STRACE, Call(*self.record, pointer), outcome, tuple(shown.get(at) for at in range(6)),
                      int(self.who) if self.who else None)
 
 
-def _of_signal(who: str | None, members: str, call: _Printed | None, table: Table) -> Event:
+def _of_signal(who: str | None, members: str, call: _Printed | None, known: dict[str, Table]) -> Event:
     """SIGSYS as strace shows it: by TRAP, with the data as si_errno."""
     found = dict(MEMBER.findall(members))
     if found.get("si_code") != "SYS_SECCOMP":
@@ -219,13 +220,13 @@ def _of_signal(who: str | None, members: str, call: _Printed | None, table: Tabl
     named, code = found.get("si_syscall", "").removeprefix("__NR_"), found.get("si_errno", "0")
     architecture = audit_records.architecture_of(found.get("si_arch"))
     number = int(named, 0) if re.fullmatch("0x[0-9a-f]{1,8}|[0-9]{1,9}", named) else \
-        audit_records.named_number(named, architecture, table)
+        audit_records.named_number(named, architecture, known)
     if number is None:
         raise Malformed(f"si_syscall={named[:64]}: the table has no such name")
     data = int(code, 0) if re.fullmatch("0x[0-9a-f]{1,4}|[0-9]{1,5}", code) else NUMBERS_OF_ERRNOS.get(code)
     pointer = re.fullmatch("0x([0-9a-f]{1,16})", found.get("si_call_addr", ""))
     outcome = Outcome(("TRAP",), data=data)
-    if call is not None and (call.number, call.architecture) == (number, architecture):
+    if call is not None and call.record == (number, architecture):
         return call.event(outcome, int(pointer[1], 16) if pointer else None)
     return Event(STRACE, Call(number, architecture, int(pointer[1], 16) if pointer else None), outcome,
                  process=int(who) if who else None)
@@ -244,7 +245,7 @@ def _of_ends(ends: _Ends, found: EventLog) -> None:
     """The events of a strace log: each SIGSYS, or else the last syscall."""
     for who, members, call in ends.signals:
         try:
-            found.add(_of_signal(who, members, call, ends.table))
+            found.add(_of_signal(who, members, call, ends.tables))
         except Malformed as why:
             found.faults.append((0, str(why)))
     numbered = [it for it in ends.killed if it.is_its_number()]
@@ -259,7 +260,7 @@ def _of_ends(ends: _Ends, found: EventLog) -> None:
 
 def read(lines: Iterable[str], table: Table) -> EventLog:
     """The events in the lines of a log of any kind."""
-    found, ends = EventLog(), _Ends(table)
+    found, ends = EventLog(), _Ends(tables.of_architectures(JUDGED, table).of)
     for number, line in enumerate(lines, 1):
         kind, suppressed = audit_records.kind_of(line), audit_records.SUPPRESSED.search(line)
         # a text that a program writes may look like a record
@@ -269,7 +270,7 @@ def read(lines: Iterable[str], table: Table) -> EventLog:
             found.suppressed += int(suppressed[1])
         elif kind is not None and kind[0] in audit_records.SECCOMP:
             try:
-                found.add(of_record(audit_records.record_in(line, kind[1], table)))
+                found.add(of_record(audit_records.record_in(line, kind[1], ends.tables)))
             except Malformed as why:
                 found.faults += [(number, str(why))] * (len(found.faults) < EVENTS)
     ends.end()

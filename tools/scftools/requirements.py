@@ -1,4 +1,5 @@
-"""What a program needs of a profile: the syscalls in logs, each judged by scf; and those of the runtime that starts it.
+"""What a program needs of a profile: the syscalls in logs, each judged by scf in its architecture; and those of the
+runtime that starts it.
 
 If the arguments that conditions test are known, `scf ask` answers. If one is unknown, scf compares: whether the
 profile's filter allows all syscalls with the known arguments, or none.
@@ -9,8 +10,9 @@ import itertools
 import json
 from collections.abc import Iterable, Iterator, Sequence
 
-from . import entries, output, program, reasons, refusals, strace, tables, traces
+from . import bundles, client, entries, output, profiles, program, reasons, refusals, strace, tables, traces, verdicts
 from .answers import ALLOWED, Answer
+from .architectures import JUDGED, NATIVE, Architecture, of_machine
 from .calls import Call
 from .client import Refusal
 from .engines import KEPT
@@ -18,11 +20,10 @@ from .entries import Condition, Entry, Object
 from .profiles import ALLOWING
 from .reasons import Reason
 from .strace import Seen
-from .tables import Table
+from .tables import Table, Tables
 from .traces import Trace
-from .trials import Trial
 from .values import dataclass
-from .verdicts import UNFINISHED, Verdict
+from .verdicts import Verdict
 
 TYPE_CHECKING = False
 if TYPE_CHECKING:
@@ -33,17 +34,19 @@ IS_ALLOWED, ISNT_ALLOWED, DEPENDS, UNDECIDED = "made", "not made", "depends", "u
 # The words of text output; JSON has those above.
 WORDS = {IS_ALLOWED: "allowed", ISNT_ALLOWED: "not allowed", DEPENDS: DEPENDS, UNDECIDED: "undecided"}
 # What in a log isn't judged, by its name in JSON.
-UNJUDGED = {"foreign": "syscalls not judged, since their processes don't run in 64-bit mode",
+UNJUDGED = {"foreign": "syscalls not judged, since scf has no table of their architecture",
             "cut": "syscalls not judged, since the log lacks their beginning or end",
             "more": "syscalls not judged, since there are too many with other arguments",
             "lines": "lines not judged, since they can't be parsed",
             "lost": "syscalls not judged, since the log has lost them"}
+TAKEN = ("a log that doesn't say its architecture is taken as {}'s, since the profile doesn't list {}: --arch names "
+         "another")
 # The most entries with conditions for one name, and the most syscalls to judge, each with each of its values.
 CONDITIONS, WAYS = 64, 2000
 REFERRED, EQUAL = ("SCMP_ACT_TRACE", 1), "SCMP_CMP_EQ"
-# What each least profile allows: a process calls these, which a log needn't show, to continue after a stop or a
-# signal, and to end.
-ALWAYS = ("restart_syscall", "rt_sigreturn", "exit", "exit_group")
+# What each least profile allows where an architecture has it: a process calls these, which a log needn't show, to
+# continue after a stop or a signal, and to end.
+ALWAYS = ("restart_syscall", "rt_sigreturn", "exit", "exit_group", "sigreturn")
 # What a container runtime itself calls behind the filter, before it executes the container's program; runc is written
 # in Go, whose own calls come and go. Taken from the kernel's records of containers of runc 1.1 and crun 1.8 under a
 # profile that logs, with and without noNewPrivileges, as root and as a user, with and without a terminal.
@@ -54,11 +57,17 @@ OF_RUNTIMES = {
 }
 
 
+def marked(one: Architecture, text: str) -> str:
+    """A text about a syscall, after the name of its architecture if that isn't x86-64."""
+    return text if one.oci == NATIVE else f"{one.name} {text}"
+
+
 @dataclass(frozen=True)
 class TracedCall:
-    """A syscall in a log: its number, its name, and the values of the arguments that a condition tests; None if one
-    isn't known."""
+    """A syscall in a log: its architecture, its number in the table of this, its name, and the values of the arguments
+    that a condition tests; None if one isn't known."""
 
+    architecture: Architecture
     number: int
     name: str
     arguments: tuple[tuple[int, tuple[int, ...] | None], ...]
@@ -79,10 +88,23 @@ class TracedCall:
         for values in itertools.product(*(values for _, values in pairs)):
             yield dict(zip((index for index, _ in pairs), values))
 
+    def call(self, values: dict[int, int]) -> Call:
+        """A record of the syscall with these arguments, and 0 as the others."""
+        one = self.architecture
+        return Call(one.first + self.number, one.number, arguments=tuple(values.get(index, 0) for index in range(6)))
+
+    @property
+    def shown_name(self) -> str:
+        return marked(self.architecture, self.name)
+
+    def has_name(self, known: dict[str, Table]) -> bool:
+        """Whether the table of its architecture, by OCI names, has its name."""
+        return known[self.architecture.oci].number_of(self.name) is not None
+
     def describe(self) -> str:
         shown = "".join(f" arg {index} {values[0]:#x}" for index, values in self.arguments
                         if values is not None and len(values) == 1)
-        return f"{self.number} {self.name}{shown}"
+        return marked(self.architecture, f"{self.number} {self.name}{shown}")
 
 
 @dataclass(frozen=True)
@@ -94,6 +116,8 @@ class Judgement:
     line: str = ""
     made: Call | None = None
     refused: tuple[Call, Answer] | None = None
+    # whether the profile doesn't list its architecture
+    is_foreign: bool = False
 
 
 @dataclass
@@ -108,6 +132,13 @@ class Needs:
     fault: str = ""
     # whether there are several logs, whose names lines then say
     are_several: bool = False
+    # as what a log is taken that doesn't say its architecture, if that isn't this machine's
+    taken: str = ""
+
+    @property
+    def unlisted(self) -> list[Architecture]:
+        """The architectures of syscalls that the profile doesn't list."""
+        return list(dict.fromkeys(it.traced.architecture for it in self.judged if it.is_foreign))
 
     def of(self, disposition: str) -> list[Judgement]:
         return [it for it in self.judged if it.disposition == disposition]
@@ -125,50 +156,43 @@ class Needs:
 
 
 class Judge:
-    """A profile, its filter, and what its conditions test of each syscall."""
+    """A profile, its filter for one architecture, and what its conditions test of each syscall there."""
 
-    def __init__(self, profile: bytes, trial: Trial):
-        self.profile, self.trial, self.table = profile, trial, trial.table
-        self.filter = trial.filter_of(profile)
+    def __init__(self, profile: bytes, architecture: str, table: Table, limit: str | None):
+        self.profile, self.tables, self.limit = profile, Tables({architecture: table}), limit
+        self.filter = client.compile_profile(profile, self.tables)
         top = entries.read(profile)
         if top is None:
             raise program.ToolError("the profile's JSON can't be parsed by this tool", program.IO_ERROR)
         self.top: Object = top
         looked: dict[int | None, set[int]] = {}
-        for entry in entries.entries_of(top, self.table.number_of):
+        for entry in entries.entries_of(top, table.number_of):
             for name in entry.names if entry.conditions else ():
-                looked.setdefault(self.table.number_of(name), set()).update(it.index for it in entry.conditions)
+                looked.setdefault(table.number_of(name), set()).update(it.index for it in entry.conditions)
         self.looked = {name: tuple(sorted(indices)) for number, indices in looked.items() if number is not None
-                       for name in (*self.table.names_of(number), f"syscall_{number:#x}")}
-
-    def looked_at(self, name: str) -> tuple[int, ...]:
-        """The arguments of a syscall that a condition tests."""
-        return self.looked.get(name, ())
-
-    def number_of(self, name: str) -> int | None:
-        return strace.number_of(name, self.table)
+                       for name in (*table.names_of(number), f"syscall_{number:#x}")}
 
     def of(self, traced: TracedCall) -> Judgement:
-        made, refused, line = None, None, ""
+        made, refused = None, None
         for values in traced.known():
             answers = self._compared(traced, values) if traced.unknown else self._asked(traced, values)
             if isinstance(answers, Verdict):
                 return Judgement(traced, UNDECIDED, answers.word)
             made, refused = answers[0] or made, answers[1] or refused
-        if refused:
-            line = self._reason(refused[0]).line
+        reason = self._reason(refused[0]) if refused else None
         disposition = DEPENDS if made and refused else IS_ALLOWED if made else ISNT_ALLOWED
-        return Judgement(traced, disposition, line, made, refused)
+        return Judgement(traced, disposition, reason.line if reason else "", made, refused,
+                         reason is not None and reason.is_foreign)
 
     def _reason(self, call: Call) -> Reason:
-        found = reasons.of(self.profile, tables.native_alone(self.table.data), call.words())
+        found = reasons.of(self.profile, self.tables, call.words())
         if found.answer is None:
             raise Refusal(found.line, found.status)
         return found
 
     def _asked(self, traced: TracedCall, values: dict[int, int]) -> Answers:
         """By `scf ask`: the syscall with these arguments, as one that is allowed or one that isn't."""
-        call = Call(traced.number, arguments=tuple(values.get(index, 0) for index in range(6)))
+        call = traced.call(values)
         answer = self._reason(call).answer
         return (call, None) if answer is None or answer.disposition == ALLOWED else (None, (call, answer))
 
@@ -176,9 +200,14 @@ class Judge:
                  relation: str) -> Verdict:
         """What scf says of the filter beside a profile that gives the calls with these arguments an answer."""
         conditions = tuple(Condition(index, EQUAL, value, 0) for index, value in values.items())
-        beside = entries.profile_of((default, 1), [Entry(0, ("it",), answer, conditions)])
-        table = f"it {traced.number}\n".encode()
-        return self.trial.report([self.filter], beside, table, "--native", relation).verdict or Verdict(UNFINISHED)
+        one = traced.architecture.oci
+        beside = entries.profile_of((default, 1), [Entry(0, ("it",), answer, conditions)], [one])
+        given = bundles.of_comparison([self.filter], beside, Tables({one: Table(b"it %d\n" % traced.number)}))
+        done = client.compare(["--architectures", relation], given, self.limit)
+        verdict = verdicts.report(done.text).verdict
+        if verdict is None:
+            raise Refusal(done.line, done.status)
+        return verdict
 
     def _compared(self, traced: TracedCall, values: dict[int, int]) -> Answers | Verdict:
         """By comparisons: a syscall with these arguments that is allowed, and one that isn't; or only a verdict."""
@@ -190,24 +219,62 @@ class Judge:
         return more.call, (less.call, less.filters) if less.call and less.filters else None
 
 
-def find(log: Trace, judge: Judge) -> Needs:
-    """The calls of a log, by their numbers, each judged."""
+class Judges:
+    """A profile, which judges each syscall in its architecture. `own` is the architecture of what doesn't say it."""
+
+    def __init__(self, profile: bytes, named: Architecture | None, table: str | None, limit: str | None):
+        self.profile, self.limit, machine = profile, limit, JUDGED[of_machine()]
+        self.own = named or _own_of(profile, machine)
+        self.taken = "" if self.own in (named, machine) else TAKEN.format(self.own.name, machine.name)
+        # of all architectures, by OCI names; a table that is handed in is that of the log's own
+        self.tables = tables.of_architectures(JUDGED, tables.read(None)).of
+        self.tables[self.own.oci] = tables.read(table, self.own)
+        # a profile without a list is for its machine's own
+        names = profiles.architectures_of(profile) or [strace.modes_of(self.own.oci)[strace.OWN_MODE]]
+        self.listed = Tables({it: self.tables[it] for it in tables.of_architectures(names, self.tables[NATIVE]).of})
+        self._of: dict[str, Judge] = {}
+        self._looked: dict[str, dict[str, tuple[int, ...]]] = {}
+
+    def of(self, architecture: str) -> Judge:
+        """The judge of an architecture's syscalls; if the profile doesn't list it, one to which they are foreign."""
+        at = next(it for it in (architecture, self.own.oci, *self.listed.of) if it in self.listed.of)
+        if at not in self._of:
+            self._of[at] = Judge(self.profile, at, self.tables[at], self.limit)
+        return self._of[at]
+
+    def looked_at(self, architecture: str, name: str) -> tuple[int, ...]:
+        """The arguments of a syscall that a condition tests."""
+        if architecture not in self._looked:
+            self._looked[architecture] = self.of(architecture).looked if architecture in self.listed.of else {}
+        return self._looked[architecture].get(name, ())
+
+
+def _own_of(profile: bytes, machine: Architecture) -> Architecture:
+    """The machine's own architecture, or the first that a profile lists, where it doesn't list that one."""
+    listed = tables.of_profile(profile, tables.read(None)).of
+    return machine if machine.oci in listed else JUDGED[next(iter(listed))]
+
+
+def find(log: Trace, judges: Judges) -> Needs:
+    """The calls of a log, by their architectures and numbers, each judged."""
     counts = log.foreign.count, log.cut.count, log.left.count, log.unread.count, log.lost.count
-    found = Needs([], {}, dict(zip(UNJUDGED, counts)), log.fault)
+    found = Needs([], {}, dict(zip(UNJUDGED, counts)), log.fault, taken=judges.taken)
     traced: list[TracedCall] = []
-    for (name, values), seen in log.calls.items():
-        number = judge.number_of(name)
+    for (architecture, name, values), seen in log.calls.items():
+        one, number = JUDGED[architecture], log.number_of(architecture, name)
         if number is None:
-            found.unnamed[name] = found.unnamed.get(name, 0) + seen.count
+            shown = marked(one, name)
+            found.unnamed[shown] = found.unnamed.get(shown, 0) + seen.count
         else:
-            traced.append(TracedCall(number, name, tuple(zip(judge.looked_at(name), values)), seen))
-    ways = 0
-    for one in sorted(traced, key=lambda it: (it.number, it.name, it.seen.line)):
-        ways += sum(1 for _ in one.known())
+            arguments = tuple(zip(judges.looked_at(architecture, name), values))
+            traced.append(TracedCall(one, number, name, arguments, seen))
+    ways, order = 0, list(JUDGED)
+    for call in sorted(traced, key=lambda it: (order.index(it.architecture.oci), it.number, it.name, it.seen.line)):
+        ways += sum(1 for _ in call.known())
         if ways <= WAYS:
-            found.judged.append(judge.of(one))
+            found.judged.append(judges.of(call.architecture.oci).of(call))
         else:
-            found.unjudged["more"] += one.seen.count
+            found.unjudged["more"] += call.seen.count
     return found
 
 
@@ -238,8 +305,13 @@ def _arguments(call: Call) -> str:
     return f"args {' '.join(map(hex, call.arguments))}"
 
 
-def _of_unjudged(needs: Needs) -> Iterator[str]:
-    """What in the log wasn't judged."""
+def _remarks(needs: Needs) -> Iterator[str]:
+    """What architectures the log has, and what in it wasn't judged."""
+    if needs.taken:
+        yield needs.taken
+    for one in needs.unlisted:
+        yield (f"{one.name} syscalls aren't allowed, since the profile doesn't list {one.oci}: engines' filters kill "
+               "for them")
     elsewhere = tables.names_elsewhere() if needs.unnamed else ()
     for name, count in sorted(needs.unnamed.items())[:tables.MOST_LISTED]:
         yield (f"not judged, since the table doesn't have it: {name}, times: {count}"
@@ -260,7 +332,7 @@ def lines(needs: Needs) -> Iterator[str]:
     for disposition in (ISNT_ALLOWED, DEPENDS, UNDECIDED):
         for one in needs.of(disposition):
             yield from _of_judged(one, needs.are_several)
-    yield from output.notes(_of_unjudged(needs))
+    yield from output.notes(_remarks(needs))
     counts = ", ".join(f"{WORDS[it]} {len(needs.of(it))}" for it in (IS_ALLOWED, ISNT_ALLOWED, DEPENDS, UNDECIDED)
                        if it != UNDECIDED or needs.of(UNDECIDED))
     yield f"# syscalls, each with the arguments that conditions test: {counts}"
@@ -271,6 +343,7 @@ def as_json(needs: Needs, table: Table) -> dict[str, object]:
     for one in needs.judged:
         traced = one.traced
         shown: dict[str, object] = {
+            **({} if traced.architecture.oci == NATIVE else {"architecture": traced.architecture.name}),
             "number": traced.number, "name": traced.name, "fate": one.disposition, "count": traced.seen.count,
             "line": traced.seen.line, "log": traced.seen.log,
             "depends_on": traced.unsure if one.disposition == DEPENDS else [],
@@ -307,39 +380,45 @@ def _entries(judged: Sequence[Judgement], always: Iterable[str]) -> Iterator[dic
                    "args": [{"index": index, "value": value, "op": EQUAL} for index, value in rule]}
 
 
-def least_profile(needs: Needs, judge: Judge) -> tuple[str, list[str]]:
+def least_profile(needs: Needs, judges: Judges) -> tuple[str, list[str]]:
     """The smallest profile that allows the syscalls of the log, as JSON, and what isn't in it."""
-    top, default = judge.top, judge.top["defaultAction"]
+    top = judges.of(judges.own.oci).top
+    default = top["defaultAction"]
     found: dict[str, object] = {"defaultAction": default}
     if default in ALLOWING:
         found = {"defaultAction": "SCMP_ACT_ERRNO"}
     elif "defaultErrnoRet" in top:
         found["defaultErrnoRet"] = top["defaultErrnoRet"]
     found.update((name, top[name]) for name in ("architectures", *KEPT) if name in top)
-    named = [it for it in needs.judged if judge.table.number_of(it.traced.name) is not None]
-    found["syscalls"] = list(_entries(named, (name for name in ALWAYS if judge.number_of(name) is not None)))
-    remarks = list(_of_unjudged(needs))
-    remarks += [f"{it.traced.name} has no name, and isn't in the profile" for it in needs.judged
-                if judge.table.number_of(it.traced.name) is None]
-    remarks += [f"{it.traced.name}: the log doesn't show arguments {', '.join(map(str, it.traced.unknown))} as "
+    listed = [it for it in needs.judged if not it.is_foreign]
+    named = [it for it in listed if it.traced.has_name(judges.tables)]
+    seen = dict.fromkeys((judges.own.oci, *(it.traced.architecture.oci for it in named)))
+    always = (name for name in ALWAYS if any(judges.tables[it].number_of(name) is not None for it in seen))
+    found["syscalls"] = list(_entries(named, always))
+    remarks = list(_remarks(needs))
+    remarks += [f"{it.traced.shown_name} has no name, and isn't in the profile" for it in listed if it not in named]
+    remarks += [f"{it.traced.shown_name}: the log doesn't show arguments {', '.join(map(str, it.traced.unknown))} as "
                 "numbers: they may be any" for it in named if it.traced.unknown]
     return json.dumps(found, indent=4) + "\n", remarks
 
 
-def of_refusal(why: Refusal, profile: bytes, table: Table) -> Iterator[str]:
+def of_refusal(why: Refusal, judges: Judges) -> Iterator[str]:
     """scf's line, and what it means."""
     yield why.line
     if why.fault:
-        yield from output.notes(refusals.sentences(why.fault, profile, tables.native_alone(table.data)))
+        yield from output.notes(refusals.sentences(why.fault, judges.profile, judges.listed))
 
 
-def read(names: Sequence[str], judge: Judge, runtime: str | None = None) -> Needs:
-    """What is in some logs, and what a runtime calls itself before it executes the program."""
-    log = traces.read(names, judge.looked_at, judge.number_of, judge.table)
+def read(names: Sequence[str], judges: Judges, runtime: str | None = None) -> Needs:
+    """What is in some logs, and what a runtime calls itself before it executes the program. Raises Refusal."""
+    own = judges.own.oci
+    # this checks the profile before a log is read
+    judges.of(own)
+    log = traces.read(names, judges.looked_at, judges.tables, own)
     log.begin(runtime or "")
     for name in OF_RUNTIMES[runtime].split() if runtime else ():
-        if judge.number_of(name) is not None:
-            log.keep(0, name, {})
-    found = find(log, judge)
+        if log.number_of(own, name) is not None:
+            log.keep(0, own, name, {})
+    found = find(log, judges)
     found.are_several = len(names) > 1
     return found

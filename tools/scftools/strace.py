@@ -8,17 +8,29 @@ from __future__ import annotations
 import re
 from collections.abc import Callable, Iterator
 
-from . import constants, inputs, output, program
+from . import constants, inputs, multiplexed, output, program
+from .architectures import AARCH64, ARM, I386, JUDGED, NATIVE, X32
 from .tables import Table
 from .values import Pattern, dataclass, field
+
+TYPE_CHECKING = False
+if TYPE_CHECKING:
+    # the values that arguments may have, by their indexes; None if they aren't known
+    Arguments = dict[int, tuple[int, ...] | None]
 
 # The most bytes that are read of a log, of a line, of a syscall that isn't finished yet and of an argument.
 LIMIT, LINE, BEGINNING, ARGUMENT = 1 << 30, 1 << 16, 1 << 13, 1 << 12
 # The most unfinished syscalls and the most with other names or arguments that are kept; how many more are counted; and
 # the most processes.
 PENDING, KEPT, LEFT, PROCESSES = 10000, 1000, 100000, 1 << 20
-# At most so many processes that are creating one are considered for the mode of a new process.
+# At most so many processes that are creating one are considered for the architecture of a new process.
 MAKERS = 100
+# The modes of a machine's processes as strace calls them (personality_names in its src/syscall.c), each with its
+# architecture.
+OWN_MODE = "64 bit"
+MACHINES = ({OWN_MODE: NATIVE, "32 bit": I386, "x32": X32}, {OWN_MODE: AARCH64, "32 bit": ARM})
+# The greatest value of an argument by architectures.
+GREATEST = {name: one.greatest for name, one in JUDGED.items()}
 # What comes before a syscall: a process, a time, the instruction pointer and the syscall number (strace(1): -f, -Y; -t,
 # -tt, -ttt, -r; -i; -n).
 LEADER = Pattern(
@@ -41,35 +53,44 @@ DESCRIBED = Pattern(OBJECT, re.S)
 # A number or a name, and what it is.
 PART = Pattern(rf"(?:0x([0-9a-f]{{1,16}})|0([0-7]{{1,22}})|(-?[0-9]{{1,20}})|([A-Z_][A-Z0-9_]*))"
                rf"(?:{OBJECT})?(?: /\*.*?\*/)?", re.S)
-UNFINISHED, NATIVE = " <unfinished ...>", "64 bit"
+UNFINISHED = " <unfinished ...>"
 COMMENT = Pattern(r"/\*|\*/")
 # Where strace's order isn't that of the registers: clone's arguments have names. Of others fewer than these are shown:
 # without one half of an offset, or by an operation; unknown flags of IPC are printed as one number with what follows.
 CLONE = {"flags": 0, "child_stack": 1, "parent_tid": 2, "parent_tidptr": 2, "child_tidptr": 3, "tls": 4}
+# On other architectures than x86-64 and x32 the last two are swapped (CONFIG_CLONE_BACKWARDS in arch/Kconfig of Linux).
+CLONE_BACKWARDS = {**CLONE, "tls": 3, "child_tidptr": 4}
 ORDER = {"preadv2": (6, (0, 1, 2, 3, 5)), "pwritev2": (6, (0, 1, 2, 3, 5)), "futex": (6, (0, 1)), "ptrace": (4, (0, 1)),
          "msgget": (3, (0,)), "semget": (4, (0, 1)), "shmget": (4, (0, 1))}
+# How many of the first arguments stand so in their registers, where not all do: a number of 64 bits takes two of 32,
+# mmap2 has pages where strace prints bytes, i386 has some arguments in memory, and x32 an offset whole.
+SPLIT = {"_llseek": 1, "arm_fadvise64_64": 1, "arm_sync_file_range": 1, "fadvise64": 1, "fadvise64_64": 1,
+         "fallocate": 2, "fanotify_mark": 2, "ftruncate64": 1, "lookup_dcookie": 0, "mmap2": 5, "pread64": 3,
+         "preadv": 3, "preadv2": 3, "pwrite64": 3, "pwritev": 3, "pwritev2": 3, "readahead": 1, "sync_file_range": 1,
+         "sync_file_range2": 1, "truncate64": 1}
+WHOLE = {I386: {**SPLIT, "mmap": 0, "select": 0}, ARM: SPLIT, X32: {"preadv2": 4, "pwritev2": 4}}
 # Of a mode the lower 16 bits are shown, in octal digits.
 OCTAL = Pattern(r"(?:\A|\|)0[0-7]")
 NAMED = Pattern(r" *([a-z_]+)=")
 FORKS = ("clone(", "clone3(", "fork(", "vfork(")
 
 
-def _number_of(found: re.Match[str]) -> int | None:
+def _number_of(found: re.Match[str], architecture: str) -> int | None:
     """The number of a part of an argument."""
     hexadecimal, octal, decimal, name = found.groups()
     if name:
-        return constants.numbers().get(name)
+        return constants.numbers_on(architecture).get(name)
     if decimal:
         return int(decimal) if re.fullmatch("-?(?:0|[1-9].*)", decimal) else None
     return int(hexadecimal, 16) if hexadecimal else int(octal, 8)
 
 
-def _number_in(text: str) -> int | None:
+def _number_in(text: str, architecture: str) -> int | None:
     """The printed number, or the bitwise OR of all that are printed, as in SOCK_STREAM|0x80000."""
     whole, at = 0, 0
     while True:
         part = PART.match(text, at)
-        number = _number_of(part) if part else None
+        number = _number_of(part, architecture) if part else None
         if part is None or number is None:
             return None
         is_alone = part.start() == 0 and part.end() == len(text)
@@ -83,21 +104,23 @@ def _number_in(text: str) -> int | None:
         at += 1
 
 
-def values_of(text: str) -> tuple[int, ...] | None:
-    """The values that the register of a printed argument may have, None if it isn't known.
+def values_of(text: str, architecture: str = NATIVE) -> tuple[int, ...] | None:
+    """The values that the register of a printed argument may have on the architecture of an OCI name, None if it isn't
+    known.
 
-    Of many arguments strace prints the lower 32 bits, and of a mode the lower 16. The bits above are taken as zero, or,
-    if the highest printed bit is set, also as the sign.
+    Of many arguments strace prints the lower 32 bits, and of a mode the lower 16. The bits above, as far as conditions
+    compare them, are taken as zero, or, if the highest printed bit is set, also as the sign.
     """
     text = text.strip().removesuffix(UNFINISHED.strip()).rstrip()
-    number = _number_in(text) if len(text) <= ARGUMENT else None
+    number = _number_in(text, architecture) if len(text) <= ARGUMENT else None
     if number is None or not -(1 << 63) <= number < 1 << 64:
         return None
+    most = GREATEST[architecture]
     if OCTAL.search(text) and 1 << 15 <= number < 1 << 16:
-        return (number, number | 0xFFFF << 16, number | (1 << 64) - (1 << 16))
+        return tuple(dict.fromkeys((number, number | 0xFFFF << 16, (number | -1 << 16) & most)))
     if -(1 << 31) <= number < 0 or 1 << 31 <= number < 1 << 32:
-        return (number % (1 << 32), number % (1 << 32) | (1 << 64) - (1 << 32))
-    return (number % (1 << 64),)
+        return tuple(dict.fromkeys((number % (1 << 32), (number | -1 << 32) & most)))
+    return (number & most,)
 
 
 def _past(text: str, at: int) -> int | None:
@@ -142,14 +165,16 @@ def arguments_in(text: str, at: int) -> tuple[list[str], int | None]:
             at = past
 
 
-def _in_registers(name: str, printed: list[str]) -> dict[int, str]:
+def _in_registers(name: str, printed: list[str], architecture: str = NATIVE) -> dict[int, str]:
     """The printed arguments by the registers that hold them."""
     named = [NAMED.match(it) for it in printed]
     if any(named):
+        clone = CLONE if architecture in (NATIVE, X32) else CLONE_BACKWARDS
         pairs = [(it[1], text[it.end():]) for it, text in zip(named, printed) if it and name == "clone"]
-        return {CLONE[key]: value for key, value in pairs if key in CLONE}
+        return {clone[key]: value for key, value in pairs if key in clone}
     count, order = ORDER.get(name, (0, ()))
-    return dict(zip(order if len(printed) < count else range(6), printed))
+    whole = WHOLE.get(architecture, {}).get(name, len(printed))
+    return dict(zip(order if len(printed) < count else range(6), printed[:whole]))
 
 
 def is_own(line: str) -> bool:
@@ -159,9 +184,15 @@ def is_own(line: str) -> bool:
     return CALL.match(line, leader.end()) is not None or line.startswith(("<... ", "--- ", "+++ "), leader.end())
 
 
-def registers_in(text: str, name: re.Match[str]) -> dict[int, tuple[int, ...] | None]:
+def registers_in(text: str, name: re.Match[str], architecture: str = NATIVE) -> Arguments:
     """The values that the registers of a printed syscall may have, by their arguments' indexes."""
-    return {at: values_of(it) for at, it in _in_registers(name[1], arguments_in(text, name.end())[0]).items()}
+    printed = arguments_in(text, name.end())[0]
+    return {at: values_of(it, architecture) for at, it in _in_registers(name[1], printed, architecture).items()}
+
+
+def modes_of(own: str) -> dict[str, str]:
+    """The modes of processes, by strace's names, and their architectures, on a machine that has this one."""
+    return next(it for it in MACHINES if own in it.values())
 
 
 def number_of(name: str, table: Table) -> int | None:
@@ -179,26 +210,42 @@ class Seen:
     log: str = ""
 
 
+class Line:
+    """A line of a log: its number, from 1 on, that of its syscall where strace prints it, and the text behind both."""
+
+    def __init__(self, number: int, nr: int | None, text: str):
+        self.number, self.nr, self.text = number, nr, text
+
+
 @dataclass
 class Log:
-    """What stands in a log: calls by their names and the values of those arguments that are asked for."""
+    """What stands in a log: calls by the OCI names of their architectures, their names, and the values of those
+    arguments that are asked for."""
 
-    looked_at: Callable[[str], tuple[int, ...]]
-    number_of: Callable[[str], int | None] = lambda name: None
-    calls: dict[tuple[str, tuple], Seen] = field(default_factory=dict)
+    looked_at: Callable[[str, str], tuple[int, ...]]
+    # the tables of architectures
+    tables: dict[str, Table] = field(default_factory=dict)
+    # the architecture of what doesn't say it
+    own: str = NATIVE
+    calls: dict[tuple[str, str, tuple], Seen] = field(default_factory=dict)
+    # syscalls of architectures without a table
     foreign: Seen = field(default_factory=lambda: Seen(0))
     unread: Seen = field(default_factory=lambda: Seen(0))
     # lines of syscalls that have a number, without a result or without a beginning
     cut: Seen = field(default_factory=lambda: Seen(0))
     # syscalls with other names or arguments than those that are kept
     left: Seen = field(default_factory=lambda: Seen(0))
-    _names: set[str] = field(default_factory=set)
-    _modes: dict[str | None, str] = field(default_factory=dict)
+    _names: set[tuple[str, str]] = field(default_factory=set)
+    # what strace prints by a name, by architecture and name
+    _known: dict[tuple[str, str], dict[str, int]] = field(default_factory=dict)
+    # of processes
+    _architectures: dict[str | None, str] = field(default_factory=dict)
     _alive: set[str] = field(default_factory=set)
-    _pending: dict[str | None, tuple[int, str]] = field(default_factory=dict)
+    _pending: dict[str | None, Line] = field(default_factory=dict)
     # the processes that create others
     _makers: dict[str | None, None] = field(default_factory=dict)
-    _other_mode: str | None = None
+    # the architecture of the last process that isn't of the log's own
+    _other: str | None = None
     # the pieces of a line that is broken by messages of strace, and how many more characters are kept
     _broken: list[str] = field(default_factory=list)
     _room: int = LINE
@@ -210,8 +257,8 @@ class Log:
 
     def begin(self, name: str) -> None:
         """Begins a log, with processes of its own."""
-        self._name, self._other_mode = name, None
-        self._modes, self._alive, self._makers = {}, set(), {}
+        self._name, self._other = name, None
+        self._architectures, self._alive, self._makers = {}, set(), {}
 
     def add(self, number: int, line: str) -> None:
         """Takes a line of the log."""
@@ -224,11 +271,8 @@ class Log:
         self._is_long = len(line) >= LINE
         leader = LEADER.match(line)
         assert leader
-        who, text = self._who(leader[1] or leader[2]), line[leader.end():].rstrip("\r")
-        if leader[3] and self._is_of_other_abi(int(leader[3]), text):
-            self._count(self.foreign, number)
-        else:
-            self._add(number, who, text)
+        who = self._who(leader[1] or leader[2])
+        self._add(who, Line(number, int(leader[3]) if leader[3] else None, line[leader.end():].rstrip("\r")))
 
     def _is_message(self, line: str) -> bool:
         """Whether a message of strace ends a line, which it broke off there and continues in the next one."""
@@ -240,59 +284,92 @@ class Log:
             self._room -= message.start()
         return True
 
-    def _is_of_other_abi(self, number: int, text: str) -> bool:
-        """Whether a syscall has another number than its name has, as those of i386 do."""
-        name = CALL.match(text)
-        return name is not None and self.number_of(name[1]) not in (None, number)
+    def number_of(self, architecture: str, name: str) -> int | None:
+        """The number of a syscall in the table of an architecture."""
+        return number_of(name, self.tables[architecture]) if architecture in self.tables else None
+
+    def _printed_so(self, architecture: str, name: str) -> dict[str, int]:
+        """The syscalls that strace prints by a name, and their numbers: on i386 it prints what socketcall and ipc do by
+        its own name."""
+        names = [name, *(it for it, its in multiplexed.NUMBERS.items() if architecture == I386 and name in its)]
+        numbers = {it: self.number_of(architecture, it) for it in names}
+        return {it: number for it, number in numbers.items() if number is not None}
+
+    def _numbered(self, architecture: str, name: str) -> dict[str, int]:
+        """The same, kept for the names that have a number."""
+        found = self._known.get((architecture, name))
+        if found is None:
+            found = self._printed_so(architecture, name)
+            if found and len(self._known) < KEPT:
+                self._known[architecture, name] = found
+        return found
+
+    def architecture_of(self, who: str | None, name: str, nr: int | None) -> str:
+        """The architecture of a process's syscall. If the syscall doesn't have the printed number there, the process is
+        in another mode from now on, in which it has; if there is none, an empty name."""
+        own = self._architecture_of(who)
+        numbers = () if nr is None else self._numbered(own, name).values()
+        if nr is None or nr in numbers:
+            return own
+        for it in modes_of(self.own).values():
+            if nr in self._numbered(it, name).values():
+                self._enter(who, it)
+                return it
+        return "" if numbers else own
 
     def _who(self, printed: str | None) -> str | None:
         """The process of a line: strace names it only if there are several."""
         if printed is None:
             return next(iter(self._alive)) if len(self._alive) == 1 else None
         if printed not in self._alive:
-            if max(len(self._alive), len(self._modes)) >= PROCESSES:
+            if max(len(self._alive), len(self._architectures)) >= PROCESSES:
                 raise program.ToolError(f"the log has more than {PROCESSES} processes whose end isn't logged")
             self._alive.add(printed)
-            self._modes.setdefault(printed, self._mode_of_new())
+            self._architectures.setdefault(printed, self._architecture_of_new())
         return printed
 
-    def _mode_of_new(self) -> str:
-        """The mode of a process that comes up: that of those of which one makes it; where none is seen to, it isn't
-        native once any process wasn't."""
-        if self._other_mode is None:
-            return NATIVE
+    def _architecture_of_new(self) -> str:
+        """The architecture of a process that comes up: that of those of which one makes it; where none is seen to, it
+        isn't the log's own once that of any process wasn't."""
+        if self._other is None:
+            return self.own
         if self._makers and len(self._makers) <= MAKERS:
-            return next((mode for mode in map(self._mode_of, self._makers) if mode != NATIVE), NATIVE)
-        return self._other_mode
+            return next((it for it in map(self._architecture_of, self._makers) if it != self.own), self.own)
+        return self._other
 
-    def _mode_of(self, who: str | None) -> str:
-        return self._modes.get(who, NATIVE)
+    def _architecture_of(self, who: str | None) -> str:
+        return self._architectures.get(who, self.own)
 
-    def _add(self, number: int, who: str | None, text: str) -> None:
-        name = CALL.match(text)
-        mode = None if name else MODE.match(text)
-        if name and text.endswith(UNFINISHED):
-            self._begin(number, who, text.removesuffix(UNFINISHED)[:BEGINNING])
+    def _add(self, who: str | None, line: Line) -> None:
+        name = CALL.match(line.text)
+        mode = None if name else MODE.match(line.text)
+        if name and line.text.endswith(UNFINISHED):
+            self._begin(who, Line(line.number, line.nr, line.text.removesuffix(UNFINISHED)[:BEGINNING]))
         elif name:
-            self._call(number, who, text, name)
+            self._call(who, line, name)
         elif mode:
-            self._modes[mode[1]] = self._modes[who] = mode[2]
-            self._other_mode = mode[2] if mode[2] != NATIVE else self._other_mode
-        elif text.startswith("+++ "):
+            for it in (mode[1], who):
+                self._enter(it, modes_of(self.own).get(mode[2], ""))
+        elif line.text.startswith("+++ "):
             self._pending_ends(who)
             if who is not None:
                 self._alive.discard(who)
-                self._modes.pop(who, None)
-        elif text.startswith("<... "):
-            self._resume(number, who, text)
-        elif text.strip() and not text.startswith(("--- ", "> ", "strace: ")):
-            self._count(self.unread, number)
+                self._architectures.pop(who, None)
+        elif line.text.startswith("<... "):
+            self._resume(who, line)
+        elif line.text.strip() and not line.text.startswith(("--- ", "> ", "strace: ")):
+            self._count(self.unread, line.number)
 
-    def _begin(self, number: int, who: str | None, text: str) -> None:
+    def _enter(self, who: str | None, architecture: str) -> None:
+        """A process is in a mode from now on."""
+        self._architectures[who] = architecture
+        self._other = architecture if architecture != self.own else self._other
+
+    def _begin(self, who: str | None, line: Line) -> None:
         """Keeps a syscall that isn't finished yet."""
         self._pending_ends(who)
-        self._pending[who] = number, text
-        if text.startswith(FORKS):
+        self._pending[who] = line
+        if line.text.startswith(FORKS):
             self._makers[who] = None
         if len(self._pending) > PENDING:
             self._pending_ends(next(iter(self._pending)))
@@ -300,63 +377,77 @@ class Log:
     def _pending_ends(self, who: str | None) -> None:
         """A call that isn't finished won't be."""
         if who in self._pending:
-            number, text = self._taken(who)
-            self._call(number, who, text, CALL.match(text), is_cut=True)
+            begun = self._taken(who)
+            self._call(who, begun, CALL.match(begun.text), is_cut=True)
 
-    def _taken(self, who: str | None) -> tuple[int, str]:
+    def _taken(self, who: str | None) -> Line:
         """A call that isn't finished, which is kept no longer."""
         self._makers.pop(who, None)
         return self._pending.pop(who)
 
-    def _resume(self, number: int, who: str | None, text: str) -> None:
-        found = RESUMED.match(text)
+    def _resume(self, who: str | None, line: Line) -> None:
+        found = RESUMED.match(line.text)
         # the first process has no number as long as it is alone
         key = who if who in self._pending else None
-        name = CALL.match(self._pending[key][1]) if key in self._pending else None
+        name = CALL.match(self._pending[key].text) if key in self._pending else None
         if found and name and name[1] == found[1]:
-            begun, before = self._taken(key)
-            is_cut = len(before) >= BEGINNING
-            self._call(begun, who, before if is_cut else before + text[found.end():], name, is_cut)
+            begun = self._taken(key)
+            is_cut = len(begun.text) >= BEGINNING
+            text = begun.text if is_cut else begun.text + line.text[found.end():]
+            self._call(who, Line(begun.number, begun.nr, text), name, is_cut)
         else:
-            self._count(self.cut if found and self.number_of(found[1]) is not None else self.unread, number)
+            is_known = found and self._numbered(self.architecture_of(who, found[1], line.nr), found[1])
+            self._count(self.cut if is_known else self.unread, line.number)
 
     def _count(self, seen: Seen, number: int, count: int = 1) -> None:
         if not seen.count:
             seen.line, seen.log = number, self._name
         seen.count += count
 
-    def _call(self, number: int, who: str | None, text: str, name: re.Match[str], is_cut: bool = False) -> None:
-        """Counts a call: its name, and of what is asked for the values that it shows."""
-        if not (is_cut or self._is_long or len(text) >= LINE or " = " in text):
-            self._count(self.unread if self.number_of(name[1]) is None else self.cut, number)
+    def _call(self, who: str | None, line: Line, name: re.Match[str], is_cut: bool = False) -> None:
+        """Counts a call; where the log doesn't say which of several it is, each of them."""
+        architecture = self.architecture_of(who, name[1], line.nr)
+        numbered = self._numbered(architecture, name[1])
+        if not (is_cut or self._is_long or len(line.text) >= LINE or " = " in line.text):
+            self._count(self.cut if numbered else self.unread, line.number)
             return
-        if text.startswith(FORKS):
-            self._forked(who, text)
-        if self._mode_of(who) != NATIVE:
-            self._count(self.foreign, number)
+        if line.text.startswith(FORKS):
+            self._forked(who, line.text)
+        if architecture != self.own and architecture not in self.tables:
+            self._count(self.foreign, line.number)
             return
-        wanted = self.looked_at(name[1])
-        shown = registers_in(text, name) if wanted else {}
-        self._count(self._kept(name[1], tuple(shown.get(at) for at in wanted)), number)
+        for one in [it for it in numbered if line.nr in (None, numbered[it])] or [name[1]]:
+            self.keep(line.number, architecture, one, self._arguments(architecture, one, line.text, name))
 
-    def _kept(self, name: str, values: tuple) -> Seen:
+    def _arguments(self, architecture: str, one: str, text: str, name: re.Match[str]) -> Arguments:
+        """What is known of the arguments of a syscall, which strace prints by its name or as what it does."""
+        if not self.looked_at(architecture, one):
+            return {}
+        return registers_in(text, name, architecture) if one == name[1] else {0: (multiplexed.NUMBERS[one][name[1]],)}
+
+    def keep(self, number: int, architecture: str, name: str, arguments: Arguments, count: int = 1) -> None:
+        """Counts a syscall by its name, with what is asked for of its arguments."""
+        values = tuple(arguments.get(at) for at in self.looked_at(architecture, name))
+        self._count(self._kept((architecture, name), values), number, count)
+
+    def _kept(self, call: tuple[str, str], values: tuple) -> Seen:
         """Where a syscall is counted: the first one of a name that has a number is always kept."""
-        seen = self.calls.get((name, values))
+        seen = self.calls.get((*call, values))
         if seen is None:
             kept = len(self.calls)
-            is_first = kept >= KEPT and name not in self._names and self.number_of(name) is not None
+            is_first = kept >= KEPT and call not in self._names and self.number_of(*call) is not None
             if kept >= 2 * KEPT or kept >= KEPT and not is_first:
                 return self.left
-            self._names.add(name)
-            seen = self.calls[name, values] = Seen(0)
+            self._names.add(call)
+            seen = self.calls[(*call, values)] = Seen(0)
         return seen
 
     def _forked(self, who: str | None, text: str) -> None:
-        """A new process begins in the mode of the one that makes it."""
+        """A new process begins in the architecture of the one that makes it."""
         at = text.rfind(")")
         result = RESULT.match(text, at + 1)
-        if result and result[1].isdigit() and result[1] not in self._modes:
-            self._modes[result[1]] = self._mode_of(who)
+        if result and result[1].isdigit() and result[1] not in self._architectures:
+            self._architectures[result[1]] = self._architecture_of(who)
 
     def end(self) -> None:
         if self._broken:

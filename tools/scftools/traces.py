@@ -12,9 +12,9 @@ import json
 import re
 from collections.abc import Callable, Iterator, Sequence
 
-from . import audit_records, output, program, strace
-from .answers import X86_64
-from .calls import SKIPPED, X32
+from . import architectures, audit_records, output, program, strace
+from .architectures import JUDGED, NATIVE
+from .calls import SKIPPED
 from .profiles import ALLOWING
 from .strace import KEPT, LEFT
 from .tables import Table
@@ -52,10 +52,8 @@ LOST = Pattern(audit_records.SUPPRESSED.pattern + r"|\ALOST ([0-9]{1,18}) events
 class Trace(strace.Log):
     """What stands in logs: syscalls by their names and the values of those arguments that are asked for."""
 
-    def __init__(self, looked_at: Callable[[str], tuple[int, ...]], number_of: Callable[[str], int | None],
-                 table: Table):
-        super().__init__(looked_at, number_of)
-        self.table = table
+    def __init__(self, looked_at: Callable[[str, str], tuple[int, ...]], tables: dict[str, Table], own: str = NATIVE):
+        super().__init__(looked_at, tables, own)
         # syscalls that a log says it lost
         self.lost = strace.Seen(0)
         # what is the matter with the first record that can't be read
@@ -80,20 +78,23 @@ class Trace(strace.Log):
                 or ") " in line and self._is_sysdigs(number, line)
                 or self._is_counted(number, line) or HEADINGS.match(line) is not None)
 
-    def keep(self, number: int, name: str, arguments: dict[int, tuple[int, ...] | None], count: int = 1) -> None:
-        """Counts a syscall by its name, with what is asked for of its arguments."""
-        self._count(self._kept(name, tuple(arguments.get(at) for at in self.looked_at(name))), number, count)
+    def _by_name(self, number: int, name: str, count: int = 1) -> None:
+        """Counts a syscall by its name, in the log's own architecture."""
+        self.keep(number, self.own, name, {}, count)
 
-    def _by_number(self, number: int, nr: int, architecture: int, arguments: dict[int, tuple[int, ...] | None],
-                   count: int = 1) -> None:
-        """Counts a syscall by its number."""
-        names = self.table.names_of(nr)
+    def _by_number(self, number: int, nr: int, arguments: dict[int, int], count: int = 1,
+                   architecture: int | None = None) -> None:
+        """Counts a syscall by its number in a record, and that of its architecture, by default the log's own."""
+        of = architectures.of_record(JUDGED[self.own].number if architecture is None else architecture, nr)
         if nr == SKIPPED:
             self._count(self.unread, number, count)
-        elif architecture != X86_64 or nr >= X32:
+        elif of is None or of not in self.tables:
             self._count(self.foreign, number, count)
         else:
-            self.keep(number, names[0] if names else f"syscall_{nr:#x}", arguments, count)
+            nr -= JUDGED[of].first
+            names = self.tables[of].names_of(nr)
+            known = {at: (it & strace.GREATEST[of],) for at, it in arguments.items()}
+            self.keep(number, of, names[0] if names else f"syscall_{nr:#x}", known, count)
 
     def _is_record(self, number: int, line: str) -> bool:
         """An audit record, of whatever type."""
@@ -102,12 +103,12 @@ class Trace(strace.Log):
             return audit_records.OTHER.search(line) is not None
         try:
             if kind[0] in audit_records.SYSCALL:
-                found = audit_records.syscall_in(line, kind[1], self.table)
-                values = {at: (int(it, 16),) for at, it in enumerate(found.arguments) if HEXADECIMAL.fullmatch(it)}
-                self._by_number(number, found.number, found.architecture, values)
+                found = audit_records.syscall_in(line, kind[1], self.tables)
+                values = {at: int(it, 16) for at, it in enumerate(found.arguments) if HEXADECIMAL.fullmatch(it)}
+                self._by_number(number, found.number, values, architecture=found.architecture)
             else:
-                record = audit_records.record_in(line, kind[1], self.table)
-                self._by_number(number, record.number, record.architecture, {})
+                record = audit_records.record_in(line, kind[1], self.tables)
+                self._by_number(number, record.number, {}, architecture=record.architecture)
         except audit_records.Malformed as why:
             self.fault = self.fault or f"line {number} can't be read: {why}"
             self._count(self.unread, number)
@@ -126,13 +127,13 @@ class Trace(strace.Log):
             self._interrupted[thread, begun] = None
             if len(self._interrupted) > strace.PENDING:
                 del self._interrupted[next(iter(self._interrupted))]
-        self.keep(number, continued or begun, {})
+        self._by_name(number, continued or begun)
         return True
 
     def _is_counted(self, number: int, line: str) -> bool:
         found = COUNTED.match(line)
         if found:
-            self.keep(number, found[1], {}, int(found[2]))
+            self._by_name(number, found[1], int(found[2]))
         return found is not None
 
     def _is_map(self, number: int, line: str) -> bool:
@@ -140,9 +141,9 @@ class Trace(strace.Log):
         key = found[1].strip() if found else ""
         probe = PROBE.fullmatch(key)
         if found and probe:
-            self.keep(number, probe[1], {}, int(found[2]))
+            self._by_name(number, probe[1], int(found[2]))
         elif found and re.fullmatch("[0-9]{1,10}", key) and int(key) <= SKIPPED:
-            self._by_number(number, int(key), X86_64, {}, int(found[2]))
+            self._by_number(number, int(key), {}, int(found[2]))
         else:
             return False
         return True
@@ -151,7 +152,7 @@ class Trace(strace.Log):
         found = SYS_ENTER.search(line)
         if found:
             values = [int(it, 16) for it in found[2].split(", ")]
-            self._by_number(number, int(found[1]) % (1 << 32), X86_64, {at: (it,) for at, it in enumerate(values)})
+            self._by_number(number, int(found[1]) % (1 << 32), dict(enumerate(values)))
         return found is not None
 
     def _is_sysdigs(self, number: int, line: str) -> bool:
@@ -164,9 +165,9 @@ class Trace(strace.Log):
         if name == "syscall" and generic is None:
             self._count(self.unread, number)
         elif name == "syscall":
-            self.keep(number, generic[1], {})
+            self._by_name(number, generic[1])
         else:
-            self.keep(number, f"{name} or {SEVERAL[name]}" if name in SEVERAL else OWN.get(name, name), {})
+            self._by_name(number, f"{name} or {SEVERAL[name]}" if name in SEVERAL else OWN.get(name, name))
         return True
 
     def add_profile(self, text: str) -> None:
@@ -179,7 +180,7 @@ class Trace(strace.Log):
                                     program.IO_ERROR) from error
         for name in names:
             if isinstance(name, str):
-                self.keep(1, name, {})
+                self._by_name(1, name)
 
 
 def _read(name: str, lines: Iterator[str], found: Trace) -> None:
@@ -198,10 +199,10 @@ def _read(name: str, lines: Iterator[str], found: Trace) -> None:
     found.end()
 
 
-def read(names: Sequence[str], looked_at: Callable[[str], tuple[int, ...]], number_of: Callable[[str], int | None],
-         table: Table) -> Trace:
+def read(names: Sequence[str], looked_at: Callable[[str, str], tuple[int, ...]], tables: dict[str, Table],
+         own: str) -> Trace:
     """The contents of some logs (`-` is standard input), with the requested arguments of each syscall."""
-    found = Trace(looked_at, number_of, table)
+    found = Trace(looked_at, tables, own)
     for name in names:
         _read(name, strace.lines(name), found)
     return found

@@ -94,11 +94,11 @@ class Parser(argparse.ArgumentParser):
         """Adds `--table`."""
         self.add_argument("--table", metavar="FILE", help=f"the syscall table{dash} [default: tables/x86_64.table]")
 
-    def arch(self) -> None:
+    def arch(self, where: str = "", default: str = "") -> None:
         """Adds `--arch`."""
         self.add_argument("--arch", metavar="ARCH",
-                          help="the architecture of the syscalls, and of the table if none is given: x86-64, i386, "
-                               "x32, aarch64 or arm [default: this machine's]")
+                          help=f"the architecture of the syscalls{where}, and of the table if none is given: x86-64, "
+                               f"i386, x32, aarch64 or arm [default: this machine's{default}]")
 
     def limit(self) -> None:
         """Adds `--limit`."""

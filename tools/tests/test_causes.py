@@ -496,6 +496,19 @@ class Strace(Causes):
         self.assertEqual(lines[0], "# process 7: the syscall is number 500 of the architecture i386")
         self.assertIn("# so the filter answers it", lines)
 
+    def test_architectures_that_strace_tells(self):
+        """By -n: socket is 359 on i386 (asm/unistd_32.h), and 102 socketcall. A record of x32 has 0x40000000 added."""
+        text = "socket(AF_INET, SOCK_STREAM, 0) = -1 EPERM (Operation not permitted)\n"
+        mode = "7  [ Process PID=7 runs in {}. ]\n"
+        for log, shown in ((f"7 [359] {text}", "socket (359) of the architecture i386"),
+                           (f"7 [ 41] {text}", "socket (41)"),
+                           (f"{mode.format('x32 mode')}7  {text}", "socket (0x40000000 + 41), an x32 syscall")):
+            lines = self.why("-", self.file("f.bpf", ret(0x50001)), given=log.encode(), status=0)
+            self.assertEqual(lines[0], f"# process 7: the syscall is {shown}")
+        for log in (f"7 [102] {text}", f"{mode.format('odd mode')}7  {text}"):
+            lines = self.why("-", self.file("f.bpf", ret(0x50001)), given=log.encode(), status=4)
+            self.assertTrue(lines[0].startswith("# no syscall that a filter may have answered is in it"), lines)
+
     THREADS = r"""
 #include <linux/filter.h>
 #include <linux/seccomp.h>

@@ -15,8 +15,10 @@ from common import TOP, Case, limited, profile_of, taken, tool
 sys.path.append(os.path.join(TOP, "tools"))
 
 from scftools import strace, tables  # noqa: E402
+from scftools.architectures import AARCH64, ARM, I386, JUDGED, NATIVE, X32  # noqa: E402
 
 TABLE = tables.read(None)
+TABLES = tables.of_architectures(JUDGED, TABLE).of
 
 ALLOW, ERRNO = "SCMP_ACT_ALLOW", "SCMP_ACT_ERRNO"
 HIGH = 1 << 64
@@ -29,12 +31,12 @@ BEGUN = re.compile(r"(?m)^(?:\[pid +\d+\] |\d+ +)? *(?:[\d:.]+ +)?(?:\[[0-9a-f]+
 
 def log_of(text, looked_at=()):
     """The calls of a log: for each name and values how often; and the counts of what wasn't read, or is foreign."""
-    found = strace.Log(lambda name: tuple(looked_at))
+    found = strace.Log(lambda *_: tuple(looked_at))
     for number, line in enumerate(text.split("\n"), 1):
         found.add(number, line)
     found.end()
     calls = {}
-    for (name, values), seen in found.calls.items():
+    for (_, name, values), seen in found.calls.items():
         calls[(name, *values) if looked_at else name] = seen.count
     return calls, found.unread.count, found.foreign.count
 
@@ -183,6 +185,88 @@ class Forms(unittest.TestCase):
             self.assertEqual(log_of(text), (calls, 0, foreign), text)
 
 
+def made_in(text, looked_at=(), own=NATIVE):
+    """The calls of a log, each with its architecture, as a set; the values of some arguments come last."""
+    found = strace.Log(lambda *_: tuple(looked_at), TABLES, own)
+    for number, line in enumerate(text.split("\n"), 1):
+        found.add(number, line)
+    found.end()
+    return {(architecture, name, *values) for architecture, name, values in found.calls}, found
+
+
+class Architectures(unittest.TestCase):
+    """Of which architecture the calls of a log are. Numbers are those of asm/unistd_32.h and so on."""
+
+    MODE = "7  [ Process PID=7 runs in {} mode. ]\n"
+
+    def test_modes(self):
+        narrow, native, x32, odd = map(self.MODE.format, ("32 bit", "64 bit", "x32", "odd"))
+        text = (f"7  read(3) = 1\n{narrow}7  mmap2(1) = 1\n{native}7  getpid() = 7\n"
+                f"{x32}7  fork() = 8\n8  read(3) = 1\n{odd}7  read(3) = 1\n")
+        found, log = made_in(text)
+        self.assertEqual(found, {(NATIVE, "read"), (I386, "mmap2"), (NATIVE, "getpid"), (X32, "fork"), (X32, "read")})
+        self.assertEqual((log.foreign.count, log.unread.count), (1, 0))
+        found, _ = made_in(f"7  read(3) = 1\n{narrow}7  read(3) = 1", own=AARCH64)
+        self.assertEqual(found, {(AARCH64, "read"), (ARM, "read")})
+        # a line that doesn't end counts by the table of its process's architecture
+        found, log = made_in(f"{narrow}7  mmap2(1\n7  uretprobe(1")
+        self.assertEqual((found, log.cut.count, log.unread.count), (set(), 1, 1))
+
+    def test_numbers(self):
+        """By -n; getpid, mmap2 and openat2 are 20, 192 and 437 on i386, and getpid and openat2 39 and 437 on x86-64."""
+        found, log = made_in("7 [437] openat2(1) = 3\n7 [ 20] getpid() = 7\n7 [437] openat2(1) = 3\n"
+                             "7 [192] mmap2(1) = 1\n7 [ 39] getpid() = 7\n7 [999] getuid() = 0\n7 [999] what() = 1\n")
+        self.assertEqual(found, {(NATIVE, "openat2"), (I386, "getpid"), (I386, "openat2"), (I386, "mmap2"),
+                                 (NATIVE, "getpid"), (NATIVE, "what")})
+        self.assertEqual(log.foreign.count, 1)
+        found, _ = made_in("7 [ 20] getpid( <unfinished ...>\n8 [  0] read(1) = 1\n7 [ 20] <... getpid resumed>) = 7")
+        self.assertEqual(found, {(I386, "getpid"), (NATIVE, "read")})
+
+    def test_what_socketcall_and_ipc_do(self):
+        """By linux/net.h and linux/ipc.h SYS_SOCKET is 1, SYS_SEND 9 and SHMAT 21; i386 has no other call for send."""
+        text = self.MODE.format("32 bit") + "7 {}socket(2, 5) = 3\n7 {}send(3, 4) = 5\n7 {}shmat(6, 7) = 8"
+        self.assertEqual(made_in(text.format("", "", ""), [0])[0], {
+            (I386, "socket", (2,)), (I386, "socketcall", (1,)), (I386, "socketcall", (9,)), (I386, "shmat", (6,)),
+            (I386, "ipc", (21,))})
+        self.assertEqual(made_in(text.format("[102] ", "[102] ", "[117] "), [0, 1])[0], {
+            (I386, "socketcall", (1,), None), (I386, "socketcall", (9,), None), (I386, "ipc", (21,), None)})
+        self.assertEqual(made_in(text.format("[359] ", "[102] ", "[397] "), [0])[0], {
+            (I386, "socket", (2,)), (I386, "socketcall", (9,)), (I386, "shmat", (6,))})
+        self.assertEqual(made_in("7 socket(2, 5) = 3", [0])[0], {(NATIVE, "socket", (2,))})
+        arm = self.MODE.format("32 bit") + "7 socket(2, 5) = 3"
+        self.assertEqual(made_in(arm, [0], AARCH64)[0], {(ARM, "socket", (2,))})
+
+    def test_registers(self):
+        """By the manual pages clone(2), syscall(2) and mmap2(2): a number of 64 bits takes two registers of 32."""
+        mode = self.MODE.format("32 bit")
+        clone = "7 clone(child_stack=NULL, flags=CLONE_VM, tls=5, child_tidptr=6) = 8"
+        for own, before, expected in ((NATIVE, "", (NATIVE, (6,), (5,))), (NATIVE, mode, (I386, (5,), (6,))),
+                                      (AARCH64, "", (AARCH64, (5,), (6,))), (AARCH64, mode, (ARM, (5,), (6,)))):
+            self.assertEqual(made_in(before + clone, [3, 4], own)[0], {(expected[0], "clone", *expected[1:])})
+        for call, known in (("mmap2(1, 2, 3, 4, 5, 6)", 5), ("pread64(1, 2, 3, 4)", 3), ("_llseek(1, 2, 3, 4)", 1),
+                            ("mmap(1, 2, 3, 4, 5, 6)", 0), ("select(1, 2, 3, 4, 5)", 0), ("fallocate(1, 2, 3, 4)", 2)):
+            found, _ = made_in(f"{mode}7 {call} = 1", range(6))
+            expected = [(it + 1,) if it < known else None for it in range(6)]
+            self.assertEqual(found, {(I386, call.split("(")[0], *expected)})
+        self.assertEqual(made_in("7 pread64(1, 2, 3, 4) = 1", [3])[0], {(NATIVE, "pread64", (4,))})
+
+    def test_only_the_low_half_counts(self):
+        calls = "7 close(-1) = 1\n7 close(0xffffffff) = 1\n7 close(0x100000007) = 1\n"
+        both = {(NATIVE, "close", (0xFFFFFFFF, HIGH - 1)), (NATIVE, "close", (0x100000007,))}
+        self.assertEqual(made_in(calls, [0])[0], both)
+        for mode, name in (("32 bit", I386), ("x32", X32)):
+            found, _ = made_in(self.MODE.format(mode) + calls, [0])
+            self.assertEqual(found, {(name, "close", (0xFFFFFFFF,)), (name, "close", (7,))})
+
+    def test_constants_of_other_architectures(self):
+        """O_DIRECTORY is 0200000 on x86, and 040000 on arm and aarch64 (asm/fcntl.h), where it isn't known."""
+        for name in (NATIVE, I386, X32):
+            self.assertEqual(strace.values_of("O_RDONLY|O_DIRECTORY", name), (0o200000,))
+        for name in (AARCH64, ARM):
+            self.assertIsNone(strace.values_of("O_RDONLY|O_DIRECTORY", name))
+            self.assertEqual(strace.values_of("O_RDWR|O_CREAT", name), (0o102,))
+
+
 class Judgement(Case):
     PROFILE = {"defaultAction": ERRNO, "syscalls": [
         {"names": ["read", "write", "exit_group"], "action": ALLOW},
@@ -204,10 +288,12 @@ class Judgement(Case):
         self.assertEqual(report["status"], status)
         found, out, err = self.needs(log, profile=profile)
         self.assertEqual((found, err), (status, ""))
-        self.assertEqual([line.split(" ")[1] for line in out.split("\n")[:-1] if line[0] != "#"],
-                         [it["name"] for fate in ("not made", "depends", "untold") for it in report["calls"]
-                          if it["fate"] == fate])
-        return {it["name"]: it["fate"] for it in report["calls"]}, report, out
+        fates = [(" ".join([*([it["architecture"]] if "architecture" in it else []), it["name"]]), it["fate"])
+                 for it in report["calls"]]
+        lines = [line for line in out.split("\n")[:-1] if line[0] != "#"]
+        self.assertEqual([re.sub(r"^(\S+ |)\d+ (\S+) .*", r"\1\2", it) for it in lines],
+                         [name for fate in ("not made", "depends", "untold") for name, its in fates if its == fate])
+        return dict(fates), report, out
 
 
 class Needs(Judgement):
@@ -273,13 +359,13 @@ class Needs(Judgement):
         self.assertEqual(self.judged("wait4(0xffffffffffffffff, NULL, 0, NULL) = 3", 1)[0], {"wait4": "not made"})
 
     def test_what_is_not_judged(self):
-        log = "read(1) = 1\nno_such_call(1) = 1\n[ Process PID=7 runs in 32 bit mode. ]\nopen(1) = 1\nwhat\n"
+        log = "read(1) = 1\nno_such_call(1) = 1\n[ Process PID=7 runs in odd mode. ]\nopen(1) = 1\nwhat\n"
         fates, report, out = self.judged(log, 4)
         self.assertEqual((fates, report["not_judged"]),
                          ({"read": "made"},
                           {"names": {"no_such_call": 1}, "foreign": 1, "cut": 0, "more": 0, "lines": 1, "lost": 0}))
         for line in ("# not judged, since the table doesn't have it: no_such_call, times: 1",
-                     "# syscalls not judged, since their processes don't run in 64-bit mode: 1",
+                     "# syscalls not judged, since scf has no table of their architecture: 1",
                      "# lines not judged, since they can't be parsed: 1"):
             self.assertIn(f"{line}\n", out)
         self.assertEqual(self.judged("read(1) = 1\nwhat\n", 4)[0], {"read": "made"})
@@ -300,8 +386,12 @@ class Needs(Judgement):
 
     def test_a_number_of_another_abi(self):
         """By -n strace prints a call's number: 20 is getpid of i386 (asm/unistd_32.h), and writev of x86-64."""
-        fates, report, _ = self.judged("7 [   0] read(1) = 1\n7 [  20] getpid() = 7\n7 [   3] read(1) = 1\n", 4)
-        self.assertEqual((fates, report["not_judged"]["foreign"]), ({"read": "made"}, 2))
+        both = {**self.PROFILE, "architectures": ["SCMP_ARCH_X86_64", "SCMP_ARCH_X86"]}
+        log = "7 [   0] read(1) = 1\n7 [  20] getpid() = 7\n7 [   3] read(1) = 1\n"
+        self.assertEqual(self.judged(log, 1, both)[0],
+                         {"read": "made", "i386 read": "made", "i386 getpid": "not made"})
+        fates, report, _ = self.judged("7 [   0] read(1) = 1\n7 [ 999] getpid() = 7\n", 4)
+        self.assertEqual((fates, report["not_judged"]["foreign"]), ({"read": "made"}, 1))
 
     def test_the_wrong_order(self):
         log, profile = self.file("l", "7  openat(AT_FDCWD, \"x\") = 3\n"), self.file("p.json", profile_of("read"))
@@ -364,6 +454,127 @@ class Needs(Judgement):
         own = self.file("t", b"look 7\n")
         self.assertEqual(self.run_tool("needs", "--table", own, self.file("log", "look(1) = 1\n"),
                                        self.file("q.json", profile_of("look")))[0], 0)
+
+
+class InArchitectures(Judgement):
+    """Each call is judged by the table and the rules of its architecture."""
+
+    BOTH = ["SCMP_ARCH_X86_64", "SCMP_ARCH_X86"]
+    MODE = "[ Process PID=7 runs in 32 bit mode. ]\n"
+    PROFILE = {"defaultAction": ERRNO, "architectures": BOTH, "syscalls": [
+        {"names": ["read", "mmap2", "socketcall", "execve"], "action": ALLOW},
+        {"names": ["socket"], "action": ALLOW, "args": [{"index": 0, "op": "SCMP_CMP_NE", "value": 40}]},
+        {"names": ["close"], "action": ALLOW, "args": [{"index": 0, "op": "SCMP_CMP_EQ", "value": 0xFFFFFFFF}]},
+        {"names": ["dup"], "action": ALLOW, "args": [{"index": 0, "op": "SCMP_CMP_EQ", "value": (1 << 32) + 8}]}]}
+    CALLS = ("read(3) = 1\nmmap2(1) = 1\nsocket(40, 1) = 3\nsocket(2, 1) = 3\nclose(-1) = 0\nopen(\"x\") = 3\n"
+             "dup(8) = 9\n")
+
+    def test_a_part_in_32_bit_mode(self):
+        """By asm/unistd_32.h open is 5, dup 41 and socket 359. Only the low half of an argument of i386 counts: -1 is
+        0xffffffff, and no call has 0x100000008."""
+        fates, report, out = self.judged(f"read(3) = 1\nclose(-1) = 0\n{self.MODE}{self.CALLS}", 1)
+        self.assertEqual(fates, {"read": "made", "close": "depends", "i386 read": "made", "i386 open": "not made",
+                                 "i386 close": "made", "i386 dup": "not made", "i386 socketcall": "made",
+                                 "i386 mmap2": "made", "i386 socket": "made"})
+        self.assertEqual(out.split("\n")[:6], [
+            "i386 5 open ERRNO 1 default", "# once in line 9 of the log",
+            "i386 41 dup arg 0 0x8 ERRNO 1 default", "# once in line 10 of the log",
+            "i386 359 socket arg 0 0x28 ERRNO 1 default", "# once in line 6 of the log"])
+        self.assertTrue(out.endswith(f"{COUNTED}: allowed 6, not allowed 3, depends 1\n"), out)
+        self.assertNotIn("list", out)
+        self.assertEqual([(it.get("architecture"), it["number"], it["arguments"]) for it in report["calls"]],
+                         [(None, 0, {}), (None, 3, {"0": ["0xffffffff", "0xffffffffffffffff"]}), ("i386", 3, {}),
+                          ("i386", 5, {}), ("i386", 6, {"0": ["0xffffffff"]}), ("i386", 41, {"0": ["0x8"]}),
+                          ("i386", 102, {}), ("i386", 192, {}), ("i386", 359, {"0": ["0x28"]}),
+                          ("i386", 359, {"0": ["0x2"]})])
+        refused = {it["name"]: it["refused"]["call"] for it in report["calls"] if it["fate"] == "not made"}
+        self.assertEqual((refused["open"]["number"], refused["open"]["architecture"], refused["open"]["names"]),
+                         (5, "0x40000003", ["open"]))
+
+    def test_an_argument_that_is_not_known(self):
+        fates, report, out = self.judged(f"{self.MODE}socket(AF_NONE, 1) = 3\n", 4)
+        self.assertEqual(fates, {"i386 socketcall": "made", "i386 socket": "depends"})
+        self.assertEqual(out.split("\n")[0], "i386 359 socket depends on arg 0")
+        one = report["calls"][1]
+        self.assertEqual([(one[it] if it == "made" else one[it]["call"])["architecture"] for it in ("made", "refused")],
+                         ["0x40000003"] * 2)
+        self.assertEqual(int(one["refused"]["call"]["arguments"][0], 16) % (1 << 32), 40)
+        self.assertNotEqual(int(one["made"]["arguments"][0], 16) % (1 << 32), 40)
+
+    def test_x32(self):
+        """Numbers in a record have 0x40000000 added (asm/unistd.h); x32's execve is 520, and x86-64's 59."""
+        three = {**self.PROFILE, "architectures": [*self.BOTH, "SCMP_ARCH_X32"]}
+        log = "[ Process PID=7 runs in x32 mode. ]\nexecve(1) = 0\nopen(1) = 1\n"
+        fates, report, out = self.judged(log, 1, three)
+        self.assertEqual(fates, {"x32 execve": "made", "x32 open": "not made"})
+        self.assertEqual(out.split("\n")[0], "x32 2 open ERRNO 1 default")
+        self.assertEqual([it["number"] for it in report["calls"]], [2, 520])
+        self.assertEqual(report["calls"][0]["refused"]["call"]["number"], 0x40000002)
+
+    def test_an_architecture_that_the_profile_does_not_list(self):
+        alone = {**self.PROFILE, "architectures": ["SCMP_ARCH_X86_64"]}
+        note = ("# i386 syscalls aren't allowed, since the profile doesn't list SCMP_ARCH_X86: engines' filters kill "
+                "for them\n")
+        for profile in (alone, {**alone, "architectures": []}):
+            fates, _, out = self.judged(f"read(3) = 1\n{self.MODE}{self.CALLS}", 1, profile)
+            self.assertEqual(fates, {"read": "made", **{f"i386 {it}": "not made" for it in (
+                "read", "open", "close", "dup", "socketcall", "mmap2", "socket")}})
+            self.assertEqual(out.split("\n")[0], "i386 3 read KILL_PROCESS 0 foreign")
+            # no condition tests an argument there
+            self.assertIn("i386 359 socket KILL_PROCESS 0 foreign\n# 2 times, first in line 5 of the log\n", out)
+            self.assertEqual(out.count(note), 1)
+        status, out, err = self.needs(f"read(3) = 1\n{self.MODE}mmap2(1) = 1\n", "--profile", profile=alone)
+        self.assertEqual((status, json.loads(out)["syscalls"], err), (
+            4, [{"names": ["read", *ALWAYS], "action": ALLOW}], note.replace("# ", "needs: ")))
+
+    def test_the_least_profile_of_both(self):
+        log = f"read(3) = 1\nsocket(1, 1) = 3\n{self.MODE}open(\"x\") = 3\nsocket(2, 1) = 3\nclose(-1) = 0\n"
+        status, out, err = self.needs(log, "--profile")
+        self.assertEqual((status, err), (0, ""))
+        made = json.loads(out)
+        self.assertEqual(made, {"defaultAction": ERRNO, "architectures": self.BOTH, "syscalls": [
+            {"names": ["read", "open", "socketcall", *ALWAYS, "sigreturn"], "action": ALLOW},
+            *({"names": [name], "action": ALLOW, "args": [{"index": 0, "value": value, "op": "SCMP_CMP_EQ"}]}
+              for name, value in (("socket", 1), ("socket", 2), ("close", 0xFFFFFFFF)))]})
+        self.assertEqual(self.needs(log, profile=made)[0], 0)
+        self.assertEqual(self.needs(f"{self.MODE}socket(3, 1) = 3\n", profile=made)[0], 1)
+
+    def test_a_log_of_another_machine(self):
+        """By asm-generic/unistd.h openat is 56, socket 198 and clone 220; aarch64 has no open."""
+        arm = {**self.PROFILE, "architectures": ["SCMP_ARCH_AARCH64"]}
+        log = "read(3) = 1\nopenat(1) = 3\nsocket(40, 1) = 3\nsocket(2, 1) = 3\nopen(1) = 3\n"
+        lines = ("aarch64 56 openat ERRNO 1 default\n# once in line 2 of the log\n"
+                 "aarch64 198 socket arg 0 0x28 ERRNO 1 default\n# once in line 3 of the log\n")
+        rest = ("# not judged, since the table doesn't have it: aarch64 open, times: 1\n"
+                f"{COUNTED}: allowed 2, not allowed 2, depends 0\n")
+        self.assertEqual(self.needs(log, "--arch", "aarch64", profile=arm), (1, lines + rest, ""))
+        unlisted = {**arm, "architectures": []}
+        self.assertEqual(self.needs(log, "--arch", "aarch64", profile=unlisted), (1, lines + rest, ""))
+        if os.uname().machine == "x86_64":
+            taken = ("# a log that doesn't say its architecture is taken as aarch64's, since the profile doesn't list "
+                     "x86-64: --arch names another\n")
+            self.assertEqual(self.needs(log, profile=arm), (1, lines + taken + rest, ""))
+        status, out, _ = self.needs(log, "--arch", "x86-64", profile=arm)
+        self.assertEqual((status, out.split("\n")[0]), (1, "0 read KILL_PROCESS 0 foreign"))
+        self.assertIn("# x86-64 syscalls aren't allowed, since the profile doesn't list SCMP_ARCH_X86_64: ", out)
+        status, out, _ = self.needs("read(3) = 1\n[ Process PID=7 runs in 32 bit mode. ]\nmmap2(3) = 1\nopen(1) = 1",
+                                    profile={**arm, "architectures": ["SCMP_ARCH_AARCH64", "SCMP_ARCH_ARM"]})
+        self.assertEqual((status, out.split("\n")[0]), (1, "arm 5 open ERRNO 1 default"))
+        own = self.file("t", b"look 7\n")
+        self.assertEqual(self.needs("look(1) = 1", "--arch", "aarch64", "--table", own, profile={
+            **arm, "syscalls": [{"names": ["look"], "action": ALLOW}]})[0], 0)
+
+    def test_what_is_refused(self):
+        status, out, err = self.needs("read(3) = 1", "--arch", "riscv64")
+        self.assertEqual((status, out), (2, ""))
+        self.assertIn("no table of the architecture 'riscv64'", err)
+        # entries that conflict on i386 alone are no matter as long as the log has none of its calls
+        odd = {**self.PROFILE, "syscalls": [{"names": ["read"], "action": ALLOW}, *(
+            {"names": ["mmap2"], "action": action} for action in (ALLOW, "SCMP_ACT_LOG"))]}
+        self.assertEqual(self.needs("read(3) = 1", profile=odd)[0], 0)
+        status, out, _ = self.needs(f"{self.MODE}read(3) = 1", profile=odd)
+        self.assertEqual((status, out.split("\n")[0]), (1, "fault profile Conflict number 192 first 1 second 2"))
+        self.assertIn("# the syscall is mmap2 (192) of the architecture i386\n", out)
 
 
 class Least(Judgement):
@@ -697,6 +908,66 @@ for number, *arguments in eval(sys.argv[1]):
     failed = library.syscall(*map(ctypes.c_long, (number, *arguments))) == -1 and ctypes.get_errno() == 77
     print(int(failed))
 """
+
+    # Makes some calls of i386, and prints for each whether it failed with errno 77; it needs no C library of i386.
+    NARROW = """
+static int call(int number, int a, int b, int c)
+{
+    int result;
+    asm volatile("int $0x80" : "=a"(result) : "0"(number), "b"(a), "c"(b), "d"(c) : "memory");
+    return result;
+}
+static const int calls[][2] = {%s}, words[] = {2, 1, 0};
+void _start(void)
+{
+    for (unsigned at = 0; at < sizeof calls / sizeof *calls; at++)
+        call(4, 1, (int)(call(calls[at][0], calls[at][1], (int)words, 0) == -77 ? "1" : "0"), 1);
+    call(1, 0, 0, 0);
+}
+"""
+
+    def narrow(self, calls):
+        """A 32-bit program that makes these calls."""
+        made, source = os.path.join(self.folder, "narrow"), ", ".join(f"{{{nr}, {at}}}" for _, nr, at in calls)
+        words = ["cc", "-m32", "-O1", "-w", "-static", "-nostdlib", "-fno-pie", "-no-pie", "-fno-stack-protector", "-o"]
+        built = subprocess.run([*words, made, "-x", "c", "-"], input=(self.NARROW % source).encode(), check=False,
+                               stderr=subprocess.PIPE) if shutil.which("cc") else None
+        if built is None or built.returncode or self.run_words([made])[0]:
+            self.skipTest("no 32-bit program can be made or run here")
+        return made
+
+    def test_calls_of_a_32_bit_program(self):
+        """By asm/unistd_32.h getpid is 20, personality 136, dup 41, alarm 27, socket 359 and socketcall 102, where 1 is
+        socket."""
+        denied = [("getpid", 0, None, 0), ("personality", 0, "SCMP_CMP_EQ", 0xFFFFFFFF),
+                  ("dup", 0, "SCMP_CMP_EQ", (1 << 32) + 99), ("socket", 0, "SCMP_CMP_EQ", 40),
+                  ("alarm", 0, "SCMP_CMP_GT", 0xFFFFFFF0), ("socketcall", 0, "SCMP_CMP_EQ", 1)]
+        profile = self.file("p.json", json.dumps({
+            "defaultAction": ALLOW, "architectures": ["SCMP_ARCH_X86_64", "SCMP_ARCH_X86"], "syscalls": [
+                {"names": [name], "action": ERRNO, "errnoRet": 77,
+                 "args": [{"index": index, "op": op, "value": value}] if op else []}
+                for name, index, op, value in denied]}))
+        calls = {("getpid", 20, 0): True, ("personality", 136, -1): True, ("personality", 136, 0): False,
+                 ("dup", 41, 99): False, ("socket", 359, 40): True, ("socket", 359, 99): False,
+                 ("alarm", 27, -1): True, ("alarm", 27, 0): False, ("socketcall", 102, 1): True,
+                 ("socketcall", 102, 99): False}
+        made = self.narrow(calls)
+        expected = "".join(str(int(it)) for it in calls.values())
+        self.assertEqual(self.ended(profile, made), (0, expected.encode()))
+        for options in (("--quiet=none",), ("-n",), ("-n", "-X", "raw", "--quiet=none"), ("-e", "raw=all", "-n")):
+            log, _ = self.log_of(made, options=options)
+            judged = json.loads(self.run_tool("needs", "--json", log, profile)[1])
+            self.assertEqual([it for it in judged["not_judged"].values() if it], [])
+            fates = {(it.get("architecture"), it["number"], *it["arguments"].get("0", ["0x0"])): it["fate"]
+                     for it in judged["calls"]}
+            for (name, number, value), is_denied in calls.items():
+                shown = "0x0" if name == "getpid" else hex(value % (1 << 32))
+                self.assertEqual(fates.get(("i386", number, shown)), "not made" if is_denied else "made",
+                                 (options, name, value))
+        # under the least profile it runs as alone
+        status, out, _ = self.run_tool("needs", "--profile", log, self.file("q.json", json.dumps(
+            {"defaultAction": ERRNO, "defaultErrnoRet": 77, "architectures": ["SCMP_ARCH_X86_64", "SCMP_ARCH_X86"]})))
+        self.assertEqual((status, self.ended(self.file("least.json", out), made)), (0, (0, b"0" * len(calls))))
 
     def test_each_call_becomes_what_is_said(self):
         """Registers that strace prints alike have other fates: what is said of each holds under the filter."""

@@ -17,23 +17,36 @@ from test_runtimes import ALONE, BUSYBOX, config
 sys.path.append(os.path.join(TOP, "tools"))
 
 # pylint: disable=wrong-import-position
-from scftools import requirements, tables, traces  # noqa: E402
+from scftools import architectures, requirements, tables, traces  # noqa: E402
 
 ALLOW, ERRNO = "SCMP_ACT_ALLOW", "SCMP_ACT_ERRNO"
 NETLINK_AUDIT, SO_RCVBUFFORCE = 9, 33
 SECCOMP_RECORD = 1326
 TIMES = "11/27/26 05:35:00.752"
 RECORD = ('pid=7 comm="x" exe="/x" sig=0 arch=c000003e syscall={} compat=0 ip=0x7f code=0x7ffc0000')
+SYSCALL = ('type=SYSCALL msg=audit(1795757700.752:4): arch={} syscall={} success=yes exit=3 a0={} a1=7f3 a2=80000 a3=0 '
+           'items=1 ppid=1 pid=2 auid=0 comm="ls" exe="/bin/ls" key=(null)')
 
 
 def calls_of(text, looked_at=()):
     """How often each syscall stands in a log, by its name; and the whole log."""
     table = tables.read(None)
-    found = traces.Trace(lambda name: tuple(looked_at), table.number_of, table)
+    found = traces.Trace(lambda *_: tuple(looked_at), {architectures.NATIVE: table})
     for number, line in enumerate(text.split("\n"), 1):
         found.add(number, line)
     found.end()
-    return {(name, *values) if looked_at else name: seen.count for (name, values), seen in found.calls.items()}, found
+    calls = {(name, *values) if looked_at else name: seen.count for (_, name, values), seen in found.calls.items()}
+    return calls, found
+
+
+def made_in(text, looked_at=(), own=architectures.NATIVE):
+    """The same with the architecture of each syscall, as people call it."""
+    known = tables.of_architectures(architectures.JUDGED, tables.read(None)).of
+    found = traces.Trace(lambda *_: tuple(looked_at), known, own)
+    for number, line in enumerate(text.split("\n"), 1):
+        found.add(number, line)
+    return {(architectures.JUDGED[of].name, name, *values): seen.count
+            for (of, name, values), seen in found.calls.items()}, found
 
 
 class Written(Case):
@@ -173,6 +186,30 @@ class Lines(unittest.TestCase):
         self.assertEqual((found, log.unread.count, log.foreign.count, log.lost.count),
                          ({"read": 2, "syscall_0x3e7": 1}, 1, 1, 12))
 
+    def test_records_of_other_architectures(self):
+        """linux/audit.h: AUDIT_ARCH_I386, _AARCH64, _ARM and _RISCV64. An x32 number has 0x40000000 added. By the
+        headers openat is 295 on i386, 56 on aarch64, 322 on arm and 257 on x32."""
+        for arch, number, name in (("40000003", 295, "i386"), ("c00000b7", 56, "aarch64"), ("40000028", 322, "arm"),
+                                   ("c000003e", 0x40000000 + 257, "x32"), ("i386", "openat", "i386"),
+                                   ("aarch64", "openat", "aarch64")):
+            for own in (architectures.NATIVE, architectures.AARCH64):
+                found, log = made_in(SYSCALL.format(arch, number, "ffffffffffffff9c"), (0, 4), own)
+                expected = 0xFFFFFFFFFFFFFF9C if name == "aarch64" else 0xFFFFFF9C
+                self.assertEqual((found, log.foreign.count), ({(name, "openat", (expected,), None): 1}, 0))
+            record = RECORD.format(number).replace("c000003e", arch)
+            self.assertEqual(made_in(f"audit: type=1326 audit(1.0:2): {record}")[0], {(name, "openat"): 1})
+        found, log = made_in(SYSCALL.format("40000003", 999, "0") + "\n" + SYSCALL.format("c00000f3", 56, "0"))
+        self.assertEqual((found, log.foreign.count), ({("i386", "syscall_0x3e7"): 1}, 1))
+
+    def test_logs_of_another_machine(self):
+        """By asm-generic/unistd.h openat is 56, and socket 198."""
+        text = ("@[56]: 3\n@[sys_enter_openat]: 2\n x-7 [001] 5.1: sys_enter: NR 198 (10, 3, 9, 0, 0, 0)\n"
+                "     0.1 ( 0.1 ms): brk() = 0\n1 05:35:00.2 1 ls (7) > pread fd=3 \n")
+        self.assertEqual(made_in(text, (), architectures.AARCH64)[0], {
+            ("aarch64", "openat"): 5, ("aarch64", "socket"): 1, ("aarch64", "brk"): 1, ("aarch64", "pread64"): 1})
+        # of a machine of x86-64 a number may be x32's
+        self.assertEqual(made_in("@[1073741824]: 2\n@[0]: 1")[0], {("x32", "read"): 2, ("x86-64", "read"): 1})
+
     def test_perf_trace(self):
         """Of a thread whose syscall was interrupted, two lines are one syscall."""
         found, log = calls_of("     0.1 (         ): sleep/7 nanosleep(rqtp: 0x7ff) ...\n"
@@ -240,12 +277,34 @@ class Words(Case):
         shown = two.replace("\x1b", "\\x1b")
         self.assertEqual(out, f"9 mmap ERRNO 1 default\n# 2 times, first in line 2 of '{shown}'\n"
                               f"257 openat ERRNO 1 default\n# 3 times, first in line 1 of '{one}'\n"
-                              "# syscalls not judged, since their processes don't run in 64-bit mode: 1\n"
-                              "# syscalls, each with the arguments that conditions test: allowed 0, not allowed 2, "
+                              f"i386 45 brk KILL_PROCESS 0 foreign\n# once in line 3 of '{one}'\n"
+                              "# i386 syscalls aren't allowed, since the profile doesn't list SCMP_ARCH_X86: engines' "
+                              "filters kill for them\n"
+                              "# syscalls, each with the arguments that conditions test: allowed 0, not allowed 3, "
                               "depends 0\n")
         status, out, _ = self.run_tool("needs", "--profile", one, two, three, self.file("p.json", profile_of("read")))
         self.assertEqual((status, json.loads(out)["syscalls"][0]["names"][:2]), (4, ["mmap", "openat"]))
         self.assertEqual(self.run_tool("needs", "-", "-", one)[:2], (2, ""))
+
+    def test_records_of_several_architectures(self):
+        """By the headers of each open is 5 and socket 359 on i386, and openat 56 on aarch64."""
+        log = self.file("log", "\n".join(SYSCALL.format(*it) for it in (
+            ("c000003e", 0, 3), ("40000003", 3, 3), ("40000003", 5, 3), ("40000003", 359, "28"), ("40000003", 359, "2"),
+            ("c00000b7", 56, 3), ("c00000f3", 56, 3))))
+        rules = [{"names": ["read", "openat"], "action": ALLOW},
+                 {"names": ["socket"], "action": ALLOW, "args": [{"index": 0, "op": "SCMP_CMP_NE", "value": 40}]}]
+        lines = {"i386": "i386 5 open ERRNO 1 default\n# once in line 3 of the log\n"
+                         "i386 359 socket arg 0 0x28 ERRNO 1 default\n# once in line 4 of the log\n",
+                 "aarch64": "aarch64 56 openat KILL_PROCESS 0 foreign\n# once in line 6 of the log\n",
+                 "note": "# aarch64 syscalls aren't allowed, since the profile doesn't list SCMP_ARCH_AARCH64: "
+                         "engines' filters kill for them\n",
+                 "foreign": "# syscalls not judged, since scf has no table of their architecture: 1\n"}
+        counted = "# syscalls, each with the arguments that conditions test: allowed {}, not allowed {}, depends 0\n"
+        for listed, shown, counts in ((("X86_64", "X86"), lines.values(), (3, 3)),
+                                      (("X86_64", "X86", "AARCH64"), (lines["i386"], lines["foreign"]), (4, 2))):
+            profile = {"defaultAction": ERRNO, "architectures": [f"SCMP_ARCH_{it}" for it in listed], "syscalls": rules}
+            self.assertEqual(self.run_tool("needs", log, self.file("p.json", json.dumps(profile))),
+                             (1, "".join(shown) + counted.format(*counts), ""))
 
     def test_what_runtimes_call(self):
         log, profile = self.file("log", "read(1) = 1\n"), self.file("p.json", profile_of("read", "execve", "write"))
@@ -255,8 +314,9 @@ class Words(Case):
         for runtime, calls in requirements.OF_RUNTIMES.items():
             status, out, err = self.run_tool("needs", "--profile", "--runtime", runtime, log, profile)
             self.assertEqual((status, err), (0, ""))
+            # x86-64 has no sigreturn
             self.assertEqual(set(json.loads(out)["syscalls"][0]["names"]),
-                             {"read", *calls.split(), *requirements.ALWAYS})
+                             {"read", *calls.split(), *requirements.ALWAYS} - {"sigreturn"})
         self.assertEqual(self.run_tool("needs", "--runtime", "x", log, profile)[:2], (2, ""))
 
 
