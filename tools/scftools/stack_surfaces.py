@@ -49,6 +49,8 @@ class Block:
 def _surface(filters: Sequence[Filter], asked: Asked) -> Surface:
     data = [one.data for one in filters]
     found = surfaces.of_filters(data, asked.table, asked.limit, asked.architecture)
+    if not asked.other:
+        found.add_others()
     if asked.has_conditions:
         row_conditions.add(data, asked.table, asked.limit, found.rows, asked.architecture)
     return found

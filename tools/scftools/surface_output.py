@@ -49,7 +49,8 @@ def _summary(surface: Surface) -> str:
 def of_whole(surface: Surface) -> list[str]:
     """How many syscalls are allowed, denied and so on; those of other ABIs, beside x86-64; numbers without a name."""
     foreign = ["; ".join(other_abis.describe(surface.foreign))] if surface.asker.architecture.oci == NATIVE else []
-    return [_summary(surface), *foreign, f"numbers without a name: {surface.unnamed.describe()}"]
+    others = [f"{_summary(it)} (--arch {it.asker.architecture.name} lists them)" for it in surface.others]
+    return [_summary(surface), *foreign, *others, f"numbers without a name: {surface.unnamed.describe()}"]
 
 
 def details(row: Row) -> list[str]:
@@ -139,6 +140,9 @@ def row_json(row: Row, groups: Groups) -> dict[str, object]:
 
 def as_json(surface: Surface, groups: Groups) -> dict[str, object]:
     counts = surface.counts
+    others = [{"architecture": it.asker.architecture.name, "counts": {said: it.counts[said] for said in SAID}}
+              for it in surface.others]
     return {"architecture": surface.asker.architecture.name, "counts": {said: counts[said] for said in SAID},
+            **({"others": others} if others else {}),
             "foreign": [one.as_json() for one in surface.foreign],
             "unnamed": surface.unnamed.as_json(), "calls": [row_json(row, groups) for row in surface.rows]}

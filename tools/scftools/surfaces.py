@@ -4,7 +4,7 @@ from __future__ import annotations
 from collections import Counter
 from collections.abc import Iterable, Sequence
 
-from . import answers, constants, other_abis, unnamed
+from . import answers, constants, other_abis, tables, unnamed
 from .answers import Answer
 from .architectures import JUDGED, NATIVE, Architecture
 from .calls import Call
@@ -125,6 +125,8 @@ class Surface:
     rows: list[Row]
     foreign: list[other_abis.Proved | other_abis.Tried]
     unnamed: Unnamed
+    # those of other ABIs of which some syscall may be allowed, on request
+    others: list[Surface] = field(default_factory=list)
 
     @property
     def counts(self) -> Counter[str]:
@@ -134,7 +136,15 @@ class Surface:
     def is_told(self) -> bool:
         """Whether scf decided everything."""
         return (all(row.is_told for row in self.rows) and not self.unnamed.untold
-                and all(isinstance(one, other_abis.Proved) for one in self.foreign))
+                and all(isinstance(one, other_abis.Proved) for one in self.foreign)
+                and all(one.is_told for one in self.others))
+
+    def add_others(self) -> None:
+        """Adds the surfaces of the ABIs that aren't proved to be denied."""
+        for one in (it.kind.of for it in self.foreign if not (isinstance(it, other_abis.Proved) and it.lets_none_through)):
+            table = tables.of_architecture(one.oci)
+            if table is not None:
+                self.others.append(of_filters(self.asker.filters, table, self.asker.limit, one))
 
 
 def _asked(asker: Asker, question: Question, rows: Iterable[Row]) -> None:

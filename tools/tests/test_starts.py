@@ -46,7 +46,7 @@ class Starts(Counting):
             self.assertEqual(self.starts("surface", self.file("f.bpf", data)), 3)
         # a syscall of i386 that is allowed is an answer, too; x32 and the greater numbers are asked by themselves
         for_i386 = load(4) + jeq(I386, 0, 1) + ret(ALLOW) + filter_of([0, 1])
-        self.assertEqual(self.starts("surface", self.file("f.bpf", for_i386)), 5)
+        self.assertEqual(self.starts("surface", self.file("f.bpf", for_i386)), 8)
         # what a list of denied syscalls allows is asked by itself
         denies = filter_of([], default=ALLOW).replace(load(0), load(0) + jeq(101, 0, 1) + ret(EPERM), 1)
         self.assertEqual(self.starts("surface", self.file("f.bpf", denies)), 4)

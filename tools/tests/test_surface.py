@@ -23,8 +23,8 @@ from test_why import random_filter
 
 sys.path.append(os.path.join(TOP, "tools"))
 
-from scftools import (answers, beside, client, groups, processes, questions, stack_surfaces, surface_output,  # noqa: E402
-                      surfaces, tables, unnamed)
+from scftools import (answers, architectures, beside, client, groups, processes, questions, stack_surfaces,  # noqa: E402
+                      surface_output, surfaces, tables, unnamed)
 from scftools.calls import Call  # noqa: E402
 
 READ, WRITE, GETPID, SOCKET, EXIT_GROUP = 0, 1, 39, 41, 231
@@ -391,7 +391,35 @@ class Program(Case):
 
     def test_names_that_no_group_has(self):
         lines = self.said([ret(ALLOW)], "--table", self.file("t", b"look 7\n"))[1]
-        self.assertEqual(lines[3:], ["other allowed 7 look ALLOW"])
+        self.assertEqual(lines[5:], ["other allowed 7 look ALLOW"])
+
+    def test_another_architecture(self):
+        """Its syscalls have the numbers of its table; x32's have 0x40000000 more in a record. Where one is allowed,
+        that architecture's are counted without being asked."""
+        for word, arch, first, number, name, oci in (
+                ("i386", I386, 0, 3, "read", "X86"), ("x32", X86_64, X32, 135, "personality", "X32"),
+                ("arm64", 0xC00000B7, 0, 63, "read", "AARCH64"), ("arm", 0x40000028, 0, 0xF0002, "cacheflush", "ARM")):
+            only = load(4) + jeq(arch, 1, 0) + ret(KILL_PROCESS) + load(0) + jeq(first + number, 0, 1) + ret(ALLOW) + \
+                ret(EPERM)
+            its = tables.of_architecture(f"SCMP_ARCH_{oci}")
+            denied = len(its.numbers()) - 1
+            status, lines = self.said([only], "--arch", word, table=False)
+            shown = architectures.JUDGED[f"SCMP_ARCH_{oci}"].name
+            self.assertEqual((status, lines[0]), (0, f"{shown}: allowed 1, depends 0, denied {denied}"))
+            self.assertEqual([line.split()[1:] for line in lines if " allowed " in line][1:],
+                             [["allowed", str(number), name, "ALLOW"]])
+            left = architectures.JUDGED[f"SCMP_ARCH_{oci}"].last - first + 1 - denied - 1
+            self.assertEqual(lines[1], f"numbers without a name: all {left} are always denied")
+            found = json.loads(self.said([only], "--arch", word, "--json", table=False)[1][0])
+            self.assertEqual((found["architecture"], found["counts"][M], found["foreign"]), (shown, 1, []))
+            lines = self.said([only], table=False)[1]
+            counted = f"{shown}: allowed 1, depends 0, denied {denied} (--arch {shown} lists them)"
+            self.assertEqual(counted in lines, word in ("i386", "x32"), lines[:4])
+        status, _, err = self.run_tool("surface", "--arch", "sparc", self.file("f", ret(ALLOW)))
+        self.assertEqual((status, err), (2, "surface: no table of the architecture 'sparc': scf has those of x86-64, i386, "
+                                            "x32, aarch64, arm\n"))
+        status, _, err = self.run_tool("surface", "--arch", "i386", self.file("f", ret(ALLOW)), "--beside", "f")
+        self.assertEqual((status, "either --arch or --beside" in err), (2, True))
 
     def test_json(self):
         filters = KNOWN["of three fates"][0]
