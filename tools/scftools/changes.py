@@ -129,7 +129,8 @@ class Given:
 
     def compared(self, relation: str) -> Report:
         """scf's report on the old profile's filter beside the new profile."""
-        status, report = self._comparison.run(None, relation) if self.are_alike else self._stacks.run(self.whole, relation)
+        status, report = (self._comparison.run(None, relation) if self.are_alike
+                          else self._stacks.run(self.whole, relation))
         if report.fault is not None:
             raise Refusal(report.fault.line, status, (NEW, self.sides[NEW].source.data))
         return checked(status, report, self.whole)

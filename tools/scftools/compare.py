@@ -111,8 +111,8 @@ class Comparison:
         return ended, others
 
     def _run_calls(self, relation: str) -> tuple[int, Report]:
-        """Call by call in the tables of several architectures: the first verdict that fails, else the first that doesn't
-        hold, speaks for all."""
+        """Call by call in the tables of several architectures: the first verdict that fails, else the first that
+        doesn't hold, speaks for all."""
         filters, reports = [one.data for one in self.filters], []
         for name in self.tables.of:
             judged = self.tables.only(name)

@@ -188,7 +188,8 @@ def of_named_calls(comparison: Comparison, calls: Sequence[NamedCall]) -> Iterat
     """The lines about syscalls of the tables that differ: those above all that the profile names apart, if both sides
     deny them."""
     bounds = _bounds_of(comparison)
-    above = [it for it in calls if it.record.number >= bounds.get(it.record.abi or "", 1 << 32) and it.verdict.both_deny]
+    above = [call for call in calls
+             if call.verdict.both_deny and call.record.number >= bounds.get(call.record.abi or "", 1 << 32)]
     if not above:
         return
     others = [call.verdict.word for call in calls if call not in above]

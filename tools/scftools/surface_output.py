@@ -42,8 +42,8 @@ def fitted(told: Iterable[str], width: int | None) -> Iterator[str]:
 def _summary(surface: Surface) -> str:
     counts = surface.counts
     shown = [said for said in SAID if counts[said] or said in (MADE, DEPENDS, REFUSED)]
-    one = surface.asker.architecture
-    return ("" if one.oci == NATIVE else f"{one.name}: ") + ", ".join(f"{word_of(said)} {counts[said]}" for said in shown)
+    one, told = surface.asker.architecture, ", ".join(f"{word_of(said)} {counts[said]}" for said in shown)
+    return told if one.oci == NATIVE else f"{one.name}: {told}"
 
 
 def of_whole(surface: Surface) -> list[str]:

@@ -141,7 +141,8 @@ class Surface:
 
     def add_others(self) -> None:
         """Adds the surfaces of the ABIs that aren't proved to be denied."""
-        for one in (it.kind.of for it in self.foreign if not (isinstance(it, other_abis.Proved) and it.lets_none_through)):
+        denied = [it for it in self.foreign if isinstance(it, other_abis.Proved) and it.lets_none_through]
+        for one in (it.kind.of for it in self.foreign if it not in denied):
             table = tables.of_architecture(one.oci)
             if table is not None:
                 self.others.append(of_filters(self.asker.filters, table, self.asker.limit, one))

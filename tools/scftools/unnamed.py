@@ -1,5 +1,5 @@
-"""Syscall numbers that the table of an architecture doesn't name: how many of them filters don't always deny. All are as
-in the table: those of x32 without 0x40000000."""
+"""Syscall numbers that the table of an architecture doesn't name: how many of them filters don't always deny. All are
+as in the table: those of x32 without 0x40000000."""
 from __future__ import annotations
 
 from collections.abc import Iterator, Sequence
