@@ -17,8 +17,8 @@ from .reasons import Reason
 from .stack_comparison import StackComparison
 from .tables import Table, Tables
 from .values import dataclass, field, replace
-from .verdicts import (ALL, CALLS, DIFFERS, LESS, MORE, NO_LESS, NO_MORE, SAME, UNDECIDED, UNFINISHED, NamedCall,
-                       Report, Verdict)
+from .verdicts import (ALL, DIFFERS, LESS, MORE, NO_LESS, NO_MORE, SAME, UNDECIDED, UNFINISHED, NamedCall, Report,
+                       Verdict)
 
 OLD, NEW = "old", "new"
 # The new profile is more permissive, stricter, or only gives another answer; or scf can't decide.

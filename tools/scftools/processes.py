@@ -24,7 +24,7 @@ if TYPE_CHECKING:
     from .restart import Restarts
     from .words import Parser
 
-__all__ = ("Container", "Found", "Interrupted", "Kernel", "Stack", "Unreadable", "called", "container_of")
+__all__ = ("Container", "Inspection", "Interrupted", "Kernel", "Stack", "Unreadable", "called", "container_of")
 
 # How long an inspection may last, in seconds, and how much of it all threads have to stop.
 PATIENCE, TO_STOP = 10.0, 0.9

@@ -7,7 +7,6 @@ import shutil
 import struct
 import subprocess
 import sys
-import time
 import unittest
 
 from common import TOP, Case, limited, profile_of, taken, tool
