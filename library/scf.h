@@ -233,7 +233,7 @@ enum scf_verdict {
     SCF_NO_VERDICT = 0, /* the call didn't end with SCF_OK */
     SCF_HOLDS = 1,      /* proved for every call of the scope */
     SCF_FAILS = 2,      /* `call` shows it, with both answers */
-    SCF_UNDECIDED = 3,  /* a filter computes too much */
+    SCF_UNDECIDED = 3,  /* more splits are wanted than a comparison makes (10,000) */
     SCF_UNFINISHED = 4  /* the limit was reached */
 };
 

@@ -170,10 +170,10 @@ static void comparisons(void) {
     question.last = 0;
     IS(scf_compare(&other, 1, &right, &question, &found, text, sizeof text, &needed, &fault) == SCF_OK);
     IS(found.verdict == SCF_HOLDS);
-    other = bytes_of(product, sizeof product);
+    other = bytes_of(unknown_zero, sizeof unknown_zero);
     question = asked(SCF_ONE_CALL, SCF_SAME);
     IS(scf_compare(&other, 1, &right, &question, &found, text, sizeof text, &needed, &fault) == SCF_OK);
-    IS(found.verdict == SCF_UNDECIDED && found.side == 1 && found.at == 5 && is_zero(&found.call, sizeof found.call));
+    IS(found.verdict == SCF_UNDECIDED && found.side == 1 && found.at == 8 && is_zero(&found.call, sizeof found.call));
 }
 
 static void stacks_beside(void) {
@@ -321,9 +321,9 @@ static void compares_each(void) {
     IS(memcmp(text, "differs\ncall nr ", 16) == 0);
     IS(compare_each(&filter, 3, SCF_NO_MORE, SCF_LIMIT) == SCF_OK && found.verdict == SCF_HOLDS);
     IS(compare_each(&other, 3, SCF_NO_MORE, SCF_LIMIT) == SCF_OK && found.verdict == SCF_FAILS);
-    other = bytes_of(product, sizeof product);
+    other = bytes_of(unknown_zero, sizeof unknown_zero);
     IS(compare_each(&other, 3, SCF_NO_MORE, SCF_LIMIT) == SCF_OK && found.verdict == SCF_UNDECIDED);
-    IS(found.side == 1 && found.at == 5 && is_zero(&found.call, sizeof found.call));
+    IS(found.side == 1 && found.at == 8 && is_zero(&found.call, sizeof found.call));
     unset();
     IS(compare_each(&filter, 4, SCF_SAME, SCF_LIMIT) == SCF_REFUSED && is_nothing() && is_zero(&found, sizeof found));
     IS(is_fault(&fault, SCF_SOURCE_PROFILE, SCF_KIND_NOT_LISTED, 3));

@@ -1,6 +1,7 @@
 -- Comparisons from the caller's bytes: what they come to, and what is handed out of it.
 use Rattle.std.specs.Prelude.{◌≡◌, ℕ, List, None, Some, Ok, map}
 use Rattle.scf_profile.specs.declared.relation.Relation.{Relation}
+use Rattle.scf_compare.specs.Limits.{limit_of_steps}
 use Rattle.scf_compare.specs.Verdicts.{finding_of}
 use Rattle.scf_compare.specs.declared.finding.Finding.{Finding}
 use Rattle.scf_compare.specs.declared.finding.Finding.TheVariants.{Holds, Fails, Undecided, Unfinished}
@@ -59,9 +60,9 @@ call_comparison_of call = record { nr = call.number; reserved = 0; comparison = 
 abbrev pub IsCompared : RightKind → List Bytes → RightSide → Asked → ℕ → Finding → List ℕ → Type 0
 IsCompared Profile filters right asked limit finding text = (outcome : Outcome)
     × IsVerifiedBy asked.relation (known filters) (Some right.table.now) (Some right.profile.now)
-    asked.scope limit outcome × (finding ≡ finding_of outcome.verdict) × (text ≡ report_text asked.relation outcome)
+    asked.scope (limit_of_steps limit) outcome × (finding ≡ finding_of outcome.verdict) × (text ≡ report_text asked.relation outcome)
 IsCompared Filters filters right asked limit finding text =
-    VerifiesBeside asked.relation (known filters) (known right.filters.now) asked.scope limit (Ok finding)
+    VerifiesBeside asked.relation (known filters) (known right.filters.now) asked.scope (limit_of_steps limit) (Ok finding)
     × (text ≡ finding_text asked.relation beside_word finding)
 
 -- Why they aren't compared: for the first fault of an input, or out of memory, which may come at any time. It isn't
@@ -84,8 +85,8 @@ IsComparisonRefused kind filters right why = ⊥
 -- table, and these are the printed lines of it.
 abbrev pub IsComparedEach : Relation → List Bytes → List ℕ → List Table → ℕ → Finding → List ℕ → Type 0
 IsComparedEach relation filters profile tables limit finding text = (outcome : Outcome)
-    × VerifiesArchitectures relation None (known filters) (map known_text (texts_of tables)) (Some profile) limit
-    (Ok outcome)
+    × VerifiesArchitectures relation None (known filters) (map known_text (texts_of tables)) (Some profile)
+    (limit_of_steps limit) (Ok outcome)
     × (finding ≡ finding_of outcome.verdict) × (text ≡ report_text relation outcome)
 
 -- why they aren't compared

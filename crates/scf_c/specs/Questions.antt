@@ -54,6 +54,6 @@ pub record AreCallsAsked (question : Question) (right : RightSide) (asked : Aske
 abbrev pub AreNoCallsAsked : Question → RightSide → Type 0
 AreNoCallsAsked question right = (asked : Asked) → AreCallsAsked question right asked → ⊥
 
--- how many steps comparisons of single calls may take
+-- how many steps comparisons of single calls may take, with the default number of splits
 abbrev pub limits_of : Question → Limits
-limits_of question = record { each = question.limit; total = question.total_limit }
+limits_of question = record { each = question.limit; total = question.total_limit; splits = 10000 }

@@ -22,6 +22,7 @@ use crate::refusal::Refusal;
 use crate::right_side::readers_of;
 use crate::status::{OK, WRONG_ARGUMENT};
 use crate::tables::{relation_under, table_readers_of};
+use scf_compare::Limit;
 use scf_profile::Relation;
 use scf_tool::{report_by, verify_architectures};
 use std::alloc::Global;
@@ -48,7 +49,7 @@ fn compare_each(
         &mut table_readers,
         None,
         relation,
-        limit,
+        Limit::of_steps(limit),
     )?;
     let text = report_by(alloc, relation, &outcome)?;
     let finding = finding_of(&outcome.verdict);

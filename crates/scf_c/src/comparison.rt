@@ -24,7 +24,7 @@ use crate::question::{Asked, RightKind, asked_of};
 use crate::refusal::Refusal;
 use crate::right_side::readers_of;
 use crate::status::{OK, WRONG_ARGUMENT};
-use scf_compare::{Finding, Verdict, Which};
+use scf_compare::{Finding, Limit, Verdict, Which};
 use scf_tool::{report_beside, report_by, verify_beside, verify_by};
 use std::alloc::Global;
 
@@ -78,7 +78,7 @@ fn compare_with_profile(
         &mut Reader::new(right.table),
         asked.scope,
         asked.relation,
-        limit,
+        Limit::of_steps(limit),
     )?;
     let text = report_by(alloc, asked.relation, &outcome)?;
     let finding = finding_of(&outcome.verdict);
@@ -105,7 +105,7 @@ fn compare_with_filters(
         &mut beside,
         asked.scope,
         asked.relation,
-        limit,
+        Limit::of_steps(limit),
     )?;
     let text = report_beside(alloc, asked.relation, &finding)?;
     Ok(Compared { finding, text })

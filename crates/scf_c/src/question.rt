@@ -103,12 +103,13 @@ pub(crate) fn calls_asked_of(question: &Question, right: &RightSide) -> Option<A
     }
 }
 
-/// How many steps comparisons of single calls may take.
+/// How many steps comparisons of single calls may take, with the default number of splits.
 pub(crate) fn limits_of(question: &Question) -> Limits
     ensures { result ≡ limits_of question.now }
 {
     Limits {
         each: question.limit,
         total: question.total_limit,
+        splits: 10_000,
     }
 }

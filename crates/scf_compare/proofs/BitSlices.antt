@@ -1,5 +1,5 @@
 -- Images of a word, bit by bit.
-use Rattle.scf_compare.proofs.Common.{◌≡◌, ◌≢◌, ℕ, ◌+◌, ◌-◌, ◌*◌, ◌/◌, ◌%◌, ◌<◌, ◌≤◌, ◌^◌, ◌↔◌, true, false, eqb, refl, sym, ap, ◌∙◌, arith, bit_and, bit_or, bit_xor, List, slice_index, eq-eqb, eqb-true, and_zero_r, xor_zero_l, xor_zero_r, and_shr, xor_shr, xor_lt, xor_mod, and_block, xor_block, and_comm, and_le_r, and_assoc, and_mask, shl-shr, pow-add, pow_pos, div-add-mod', same_from_bits, div-eq_of_lt, div-mul-le_self, div-one, mod-eq_of_lt, mod-le, mod-lt, mul-le-mul_left, pow_mono, shr_mono, BitSlice, IsWhole, bit_slice_value, beyond_rest, ne_eqb, shr-shr, and_le_l}
+use Rattle.scf_compare.proofs.Common.{bit_at, shifted_word, ◌≡◌, ◌≢◌, ℕ, ◌+◌, ◌-◌, ◌*◌, ◌/◌, ◌%◌, ◌<◌, ◌≤◌, ◌^◌, ◌↔◌, true, false, eqb, refl, sym, ap, ◌∙◌, arith, bit_and, bit_or, bit_xor, List, slice_index, eq-eqb, eqb-true, and_zero_r, xor_zero_l, xor_zero_r, and_shr, xor_shr, xor_lt, xor_mod, and_block, xor_block, and_comm, and_le_r, and_assoc, and_mask, shl-shr, pow-add, pow_pos, div-add-mod', same_from_bits, div-eq_of_lt, div-mul-le_self, div-one, mod-eq_of_lt, mod-le, mod-lt, mul-le-mul_left, pow_mono, shr_mono, BitSlice, IsWhole, bit_slice_value, beyond_rest, ne_eqb, shr-shr, and_le_l}
 use Rattle.scf_compare.proofs.Bits.{each_bit, whole_word}
 
 -- to flip bits twice changes nothing
@@ -98,6 +98,44 @@ pub of_whole_word : (bit_slice : BitSlice) (words : List ℕ) (word : ℕ) → I
 of_whole_word bit_slice words word whole same below =
     rw (same, whole.right, whole.left, whole.mask, whole.flipped, unshifted, xor_zero_r) (whole_word _ below)
 
+-- ---- known bits
+
+-- an image has 32 bits
+pub number_fits : (bit_slice : BitSlice) (words : List ℕ) → bit_slice.mask < 2 ^ 32 → bit_slice.flipped < 2 ^ 32
+    → bit_slice_value bit_slice words < 2 ^ 32
+number_fits bit_slice words h k =
+    xor_lt 32 _ bit_slice.flipped (omega (arith, and_le_r (shifted_word bit_slice words) bit_slice.mask)) k
+
+-- the bits that a mask lacks
+beside_mask : (m : ℕ) → m < 2 ^ 32 → bit_and (bit_xor m 4294967295) m ≡ 0
+beside_mask m h = rw (whole_word m h) (same_from_bits _ _ (λ i. grind (arith, each_bit)))
+
+pub and_scaled : (x m k : ℕ) → bit_and x m * 2 ^ k ≡ bit_and (x * 2 ^ k) (m * 2 ^ k)
+and_scaled x m k = grind (arith, under_mask x k (m * 2 ^ k), shl-shr m k)
+
+-- the low 32 bits of a number under a mask
+and_low : (x m : ℕ) → bit_and x m % 2 ^ 32 ≡ bit_and x (m % 2 ^ 32)
+and_low x m = grind (arith, and_mask (bit_and x m) 32, and_assoc, and_mask m 32)
+
+-- the known bits of a word, shifted
+shifted_bits : (w k s t : ℕ) → bit_and (w / 2 ^ s * 2 ^ t) (k / 2 ^ s * 2 ^ t % 2 ^ 32)
+    ≡ bit_and w k / 2 ^ s * 2 ^ t % 2 ^ 32
+shifted_bits w k s t = rw (← and_low, ← and_scaled, and_shr) refl
+
+-- an image by the known bits of its word, and by those that its mask lacks
+known_image : (y k m n c : ℕ) → bit_and n m ≡ 0
+    → bit_and (bit_xor (bit_and y m) c) (bit_or k n) ≡ bit_and (bit_xor (bit_and (bit_and y k) m) c) (bit_or k n)
+known_image y k m n c apart = same_from_bits _ _ (λ i. grind (arith, each_bit, ap (λ x. bit_at x i) apart))
+
+-- what is known of an image, given what is known of its word
+pub image_known : (w s t m c k v : ℕ) → m < 2 ^ 32 → bit_and w k ≡ v
+    → bit_and (bit_xor (bit_and (w / 2 ^ s * 2 ^ t) m) c) (bit_or (k / 2 ^ s * 2 ^ t % 2 ^ 32) (bit_xor m 4294967295))
+    ≡ bit_and (bit_xor (bit_and (v / 2 ^ s * 2 ^ t % 2 ^ 32) m) c)
+    (bit_or (k / 2 ^ s * 2 ^ t % 2 ^ 32) (bit_xor m 4294967295))
+image_known w s t m c k v h known =
+    rw (← known, ← shifted_bits w k s t)
+    (known_image (w / 2 ^ s * 2 ^ t) (k / 2 ^ s * 2 ^ t % 2 ^ 32) m (bit_xor m 4294967295) c (beside_mask m h))
+
 -- ---- shifts
 
 divided : (m j k t : ℕ) → j + k ≡ t → m / 2 ^ j / 2 ^ k ≡ m / 2 ^ t
@@ -141,13 +179,6 @@ no_bit x m c none = grind (arith, and_zero_r, xor_zero_l)
 -- an image shifted to the left
 pub xor_scaled : (a b k : ℕ) → bit_xor a b * 2 ^ k ≡ bit_xor (a * 2 ^ k) (b * 2 ^ k)
 xor_scaled a b k = grind (arith, xor_block k a b 0 0 (pow_pos k) (pow_pos k))
-
-and_scaled : (x m k : ℕ) → bit_and x m * 2 ^ k ≡ bit_and (x * 2 ^ k) (m * 2 ^ k)
-and_scaled x m k = grind (arith, under_mask x k (m * 2 ^ k), shl-shr m k)
-
--- the low 32 bits of a number under a mask
-and_low : (x m : ℕ) → bit_and x m % 2 ^ 32 ≡ bit_and x (m % 2 ^ 32)
-and_low x m = grind (arith, and_mask (bit_and x m) 32, and_assoc, and_mask m 32)
 
 pub image_left : (y t m c k : ℕ) → bit_xor (bit_and (y * 2 ^ t) m) c * 2 ^ k % 2 ^ 32
     ≡ bit_xor (bit_and (y * 2 ^ (t + k)) (m * 2 ^ k % 2 ^ 32)) (c * 2 ^ k % 2 ^ 32)

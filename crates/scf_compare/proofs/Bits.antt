@@ -1,5 +1,6 @@
 -- Words under masks.
-use Rattle.scf_compare.proofs.Common.{◌≡◌, ◌≢◌, ℕ, ◌<◌, ◌≤◌, ◌^◌, true, false, eqb, leb, List, sym, ◌∙◌, arith, bit_and, slice_index, eq-eqb, eqb-true, and_mask, bit_at_and, bit_at_or, bit_at_xor, bit_at-lt, bit_at-zero, mod-eq_of_lt, IsWords, word_below}
+use Rattle.std.proofs.Math.Nat.{div-le_self}
+use Rattle.scf_compare.proofs.Common.{add_comm, and_comm, mul_comm, or_comm, xor_comm, ◌%◌, Arithmetic, Add, Sub, Mul, Div, Or, And, Lsh, Rsh, Xor, value_computed, and_le_l, or_lt, same_from_bits, xor_lt, ◌≡◌, ◌≢◌, ℕ, ◌<◌, ◌≤◌, ◌^◌, true, false, eqb, leb, List, sym, ◌∙◌, arith, bit_and, slice_index, eq-eqb, eqb-true, and_mask, bit_at_and, bit_at_or, bit_at_xor, bit_at-lt, bit_at-zero, mod-eq_of_lt, IsWords, word_below}
 
 -- what each bit is of numbers that are joined
 pub ruleset each_bit = (bit_at_and, bit_at_or, bit_at_xor, bit_at-lt, bit_at-zero)
@@ -27,3 +28,25 @@ below x v e = grind arith
 pub ruleset word_answers = (word_is, word_isnt, at_least, below)
 
 pub ruleset whole_words = (whole_word, word_below, word_is)
+
+-- ---- bits that are known
+
+-- the low five bits
+pub low_bits : (a : ℕ) → bit_and a 31 ≡ a % 32
+low_bits a = and_mask a 5
+
+-- a computation on 32-bit numbers has a 32-bit result
+pub computed_fits : (arithmetic : Arithmetic) (a v : ℕ) → a < 2 ^ 32 → v < 2 ^ 32
+    → value_computed arithmetic a v < 2 ^ 32
+computed_fits Add a v h k = omega arith
+computed_fits Sub a v h k = omega arith
+computed_fits Mul a v h k = omega arith
+computed_fits Div a v h k = omega (arith, div-le_self a v)
+computed_fits Or a v h k = or_lt 32 a v h k
+computed_fits And a v h k = omega (arith, and_le_l a v)
+computed_fits Lsh a v h k = omega arith
+computed_fits Rsh a v h k = omega (arith, div-le_self a (2 ^ v))
+computed_fits Xor a v h k = xor_lt 32 a v h k
+
+-- the computations in which the order of the operands makes no difference
+pub ruleset commutative = (add_comm, and_comm, mul_comm, or_comm, xor_comm)

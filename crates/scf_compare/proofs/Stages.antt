@@ -1,43 +1,39 @@
 -- From one stage of an exploration to the next.
-use Rattle.scf_compare.proofs.Common.{◌≡◌, ◌∙◌, ℕ, ◌≤◌, ◌↔◌, List, true, false, arith, Option, Some, None, IsTrue, cases_Bool, Store, Atoms, PairLeaf, Frontier, Step, Branch, Which, AreWordsIn, AsksOfWords, atoms_answer, StaysExact, KeepsEither, Compared, Tells, KnowsBoth, WereSeen, IsFrontier, LeadsTo, IsTaken, GoesOver, Tree, GoesOn, StaysPlain, Costs}
+use Rattle.scf_compare.proofs.Common.{◌≡◌, ℕ, ◌<◌, ◌≤◌, ◌↔◌, List, true, false, arith, Option, Some, None, IsTrue, cases_Bool, Store, Atom, PairLeaf, Frontier, Step, Branch, Which, AreWordsIn, atom_answer, word_of, KeepsExact, Compared, Tells, KnowsBoth, WereSeen, IsFrontier, LeadsTo, IsTaken, GoesOver, Tree, GoesOn, StaysPlain, Costs}
 use Rattle.scf_compare.specs.declared.frontier.OpenBranch.{OpenBranch}
 use Rattle.scf_compare.proofs.Branches.{HasOpened, still_in_branch, in_opened, frontier_opened, size_more, exact_opened}
 
 module _ {F K N : Type 0} (store : Store F) (compared : Compared) (tree : K → Tree N) (old new : Frontier F K N)
     (f : IsFrontier store tree (AreWordsIn compared) old) where
-  -- One successor of atoms is taken, and a branch stands open for the other: those that are left of them were learned.
-  pub asked : (known : K) (whole remaining : Atoms) (if_true if_false : N)
-      → AsksOfWords whole × (tree known).is_node if_true × (tree known).is_node if_false
-      → AsksOfWords remaining
-      → ((words : List ℕ) → store.allows old.facts (store.level old.facts) words
-      → atoms_answer whole words ≡ atoms_answer remaining words)
-      → (KeepsEither whole → KeepsEither remaining)
-      → HasOpened store old new (record { known = known; node = if_false; learned = Some (remaining, false) })
+  -- One successor is taken, the atom was learned to be true, and a branch stands open for the other.
+  pub asked : (known : K) (atom : Atom) (if_true if_false : N)
+      → (word_of atom < 16) × (tree known).is_node if_true × (tree known).is_node if_false
+      → HasOpened store old new (record { known = known; node = if_false; learned = Some (atom, false) })
       → ((words : List ℕ)
       → store.allows new.facts (store.level new.facts) words
-      ↔ (store.allows old.facts (store.level old.facts) words × (atoms_answer remaining words ≡ true)))
-      → (StaysExact remaining true → IsTrue (store.is_exact old.facts (store.level old.facts))
+      ↔ (store.allows old.facts (store.level old.facts) words × (atom_answer atom words ≡ true)))
+      → (KeepsExact atom true → IsTrue (store.is_exact old.facts (store.level old.facts))
       → IsTrue (store.is_exact new.facts (store.level new.facts)))
-      → LeadsTo store compared tree old new (tree known) (Branch (Some whole) if_true if_false) if_true
-  asked known whole remaining if_true if_false proper asks same keeps opened learned exact =
-      let other : OpenBranch K N = record { known = known; node = if_false; learned = Some (remaining, false) } in
+      → LeadsTo store compared tree old new (tree known) (Branch (Some atom) if_true if_false) if_true
+  asked known atom if_true if_false proper opened learned exact =
+      let other : OpenBranch K N = record { known = known; node = if_false; learned = Some (atom, false) } in
       let still = still_in_branch store tree (AreWordsIn compared) old new other f opened in
       let there = in_opened store tree (AreWordsIn compared) old new other f opened in
       record {
         frontier =
             frontier_opened store tree (AreWordsIn compared) old new other f opened
-            (record { node = proper.2; asks = asks });
+            (record { node = proper.2; asks = proper.0 });
         node = proper.1;
         words = λ words ahead.
-            grind (arith, still words, there words, same words, learned words, cases_Bool (atoms_answer remaining words));
+            grind (arith, still words, there words, learned words, cases_Bool (atom_answer atom words));
         size = omega (arith, size_more tree old new other opened.branches);
-        exact = λ all. let either = keeps all.plain.0 in record {
+        exact = λ all. let either = all.plain.0 in record {
           branches =
               exact_opened store tree (AreWordsIn compared) old new other f opened all.branches all.facts either.1
-              all.plain.2 (λ words allowed refused. (all.reached words allowed).1 (same words allowed ∙ refused));
+              all.plain.2 (λ words allowed. (all.reached words allowed).1);
           facts = exact either.0 all.facts;
           plain = all.plain.1;
-          reached = λ words allowed. grind (arith, learned words, all.reached words, same words);
+          reached = λ words allowed. grind (arith, learned words, all.reached words);
         };
       }
 

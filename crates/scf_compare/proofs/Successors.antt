@@ -76,3 +76,15 @@ pub step_leads : (tree : Tree FilterNode) (tells : SideLeaf → List ℕ → Typ
     → IsStepOf decision if_true if_false step → Decides decision words test → (test ≡ true → tree.reaches if_true words)
     → (test ≡ false → tree.reaches if_false words) → GoesOn tree tells step words
 step_leads tree tells words decision if_true if_false step test e d ht hf = grind arith
+
+-- a run that comes to an index does so with registers that are known by as much
+pub comes_noted : {insns : List Insn} {words : List ℕ} {index : ℕ} {old new : KnownRegisters}
+    → ((s : State) → Describes old words s → Describes new words s) → ComesTo insns index old words
+    → ComesTo insns index new words
+comes_noted same comes = record {
+  state = comes.state;
+  earlier = comes.earlier;
+  chain = comes.chain;
+  there = comes.there;
+  describes = same comes.state comes.describes;
+}

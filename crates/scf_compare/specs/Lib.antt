@@ -1,6 +1,7 @@
 pub mod Effort
 pub mod Findings
 pub mod Headline
+pub mod Limits
 pub mod Paths
 pub mod SideLaws
 pub mod Sides

@@ -1,18 +1,18 @@
 //! Bit slices: what a filter computes bit by bit from one word of the record.
 
 ghost use Rattle.std.specs.Prelude.{◌≡◌, ◌==◌, ◌↔◌, ◌*◌, ◌/◌, ◌%◌, ◌<◌, ◌^◌, ℕ, List, IsTrue};
-ghost use Rattle.std.specs.Prelude.{bit_and, bit_or, bit_xor, nat_lt, nat_le};
-ghost use Rattle.scf_facts.specs.Atoms.{steps_from};
+ghost use Rattle.std.specs.Prelude.{bit_and, bit_or, bit_xor, nat_lt, slice_index};
+ghost use Rattle.scf_facts.specs.Bits.{HasBits};
 ghost use Rattle.scf_insn.specs.SimpleMask.{IsSimpleMask};
 ghost use Rattle.scf_insn.specs.Words.{IsWords};
-ghost use Rattle.scf_compare.specs.internal.BitSlices.{IsBitSlice, IsWhole, AreShiftedAlike, bit_slice_value};
-ghost use Rattle.scf_machine.specs.Machine.{value_computed};
+ghost use Rattle.scf_compare.specs.internal.BitSlices.{IsBitSlice, IsWhole, bit_slice_value};
 ghost use Rattle.scf_compare.specs.internal.Values.{IsValue, Abstracts, IsTestDecision, Decides, IsPlainDecision};
+ghost use Rattle.scf_compare.specs.internal.Values.{IsComputedNumber};
 
-use crate::asking::Atoms;
+use crate::computed::Computed;
+use crate::sources::{OpenTest, Sources};
 use crate::value::{Decision, Value};
-use scf_facts::{Atom, is_high_mask};
-use scf_insn::Arithmetic;
+use scf_facts::{Atom, Bits, is_high_mask};
 
 /// `((word >> right << left) & mask) ^ flipped`, of the word with index `word`.
 #[derive(Clone, Copy)]
@@ -48,11 +48,32 @@ impl BitSlice {
         self.right == 0 && self.left == 0 && self.mask == u32::MAX && self.flipped == 0
     }
 
-    /// The bits that may be set.
-    pub(crate) fn bits(self) -> u32
-        ensures { result ≡ bit_or self.mask self.flipped }
+    /// The bits of its word on which the slice depends.
+    pub(crate) fn sources(self) -> Sources
+        requires { IsBitSlice self }
     {
-        self.mask | self.flipped
+        let sources = Sources::of(self.word, self.mask >> self.left << self.right);
+        if self.right > self.left {
+            sources.lowered_by(self.right - self.left)
+        } else if self.left > self.right {
+            sources.raised()
+        } else {
+            sources
+        }
+    }
+
+    /// The known bits of the slice, given those of its word.
+    pub(crate) fn in_bits(self, word: Bits) -> Computed
+        requires { IsBitSlice self }
+        ensures { (words : List ℕ) → HasBits word (slice_index words self.word)
+            → IsComputedNumber result (bit_slice_value self words) }
+    {
+        let mask = word.mask >> self.right << self.left | self.mask ^ u32::MAX;
+        let value = word.value >> self.right << self.left & self.mask ^ self.flipped;
+        Computed {
+            bits: Bits::of(value, mask),
+            sources: self.sources(),
+        }
     }
 
     /// `self & v`.
@@ -95,53 +116,6 @@ impl BitSlice {
         BitSlice {
             flipped: self.flipped ^ v,
             ..self
-        }
-    }
-
-    /// Whether both are slices of one word with the same shifts.
-    pub(crate) fn is_shifted_as(self, other: BitSlice) -> bool
-        ensures { IsTrue result → AreShiftedAlike self other }
-    {
-        self.word == other.word && self.right == other.right && self.left == other.left
-    }
-
-    /// `self & other`, `self | other` or `self ^ other` of slices of one word with the same shifts: the results for an
-    /// all-zero and an all-one word give the mask and the flips.
-    #[tactic(auto, using(crate::proofs::Joins::joined_images))]
-    pub(crate) fn joined(self, arithmetic: Arithmetic, other: BitSlice) -> Value
-        requires first { IsBitSlice self }
-        requires second { IsBitSlice other }
-        requires alike { AreShiftedAlike self other }
-        ensures value { IsValue result }
-        ensures stands { (words : List ℕ)
-            → Abstracts result words
-            (value_computed arithmetic (bit_slice_value self words) (bit_slice_value other words)) }
-    {
-        match arithmetic {
-            Arithmetic::And => {
-                let zeros = self.flipped & other.flipped;
-                let ones = (self.mask ^ self.flipped) & (other.mask ^ other.flipped);
-                Value::Slice(BitSlice {
-                    mask: zeros ^ ones,
-                    flipped: zeros,
-                    ..self
-                })
-            }
-            Arithmetic::Or => {
-                let zeros = self.flipped | other.flipped;
-                let ones = (self.mask ^ self.flipped) | (other.mask ^ other.flipped);
-                Value::Slice(BitSlice {
-                    mask: zeros ^ ones,
-                    flipped: zeros,
-                    ..self
-                })
-            }
-            Arithmetic::Xor => Value::Slice(BitSlice {
-                mask: self.mask ^ other.mask,
-                flipped: self.flipped ^ other.flipped,
-                ..self
-            }),
-            _ => Value::Unknown,
         }
     }
 
@@ -215,7 +189,7 @@ impl BitSlice {
             mask: mask << self.right,
             value: value << self.right,
         };
-        Decision::Asks(Atoms::One(atom), true)
+        Decision::Asks(atom, true)
     }
 
     /// The test `self > v`, as an atom about its word, if the mask has all bits of the word from one on.
@@ -227,7 +201,7 @@ impl BitSlice {
     {
         let mask = self.mask >> self.left << self.right;
         if self.flipped != 0 || !is_high_mask(mask) {
-            return Decision::Open;
+            return Decision::Open(OpenTest::NONE);
         }
         let value = v >> self.left;
         if value > u32::MAX >> self.right {
@@ -237,20 +211,6 @@ impl BitSlice {
             word: self.word,
             value: (value << self.right & mask) + !mask,
         };
-        Decision::Asks(Atoms::One(atom), true)
-    }
-
-    /// The test whether it is on the arc from `first` up to `last`, as an atom about its word, if it is the whole word.
-    pub(crate) fn is_on_arc(self, first: u32, last: u32) -> Decision
-        requires { IsBitSlice self }
-        ensures asks { IsTestDecision result }
-        ensures decides { (words : List ℕ) → IsWords words
-            → Decides result words (nat_le (steps_from first (bit_slice_value self words)) (steps_from first last)) }
-    {
-        if !self.is_whole() {
-            return Decision::Open;
-        }
-        let word = self.word;
-        Decision::Asks(Atoms::One(Atom::Arc { word, first, last }), true)
+        Decision::Asks(atom, true)
     }
 }

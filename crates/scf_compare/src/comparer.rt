@@ -27,11 +27,13 @@ ghost use Rattle.scf_compare.specs.Verdicts.{
 };
 ghost use Rattle.scf_compare.specs.internal.Comparers.{IsComparison};
 
+use crate::budget::{Budget, Limit, Splits};
 use crate::by_number::ByNumber;
 use crate::explore::explore;
 use crate::finding::Finding;
 use crate::pair::{Pair, PairKnown, PairNode};
 use crate::scope::facts_of;
+use crate::settle::settle;
 use crate::side::Side;
 use crate::side_tree::SideTree;
 use crate::stack::StackSide;
@@ -43,7 +45,7 @@ use scf_profile::{Profile, Relation, Scope};
 use std::alloc::Global;
 use std::slice;
 
-/// Compares two sides over the records of a scope by a relation, in at most `limit` steps.
+/// Compares two sides over the records of a scope by a relation, within a limit.
 ///
 /// `Holds` says that the relation holds of the answers to every record of the scope; `Fails` shows one, with both
 /// answers, of which it doesn't hold. `Undecided` gives the index of an instruction where runs of one side end and the
@@ -51,28 +53,43 @@ use std::slice;
 /// the limit is below the exact effort; the steps of `Holds` are within both.
 ///
 /// A store that starts exact decides plain sides: with a limit of at least the effort the finding is `Holds` exactly if
-/// the relation holds of the answers to every record of the scope, else `Fails`.
+/// the relation holds of the answers to every record of the scope, else `Fails`. If the splits have no limit, this is so
+/// of any two sides and every store.
 pub fn compare_sides<F: WordFacts>(
     alloc: Global,
     left: &Side<'_>,
     right: &Side<'_>,
     over: Scope,
     by: Relation,
-    limit: u64,
+    limit: Limit,
 ) -> Result<Finding, Memory>
     ensures holds { IfOk result (IsTrueFinding (compared_sides by over left.now right.now)) }
-    ensures within { IfOk result (IsFindingWithin limit (effort_of_sides left.now right.now)) }
+    ensures within { IfOk result (IsFindingWithin limit.steps (effort_of_sides left.now right.now)) }
     ensures decided { IsTrue F.starts_exact → IsPlainSide left.now → IsPlainSide right.now
         → IfOk result (IsFindingDecided (AllRelated (compared_sides by over left.now right.now))
-        limit (effort_of_sides left.now right.now)) }
+        limit.steps (effort_of_sides left.now right.now)) }
+    ensures settled { limit.splits ≡ Splits.NoLimit
+        → IfOk result (IsFindingDecided (AllRelated (compared_sides by over left.now right.now))
+        limit.steps (effort_of_sides left.now right.now)) }
 {
     let mut taken = 0;
-    let finding = compare_counted::<F>(alloc, left, right, over, by, limit, &mut taken)?;
+    let mut budget = Budget::new(limit.splits, limit.steps);
+    let finding = compare_counted::<F>(
+        alloc,
+        left,
+        right,
+        over,
+        by,
+        limit.steps,
+        &mut budget,
+        &mut taken,
+    )?;
     Ok(finding)
 }
 
-/// Compares as `compare_sides` does, in at most `limit` steps and at most the `left_over` ones that several comparisons
-/// share. The steps taken are subtracted from `left_over`; if an allocation fails, it doesn't change.
+/// Compares as `compare_sides` does, in at most the `left_over` steps that several comparisons share, and below splits
+/// in at most `left_below` of them. What is taken is subtracted, of which no clause speaks for `left_below`; if an
+/// allocation fails, neither changes.
 ///
 /// With no steps left the finding is `Unfinished`.
 pub fn compare_sides_within<F: WordFacts>(
@@ -81,22 +98,40 @@ pub fn compare_sides_within<F: WordFacts>(
     right: &Side<'_>,
     over: Scope,
     by: Relation,
-    limit: u64,
+    limit: Limit,
     left_over: &mut u64,
+    left_below: &mut u64,
 ) -> Result<Finding, Memory>
     ensures holds { IfOk result (IsTrueFinding (compared_sides by over left.now right.now)) }
-    ensures within { IfOk result (IsFindingWithin (min limit left_over.old) (effort_of_sides left.now right.now)) }
+    ensures within { IfOk result (IsFindingWithin (min limit.steps left_over.old) (effort_of_sides left.now right.now)) }
     ensures decided { IsTrue F.starts_exact → IsPlainSide left.now → IsPlainSide right.now
         → IfOk result (IsFindingDecided (AllRelated (compared_sides by over left.now right.now))
-        (min limit left_over.old) (effort_of_sides left.now right.now)) }
+        (min limit.steps left_over.old) (effort_of_sides left.now right.now)) }
+    ensures settled { limit.splits ≡ Splits.NoLimit
+        → IfOk result (IsFindingDecided (AllRelated (compared_sides by over left.now right.now))
+        (min limit.steps left_over.old) (effort_of_sides left.now right.now)) }
     ensures left { IfOk result (λ finding. LeavesFindingSteps
-        (min limit left_over.old) (effort_of_sides left.now right.now) left_over.old finding left_over.new) }
+        (min limit.steps left_over.old) (effort_of_sides left.now right.now) left_over.old finding left_over.new) }
     ensures err { OnErr result (left_over.new ≡ left_over.old) }
+    ensures err_below { OnErr result (left_below.new ≡ left_below.old) }
 {
     let mut taken = 0;
-    let most = limit.min(*left_over);
-    let finding = compare_counted::<F>(alloc, left, right, over, by, most, &mut taken)?;
+    let most = limit.steps.min(*left_over);
+    let most_below = limit.steps.min(*left_below);
+    let mut budget = Budget::new(limit.splits, most_below);
+    let finding = compare_counted::<F>(
+        alloc,
+        left,
+        right,
+        over,
+        by,
+        most,
+        &mut budget,
+        &mut taken,
+    )?;
     *left_over -= taken;
+    let taken_below = most_below.saturating_sub(budget.steps_left(most_below));
+    *left_below = left_below.saturating_sub(taken_below);
     Ok(finding)
 }
 
@@ -108,19 +143,20 @@ fn compare_counted<F: WordFacts>(
     over: Scope,
     by: Relation,
     limit: u64,
+    budget: &mut Budget,
     taken: &mut u64,
 ) -> Result<Finding, Memory>
     ensures { IfOk result (λ finding.
-        IsComparison (compared_sides by over left.now right.now) (IsTrue F.starts_exact) limit finding taken.new) }
+        IsComparison (compared_sides by over left.now right.now) (IsTrue F.starts_exact) limit budget.old finding taken.new) }
 {
     match *left {
         Side::Stack(filters) => {
             let stack = StackSide { filters };
-            compare_with::<F, StackSide<'_>>(alloc, stack, right, over, by, limit, taken)
+            compare_with::<F, StackSide<'_>>(alloc, stack, right, over, by, limit, budget, taken)
         }
         Side::Profile(profile) => {
             let profile = ByNumber::new(profile);
-            compare_with::<F, ByNumber<'_>>(alloc, profile, right, over, by, limit, taken)
+            compare_with::<F, ByNumber<'_>>(alloc, profile, right, over, by, limit, budget, taken)
         }
     }
 }
@@ -133,10 +169,11 @@ fn compare_with<F: WordFacts, L: SideTree + Drop>(
     over: Scope,
     by: Relation,
     limit: u64,
+    budget: &mut Budget,
     taken: &mut u64,
 ) -> Result<Finding, Memory>
     ensures { IfOk result (λ finding. IsComparison (compared_in by over (L.behavior left) (behavior_of right.now))
-        (IsTrue F.starts_exact) limit finding taken.new) }
+        (IsTrue F.starts_exact) limit budget.old finding taken.new) }
 {
     match *right {
         Side::Stack(filters) => {
@@ -147,7 +184,7 @@ fn compare_with<F: WordFacts, L: SideTree + Drop>(
                 over,
                 by,
             };
-            compare_pair::<F, L, StackSide<'_>>(alloc, &pair, limit, taken)
+            compare_pair::<F, L, StackSide<'_>>(alloc, &pair, limit, budget, taken)
         }
         Side::Profile(profile) => {
             let right = ByNumber::new(profile);
@@ -157,21 +194,22 @@ fn compare_with<F: WordFacts, L: SideTree + Drop>(
                 over,
                 by,
             };
-            compare_pair::<F, L, ByNumber<'_>>(alloc, &pair, limit, taken)
+            compare_pair::<F, L, ByNumber<'_>>(alloc, &pair, limit, budget, taken)
         }
     }
 }
 
-/// Walks the tree of a pair.
+/// Walks the tree of a pair; if that leaves it undecided, a second time with splits.
 fn compare_pair<F: WordFacts, L: SideTree, R: SideTree>(
     alloc: Global,
     pair: &Pair<L, R>,
     limit: u64,
+    budget: &mut Budget,
     taken: &mut u64,
 ) -> Result<Finding, Memory>
     ensures { IfOk result (λ finding. IsComparison
         (compared_in pair.now.by pair.now.over (L.behavior pair.now.left) (R.behavior pair.now.right))
-        (IsTrue F.starts_exact) limit finding taken.new) }
+        (IsTrue F.starts_exact) limit budget.old finding taken.new) }
 {
     let facts: F = facts_of(alloc, pair.over)?;
     let (left, start) = pair.left.start();
@@ -179,7 +217,14 @@ fn compare_pair<F: WordFacts, L: SideTree, R: SideTree>(
     let known = PairKnown { left, right };
     let root = PairNode::AtLeft(start);
     let finding = explore(alloc, pair, facts, known, root, limit, taken)?;
-    Ok(finding)
+    match finding {
+        Finding::Undecided { .. } => {
+            let again: F = facts_of(alloc, pair.over)?;
+            let settled = settle(alloc, pair, again, known, root, *taken, budget)?;
+            Ok(settled.unwrap_or(finding))
+        }
+        _ => Ok(finding),
+    }
 }
 
 /// Compares a program with a profile over every call record, in at most `limit` steps.
@@ -205,7 +250,14 @@ pub fn compare<F: WordFacts>(
         limit (effort_of program.now profile.now)) }
 {
     let filters = slice::from_ref(program);
-    compare_filters::<F>(alloc, filters, profile, Scope::All, Relation::Same, limit)
+    compare_filters::<F>(
+        alloc,
+        filters,
+        profile,
+        Scope::All,
+        Relation::Same,
+        Limit::of_steps(limit),
+    )
 }
 
 /// Compares a stack of filters with a profile over the records of a scope, in at most `limit` steps.
@@ -228,7 +280,14 @@ pub fn compare_stack<F: WordFacts>(
         (SameAnswersIn scope (StackAnswers stack.now) profile.now)
         limit (effort_of_stack stack.now profile.now)) }
 {
-    compare_by::<F>(alloc, stack, profile, scope, Relation::Same, limit)
+    compare_by::<F>(
+        alloc,
+        stack,
+        profile,
+        scope,
+        Relation::Same,
+        Limit::of_steps(limit),
+    )
 }
 
 /// Compares a stack of filters with a profile over the records of a scope by a relation, in at most `limit` steps.
@@ -241,16 +300,20 @@ pub fn compare_by<F: WordFacts>(
     profile: &Profile,
     scope: Scope,
     relation: Relation,
-    limit: u64,
+    limit: Limit,
 ) -> Result<Verdict, Memory>
     ensures holds { IfOk result (IsTrueOfStackBy relation stack.now profile.now scope) }
-    ensures within { IfOk result (IsWithin limit (effort_of_stack stack.now profile.now)) }
+    ensures within { IfOk result (IsWithin limit.steps (effort_of_stack stack.now profile.now)) }
     ensures decided { IsTrue F.starts_exact → All IsPlainProgram stack.now → IsPlainProfile profile.now
         → IfOk result (IsDecided
         (RelatedAnswersIn relation scope (StackAnswers stack.now) profile.now)
-        limit (effort_of_stack stack.now profile.now)) }
+        limit.steps (effort_of_stack stack.now profile.now)) }
+    ensures settled { limit.splits ≡ Splits.NoLimit → IfOk result (IsDecided
+        (RelatedAnswersIn relation scope (StackAnswers stack.now) profile.now)
+        limit.steps (effort_of_stack stack.now profile.now)) }
 {
-    compare_filters::<F>(alloc, stack.filters(), profile, scope, relation, limit)
+    let filters = stack.filters();
+    compare_filters::<F>(alloc, filters, profile, scope, relation, limit)
 }
 
 /// Compares filters, the oldest first, with a profile over the records of a scope by a relation.
@@ -260,14 +323,17 @@ fn compare_filters<F: WordFacts>(
     profile: &Profile,
     scope: Scope,
     relation: Relation,
-    limit: u64,
+    limit: Limit,
 ) -> Result<Verdict, Memory>
     ensures holds { IfOk result (IsTrueOfStackBy relation filters.now profile.now scope) }
-    ensures within { IfOk result (IsWithin limit (effort_of_stack filters.now profile.now)) }
+    ensures within { IfOk result (IsWithin limit.steps (effort_of_stack filters.now profile.now)) }
     ensures decided { IsTrue F.starts_exact → All IsPlainProgram filters.now → IsPlainProfile profile.now
         → IfOk result (IsDecided
         (RelatedAnswersIn relation scope (StackAnswers filters.now) profile.now)
-        limit (effort_of_stack filters.now profile.now)) }
+        limit.steps (effort_of_stack filters.now profile.now)) }
+    ensures settled { limit.splits ≡ Splits.NoLimit → IfOk result (IsDecided
+        (RelatedAnswersIn relation scope (StackAnswers filters.now) profile.now)
+        limit.steps (effort_of_stack filters.now profile.now)) }
 {
     let filters = Side::Stack(filters);
     let profile = Side::Profile(profile);

@@ -7,6 +7,7 @@ ghost use Rattle.scf_compare.specs.internal.Leaves.{IsOnlyAnswer, pair_leaves};
 ghost use Rattle.scf_compare.specs.internal.Trees.{Tree, IsStep};
 
 use crate::side_tree::SideLeaf;
+use crate::sources::OpenTest;
 use crate::step::Step;
 use scf_facts::WordFacts;
 use scf_insn::{Answer, CallRecord};
@@ -41,6 +42,9 @@ pub(crate) trait Comparison {
         ensures { IsStep (pair_leaves (compared self.now)) (F.allows facts.now (F.level facts.now))
             (tree self.now known.old) node.now (tree self.now known.new) result };
 
+    /// The first test on the path that nothing known decides, given what is known at its end.
+    fn open_test(&self, known: &Self::Known) -> Option<OpenTest>;
+
     /// The answers to a call: the left side's and the right one's. Each is the only one.
     fn answers(&self, call: &CallRecord) -> (Answer, Answer)
         ensures left { (compared self.now).left.answers (words_of call.now) result.0.0 }
@@ -51,6 +55,10 @@ pub(crate) trait Comparison {
     /// Whether the relation holds of an answer of the left side and one of the right side.
     fn relates(&self, left: Answer, right: Answer) -> bool
         ensures { IsTrue result ↔ (compared self.now).related left.0 right.0 };
+
+    /// Whether a call is one of the scope.
+    fn is_in_scope(&self, call: &CallRecord) -> bool
+        ensures { IsTrue result ↔ (compared self.now).in_scope call.now };
 
     /// Each node has a size above 0.
     ghost counts: { (comparison : Self) (known : Self.Known) (node : Self.Node)

@@ -5,10 +5,9 @@ ghost use Rattle.scf_insn.specs.Words.{IsWords};
 ghost use Rattle.scf_compare.specs.internal.Leaves.{IsSideLeaf, side_leaves};
 ghost use Rattle.scf_compare.specs.internal.Trees.{IsDecidedNext, IsProper, IsStep};
 
-use crate::asking::Remaining;
 use crate::side_tree::{SideLeaf, SideTree};
 use crate::step::Step;
-use scf_facts::WordFacts;
+use scf_facts::{Tell, WordFacts};
 
 /// How many steps are taken at once: enough that a long chain of tests whose answers are known costs few steps, and few
 /// enough that each of those is short.
@@ -51,10 +50,10 @@ fn decided_next<T: SideTree, F: WordFacts>(
     let _ = known;
     match step {
         Step::Next(next) => Some(next),
-        Step::Branch(Some(atoms), if_true, if_false) => match atoms.remaining(facts) {
-            Remaining::Known(true) => Some(if_true),
-            Remaining::Known(false) => Some(if_false),
-            Remaining::Unknown(_) => None,
+        Step::Branch(Some(atom), if_true, if_false) => match facts.tell(atom) {
+            Tell::Always => Some(if_true),
+            Tell::Never => Some(if_false),
+            Tell::Maybe => None,
         },
         Step::Branch(None, ..) | Step::Leaf(_) => None,
     }

@@ -1,11 +1,12 @@
 //! The explorer: a depth-first walk of a comparison's tree.
 
 ghost use Rattle.std.specs.Prelude.{◌≡◌, ◌↔◌, ℕ, List, IsTrue, false, IfOk, IfSome, IfNone, IsSome};
+ghost use Rattle.scf_insn.specs.Words.{IsRecord, words_of};
 ghost use Rattle.scf_compare.specs.Findings.{AllRelated, AreSteps, IsFindingDecided, IsFindingWithin, IsTrueFinding, WordsRelated};
 ghost use Rattle.scf_compare.specs.internal.Leaves.{AreWordsIn, IsFirstUndecided, IsLeaf, IsUndecidedLeaf};
 ghost use Rattle.scf_compare.specs.internal.Leaves.{KnowsBoth, Tells, WereSeen};
 ghost use Rattle.scf_compare.specs.internal.Frontier.{IsFrontier, IsExact};
-ghost use Rattle.scf_compare.specs.internal.Stages.{IsFound, IsStageAfter, finding_of_all};
+ghost use Rattle.scf_compare.specs.internal.Stages.{DecidesIfKnown, IsFound, IsStageAfter, finding_of_all};
 
 use crate::comparison::{Comparison, PairLeaf};
 use crate::finding::{Finding, Which};
@@ -27,7 +28,7 @@ pub(crate) enum Stage<N> {
 }
 
 /// Whether both answers are known at a leaf, and the relation holds of them.
-fn is_related<C: Comparison>(comparison: &C, leaf: PairLeaf) -> bool
+pub(crate) fn is_related<C: Comparison>(comparison: &C, leaf: PairLeaf) -> bool
     ensures related { IsTrue result → (words : List ℕ) → Tells (C.compared comparison.now) leaf words
         → WordsRelated (C.compared comparison.now) words }
     ensures undecided { result ≡ false → IsUndecidedLeaf (C.compared comparison.now) leaf }
@@ -47,6 +48,24 @@ fn open_end_of<C: Comparison>(comparison: &C, leaf: PairLeaf) -> (Which, usize)
     match (leaf.left.answer, leaf.right.answer) {
         (Some(_), None) => (Which::Right, leaf.right.at),
         _ => (Which::Left, leaf.left.at),
+    }
+}
+
+/// The difference that a call of the scope shows, once both sides have answered it.
+pub(crate) fn difference_by<C: Comparison>(comparison: &C, call: CallRecord) -> Option<Finding>
+    requires record { IsRecord call }
+    requires scope { (C.compared comparison.now).in_scope call }
+    ensures found { IfSome result (IsFound (C.compared comparison.now)) }
+    ensures related { IfNone result (WordsRelated (C.compared comparison.now) (words_of call)) }
+    ensures each { let compared = C.compared comparison.now in
+        IfNone result ((left right : ℕ) → compared.left.answers (words_of call) left
+        → compared.right.answers (words_of call) right → compared.related left right) }
+{
+    let (left, right) = comparison.answers(&call);
+    if comparison.relates(left, right) {
+        None
+    } else {
+        Some(Finding::Fails { call, left, right })
     }
 }
 
@@ -82,10 +101,9 @@ fn judge<C: Comparison, F: WordFacts>(
         return None;
     }
     if let Some(words) = facts.pick() {
-        let call = CallRecord::from_words(&words);
-        let (left, right) = comparison.answers(&call);
-        if !comparison.relates(left, right) {
-            return Some(Finding::Fails { call, left, right });
+        let shown = difference_by(comparison, CallRecord::from_words(&words));
+        if shown.is_some() {
+            return shown;
         }
     }
     *first_undecided = first_undecided.or(Some(open_end_of(comparison, leaf)));
@@ -116,8 +134,8 @@ fn advance<C: Comparison, F: WordFacts>(
 {
     match comparison.step(&frontier.facts, known, &node) {
         Step::Next(next) => Ok(Stage::At(next)),
-        Step::Branch(Some(atoms), if_true, if_false) => {
-            let next = ask(comparison, frontier, known, atoms, if_true, if_false)?;
+        Step::Branch(Some(atom), if_true, if_false) => {
+            let next = ask(comparison, frontier, known, atom, if_true, if_false)?;
             Ok(Stage::At(next))
         }
         Step::Branch(None, if_true, if_false) => {
@@ -160,6 +178,8 @@ pub(crate) fn explore<C: Comparison, F: WordFacts>(
     ensures decided { let tree = C.tree comparison.now start in
         IsTrue (F.is_exact facts 0) → tree.is_plain root
         → IfOk result (IsFindingDecided (AllRelated (C.compared comparison.now)) limit (tree.size root)) }
+    ensures known { IfOk result (DecidesIfKnown (AllRelated (C.compared comparison.now)) limit
+        ((C.tree comparison.now start).size root)) }
 {
     let mut frontier = Frontier::new(alloc, facts);
     let mut known = start;

@@ -14,8 +14,10 @@ ghost use Rattle.scf_compare.specs.internal.Values.{AreValues};
 use crate::control_flow::ControlFlow;
 use crate::registers::KnownRegisters;
 use crate::side_tree::SideLeaf;
+use crate::sources::OpenTest;
 use crate::step::Step;
 use crate::value::{Decision, Value};
+use scf_facts::WordFacts;
 use scf_insn::{Answer, Insn, Operation, Test};
 use scf_machine::Program;
 
@@ -26,29 +28,34 @@ pub(crate) enum FilterNode {
     Stopped(Answer, usize),
 }
 
-/// The root of a filter's tree, and what is known of the registers there.
-pub(crate) fn start_in_filter(program: &Program) -> (KnownRegisters, FilterNode)
+/// The root of a filter's tree, and what is known of the registers there. `open` is of the filters before.
+pub(crate) fn start_in_filter(
+    program: &Program,
+    open: Option<OpenTest>,
+) -> (KnownRegisters, FilterNode)
     ensures node { filter_is_node program.now result.0 result.1 }
     ensures reached { (words : List ℕ) → filter_reaches program.now result.0 result.1 words }
     ensures size { filter_size program.now result.1 ≡ tree_size program.now 0 }
     ensures plain { IsPlainProgram program.now → filter_is_plain program.now result.0 result.1 }
 {
     let _insns = program.insns();
-    (KnownRegisters::at_start(), FilterNode::At(0))
+    (KnownRegisters::at_start(open), FilterNode::At(0))
 }
 
 /// The step from a node of a filter, and what is known of its registers after it.
-pub(crate) fn step_in_filter(
+pub(crate) fn step_in_filter<F: WordFacts>(
     program: &Program,
+    facts: &F,
     registers: &mut KnownRegisters,
     node: FilterNode,
 ) -> Step<FilterNode, SideLeaf>
     requires { filter_is_node program.now registers.old node }
-    ensures { IsStep (leaves_of_filter program.now) IsWords
+    ensures { IsStep (leaves_of_filter program.now)
+        (λ words. IsWords words × F.allows facts.now (F.level facts.now) words)
         (filter_tree program.now registers.old) node (filter_tree program.now registers.new) result }
 {
     match node {
-        FilterNode::At(index) => step_at(program.insns(), index, registers),
+        FilterNode::At(index) => step_at(program.insns(), facts, index, registers),
         FilterNode::Stopped(answer, at) => Step::Leaf(SideLeaf {
             answer: Some(answer),
             at,
@@ -58,8 +65,9 @@ pub(crate) fn step_in_filter(
 
 /// The step from the instruction at an index, and what is known of the registers after it.
 #[tactic(auto, using(crate::proofs::ControlFlows::operations))]
-fn step_at(
+fn step_at<F: WordFacts>(
     insns: &[Insn],
+    facts: &F,
     index: usize,
     registers: &mut KnownRegisters,
 ) -> Step<FilterNode, SideLeaf>
@@ -67,20 +75,22 @@ fn step_at(
     requires valid { IsValidList insns.now }
     requires safe { (words : List ℕ) → RunsSafely insns.now words }
     requires values { AreValues registers.old }
-    ensures { IsStep (leaves_of_filter insns.now) IsWords (filter_tree insns.now registers.old)
-        (FilterNode.At index) (filter_tree insns.now registers.new) result }
+    ensures { IsStep (leaves_of_filter insns.now)
+        (λ words. IsWords words × F.allows facts.now (F.level facts.now) words)
+        (filter_tree insns.now registers.old) (FilterNode.At index) (filter_tree insns.now registers.new) result }
 {
     let insn = insns[index];
     match insn.operation() {
-        Some(operation) => step_of(insns, index, insn, operation, registers),
+        Some(operation) => step_of(insns, facts, index, insn, operation, registers),
         None => unreachable!(),
     }
 }
 
 /// The step from an instruction with this operation.
 #[tactic(auto, using(crate::proofs::ControlFlows::load_fits, crate::proofs::ControlFlows::scratch_fits))]
-fn step_of(
+fn step_of<F: WordFacts>(
     insns: &[Insn],
+    facts: &F,
     index: usize,
     insn: Insn,
     operation: Operation,
@@ -90,12 +100,13 @@ fn step_of(
     requires valid { IsValidList insns.now }
     requires safe { (words : List ℕ) → RunsSafely insns.now words }
     requires values { AreValues registers.old }
-    ensures { IsStep (leaves_of_filter insns.now) IsWords (filter_tree insns.now registers.old)
-        (FilterNode.At index) (filter_tree insns.now registers.new) result }
+    ensures { IsStep (leaves_of_filter insns.now)
+        (λ words. IsWords words × F.allows facts.now (F.level facts.now) words)
+        (filter_tree insns.now registers.old) (FilterNode.At index) (filter_tree insns.now registers.new) result }
 {
     match ControlFlow::of(insns, index, insn, operation) {
         ControlFlow::FallThrough(next) => {
-            registers.apply(insn, operation);
+            registers.apply(facts, insn, operation);
             Step::Next(FilterNode::At(next))
         }
         ControlFlow::Jump(target) => Step::Next(FilterNode::At(target)),
@@ -103,13 +114,17 @@ fn step_of(
             if if_true == if_false {
                 return Step::Next(FilterNode::At(if_true));
             }
-            let decision = registers.a.decide(test, registers.operand(operand, insn));
+            let decision = registers
+                .a
+                .decide(facts, test, registers.operand(operand, insn));
+            registers.note_open(decision);
             step_by(decision, FilterNode::At(if_true), FilterNode::At(if_false))
         }
         ControlFlow::DivideByIndex(next) => {
-            let decision = registers.x.decide(Test::Equal, Value::Known(0));
+            let decision = registers.x.decide(facts, Test::Equal, Value::Known(0));
             let stopped = FilterNode::Stopped(Answer(0), index);
-            registers.apply(insn, operation);
+            registers.note_open(decision);
+            registers.apply(facts, insn, operation);
             step_by(decision, stopped, FilterNode::At(next))
         }
         ControlFlow::ReturnConstant => Step::Leaf(SideLeaf {
@@ -117,7 +132,7 @@ fn step_of(
             at: index,
         }),
         ControlFlow::ReturnAccumulator => Step::Leaf(SideLeaf {
-            answer: registers.a.answer(),
+            answer: registers.answer(facts),
             at: index,
         }),
     }
@@ -134,8 +149,8 @@ fn step_by(
     match decision {
         Decision::Known(true) => Step::Next(if_true),
         Decision::Known(false) => Step::Next(if_false),
-        Decision::Asks(atoms, true) => Step::Branch(Some(atoms), if_true, if_false),
-        Decision::Asks(atoms, false) => Step::Branch(Some(atoms), if_false, if_true),
-        Decision::Open => Step::Branch(None, if_true, if_false),
+        Decision::Asks(atom, true) => Step::Branch(Some(atom), if_true, if_false),
+        Decision::Asks(atom, false) => Step::Branch(Some(atom), if_false, if_true),
+        Decision::Open(_) => Step::Branch(None, if_true, if_false),
     }
 }

@@ -7,10 +7,9 @@ ghost use Rattle.scf_compare.specs.internal.Frontier.{GivesLearned, LearnsOfWord
 ghost use Rattle.scf_compare.specs.internal.Stages.{LeadsTo, IsTaken};
 ghost use Rattle.scf_compare.specs.internal.Trees.{IsProper};
 
-use crate::asking::{Atoms, Remaining};
 use crate::comparison::Comparison;
 use crate::step::Step;
-use scf_facts::WordFacts;
+use scf_facts::{Atom, Tell, WordFacts};
 use scf_insn::Memory;
 use std::alloc::Global;
 
@@ -19,7 +18,7 @@ use std::alloc::Global;
 pub(crate) struct OpenBranch<K, N> {
     pub(crate) known: K,
     pub(crate) node: N,
-    pub(crate) learned: Option<(Atoms, bool)>,
+    pub(crate) learned: Option<(Atom, bool)>,
 }
 
 /// The store at the current node, and the open branches, the newest last.
@@ -44,11 +43,11 @@ impl<F: WordFacts, K: Copy, N: Drop> Frontier<F, K, N> {
     }
 
     /// Opens a branch at the current state of the store.
-    fn branch_out(
+    pub(crate) fn branch_out(
         &mut self,
         known: K,
         node: N,
-        learned: Option<(Atoms, bool)>,
+        learned: Option<(Atom, bool)>,
     ) -> Result<(), Memory>
         ensures branches { OnOk result (
             self.new.branches.items
@@ -71,7 +70,7 @@ impl<F: WordFacts, K: Copy, N: Drop> Frontier<F, K, N> {
 }
 
 /// Learns an answer, if there is one.
-fn learn_answer<F: WordFacts>(facts: &mut F, learned: Option<(Atoms, bool)>) -> Result<(), Memory>
+fn learn_answer<F: WordFacts>(facts: &mut F, learned: Option<(Atom, bool)>) -> Result<(), Memory>
     requires { LearnsOfWords learned }
     ensures marks { F.level facts.new ≡ F.level facts.old }
     ensures at_marks { (index : ℕ) → index < F.level facts.old
@@ -82,7 +81,7 @@ fn learn_answer<F: WordFacts>(facts: &mut F, learned: Option<(Atoms, bool)>) -> 
         → IsTrue (F.is_exact facts.old (F.level facts.old)) → IsTrue (F.is_exact facts.new (F.level facts.old))) }
 {
     match learned {
-        Some((atoms, answer)) => atoms.learn(facts, answer),
+        Some((atom, answer)) => facts.learn(atom, answer),
         None => Ok(()),
     }
 }
@@ -115,25 +114,25 @@ pub(crate) fn ask<C: Comparison, F: WordFacts>(
     comparison: &C,
     frontier: &mut Frontier<F, C::Known, C::Node>,
     known: &C::Known,
-    atoms: Atoms,
+    atom: Atom,
     if_true: C::Node,
     if_false: C::Node,
 ) -> Result<C::Node, Memory>
     requires frontier { IsFrontier F.WordFacts (C.tree comparison.now)
         (AreWordsIn (C.compared comparison.now)) frontier.old }
-    requires proper { let step = Step.Branch (Some atoms) if_true if_false in
+    requires proper { let step = Step.Branch (Some atom) if_true if_false in
         IsProper (C.tree comparison.now known.now) (IsLeaf (C.compared comparison.now)) step }
-    ensures { let step = Step.Branch (Some atoms) if_true if_false in
+    ensures { let step = Step.Branch (Some atom) if_true if_false in
         IfOk result (LeadsTo F.WordFacts (C.compared comparison.now) (C.tree comparison.now)
         frontier.old frontier.new (C.tree comparison.now known.now) step) }
 {
     let _ = comparison;
-    match atoms.remaining(&frontier.facts) {
-        Remaining::Known(true) => Ok(if_true),
-        Remaining::Known(false) => Ok(if_false),
-        Remaining::Unknown(atoms) => {
-            frontier.branch_out(*known, if_false, Some((atoms, false)))?;
-            atoms.learn(&mut frontier.facts, true)?;
+    match frontier.facts.tell(atom) {
+        Tell::Always => Ok(if_true),
+        Tell::Never => Ok(if_false),
+        Tell::Maybe => {
+            frontier.branch_out(*known, if_false, Some((atom, false)))?;
+            frontier.facts.learn(atom, true)?;
             Ok(if_true)
         }
     }

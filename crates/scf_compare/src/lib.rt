@@ -22,28 +22,38 @@
 //! With a filter on the right, too, nothing else changes: the same filter on both sides, and the walk asks `jeq #41` a
 //! second time behind each leaf of the first. The store knows the answer by then.
 //!
-//! A value that the filter computes stays known while it is a bit slice of a word (`bit_slice`), such a slice plus a
-//! constant (`affine_term`), or something whose test for 0 is one or two equations (`conjunction`). Everything else is
-//! unknown: the walk follows both sides of its tests and learns nothing, so a leaf behind may stay undecided.
-//! `Undecided` is the finding only if everything else was seen and nothing fails.
+//! A value that the filter computes stays known while it is a bit slice of a word (`bit_slice`). Of everything else
+//! only single bits are known (`computed`): those that follow from the operands' known bits (`known_bits`). Where
+//! neither an atom nor the known bits decide a test, the walk follows both sides and learns nothing, so a leaf behind
+//! may stay undecided. The path remembers the first such test, by the bits of the record on which it depends
+//! (`sources`).
+//!
+//! If the walk ends with such a leaf, and nothing fails, a second one begins (`settle`). Take the filter `ld [16]; add
+//! #1; jgt #9, ..`: the sum is unknown, and the test is open. The second walk splits there, on a bit of word 4: it opens
+//! a branch where the highest bit is clear, learns that it is set, and begins at the root again (`settling`). The sum is
+//! now known to be above 9, or 0 where all bits are set; that one is split off by further bits. The bits that splits
+//! have fixed go along (`fixed_bits`); where all are, there is one record, and both sides answer it. So with enough
+//! splits (`budget`) every comparison ends with `Holds` or `Fails`, else with `Undecided`.
 //!
 //! A stack of filters is walked oldest first (`stack`). The proofs of the walk speak of trees (`comparison`), and
 //! neither of instructions nor of rules. `Verdict` is the finding on a filter, on the left, and a profile (`comparer`).
 #![tactic(auto)]
 
-mod affine_term;
 mod asking;
 mod bit_slice;
+mod budget;
 mod by_number;
 mod comparer;
 mod comparison;
-mod conjunction;
+mod computed;
 mod control_flow;
 mod decided;
 mod explore;
 mod filter;
 mod finding;
+mod fixed_bits;
 mod frontier;
+mod known_bits;
 mod laws;
 mod pair;
 mod plain;
@@ -51,14 +61,18 @@ mod profile;
 mod question;
 mod registers;
 mod scope;
+mod settle;
+mod settling;
 mod side;
 mod side_tree;
+mod sources;
 mod stack;
 mod step;
 mod tree_sizes;
 mod value;
 mod verdict;
 
+pub use budget::{Limit, Splits};
 pub use comparer::{compare, compare_by, compare_sides, compare_sides_within, compare_stack};
 pub use finding::{Finding, Which};
 pub use laws::{

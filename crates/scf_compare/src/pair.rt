@@ -7,7 +7,9 @@ ghost use Rattle.scf_compare.specs.internal.Trees.{IsStep};
 
 use crate::comparison::{Comparison, PairLeaf};
 use crate::decided::decided_step;
+use crate::scope::is_in_scope;
 use crate::side_tree::{SideLeaf, SideTree};
+use crate::sources::OpenTest;
 use crate::step::Step;
 use scf_facts::WordFacts;
 use scf_insn::{Answer, CallRecord};
@@ -55,8 +57,8 @@ impl<L: SideTree, R: SideTree> Comparison for Pair<L, R> {
         match *node {
             PairNode::AtLeft(node) => match self.left.step(facts, &mut known.left, node) {
                 Step::Next(next) => Step::Next(PairNode::AtLeft(next)),
-                Step::Branch(atoms, if_true, if_false) => Step::Branch(
-                    atoms,
+                Step::Branch(atom, if_true, if_false) => Step::Branch(
+                    atom,
                     PairNode::AtLeft(if_true),
                     PairNode::AtLeft(if_false),
                 ),
@@ -70,12 +72,23 @@ impl<L: SideTree, R: SideTree> Comparison for Pair<L, R> {
         }
     }
 
+    fn open_test(&self, known: &PairKnown<L::Known, R::Known>) -> Option<OpenTest> {
+        match self.left.open_test(&known.left) {
+            None => self.right.open_test(&known.right),
+            open => open,
+        }
+    }
+
     fn answers(&self, call: &CallRecord) -> (Answer, Answer) {
         (self.left.answer(call), self.right.answer(call))
     }
 
     fn relates(&self, left: Answer, right: Answer) -> bool {
         self.by.relates(left, right)
+    }
+
+    fn is_in_scope(&self, call: &CallRecord) -> bool {
+        is_in_scope(self.over, call)
     }
 
     ghost use Rattle.scf_compare.specs.internal.Laws.{pair_counts};
@@ -104,8 +117,8 @@ impl<L: SideTree, R: SideTree> Pair<L, R> {
     {
         match decided_step(&self.right, facts, known, node) {
             Step::Next(next) => Step::Next(PairNode::AtRight(leaf, next)),
-            Step::Branch(atoms, if_true, if_false) => Step::Branch(
-                atoms,
+            Step::Branch(atom, if_true, if_false) => Step::Branch(
+                atom,
                 PairNode::AtRight(leaf, if_true),
                 PairNode::AtRight(leaf, if_false),
             ),

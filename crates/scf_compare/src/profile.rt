@@ -16,10 +16,11 @@ ghost use Rattle.scf_compare.specs.internal.Profiles.{own_conditions, own_rules,
 ghost use Rattle.scf_compare.specs.internal.Profiles.{profile_size, profile_tree, size_behind, size_of_rest};
 ghost use Rattle.scf_compare.specs.internal.Trees.{IsStep};
 
-use crate::asking::{Atoms, word_is};
+use crate::asking::word_is;
 use crate::by_number::ByNumber;
 use crate::question::{ConditionPart, Successor, question_of};
 use crate::side_tree::{SideLeaf, SideTree};
+use crate::sources::OpenTest;
 use crate::step::Step;
 use scf_facts::{Atom, Tell, WordFacts};
 use scf_insn::{Answer, CallRecord};
@@ -78,6 +79,11 @@ impl SideTree for ByNumber<'_> {
         self.step_from(facts, node)
     }
 
+    fn open_test(&self, known: &()) -> Option<OpenTest> {
+        let _ = known;
+        None
+    }
+
     #[tactic(auto, using(crate::proofs::Relations::single_answers))]
     fn answer(&self, call: &CallRecord) -> Answer {
         call.within_widths();
@@ -105,23 +111,23 @@ impl ByNumber<'_> {
         let architecture = self.profile().architecture();
         match node {
             ProfileNode::Architecture => Step::Branch(
-                Some(Atoms::One(word_is(1, architecture.audit()))),
+                Some(word_is(1, architecture.audit())),
                 self.at_first(),
                 ProfileNode::Answer(FOREIGN_ANSWER),
             ),
             ProfileNode::First => Step::Branch(
-                Some(Atoms::One(Atom::Ge {
+                Some(Atom::Ge {
                     word: 0,
                     value: architecture.first(),
-                })),
+                }),
                 self.at_last(),
                 ProfileNode::Answer(FOREIGN_ANSWER),
             ),
             ProfileNode::Last => Step::Branch(
-                Some(Atoms::One(Atom::Ge {
+                Some(Atom::Ge {
                     word: 0,
                     value: architecture.last() + 1,
-                })),
+                }),
                 ProfileNode::Answer(FOREIGN_ANSWER),
                 ProfileNode::Number(0),
             ),
@@ -179,7 +185,7 @@ impl ByNumber<'_> {
             return Step::Leaf(SideLeaf::of_profile(default_answer));
         }
         Step::Branch(
-            Some(Atoms::One(word_is(0, own.number))),
+            Some(word_is(0, own.number)),
             self.next_rule(from, 0),
             ProfileNode::Number(from + 1),
         )
@@ -308,7 +314,7 @@ impl ByNumber<'_> {
             Step::Next(self.follow(at, question.successor_at_zero()))
         } else {
             Step::Branch(
-                Some(Atoms::One(question.atom)),
+                Some(question.atom),
                 self.follow(at, question.if_true),
                 self.follow(at, question.if_false),
             )

@@ -5,7 +5,6 @@ ghost use Rattle.scf_insn.specs.Kernel.{seccomp_data_args};
 ghost use Rattle.scf_facts.specs.Atoms.{word_of};
 ghost use Rattle.scf_profile.specs.NumberTests.{IsPlainTest, test_of};
 ghost use Rattle.scf_profile.specs.PlainProfile.{IsPlainCondition};
-ghost use Rattle.scf_compare.specs.declared.asking.Atoms.TheVariants.{One};
 ghost use Rattle.scf_compare.specs.internal.Conditions.{CostsAt, IsAtTest, Splits, asks_of_zero, successor_at_zero, word_asked};
 ghost use Rattle.scf_compare.specs.internal.Asking.{KeepsEither};
 
@@ -87,7 +86,7 @@ fn ask_test(test: NumberTest, expected: bool, part: ConditionPart, low: u8) -> Q
     ensures word { word_of result.atom ≡ word_asked part low }
     ensures splits { (n : ℕ) → n < 2 ^ 64 → IsAtTest test part n → Splits (test, expected) part result n }
     ensures costs { CostsAt part result }
-    ensures keeps { IsPlainTest test → KeepsEither (One result.atom) }
+    ensures keeps { IsPlainTest test → KeepsEither result.atom }
 {
     let high = low + 1;
     let (met, unmet) = (Decided(expected), Decided(!expected));
@@ -150,7 +149,7 @@ pub(crate) fn question_of(condition: Condition, part: ConditionPart) -> Question
     ensures splits { let test = test_of condition in
         (n : ℕ) → n < 2 ^ 64 → IsAtTest test.0 part n → Splits test part result n }
     ensures costs { CostsAt part result }
-    ensures keeps { IsPlainCondition condition → KeepsEither (One result.atom) }
+    ensures keeps { IsPlainCondition condition → KeepsEither result.atom }
 {
     let (test, expected) = condition.test();
     ask_test(test, expected, part, 2 * condition.index + 4)

@@ -1,6 +1,6 @@
 //! What is known of the registers and scratch words on a path through a filter.
 
-ghost use Rattle.std.specs.Prelude.{◌≡◌, ℕ, ◌+◌, ◌<◌, List};
+ghost use Rattle.std.specs.Prelude.{◌≡◌, ℕ, ◌+◌, ◌<◌, List, IfSome};
 ghost use Rattle.scf_insn.specs.Kernel.{bpf_memwords};
 ghost use Rattle.scf_insn.specs.Words.{IsWords};
 ghost use Rattle.scf_machine.specs.Machine.{
@@ -18,9 +18,12 @@ ghost use Rattle.scf_compare.specs.internal.ControlFlow.{UsesScratch};
 ghost use Rattle.scf_compare.specs.internal.Values.{IsValue, Abstracts, IsPlainValue, AreValues, Describes};
 
 use crate::bit_slice::BitSlice;
-use crate::value::Value;
+use crate::computed::Computed;
+use crate::sources::OpenTest;
+use crate::value::{Decision, Value};
+use scf_facts::WordFacts;
 use scf_insn::kernel::{BPF_MEMWORDS, SECCOMP_DATA_LEN};
-use scf_insn::{Arithmetic, Insn, Operand, Operation, Register};
+use scf_insn::{Answer, Arithmetic, Insn, Operand, Operation, Register};
 
 /// What is known of both registers and the sixteen scratch words.
 #[derive(Clone, Copy)]
@@ -28,11 +31,13 @@ pub(crate) struct KnownRegisters {
     pub(crate) a: Value,
     pub(crate) x: Value,
     pub(crate) scratch: [Value; BPF_MEMWORDS],
+    /// The first test on the path that nothing known decides.
+    pub(crate) open: Option<OpenTest>,
 }
 
 impl KnownRegisters {
-    /// At the start of a run: both registers are 0, and no scratch word is stored.
-    pub(crate) fn at_start() -> KnownRegisters
+    /// At the start of a run: both registers are 0, and no scratch word is stored. `open` is of the filters before.
+    pub(crate) fn at_start(open: Option<OpenTest>) -> KnownRegisters
         ensures values { AreValues result }
         ensures describes { (words : List ℕ) → Describes result words start }
         ensures plain { IsPlainValue result.a }
@@ -40,7 +45,8 @@ impl KnownRegisters {
         KnownRegisters {
             a: Value::Known(0),
             x: Value::Known(0),
-            scratch: [Value::Unknown; BPF_MEMWORDS],
+            scratch: [Value::Computed(Computed::UNKNOWN); BPF_MEMWORDS],
+            open,
         }
     }
 
@@ -100,25 +106,68 @@ impl KnownRegisters {
     }
 
     /// The second operand of a computation.
-    fn operand_in_computation(&self, arithmetic: Arithmetic, operand: Operand, insn: Insn) -> Value
+    fn operand_in_computation<F: WordFacts>(
+        &self,
+        facts: &F,
+        arithmetic: Arithmetic,
+        operand: Operand,
+        insn: Insn,
+    ) -> Value
         requires { AreValues self.now }
         ensures value { IsValue result }
-        ensures stands { (words : List ℕ) (s : State) → Describes self.now words s
+        ensures stands { (words : List ℕ) (s : State) → F.allows facts.now (F.level facts.now) words
+            → Describes self.now words s
             → Abstracts result words (operand_in_computation arithmetic operand insn s) }
     {
         match (operand, arithmetic) {
-            (Operand::Index, Arithmetic::Lsh | Arithmetic::Rsh) => self.x.low_five_bits(),
+            (Operand::Index, Arithmetic::Lsh | Arithmetic::Rsh) => self.x.low_five_bits(facts),
             _ => self.operand(operand, insn),
         }
     }
 
+    /// The accumulator as an answer, if it is known. Else its return is an open test.
+    pub(crate) fn answer<F: WordFacts>(&mut self, facts: &F) -> Option<Answer>
+        requires { AreValues self.old }
+        ensures { (words : List ℕ) (s : State) → F.allows facts.now (F.level facts.now) words
+            → Describes self.old words s
+            → IfSome result (λ answer. s.a ≡ answer.0) }
+    {
+        let computed = self.a.in_bits(facts);
+        match computed.number() {
+            Some(number) => Some(Answer(number)),
+            None => {
+                let sources = computed.sources;
+                self.note_open(Decision::Open(OpenTest {
+                    sources,
+                    is_order: sources.is_lowered(),
+                }));
+                None
+            }
+        }
+    }
+
+    /// Notes a test that is open, if it is the first one on the path.
+    pub(crate) fn note_open(&mut self, decision: Decision)
+        requires { AreValues self.old }
+        ensures values { AreValues self.new }
+        ensures describes { (words : List ℕ) (s : State) → Describes self.old words s → Describes self.new words s }
+        ensures accumulator { self.new.a ≡ self.old.a }
+    {
+        if let Decision::Open(test) = decision
+            && self.open.is_none()
+        {
+            self.open = Some(test);
+        }
+    }
+
     /// Applies an instruction that doesn't return.
-    pub(crate) fn apply(&mut self, insn: Insn, operation: Operation)
+    pub(crate) fn apply<F: WordFacts>(&mut self, facts: &F, insn: Insn, operation: Operation)
         requires values { AreValues self.old }
         requires load { operation ≡ Operation.LoadWord → insn.k < 64 }
         requires scratch { UsesScratch operation → insn.k < bpf_memwords }
         ensures values { AreValues self.new }
         ensures describes { (words : List ℕ) (s t : State) → IsWords words
+            → F.allows facts.now (F.level facts.now) words
             → Describes self.old words s
             → effect operation insn words s ≡ Goes t
             → Describes self.new words t }
@@ -142,12 +191,12 @@ impl KnownRegisters {
                 self.store(insn.k as u8, value)
             }
             Operation::Compute(arithmetic, operand) => {
-                let value = self.operand_in_computation(arithmetic, operand, insn);
-                let computed = self.a.computed(arithmetic, value);
+                let value = self.operand_in_computation(facts, arithmetic, operand, insn);
+                let computed = self.a.computed(facts, arithmetic, value);
                 self.set(Register::A, computed)
             }
             Operation::Negate => {
-                let negated = self.a.taken_from(0);
+                let negated = Value::Known(0).computed(facts, Arithmetic::Sub, self.a);
                 self.set(Register::A, negated)
             }
             Operation::CopyToIndex => {

@@ -2,12 +2,13 @@
 
 ghost use Rattle.std.specs.Prelude.{◌≡◌, ◌≤◌, ◌↔◌, ℕ, List, IsTrue, IfOk, slice_index};
 ghost use Rattle.scf_insn.specs.Words.{IsWords};
+ghost use Rattle.scf_profile.specs.Scope.{IsInScope};
 ghost use Rattle.scf_compare.specs.internal.ScopeWords.{AreWordsOf};
 
 use crate::asking::word_is;
 use scf_facts::{Atom, WordFacts};
 use scf_insn::kernel::AUDIT_ARCH_X86_64;
-use scf_insn::{Architecture, Memory};
+use scf_insn::{Architecture, CallRecord, Memory};
 use scf_profile::Scope;
 use std::alloc::Global;
 
@@ -40,6 +41,26 @@ pub(crate) fn facts_of<F: WordFacts>(alloc: Global, scope: Scope) -> Result<F, M
             let own: F = facts_of_architecture(alloc, architecture)?;
             within_numbers(own, first, last)
         }
+    }
+}
+
+/// Whether a call is one of the scope.
+pub(crate) fn is_in_scope(scope: Scope, call: &CallRecord) -> bool
+    ensures { IsTrue result ↔ IsInScope scope call.now }
+{
+    match scope {
+        Scope::All => true,
+        Scope::Native => Architecture::X8664.has(call),
+        Scope::Call(number) => call.arch == AUDIT_ARCH_X86_64 && call.nr == number,
+        Scope::Numbers { first, last } => {
+            Architecture::X8664.has(call) && first <= call.nr && call.nr <= last
+        }
+        Scope::Of(architecture) => architecture.has(call),
+        Scope::NumbersOf {
+            architecture,
+            first,
+            last,
+        } => architecture.has(call) && first <= call.nr && call.nr <= last,
     }
 }
 

@@ -6,6 +6,7 @@ ghost use Rattle.scf_compare.specs.Sides.{Behavior};
 ghost use Rattle.scf_compare.specs.internal.Leaves.{IsOnlyAnswer, side_leaves};
 ghost use Rattle.scf_compare.specs.internal.Trees.{Tree, IsStep};
 
+use crate::sources::OpenTest;
 use crate::step::Step;
 use scf_facts::WordFacts;
 use scf_insn::{Answer, CallRecord};
@@ -59,6 +60,9 @@ pub(crate) trait SideTree {
         ensures { IsStep (side_leaves (behavior self.now))
             (λ words. IsWords words × F.allows facts.now (F.level facts.now) words)
             (tree self.now known.old) node (tree self.now known.new) result };
+
+    /// The first test on the path to a node that nothing known decides, given what is known there.
+    fn open_test(&self, known: &Self::Known) -> Option<OpenTest>;
 
     /// The answer to a call, which is the only one.
     fn answer(&self, call: &CallRecord) -> Answer

@@ -16,6 +16,7 @@ ghost use Rattle.scf_compare.specs.internal.Trees.{IsStep};
 use crate::filter::{FilterNode, start_in_filter, step_in_filter};
 use crate::registers::KnownRegisters;
 use crate::side_tree::{SideLeaf, SideTree};
+use crate::sources::OpenTest;
 use crate::step::Step;
 use StackNode::{At, Empty};
 use scf_facts::WordFacts;
@@ -56,8 +57,11 @@ impl SideTree for StackSide<'_> {
         known: &mut KnownRegisters,
         node: StackNode,
     ) -> Step<StackNode, SideLeaf> {
-        let _ = facts;
-        step_in_stack(self.filters, known, node)
+        step_in_stack(self.filters, facts, known, node)
+    }
+
+    fn open_test(&self, known: &KnownRegisters) -> Option<OpenTest> {
+        known.open
     }
 
     fn answer(&self, call: &CallRecord) -> Answer {
@@ -81,20 +85,22 @@ fn start_of(filters: &[Program]) -> (KnownRegisters, StackNode)
     ensures plain { All IsPlainProgram filters.now → stack_is_plain filters.now result.0 result.1 }
 {
     if filters.is_empty() {
-        return (KnownRegisters::at_start(), Empty);
+        return (KnownRegisters::at_start(None), Empty);
     }
-    let (known, node) = start_in_filter(filter_of(filters, 0));
+    let (known, node) = start_in_filter(filter_of(filters, 0), None);
     (known, At(0, None, node))
 }
 
 /// The step from a node of the stack, and what is known of the registers after it.
-fn step_in_stack(
+fn step_in_stack<F: WordFacts>(
     filters: &[Program],
+    facts: &F,
     registers: &mut KnownRegisters,
     node: StackNode,
 ) -> Step<StackNode, SideLeaf>
     requires { stack_is_node filters.now registers.old node }
-    ensures { IsStep (leaves_of_stack filters.now) IsWords
+    ensures { IsStep (leaves_of_stack filters.now)
+        (λ words. IsWords words × F.allows facts.now (F.level facts.now) words)
         (stack_tree filters.now registers.old) node (stack_tree filters.now registers.new) result }
 {
     match node {
@@ -102,7 +108,7 @@ fn step_in_stack(
             answer: Some(Answer::new(Action::Allow, 0)),
             at: 0,
         }),
-        At(index, older, node) => step_from(filters, registers, index, older, node),
+        At(index, older, node) => step_from(filters, facts, registers, index, older, node),
     }
 }
 
@@ -145,25 +151,28 @@ fn decided_at(older: Option<SideLeaf>, newest: SideLeaf) -> SideLeaf
 /// The step from a node of a filter, and what is known of its registers after it. At a leaf the next newer filter
 /// begins.
 #[tactic(auto, using(crate::specs::internal::Laws::paths_count, crate::specs::internal::Laws::scaled_costs))]
-fn step_from(
+fn step_from<F: WordFacts>(
     filters: &[Program],
+    facts: &F,
     registers: &mut KnownRegisters,
     first: usize,
     decided: Option<SideLeaf>,
     begun: FilterNode,
 ) -> Step<StackNode, SideLeaf>
     requires { stack_is_node filters.now registers.old (StackNode.At first decided begun) }
-    ensures { IsStep (leaves_of_stack filters.now) IsWords (stack_tree filters.now registers.old)
-        (StackNode.At first decided begun) (stack_tree filters.now registers.new) result }
+    ensures { IsStep (leaves_of_stack filters.now)
+        (λ words. IsWords words × F.allows facts.now (F.level facts.now) words)
+        (stack_tree filters.now registers.old) (StackNode.At first decided begun)
+        (stack_tree filters.now registers.new) result }
 {
     let mut index = first;
     let mut older = decided;
     let mut node = begun;
     loop {
-        match step_in_filter(filter_of(filters, index), registers, node) {
+        match step_in_filter(filter_of(filters, index), facts, registers, node) {
             Step::Next(next) => return Step::Next(At(index, older, next)),
-            Step::Branch(atoms, if_true, if_false) => {
-                return Step::Branch(atoms, At(index, older, if_true), At(index, older, if_false));
+            Step::Branch(atom, if_true, if_false) => {
+                return Step::Branch(atom, At(index, older, if_true), At(index, older, if_false));
             }
             Step::Leaf(leaf) => {
                 let decided = decided_at(older, leaf);
@@ -172,7 +181,7 @@ fn step_from(
                     return Step::Leaf(decided);
                 }
                 older = Some(decided);
-                let (known, start) = start_in_filter(filter_of(filters, index));
+                let (known, start) = start_in_filter(filter_of(filters, index), registers.open);
                 *registers = known;
                 node = start;
             }

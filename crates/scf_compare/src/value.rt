@@ -1,21 +1,20 @@
 //! Abstract values: what is known of a register or a scratch word on a path through a filter.
 
-ghost use Rattle.std.specs.Prelude.{◌≡◌, ◌==◌, ℕ, ◌+◌, ◌-◌, ◌%◌, ◌^◌, ◌<◌, List, Bool, not, IfSome, IsTrue, bit_or};
+ghost use Rattle.std.specs.Prelude.{◌≡◌, ℕ, ◌%◌, ◌^◌, ◌<◌, List, Bool, not, IfSome, IsTrue};
 ghost use Rattle.scf_insn.specs.SimpleMask.{IsSimpleMask};
 ghost use Rattle.scf_insn.specs.Words.{IsWords};
 ghost use Rattle.scf_machine.specs.Machine.{holds, value_computed};
 ghost use Rattle.scf_compare.specs.internal.BitSlices.{IsBitSlice, IsWhole, bit_slice_value};
-ghost use Rattle.scf_compare.specs.internal.AffineTerms.{affine_value};
 ghost use Rattle.scf_compare.specs.internal.Values.{IsValue, Abstracts, IsPlainValue, IsTestDecision, Decides};
-ghost use Rattle.scf_compare.specs.internal.Values.{IsPlainDecision};
+ghost use Rattle.scf_compare.specs.internal.Values.{IsPlainDecision, IsComputedNumber};
 
-use crate::affine_term::AffineTerm;
-use crate::asking::Atoms;
 use crate::bit_slice::BitSlice;
-use crate::conjunction::Conjunction;
-use scf_facts::Atom;
-use scf_insn::{Answer, Arithmetic, Test};
-use scf_machine::{compute, holds_of};
+use crate::computed::Computed;
+use crate::known_bits::{known_outcome, told_bits};
+use crate::sources::OpenTest;
+use scf_facts::{Atom, WordFacts};
+use scf_insn::{Arithmetic, Test};
+use scf_machine::holds_of;
 
 /// What is known of a value that a filter computes.
 #[derive(Clone, Copy)]
@@ -23,137 +22,133 @@ pub(crate) enum Value {
     Known(u32),
     /// A bit slice of a word of the record.
     Slice(BitSlice),
-    /// A bit slice of a word plus a constant, or a constant minus one.
-    AffineTerm(AffineTerm),
-    /// Zero exactly if words of the record under masks have given values.
-    ZeroTest(Conjunction),
-    Unknown,
+    /// Anything else, by the bits that are known of it.
+    Computed(Computed),
 }
 
 /// The decision of a test.
 #[derive(Clone, Copy)]
 pub(crate) enum Decision {
     Known(bool),
-    /// It holds exactly if the atoms have this answer.
-    Asks(Atoms, bool),
-    /// No atom decides it.
-    Open,
+    /// It holds exactly if the atom has this answer.
+    Asks(Atom, bool),
+    /// Neither an atom nor the known bits decide it.
+    Open(OpenTest),
 }
 
 impl Value {
-    /// The value as an answer, if it is known.
-    pub(crate) fn answer(self) -> Option<Answer>
-        ensures { (words : List ℕ) (x : ℕ) → Abstracts self words x → IfSome result (λ answer. x ≡ answer.0) }
+    /// The known bits of the value, and the bits of the record's words on which it depends.
+    pub(crate) fn in_bits<F: WordFacts>(self, facts: &F) -> Computed
+        requires { IsValue self }
+        ensures { (words : List ℕ) (x : ℕ) → F.allows facts.now (F.level facts.now) words
+            → Abstracts self words x
+            → IsComputedNumber result x }
     {
         match self {
-            Value::Known(value) => Some(Answer(value)),
-            _ => None,
+            Value::Known(value) => Computed::constant(value),
+            Value::Slice(bit_slice) => bit_slice.in_bits(told_bits(facts, bit_slice.word)),
+            Value::Computed(computed) => computed,
         }
     }
 
     /// The abstract result of `self op other`.
-    pub(crate) fn computed(self, arithmetic: Arithmetic, other: Value) -> Value
+    pub(crate) fn computed<F: WordFacts>(
+        self,
+        facts: &F,
+        arithmetic: Arithmetic,
+        other: Value,
+    ) -> Value
         requires value { IsValue self }
         requires other { IsValue other }
         ensures value { IsValue result }
-        ensures stands { (words : List ℕ) (a v : ℕ) → Abstracts self words a
+        ensures stands { (words : List ℕ) (a v : ℕ) → F.allows facts.now (F.level facts.now) words
+            → Abstracts self words a
             → Abstracts other words v
             → Abstracts result words (value_computed arithmetic a v) }
     {
-        match (self, other, arithmetic) {
-            (_, Value::Known(v), _) => self.computed_with(arithmetic, v),
-            (Value::Known(a), _, Arithmetic::Sub) => other.taken_from(a),
-            (Value::Known(a), _, _) if is_commutative(arithmetic) => {
-                other.computed_with(arithmetic, a)
-            }
-            (Value::Slice(first), Value::Slice(second), _) if first.is_shifted_as(second) => {
-                first.joined(arithmetic, second)
-            }
-            (_, _, Arithmetic::Or) => self.either(other),
-            _ => Value::Unknown,
+        match self.bit_slice_computed(arithmetic, other) {
+            Some(value) => value,
+            None => self
+                .in_bits(facts)
+                .combined(arithmetic, other.in_bits(facts))
+                .value(),
         }
     }
 
-    /// Abstract `self | other`. For operands over at most two words, only when the result is zero is kept.
-    fn either(self, other: Value) -> Value
-        requires first { IsValue self }
-        requires second { IsValue other }
-        ensures value { IsValue result }
-        ensures stands { (words : List ℕ) (a b : ℕ) → Abstracts self words a
-            → Abstracts other words b
-            → Abstracts result words (bit_or a b) }
+    /// The abstract result of `self op other`, if it is that of a bit slice and a constant.
+    fn bit_slice_computed(self, arithmetic: Arithmetic, other: Value) -> Option<Value>
+        requires value { IsValue self }
+        requires other { IsValue other }
+        ensures value { IfSome result IsValue }
+        ensures stands { IfSome result (λ value. (words : List ℕ) (a v : ℕ) → Abstracts self words a
+            → Abstracts other words v
+            → Abstracts value words (value_computed arithmetic a v)) }
     {
-        match (self.zeros(), other.zeros()) {
-            (Value::ZeroTest(first), Value::ZeroTest(second)) => match first.and(second) {
-                Some(both) => Value::ZeroTest(both),
-                None => Value::Unknown,
-            },
-            _ => Value::Unknown,
-        }
-    }
-
-    /// Only when the value is zero, of all that is known of it.
-    #[tactic(auto, using(crate::proofs::AffineTerms::number_fits))]
-    fn zeros(self) -> Value
-        requires { IsValue self }
-        ensures value { IsValue result }
-        ensures stands { (words : List ℕ) (a : ℕ) → Abstracts self words a → Abstracts result words a }
-    {
-        match self {
-            Value::Slice(bit_slice) => Conjunction::by_test(bit_slice.word, bit_slice.is(0)),
-            Value::AffineTerm(affine_term) => Conjunction::by_test(
-                affine_term.bit_slice.word,
-                affine_term.is(0),
+        match (self, other) {
+            (Value::Slice(bit_slice), Value::Known(v)) => bit_slice_result(
+                arithmetic, bit_slice, v,
             ),
-            Value::ZeroTest(conjunction) => Value::ZeroTest(conjunction),
-            Value::Known(_) | Value::Unknown => Value::Unknown,
-        }
-    }
-
-    /// The abstract result of `self op v`, for a constant `v`.
-    fn computed_with(self, arithmetic: Arithmetic, v: u32) -> Value
-        requires { IsValue self }
-        ensures value { IsValue result }
-        ensures stands { (words : List ℕ) (a : ℕ) → Abstracts self words a
-            → Abstracts result words (value_computed arithmetic a v) }
-    {
-        match self {
-            Value::Known(a) => known_result(arithmetic, a, v),
-            Value::Slice(bit_slice) => bit_slice_result(arithmetic, bit_slice, v),
-            Value::AffineTerm(affine_term) => affine_result(arithmetic, affine_term, v),
-            Value::ZeroTest(_) | Value::Unknown => Value::Unknown,
-        }
-    }
-
-    /// Abstract `v - self`, for a constant `v`.
-    pub(crate) fn taken_from(self, v: u32) -> Value
-        requires { IsValue self }
-        ensures value { IsValue result }
-        ensures stands { (words : List ℕ) (a : ℕ) → Abstracts self words a
-            → Abstracts result words ((v + 2 ^ 32 - a) % 2 ^ 32) }
-    {
-        match self {
-            Value::Known(a) => Value::Known(v.wrapping_sub(a)),
-            Value::Slice(bit_slice) => AffineTerm::of(bit_slice).taken_from(v).value(),
-            Value::AffineTerm(affine_term) => affine_term.taken_from(v).value(),
-            Value::ZeroTest(_) | Value::Unknown => Value::Unknown,
+            (Value::Known(a), Value::Slice(bit_slice)) if is_commutative(arithmetic) => {
+                bit_slice_result(arithmetic, bit_slice, a)
+            }
+            _ => None,
         }
     }
 
     /// Abstract `self & 31`.
-    pub(crate) fn low_five_bits(self) -> Value
+    pub(crate) fn low_five_bits<F: WordFacts>(self, facts: &F) -> Value
         requires { IsValue self }
         ensures value { IsValue result }
-        ensures stands { (words : List ℕ) (a : ℕ) → Abstracts self words a → Abstracts result words (a % 32) }
+        ensures stands { (words : List ℕ) (a : ℕ) → F.allows facts.now (F.level facts.now) words
+            → Abstracts self words a
+            → Abstracts result words (a % 32) }
     {
-        match self {
-            Value::Known(a) => Value::Known(a % 32),
-            _ => Value::Unknown,
-        }
+        self.computed(facts, Arithmetic::And, Value::Known(31))
     }
 
     /// The decision of the test of `self` against `other`.
-    pub(crate) fn decide(self, test: Test, other: Value) -> Decision
+    #[inline(always)]
+    pub(crate) fn decide<F: WordFacts>(self, facts: &F, test: Test, other: Value) -> Decision
+        requires value { IsValue self }
+        requires other { IsValue other }
+        ensures asks { IsTestDecision result }
+        ensures decides { (words : List ℕ) (a v : ℕ) → IsWords words
+            → F.allows facts.now (F.level facts.now) words
+            → Abstracts self words a
+            → Abstracts other words v
+            → Decides result words (holds test a v) }
+        ensures plain { (v : ℕ) → IsPlainValue self → other ≡ Value.Known v
+            → (test ≡ Test.CommonBit → IsSimpleMask v)
+            → IsPlainDecision result }
+    {
+        match self.decide_by_atoms(test, other) {
+            Decision::Open(_) => self.decide_by_bits(facts, test, other),
+            decision => decision,
+        }
+    }
+
+    /// The decision by the known bits of both.
+    #[cold]
+    #[inline(never)]
+    fn decide_by_bits<F: WordFacts>(self, facts: &F, test: Test, other: Value) -> Decision
+        requires value { IsValue self }
+        requires other { IsValue other }
+        ensures asks { IsTestDecision result }
+        ensures decides { (words : List ℕ) (a v : ℕ) → F.allows facts.now (F.level facts.now) words
+            → Abstracts self words a
+            → Abstracts other words v
+            → Decides result words (holds test a v) }
+    {
+        let first = self.in_bits(facts);
+        let second = other.in_bits(facts);
+        match known_outcome(test, first.bits, second.bits) {
+            Some(outcome) => Decision::Known(outcome),
+            None => Decision::Open(open_test(test, first, second)),
+        }
+    }
+
+    /// The decision by what is asked of words of the record.
+    fn decide_by_atoms(self, test: Test, other: Value) -> Decision
         requires value { IsValue self }
         requires other { IsValue other }
         ensures asks { IsTestDecision result }
@@ -166,43 +161,10 @@ impl Value {
             → IsPlainDecision result }
     {
         match (self, other) {
-            (_, Value::Known(v)) => self.decide_with(test, v),
-            (Value::Known(a), _) => other.decide_turned(a, test),
-            _ => Decision::Open,
-        }
-    }
-
-    /// The decision of the test of `self` against a constant.
-    fn decide_with(self, test: Test, v: u32) -> Decision
-        requires { IsValue self }
-        ensures asks { IsTestDecision result }
-        ensures decides { (words : List ℕ) (a : ℕ) → IsWords words
-            → Abstracts self words a
-            → Decides result words (holds test a v) }
-        ensures plain { IsPlainValue self → (test ≡ Test.CommonBit → IsSimpleMask v) → IsPlainDecision result }
-    {
-        match self {
-            Value::Known(a) => Decision::Known(holds_of(test, a, v)),
-            Value::Slice(bit_slice) => decide_bit_slice(bit_slice, test, v),
-            Value::AffineTerm(affine_term) => decide_affine(affine_term, test, v),
-            Value::ZeroTest(conjunction) => conjunction.decide(test, v),
-            Value::Unknown => Decision::Open,
-        }
-    }
-
-    /// The decision of the test of the constant `a` against `self`.
-    #[tactic(auto, using(std::proofs::lemmas::Nat::and_comm))]
-    fn decide_turned(self, a: u32, test: Test) -> Decision
-        requires { IsValue self }
-        ensures asks { IsTestDecision result }
-        ensures decides { (words : List ℕ) (v : ℕ) → IsWords words
-            → Abstracts self words v
-            → Decides result words (holds test a v) }
-    {
-        match test {
-            Test::Equal | Test::CommonBit => self.decide_with(test, a),
-            Test::Greater => self.decide_with(Test::GreaterOrEqual, a).negated(),
-            Test::GreaterOrEqual => self.decide_with(Test::Greater, a).negated(),
+            (Value::Known(a), Value::Known(v)) => Decision::Known(holds_of(test, a, v)),
+            (Value::Slice(bit_slice), Value::Known(v)) => decide_bit_slice(bit_slice, test, v),
+            (Value::Known(a), Value::Slice(bit_slice)) => decide_turned(a, test, bit_slice),
+            _ => Decision::Open(OpenTest::NONE),
         }
     }
 }
@@ -218,26 +180,30 @@ impl Decision {
     {
         match self {
             Decision::Known(outcome) => Decision::Known(!outcome),
-            Decision::Asks(atoms, holds) => Decision::Asks(atoms, !holds),
-            Decision::Open => Decision::Open,
+            Decision::Asks(atom, holds) => Decision::Asks(atom, !holds),
+            Decision::Open(test) => Decision::Open(test),
         }
     }
 }
 
-/// A computation on constants. Division by 0 and shifts past 31 have no known result.
-fn known_result(arithmetic: Arithmetic, a: u32, v: u32) -> Value
-    ensures value { IsValue result }
-    ensures stands { (words : List ℕ) → Abstracts result words (value_computed arithmetic a v) }
-{
-    match arithmetic {
-        Arithmetic::Div if v == 0 => Value::Unknown,
-        Arithmetic::Lsh | Arithmetic::Rsh if v >= 32 => Value::Unknown,
-        _ => Value::Known(compute(arithmetic, a, v)),
+/// A test of two values that their known bits don't decide.
+fn open_test(test: Test, first: Computed, second: Computed) -> OpenTest {
+    let (sources, is_order) = match test {
+        Test::Equal => (first.sources.and(second.sources), false),
+        Test::Greater | Test::GreaterOrEqual => (first.sources.and(second.sources), true),
+        Test::CommonBit => {
+            let common = first.combined(Arithmetic::And, second);
+            (common.sources, common.bits.mask & 0xff == 0xff)
+        }
+    };
+    OpenTest {
+        sources,
+        is_order: is_order || sources.is_lowered(),
     }
 }
 
 /// Whether the operation is commutative.
-#[tactic(auto, using(crate::proofs::Joins::commutative))]
+#[tactic(auto, using(crate::proofs::Bits::commutative))]
 fn is_commutative(arithmetic: Arithmetic) -> bool
     ensures { IsTrue result → (a v : ℕ) → value_computed arithmetic a v ≡ value_computed arithmetic v a }
 {
@@ -248,45 +214,22 @@ fn is_commutative(arithmetic: Arithmetic) -> bool
     }
 }
 
-/// The abstract result of an operation on a bit slice and a constant.
-fn bit_slice_result(arithmetic: Arithmetic, bit_slice: BitSlice, v: u32) -> Value
+/// The abstract result of an operation on a bit slice and a constant, if that is a bit slice or a constant.
+fn bit_slice_result(arithmetic: Arithmetic, bit_slice: BitSlice, v: u32) -> Option<Value>
     requires { IsBitSlice bit_slice }
-    ensures value { IsValue result }
-    ensures stands { (words : List ℕ)
-        → Abstracts result words (value_computed arithmetic (bit_slice_value bit_slice words) v) }
+    ensures value { IfSome result IsValue }
+    ensures stands { IfSome result (λ value. (words : List ℕ)
+        → Abstracts value words (value_computed arithmetic (bit_slice_value bit_slice words) v)) }
 {
     match arithmetic {
-        Arithmetic::Add => AffineTerm::of(bit_slice).plus(v).value(),
-        Arithmetic::Sub => AffineTerm::of(bit_slice).minus(v).value(),
-        Arithmetic::And => Value::Slice(bit_slice.and(v)),
-        Arithmetic::Or => Value::Slice(bit_slice.or(v)),
-        Arithmetic::Xor => Value::Slice(bit_slice.xor(v)),
-        Arithmetic::Lsh if v < 32 => bit_slice.shifted_left(v),
-        Arithmetic::Rsh if v < 32 => bit_slice.shifted_right(v),
-        Arithmetic::Mul => match exponent_of(v) {
-            Some(count) => bit_slice.shifted_left(count),
-            None => Value::Unknown,
-        },
-        Arithmetic::Div => match exponent_of(v) {
-            Some(count) => bit_slice.shifted_right(count),
-            None => Value::Unknown,
-        },
-        _ => Value::Unknown,
-    }
-}
-
-/// The abstract result of an operation on an affine term and a constant. XOR with 32 one bits is subtraction from them.
-fn affine_result(arithmetic: Arithmetic, affine_term: AffineTerm, v: u32) -> Value
-    requires { IsBitSlice affine_term.bit_slice }
-    ensures value { IsValue result }
-    ensures stands { (words : List ℕ)
-        → Abstracts result words (value_computed arithmetic (affine_value affine_term words) v) }
-{
-    match arithmetic {
-        Arithmetic::Add => affine_term.plus(v).value(),
-        Arithmetic::Sub => affine_term.minus(v).value(),
-        Arithmetic::Xor if v == u32::MAX => affine_term.taken_from(v).value(),
-        _ => Value::Unknown,
+        Arithmetic::And => Some(Value::Slice(bit_slice.and(v))),
+        Arithmetic::Or => Some(Value::Slice(bit_slice.or(v))),
+        Arithmetic::Xor => Some(Value::Slice(bit_slice.xor(v))),
+        Arithmetic::Lsh if v < 32 => Some(bit_slice.shifted_left(v)),
+        Arithmetic::Rsh if v < 32 => Some(bit_slice.shifted_right(v)),
+        Arithmetic::Mul => Some(bit_slice.shifted_left(exponent_of(v)?)),
+        Arithmetic::Div => Some(bit_slice.shifted_right(exponent_of(v)?)),
+        _ => None,
     }
 }
 
@@ -314,28 +257,29 @@ fn decide_bit_slice(bit_slice: BitSlice, test: Test, v: u32) -> Decision
         Test::Equal => bit_slice.is(v),
         Test::CommonBit => bit_slice.and(v).is(0).negated(),
         Test::Greater if bit_slice.is_whole() => {
-            Decision::Asks(Atoms::One(Atom::Gt { word, value: v }), true)
+            Decision::Asks(Atom::Gt { word, value: v }, true)
         }
         Test::GreaterOrEqual if bit_slice.is_whole() => {
-            Decision::Asks(Atoms::One(Atom::Ge { word, value: v }), true)
+            Decision::Asks(Atom::Ge { word, value: v }, true)
         }
-        Test::Greater | Test::GreaterOrEqual => decide_affine(AffineTerm::of(bit_slice), test, v),
+        Test::Greater => bit_slice.is_above(v),
+        Test::GreaterOrEqual if v == 0 => Decision::Known(true),
+        Test::GreaterOrEqual => bit_slice.is_above(v - 1),
     }
 }
 
-/// The decision of a test of an affine term against a constant.
-fn decide_affine(affine_term: AffineTerm, test: Test, v: u32) -> Decision
-    requires { IsBitSlice affine_term.bit_slice }
+/// The decision of a test of the constant `a` against a bit slice.
+#[tactic(auto, using(std::proofs::lemmas::Nat::and_comm))]
+fn decide_turned(a: u32, test: Test, bit_slice: BitSlice) -> Decision
+    requires { IsBitSlice bit_slice }
     ensures asks { IsTestDecision result }
     ensures decides { (words : List ℕ) → IsWords words
-        → Decides result words (holds test (affine_value affine_term words) v) }
+        → Decides result words (holds test a (bit_slice_value bit_slice words)) }
 {
     match test {
-        Test::Equal => affine_term.is(v),
-        Test::Greater => affine_term.is_above(v),
-        Test::GreaterOrEqual if v == 0 => Decision::Known(true),
-        Test::GreaterOrEqual => affine_term.is_above(v - 1),
-        Test::CommonBit if v == u32::MAX => affine_term.is(0).negated(),
-        Test::CommonBit => Decision::Open,
+        Test::Equal => decide_bit_slice(bit_slice, Test::Equal, a),
+        Test::CommonBit => decide_bit_slice(bit_slice, Test::CommonBit, a),
+        Test::Greater => decide_bit_slice(bit_slice, Test::GreaterOrEqual, a).negated(),
+        Test::GreaterOrEqual => decide_bit_slice(bit_slice, Test::Greater, a).negated(),
     }
 }

@@ -1,51 +1,51 @@
--- What is learned at a level, as facts are learned and marks are opened and closed.
-use Rattle.scf_facts.proofs.Common.{◌≡◌, ℕ, ◌≤◌, ◌<◌, ◌↔◌, List, [], ◌∷◌, ◌++◌, length, take, get_or, refl, sym, ◌∙◌, ap, subst, arith, length-append, Some, take-append-le, take-take, length-take-le, take_all, get_or_past, get_or_default, All-push, All-pop, Fact, count_at, AreRising, IsWords, IsFactOfWords, AllowsByFacts, learned_at}
+-- What is learned at a level, as more is learned and marks are opened and closed.
+use Rattle.scf_facts.proofs.Common.{◌≡◌, ℕ, ◌≤◌, ◌<◌, ◌↔◌, List, [], ◌∷◌, ◌++◌, length, take, get_or, refl, sym, ◌∙◌, ap, subst, arith, length-append, Some, take-append-le, take-take, length-take-le, take_all, get_or_past, get_or_default, All-push, All-pop, Learned, count_at, AreRising, IsWords, Holds, AllowsByLearned, learned_at}
 use Rattle.scf_facts.proofs.CountLaws.{count_opened, count_closed, count_within, count_newest, rising_closed}
 
--- past the last mark all the facts are learned
-pub learned_now : (facts : List Fact) (marks : List ℕ) (level : ℕ)
-    → length marks ≤ level → learned_at facts marks level ≡ facts
-learned_now facts marks level past = take_all _ facts (omega (arith, get_or_past marks level (length facts) past))
+-- past the last mark all is learned
+pub learned_now : (learned : List Learned) (marks : List ℕ) (level : ℕ)
+    → length marks ≤ level → learned_at learned marks level ≡ learned
+learned_now learned marks level past = take_all _ learned (omega (arith, get_or_past marks level (length learned) past))
 
--- each fact holds of the words that are allowed now
-pub holds_now : (facts items : List Fact) (marks : List ℕ) (k : ℕ) (fact : Fact) → items ≡ facts
-    → fact ≡ get_or items k fact → k < length items → (words : List ℕ)
-    → AllowsByFacts facts marks (length marks) words → IsWords words × IsFactOfWords fact words
-holds_now facts items marks k fact same read lt words h =
-    let now = rw (learned_now facts marks (length marks) (omega arith)) at h in
-    (now.0, subst (λ f. IsFactOfWords f words) (sym (rw same at read)) (now.1 k fact (rw same at lt)))
+-- what was learned holds of the words that are allowed now
+pub holds_now : (learned items : List Learned) (marks : List ℕ) (k : ℕ) (known : Learned) → items ≡ learned
+    → known ≡ get_or items k known → k < length items → (words : List ℕ)
+    → AllowsByLearned learned marks (length marks) words → IsWords words × Holds known words
+holds_now learned items marks k known same read lt words h =
+    let now = rw (learned_now learned marks (length marks) (omega arith)) at h in
+    (now.0, subst (λ k. Holds k words) (sym (rw same at read)) (now.1 k known (rw same at lt)))
 
-pub allows_pushed : (facts : List Fact) (x : Fact) (marks : List ℕ) (words : List ℕ)
-    → AllowsByFacts (facts ++ x ∷ []) marks (length marks) words
-    ↔ (AllowsByFacts facts marks (length marks) words × IsFactOfWords x words)
-allows_pushed facts x marks words =
-    let P : Fact → Type 0 = λ fact. IsFactOfWords fact words in
+pub allows_pushed : (learned : List Learned) (x : Learned) (marks : List ℕ) (words : List ℕ)
+    → AllowsByLearned (learned ++ x ∷ []) marks (length marks) words
+    ↔ (AllowsByLearned learned marks (length marks) words × Holds x words)
+allows_pushed learned x marks words =
+    let P : Learned → Type 0 = λ known. Holds known words in
     rw (
-      learned_now (facts ++ x ∷ []) marks (length marks) (omega arith),
-      learned_now facts marks (length marks) (omega arith),
-    ) (grind (arith, All-pop P (facts ++ x ∷ []) facts (Some x) refl, All-push P facts x))
+      learned_now (learned ++ x ∷ []) marks (length marks) (omega arith),
+      learned_now learned marks (length marks) (omega arith),
+    ) (grind (arith, All-pop P (learned ++ x ∷ []) learned (Some x) refl, All-push P learned x))
 
--- one fact more leaves the open marks
-pub learned_pushed : (facts : List Fact) (x : Fact) (marks : List ℕ) (index : ℕ) → AreRising marks (length facts)
-    → index < length marks → learned_at (facts ++ x ∷ []) marks index ≡ learned_at facts marks index
-learned_pushed facts x marks index rising lt =
-    ap (λ n. take n (facts ++ x ∷ [])) (get_or_default marks index (length (facts ++ x ∷ [])) (length facts) lt)
-    ∙ take-append-le (count_at marks (length facts) index) facts (x ∷ [])
-    (count_within marks (length facts) index rising)
+-- one more leaves the open marks
+pub learned_pushed : (learned : List Learned) (x : Learned) (marks : List ℕ) (index : ℕ) → AreRising marks (length learned)
+    → index < length marks → learned_at (learned ++ x ∷ []) marks index ≡ learned_at learned marks index
+learned_pushed learned x marks index rising lt =
+    ap (λ n. take n (learned ++ x ∷ [])) (get_or_default marks index (length (learned ++ x ∷ [])) (length learned) lt)
+    ∙ take-append-le (count_at marks (length learned) index) learned (x ∷ [])
+    (count_within marks (length learned) index rising)
 
 -- a mark that is opened leaves the levels up to it
-pub learned_opened : (facts : List Fact) (marks : List ℕ) (count index : ℕ) → count ≡ length facts
-    → learned_at facts (marks ++ count ∷ []) index ≡ learned_at facts marks index
-learned_opened facts marks count index e = rw (e, count_opened marks (length facts) index)
+pub learned_opened : (learned : List Learned) (marks : List ℕ) (count index : ℕ) → count ≡ length learned
+    → learned_at learned (marks ++ count ∷ []) index ≡ learned_at learned marks index
+learned_opened learned marks count index e = rw (e, count_opened marks (length learned) index)
 
 -- the newest mark is closed, and what was learned after it forgotten
-pub learned_closed : (facts cut : List Fact) (marks rest : List ℕ) (count index : ℕ) → cut ≡ take count facts
-    → marks ≡ rest ++ count ∷ [] → AreRising marks (length facts) → index < length marks
-    → learned_at cut rest index ≡ learned_at facts marks index
-learned_closed facts cut marks rest count index e same rising lt =
+pub learned_closed : (learned cut : List Learned) (marks rest : List ℕ) (count index : ℕ) → cut ≡ take count learned
+    → marks ≡ rest ++ count ∷ [] → AreRising marks (length learned) → index < length marks
+    → learned_at cut rest index ≡ learned_at learned marks index
+learned_closed learned cut marks rest count index e same rising lt =
     let older = rw same at rising in
     let le : index ≤ length rest = omega (arith, ap length same, length-append rest (count ∷ [])) in
-    rw (e, same, length-take-le count facts (count_newest rest count (length facts) older))
-    (take-take (count_at rest count index) count facts
-    (count_within rest count index (rising_closed rest count (length facts) older))
-    ∙ ap (λ n. take n facts) (count_closed rest count (length facts) index le))
+    rw (e, same, length-take-le count learned (count_newest rest count (length learned) older))
+    (take-take (count_at rest count index) count learned
+    (count_within rest count index (rising_closed rest count (length learned) older))
+    ∙ ap (λ n. take n learned) (count_closed rest count (length learned) index le))

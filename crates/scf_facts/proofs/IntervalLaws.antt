@@ -1,5 +1,5 @@
 -- Laws of intervals and their parts.
-use Rattle.scf_facts.proofs.Common.{nat_tests, ◌≡◌, ◌⊎◌, inl, inr, ℕ, zero, suc, refl, sym, ◌+◌, ◌<◌, ◌≤◌, ◌↔◌, List, [], ◌∷◌, ◌++◌, get_or, length, arith, All, IfSome, IfNone, Option, Some, None, slice_get, filter_map, cons_option, AllWithin, Interval, LiesIn, LiesOutside, LiesInOne, AreApartFrom, AreApart, ArePartsOf, part_within, part_below, part_above}
+use Rattle.scf_facts.proofs.Common.{nat_tests, ◌-◌, ◌≡◌, ◌⊎◌, inl, inr, ℕ, zero, suc, refl, sym, ◌+◌, ◌<◌, ◌≤◌, ◌↔◌, List, [], ◌∷◌, ◌++◌, get_or, get_or_from_slice_get, length, arith, All, IfSome, IfNone, Option, Some, None, slice_get, filter_map, cons_option, AllWithin, Interval, LiesIn, LiesOutside, LiesInOne, AreApartFrom, AreApart, ArePartsOf, part_within, part_below, part_above}
 
 -- ---- one list after another
 
@@ -183,3 +183,16 @@ module _ (range : Interval) (whole is js ks : List Interval) (cut : whole ≡ is
             (λ x y h k. grind (arith, lies_append, left.2 x y, right.2 x y, here.1 x)),
         λ x. grind (arith, lies_append, here.1 x, under x, over x),
       )
+
+-- ---- from the first interval to the last
+
+-- a number in one of the intervals lies between the ends of all
+pub within_ends : (is : List Interval) (first last : Interval) (x : ℕ) → AreApart is → slice_get is 0 ≡ Some first
+    → slice_get is (length is - 1) ≡ Some last → LiesInOne is x → (first.low ≤ x) × (x ≤ last.high)
+within_ends is first last x a begin end h =
+    lies_within (λ y. (first.low ≤ y) × (y ≤ last.high)) is x (λ k d lt y lies.
+    let low = rising 0 is a 0 k d (omega arith) lt in
+    let high = rising 0 is a k (length is - 1) d (omega arith) (omega arith) in
+    let of_first : get_or is 0 d ≡ first = get_or_from_slice_get is 0 first d begin in
+    let of_last : get_or is (length is - 1) d ≡ last = get_or_from_slice_get is (length is - 1) last d end in
+    (omega (arith, rw of_first at low.0, lies.0), omega (arith, rw of_last at high.1, lies.1))) h

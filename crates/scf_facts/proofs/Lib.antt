@@ -1,5 +1,6 @@
 pub mod AtomLaws
 pub mod Common
+pub mod CommonBits
 pub mod CountLaws
 pub mod HighMasks
 pub mod IntervalLaws

@@ -4,7 +4,7 @@ use Rattle.scf_facts.proofs.Common.{◌≡◌, ◌≢◌, ◌⊎◌, inl, inr, �
 -- what is said of each bit of a number that is made of others
 pub ruleset each_bit = (bit_at_and, bit_at_or, bit_at_xor, bit_at-lt, bit_at-zero)
 
-at_bit : (i : ℕ) {a b : ℕ} → a ≡ b → bit_at a i ≡ bit_at b i
+pub at_bit : (i : ℕ) {a b : ℕ} → a ≡ b → bit_at a i ≡ bit_at b i
 at_bit i e = ap (λ n. bit_at n i) e
 
 -- the bits of both are those under the joined mask, where the joined value has both

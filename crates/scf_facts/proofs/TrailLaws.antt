@@ -1,26 +1,26 @@
 -- What was known at a level, as more is learned and marks are opened and closed.
-use Rattle.scf_facts.proofs.Common.{◌≡◌, ◌^◌, ℕ, ◌≤◌, ◌<◌, ◌↔◌, List, [], ◌∷◌, ◌++◌, length, take, drop, refl, sym, ◌∙◌, ap, arith, length-append, ◌-◌, Bool, IsTrue, Some, slice_set, slice_index, slice_index_or, ◌==◌, list_all, set-set, set-get_or, get_or-set_same, get_or_default, get_or_past, drop-append-le, and_parts, and_from, length-set, length-take-le, take-append-drop, drop_all, All-push, All-pop, Atom, BinaryClause, Change, OfWord, WordChange, answer_at, atom_answer, word_of, count_at, AreRising, facts_before, known_before, restored, known_at, Covers, Intervals, Interval, NumberFacts, AllowsNumber, is_exact_set, no_facts, AllFacts, AllowsList, is_exact_known, known_of, NotBothTrue}
-use Rattle.scf_facts.proofs.StoreLaws.{allows_set, exact_set}
+use Rattle.scf_facts.proofs.Common.{◌≡◌, ℕ, ◌≤◌, ◌<◌, ◌↔◌, List, [], ◌∷◌, ◌++◌, length, take, drop, refl, sym, ◌∙◌, ap, arith, length-append, ◌-◌, slice_set, slice_index, slice_index_or, list_all, set-set, set-get_or, get_or-set_same, get_or_default, get_or_past, drop-append-le, length-set, length-take-le, take-append-drop, drop_all, Change, count_at, AreRising, facts_before, known_before, restored, known_at, Covers, Intervals, Interval, NumberFacts, AllowsWords, is_exact_set, no_facts}
 use Rattle.scf_facts.proofs.CountLaws.{count_opened, count_closed, count_within, count_newest, rising_closed}
 
 -- the same facts allow the same lists, and are as exact
-abbrev pub IsSameKnown : AllFacts → AllFacts → Type 0
+abbrev pub IsSameKnown : List NumberFacts → List NumberFacts → Type 0
 IsSameKnown old new =
-    ((words : List ℕ) → AllowsList new words ↔ AllowsList old words) × (is_exact_known new ≡ is_exact_known old)
+    ((words : List ℕ) → AllowsWords new words ↔ AllowsWords old words)
+    × (list_all is_exact_set new ≡ list_all is_exact_set old)
 
-pub same_known : (old new : AllFacts) → new ≡ old → IsSameKnown old new
+pub same_known : (old new : List NumberFacts) → new ≡ old → IsSameKnown old new
 same_known old new e = rw e (λ words. (λ h. h, λ h. h), refl)
 
 -- ---- changes that are taken back
 
 -- the later changes are put back first
-restored_append : (known : AllFacts) (earlier later : List Change)
+restored_append : (known : List NumberFacts) (earlier later : List Change)
     → restored known (earlier ++ later) ≡ restored (restored known later) earlier
 restored_append known [] later = refl
 restored_append known (change ∷ earlier) later = ap (known_before change) (restored_append known earlier later)
 
 -- one change less on the trail, and one more taken back
-pub taken_before : (known : AllFacts) (trail rest : List Change) (change : Change) (count : ℕ)
+pub taken_before : (known : List NumberFacts) (trail rest : List Change) (change : Change) (count : ℕ)
     → trail ≡ rest ++ change ∷ [] → count ≤ length rest
     → restored (known_before change known) (drop count rest) ≡ restored known (drop count trail)
 taken_before known trail rest change count e le =
@@ -28,23 +28,23 @@ taken_before known trail rest change count e le =
     ∙ ap (restored known) (sym (drop-append-le count rest (change ∷ []) le) ∙ ap (drop count) (sym e))
 
 -- a change of a word is taken back
-before_changed : (sets : List NumberFacts) (clauses : List BinaryClause) (change : WordChange) (old new : NumberFacts)
+before_changed : (sets : List NumberFacts) (change : Change) (old new : NumberFacts)
     → change.word < length sets → old ≡ slice_index_or sets change.word old → facts_before change.former new ≡ old
-    → known_before (OfWord change) (known_of (slice_set sets change.word new) clauses) ≡ known_of sets clauses
-before_changed sets clauses change old new within read same =
+    → known_before change (slice_set sets change.word new) ≡ sets
+before_changed sets change old new within read same =
     rw (get_or-set_same sets change.word new no_facts within, same, set-set, read, set-get_or)
 
 -- of changes of one word's intervals the first brings back what was known before both
-pub covers : (first later : WordChange) (is js : List Interval) → first.word ≡ later.word → later.word < 16
-    → first.former ≡ Intervals is → later.former ≡ Intervals js → Covers (OfWord first) (OfWord later)
+pub covers : (first later : Change) (is js : List Interval) → first.word ≡ later.word → later.word < 16
+    → first.former ≡ Intervals is → later.former ≡ Intervals js → Covers first later
 covers first later is js same below e f known sixteen =
     let word = later.word in
-    let now = slice_index_or known.sets word no_facts in
-    rw (same, e, f, get_or-set_same known.sets word (record now { intervals = js }) no_facts (omega arith), set-set)
+    let now = slice_index_or known word no_facts in
+    rw (same, e, f, get_or-set_same known word (record now { intervals = js }) no_facts (omega arith), set-set)
 
 -- ---- levels
 
-module _ (known : AllFacts) (trail : List Change) (marks : List ℕ) where
+module _ (known : List NumberFacts) (trail : List Change) (marks : List ℕ) where
   -- past the last mark nothing is taken back
   pub known_past : (level : ℕ) → length marks ≤ level → known_at known trail marks level ≡ known
   known_past level past =
@@ -70,35 +70,35 @@ module _ (known : AllFacts) (trail : List Change) (marks : List ℕ) where
     -- so does one that the last change past the newest mark covers
     pub known_covered : (rest : List Change) (last : Change) (count : ℕ) → trail ≡ rest ++ last ∷ []
         → count ≤ length rest → count ≡ slice_index marks (length marks - 1) → Covers last change
-        → length known.sets ≡ 16
+        → length known ≡ 16
         → known_at known trail marks index ≡ known_at (known_before change known) trail marks index
     known_covered rest last count e past newest covered sixteen =
         let n = count_at marks (length trail) index in
         let early : n ≤ length rest =
         omega (arith, rising index (length marks - 1), get_or_default marks (length marks - 1) (length trail) 0) in
         sym (taken_before known trail rest last n e early)
-        ∙ ap (λ (k : AllFacts). restored k (drop n rest)) (sym (covered known sixteen))
+        ∙ ap (λ (k : List NumberFacts). restored k (drop n rest)) (sym (covered known sixteen))
         ∙ taken_before (known_before change known) trail rest last n e early
 
 pub ruleset opened_laws = (known_past, known_opened)
 
 -- so a change of a word that is noted leaves them
-pub noted : (sets : List NumberFacts) (clauses : List BinaryClause) (change : WordChange) (old new : NumberFacts)
+pub noted : (sets : List NumberFacts) (change : Change) (old new : NumberFacts)
     (trail room more : List Change) (marks slice : List ℕ) → slice ≡ marks → room ≡ trail
-    → ((known : AllFacts) → length known.sets ≡ 16 → (index : ℕ) → index < length slice
-    → known_at known more slice index ≡ known_at (known_before (OfWord change) known) room slice index)
+    → ((known : List NumberFacts) → length known ≡ 16 → (index : ℕ) → index < length slice
+    → known_at known more slice index ≡ known_at (known_before change known) room slice index)
     → length sets ≡ 16 → old ≡ slice_index_or sets change.word old → facts_before change.former new ≡ old
-    → (index : ℕ) → index < length marks → IsSameKnown (known_at (known_of sets clauses) trail marks index)
-    (known_at (known_of (slice_set sets change.word new) clauses) more marks index)
-noted sets clauses change old new trail room more marks slice e f marked sixteen read same index lt =
-    let after = known_of (slice_set sets change.word new) clauses in
+    → (index : ℕ) → index < length marks → IsSameKnown (known_at sets trail marks index)
+    (known_at (slice_set sets change.word new) more marks index)
+noted sets change old new trail room more marks slice e f marked sixteen read same index lt =
+    let after = slice_set sets change.word new in
     let within : change.word < length sets = omega (arith, sixteen, change.about_word) in
     let left = rw (e, f) at marked in
     same_known _ _ (left after (length-set sets change.word new ∙ sixteen) index lt
-    ∙ ap (λ (k : AllFacts). known_at k trail marks index) (before_changed sets clauses change old new within read same))
+    ∙ ap (λ (k : List NumberFacts). known_at k trail marks index) (before_changed sets change old new within read same))
 
 -- the newest mark is closed, and what was changed after it put back
-pub known_closed : (known back : AllFacts) (trail cut : List Change) (marks rest : List ℕ) (count index : ℕ)
+pub known_closed : (known back : List NumberFacts) (trail cut : List Change) (marks rest : List ℕ) (count index : ℕ)
     → back ≡ restored known (drop count trail) → cut ≡ take count trail → marks ≡ rest ++ count ∷ []
     → AreRising marks (length trail) → index < length marks
     → known_at back cut rest index ≡ known_at known trail marks index
@@ -114,30 +114,3 @@ known_closed known back trail cut marks rest count index b e same rising lt =
     ∙ ap (restored known) (sym (drop-append-le n (take count trail) (drop count trail) early)
     ∙ ap (drop n) (take-append-drop count trail))
     ∙ ap (λ k. restored known (drop k trail)) (count_closed rest count (length trail) index le))
-
--- ---- what is learned
-
-module _ (sets : List NumberFacts) (clauses : List BinaryClause) where
-  module _ (word : ℕ) (old new : NumberFacts) (within : word < length sets) (read : old ≡ slice_index_or sets word old)
-    where
-      pub allows_learned : (atom : Atom) (holds : Bool) → word ≡ word_of atom
-          → ((x : ℕ) → x < 2 ^ 32 → AllowsNumber new x ↔ (AllowsNumber old x × (answer_at atom x ≡ holds)))
-          → (words : List ℕ) → AllowsList (known_of (slice_set sets word new) clauses) words
-          ↔ (AllowsList (known_of sets clauses) words × (atom_answer atom words ≡ holds))
-      allows_learned atom holds asked learned words =
-          rw (← asked)
-          (grind (arith, allows_set sets word old within read new (λ x. answer_at atom x ≡ holds) learned words))
-
-      pub exact_learned : (IsTrue (is_exact_set old) → IsTrue (is_exact_set new))
-          → IsTrue (is_exact_known (known_of sets clauses))
-          → IsTrue (is_exact_known (known_of (slice_set sets word new) clauses))
-      exact_learned exact all =
-          let parts = and_parts (list_all is_exact_set sets) (length clauses == 0) all in
-          and_from _ (length clauses == 0) (exact_set sets word old within read new exact parts.0) parts.1
-
-  pub allows_refuted : (more : List BinaryClause) (clause : BinaryClause) → more ≡ clauses ++ clause ∷ [] → (words : List ℕ)
-      → AllowsList (known_of sets more) words
-      ↔ (AllowsList (known_of sets clauses) words × NotBothTrue clause.first clause.second words)
-  allows_refuted more clause e words =
-      let Q : BinaryClause → Type 0 = λ other. NotBothTrue other.first other.second words in
-      grind (arith, All-pop Q more clauses (Some clause) e, All-push Q clauses clause)

@@ -1,26 +1,19 @@
 -- What atoms ask of the words of a call record.
-use Rattle.std.specs.Prelude.{◌==◌, ◌+◌, ◌-◌, ◌%◌, ◌^◌, ℕ, List, Bool, slice_index, bit_and, nat_lt, nat_le}
+use Rattle.std.specs.Prelude.{◌==◌, ℕ, List, Bool, slice_index, bit_and, nat_lt, nat_le}
 use Rattle.scf_facts.specs.declared.atom.Atom.{Atom}
-use Rattle.scf_facts.specs.declared.atom.Atom.TheVariants.{Eq, Gt, Ge, Arc}
+use Rattle.scf_facts.specs.declared.atom.Atom.TheVariants.{Eq, Gt, Ge}
 
 -- the number of the word that an atom asks of
 abbrev pub word_of : Atom → ℕ
 word_of (Eq word mask value) = word
 word_of (Gt word value) = word
 word_of (Ge word value) = word
-word_of (Arc word first last) = word
 
--- how many steps lead from one number of 32 bits up to another, where 0 follows 2^32 - 1
-abbrev pub steps_from : ℕ → ℕ → ℕ
-steps_from first number = (number + (2 ^ 32 - first)) % 2 ^ 32
-
--- what an atom answers where its word is a number; the order is unsigned, and an arc has the numbers that are reached
--- from its first in no more steps than its last
+-- what an atom answers where its word is a number; the order is unsigned
 abbrev pub answer_at : Atom → ℕ → Bool
 answer_at (Eq word mask value) number = bit_and number mask == value
 answer_at (Gt word value) number = nat_lt value number
 answer_at (Ge word value) number = nat_le value number
-answer_at (Arc word first last) number = nat_le (steps_from first number) (steps_from first last)
 
 -- what an atom answers of a list of words
 abbrev pub atom_answer : Atom → List ℕ → Bool

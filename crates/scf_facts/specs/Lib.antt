@@ -1,4 +1,5 @@
 pub mod Atoms
+pub mod Bits
 pub mod Exactness
 pub mod HighMask
 pub mod Levels

@@ -1,5 +1,4 @@
 pub mod Query
-pub mod AtomPairs
 pub mod Bits
 pub mod Counts
 pub mod Intervals

@@ -13,9 +13,6 @@ pub enum Atom {
     Gt { word: u8, value: u32 },
     /// `word >= value`.
     Ge { word: u8, value: u32 },
-    /// The word is on the arc from `first` up to `last`, both included, on the circle of the 32-bit numbers, where 0
-    /// follows 2^32 - 1.
-    Arc { word: u8, first: u32, last: u32 },
 }
 
 impl Atom {
@@ -24,10 +21,7 @@ impl Atom {
         ensures { result ≡ word_of self }
     {
         match self {
-            Atom::Eq { word, .. }
-            | Atom::Gt { word, .. }
-            | Atom::Ge { word, .. }
-            | Atom::Arc { word, .. } => word,
+            Atom::Eq { word, .. } | Atom::Gt { word, .. } | Atom::Ge { word, .. } => word,
         }
     }
 
@@ -39,7 +33,6 @@ impl Atom {
             Atom::Eq { mask, value, .. } => number & mask == value,
             Atom::Gt { value, .. } => number > value,
             Atom::Ge { value, .. } => number >= value,
-            Atom::Arc { first, last, .. } => number.wrapping_sub(first) <= last.wrapping_sub(first),
         }
     }
 

@@ -3,25 +3,23 @@
 ghost use Rattle.std.specs.Prelude.{◌≡◌, ◌↔◌, ℕ, List, IfOk, IsOk, IsTrue, false, length};
 ghost use Rattle.scf_insn.specs.Words.{IsWords};
 ghost use Rattle.scf_facts.specs.internal.Counts.{AreRising};
-ghost use Rattle.scf_facts.specs.internal.Learned.{AllHold, AllowsByFacts};
+ghost use Rattle.scf_facts.specs.internal.Learned.{AllHold, AllowsByLearned};
 
 use crate::atom::{Atom, Tell};
-use crate::binary_clause::BinaryClause;
-use crate::fact::Fact;
+use crate::bits::Bits;
 use crate::learned::Learned;
 use crate::word_facts::WordFacts;
 use scf_insn::Memory;
 use std::alloc::Global;
 
-/// The learned atoms with their answers and the learned clauses, in order, and the length of that list at each open
-/// mark.
+/// The learned atoms with their answers, in order, and the length of that list at each open mark.
 ///
 /// `tell` knows an atom that was itself learned, an `Eq` with mask 0, and any atom on a word whose value a true `Eq`
-/// under a full mask has fixed; clauses aren't used. `pick` gives 0 for each word that isn't fixed, if that agrees with
-/// everything learned.
+/// under a full mask has fixed. `known_bits` gives the bits of such a word, and none of another. `pick` gives 0 for
+/// each word that isn't fixed, if that agrees with everything learned.
 #[derive(Drop)]
 pub struct AtomList {
-    learned: Vec<Fact>,
+    learned: Vec<Learned>,
     marks: Vec<usize>,
     ghost rising: { AreRising marks.items (length learned.items) },
 }
@@ -29,7 +27,7 @@ pub struct AtomList {
 impl WordFacts for AtomList {
     ghost level = { λ facts. length facts.marks.items };
 
-    ghost allows = { λ facts. AllowsByFacts facts.learned.items facts.marks.items };
+    ghost allows = { λ facts. AllowsByLearned facts.learned.items facts.marks.items };
 
     ghost is_exact = { λ _ _. false };
 
@@ -50,14 +48,7 @@ impl WordFacts for AtomList {
 
     #[tactic(auto, using(crate::proofs::AtomLaws::learned_pushed))]
     fn learn(&mut self, atom: Atom, holds: bool) -> Result<(), Memory> {
-        self.learned.push(Fact::Answer(Learned { atom, holds }))?;
-        Ok(())
-    }
-
-    #[tactic(auto, using(crate::proofs::AtomLaws::learned_pushed))]
-    fn learn_clause(&mut self, first: Atom, second: Atom) -> Result<(), Memory> {
-        self.learned
-            .push(Fact::Clause(BinaryClause { first, second }))?;
+        self.learned.push(Learned { atom, holds })?;
         Ok(())
     }
 
@@ -92,6 +83,16 @@ impl WordFacts for AtomList {
         Tell::Maybe
     }
 
+    fn known_bits(&self, word: u8) -> Bits {
+        for known in &self.learned {
+            match known.fixes() {
+                Some((fixed, value)) if fixed == word => return Bits::of(value, u32::MAX),
+                _ => {}
+            }
+        }
+        Bits::NONE
+    }
+
     fn is_empty(&self) -> bool {
         false
     }
@@ -107,8 +108,8 @@ impl WordFacts for AtomList {
     }
 }
 
-/// Whether every fact is true of the words.
-fn all_agree(learned: &[Fact], words: &[u32; 16]) -> bool
+/// Whether the words give each learned answer.
+fn all_agree(learned: &[Learned], words: &[u32; 16]) -> bool
     ensures { IsTrue result ↔ AllHold learned.now words.now }
 {
     learned.iter().all(|known| known.agrees(words))

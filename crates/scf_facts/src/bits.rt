@@ -1,19 +1,60 @@
 //! The bits of a value under a mask.
 
-ghost use Rattle.std.specs.Prelude.{◌≡◌, ◌+◌, ◌<◌, ◌↔◌, ◌⊎◌, ℕ, IsTrue, false, IfSome, IfNone, bit_and};
+ghost use Rattle.std.specs.Prelude.{◌≡◌, ◌+◌, ◌<◌, ◌≤◌, ◌↔◌, ◌⊎◌, ℕ, IsTrue, false, IfSome, IfNone, bit_and, bit_or};
 ghost use Rattle.std.specs.Int.{IsPowerOfTwo};
-ghost use Rattle.scf_facts.specs.internal.Bits.{HasBits, LacksBits, SomeLack};
+ghost use Rattle.scf_facts.specs.Bits.{FixesNumber, HasBits};
+ghost use Rattle.scf_facts.specs.internal.Bits.{LacksBits, SomeLack};
 
 /// A mask and a value. A number `n` has these bits if `n & mask == value`.
-#[derive(Clone, Copy)]
-pub(crate) struct Bits {
-    pub(crate) mask: u32,
-    pub(crate) value: u32,
+#[derive(Clone, Copy, Debug)]
+pub struct Bits {
+    pub mask: u32,
+    pub value: u32,
 }
 
 impl Bits {
     /// No bits: every number has them.
-    pub(crate) const NONE: Bits = Bits { mask: 0, value: 0 };
+    pub const NONE: Bits = Bits { mask: 0, value: 0 };
+
+    /// The bits of a number under a mask.
+    pub fn of(number: u32, mask: u32) -> Bits
+        ensures mask { result.mask ≡ mask }
+        ensures value { result.value ≡ bit_and number mask }
+    {
+        Bits {
+            mask,
+            value: number & mask,
+        }
+    }
+
+    /// The leading bits that the numbers `least..=greatest` have in common.
+    #[tactic(auto, using(crate::proofs::CommonBits::between_laws))]
+    pub fn between(least: u32, greatest: u32) -> Bits
+        ensures within { bit_and result.value result.mask ≡ result.value }
+        ensures common { (x : ℕ) → least ≤ x → x ≤ greatest → HasBits result x }
+        ensures one { least ≡ greatest → FixesNumber result }
+    {
+        let count = u32::BITS - (least ^ greatest).leading_zeros();
+        if count == u32::BITS {
+            return Bits::NONE;
+        }
+        Bits::of(least, u32::MAX << count)
+    }
+
+    /// The bits of both, together.
+    #[tactic(auto, using(crate::proofs::CommonBits::unions))]
+    pub fn union(self, other: Bits) -> Bits
+        ensures mask { result.mask ≡ bit_or self.mask other.mask }
+        ensures value { result.value ≡ bit_or self.value other.value }
+        ensures both { (x : ℕ) → HasBits self x → HasBits other x → HasBits result x }
+        ensures within { bit_and self.value self.mask ≡ self.value → bit_and other.value other.mask ≡ other.value
+            → bit_and result.value result.mask ≡ result.value }
+    {
+        Bits {
+            mask: self.mask | other.mask,
+            value: self.value | other.value,
+        }
+    }
 
     /// Whether the number has these bits.
     pub(crate) fn are_in(self, x: u32) -> bool
@@ -36,10 +77,7 @@ impl Bits {
         ensures shown { IfSome result (λ bits. HasBits self bits.value × HasBits other bits.value) }
         ensures none { IfNone result ((x : ℕ) → HasBits self x → HasBits other x → ⊥) }
     {
-        let bits = Bits {
-            mask: self.mask | other.mask,
-            value: self.value | other.value,
-        };
+        let bits = self.union(other);
         (self.are_in(bits.value) && other.are_in(bits.value)).then_some(bits)
     }
 

@@ -1,11 +1,14 @@
 //! What the possible values of each single word say.
 
 ghost use Rattle.std.specs.Prelude.{◌≡◌, ◌<◌, ℕ, List, IsTrue, IsSome, IfSome, length, true, false};
+ghost use Rattle.std.specs.Prelude.{bit_and, slice_index};
 ghost use Rattle.std.specs.List.{list_all};
 ghost use Rattle.scf_facts.specs.Atoms.{atom_answer, word_of};
+ghost use Rattle.scf_facts.specs.Bits.{HasBits};
 ghost use Rattle.scf_facts.specs.internal.WordSets.{AllowsWords, is_exact_set};
 
 use crate::atom::{Atom, Tell};
+use crate::bits::Bits;
 use crate::word_set::WordSet;
 
 /// The atom's answer for every allowed list, if the values of its word show it.
@@ -23,6 +26,17 @@ pub(crate) fn tell_by_word(sets: &[WordSet], atom: Atom) -> Tell
         × ((words : List ℕ) × AllowsWords sets.now words × (atom_answer atom words ≡ false)) }
 {
     sets[atom.word() as usize].tell(atom)
+}
+
+/// The bits that a word is known to have.
+#[tactic(auto, using(crate::proofs::StoreLaws::each_word))]
+pub(crate) fn known_bits_by_word(sets: &[WordSet], word: u8) -> Bits
+    requires sixteen { length sets.now ≡ 16 }
+    requires word { word < 16 }
+    ensures within { bit_and result.value result.mask ≡ result.value }
+    ensures known { (words : List ℕ) → AllowsWords sets.now words → HasBits result (slice_index words word) }
+{
+    sets[word as usize].known_bits()
 }
 
 /// Whether some word is known to have no value.
@@ -48,22 +62,4 @@ pub(crate) fn pick_by_word(sets: &[WordSet]) -> Option<[u32; 16]>
         words[index] = set.pick()?;
     }
     Some(words)
-}
-
-/// Gives the atom's word a possible value for which the atom is false, if one is found.
-#[tactic(auto, using(crate::proofs::StoreLaws::allows_other))]
-pub(crate) fn refute(sets: &[WordSet], atom: Atom, words: &mut [u32; 16]) -> bool
-    requires sixteen { length sets.now ≡ 16 }
-    requires word { word_of atom < 16 }
-    ensures allowed { AllowsWords sets.now words.old → AllowsWords sets.now words.new }
-    ensures refuted { IsTrue result → atom_answer atom words.new ≡ false }
-{
-    let word = atom.word() as usize;
-    match sets[word].pick_without(atom) {
-        Some(number) => {
-            words[word] = number;
-            true
-        }
-        None => false,
-    }
 }

@@ -1,7 +1,8 @@
 //! The search for a value without refuted bits.
 
 ghost use Rattle.std.specs.Prelude.{◌≡◌, ◌<◌, ◌≤◌, ◌^◌, ℕ, All, IsTrue, false, IfSome, IfNone};
-ghost use Rattle.scf_facts.specs.internal.Bits.{HasBits, LacksBits, SomeLack};
+ghost use Rattle.scf_facts.specs.Bits.{HasBits};
+ghost use Rattle.scf_facts.specs.internal.Bits.{LacksBits, SomeLack};
 ghost use Rattle.scf_facts.specs.internal.Intervals.{LiesInOne, AreApart};
 
 use crate::bits::Bits;

@@ -61,6 +61,20 @@ impl Intervals {
         }
     }
 
+    /// The least interval that has all of their values, if there is one.
+    #[tactic(auto, using(crate::proofs::IntervalLaws::within_ends))]
+    pub(crate) fn hull(&self) -> Option<Interval>
+        ensures hull { IfSome result (λ hull. (x : ℕ) → LiesInOne self.now x → LiesIn hull x) }
+    {
+        let intervals = self.as_slice();
+        let first = intervals.first()?;
+        let last = intervals.last()?;
+        Some(Interval {
+            low: first.low,
+            high: last.high,
+        })
+    }
+
     /// The intervals' parts within a range.
     pub(crate) fn within(&self, alloc: Global, range: Interval) -> Result<Intervals, Memory>
         ensures { IfOk result (λ parts. ArePartsOf (LiesIn range) self.now parts) }

@@ -1,8 +1,8 @@
 //! Learned answers of atoms.
 
-ghost use Rattle.std.specs.Prelude.{◌≡◌, ◌<◌, ◌^◌, ◌↔◌, ℕ, List, IsTrue, IfSome, true, false};
+ghost use Rattle.std.specs.Prelude.{◌≡◌, ◌<◌, ◌↔◌, ℕ, List, IsTrue, IfSome, true, false, slice_index};
 ghost use Rattle.scf_insn.specs.Words.{IsWords};
-ghost use Rattle.scf_facts.specs.Atoms.{atom_answer, answer_at, word_of};
+ghost use Rattle.scf_facts.specs.Atoms.{atom_answer, word_of};
 
 use crate::atom::{Atom, Tell};
 
@@ -17,10 +17,9 @@ pub(crate) struct Learned {
 impl Learned {
     /// The word that this fixes, and its only value.
     pub(crate) fn fixes(&self) -> Option<(u8, u32)>
-        ensures index { IfSome result (λ fixed. fixed.0 ≡ word_of self.now.atom) }
-        ensures value { IfSome result (λ fixed.
-            (number : ℕ) → number < 2 ^ 32
-            → answer_at self.now.atom number ≡ self.now.holds → number ≡ fixed.1) }
+        ensures index { IfSome result (λ fixed. fixed.0 < 16) }
+        ensures value { IfSome result (λ fixed. (words : List ℕ) → IsWords words
+            → atom_answer self.now.atom words ≡ self.now.holds → slice_index words fixed.0 ≡ fixed.1) }
     {
         match self.atom {
             Atom::Eq {

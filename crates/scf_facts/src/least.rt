@@ -2,7 +2,8 @@
 
 ghost use Rattle.std.specs.Prelude.{◌≡◌, ◌<◌, ◌≤◌, ◌^◌, ◌/◌, ℕ, IfSome, IfNone};
 ghost use Rattle.std.specs.Int.{bit_at};
-ghost use Rattle.scf_facts.specs.internal.Bits.{HasBits, LacksBits};
+ghost use Rattle.scf_facts.specs.Bits.{HasBits};
+ghost use Rattle.scf_facts.specs.internal.Bits.{LacksBits};
 ghost use Rattle.scf_facts.specs.internal.Intervals.{LiesIn, LiesInOne, AreApart};
 
 use crate::bits::Bits;

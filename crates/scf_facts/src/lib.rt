@@ -3,11 +3,8 @@
 
 mod atom;
 mod atom_list;
-mod binary_clause;
 mod bits;
-mod by_clause;
 mod by_word;
-mod fact;
 mod free_number;
 mod high_mask;
 mod interval;
@@ -24,6 +21,7 @@ mod word_sets;
 
 pub use atom::{Atom, Tell};
 pub use atom_list::AtomList;
+pub use bits::Bits;
 pub use high_mask::is_high_mask;
 pub use laws::word_sets_start_exact;
 pub use word_facts::WordFacts;

@@ -28,11 +28,6 @@ impl Query {
         match atom {
             Atom::Gt { value, .. } => Query::within(0, value, false),
             Atom::Ge { value, .. } => Query::within(value, u32::MAX, true),
-            Atom::Arc { first, last, .. } if first <= last => Query::within(first, last, true),
-            Atom::Arc { first, last, .. } if last + 1 < first => {
-                Query::within(last + 1, first - 1, false)
-            }
-            Atom::Arc { .. } => Query::within(0, u32::MAX, true),
             Atom::Eq { mask, value, .. } if mask == u32::MAX => Query::within(value, value, true),
             Atom::Eq { mask, value, .. } if is_high_mask(mask) && value & mask == value => {
                 Query::within(value, value + !mask, true)

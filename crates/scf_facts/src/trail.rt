@@ -20,19 +20,10 @@ pub(crate) enum SavedValue {
 
 /// A change of what is known of one word.
 #[derive(Drop)]
-pub(crate) struct WordChange {
+pub(crate) struct Change {
     /// The word's index, below 16.
     pub(crate) word: u8,
     /// What was known of it before.
     pub(crate) former: SavedValue,
     ghost about_word: { word < 16 },
-}
-
-/// A change of a store.
-#[derive(Drop)]
-pub(crate) enum Change {
-    /// What is known of a word changed.
-    OfWord(WordChange),
-    /// A clause was added, the last one.
-    Refuted,
 }

@@ -5,25 +5,19 @@ ghost use Rattle.std.specs.Vec.{vec_capacity, vec_len};
 ghost use Rattle.scf_facts.specs.declared.trail.Change.{Change};
 ghost use Rattle.scf_facts.specs.internal.Counts.{AreRising};
 ghost use Rattle.scf_facts.specs.internal.Trail.{Covers, known_at, known_before, restored};
-ghost use Rattle.scf_facts.specs.internal.WordSets.{AllFacts, known_of};
+ghost use Rattle.scf_facts.specs.internal.WordSets.{NumberFacts};
 
-use crate::binary_clause::BinaryClause;
 use crate::trail::{Change, SavedValue};
 use crate::word_set::WordSet;
 use scf_insn::Memory;
 
 impl Change {
     /// Undoes the change.
-    pub(crate) fn restore(self, sets: &mut [WordSet], clauses: &mut Vec<BinaryClause>)
+    pub(crate) fn restore(self, sets: &mut [WordSet])
         requires { length sets.old ≡ 16 }
-        ensures { known_of sets.new clauses.new.items ≡ known_before self (known_of sets.old clauses.old.items) }
+        ensures { sets.new ≡ known_before self sets.old }
     {
-        match self {
-            Change::OfWord(change) => sets[change.word as usize].restore(change.former),
-            Change::Refuted => {
-                clauses.pop();
-            }
-        }
+        sets[self.word as usize].restore(self.former)
     }
 
     /// Whether undoing this also undoes the later change, which then needn't be kept: both changed the intervals of one
@@ -32,34 +26,24 @@ impl Change {
     fn covers(&self, later: &Change) -> bool
         ensures { IsTrue result → Covers self.now later.now }
     {
-        match (self, later) {
-            (Change::OfWord(first), Change::OfWord(second)) if first.word == second.word => {
-                matches!(
-                    (&first.former, &second.former),
-                    (SavedValue::Intervals(_), SavedValue::Intervals(_))
-                )
-            }
-            _ => false,
-        }
+        self.word == later.word
+            && matches!(
+                (&self.former, &later.former),
+                (SavedValue::Intervals(_), SavedValue::Intervals(_))
+            )
     }
 }
 
 /// Undoes the changes from index `count` on, the last one first.
-pub(crate) fn restore(
-    sets: &mut [WordSet],
-    clauses: &mut Vec<BinaryClause>,
-    trail: &mut Vec<Change>,
-    count: usize,
-)
+pub(crate) fn restore(sets: &mut [WordSet], trail: &mut Vec<Change>, count: usize)
     requires sixteen { length sets.old ≡ 16 }
     requires within { count ≤ length trail.old.items }
-    ensures known { known_of sets.new clauses.new.items
-        ≡ restored (known_of sets.old clauses.old.items) (drop count trail.old.items) }
+    ensures known { sets.new ≡ restored sets.old (drop count trail.old.items) }
     ensures trail { trail.new.items ≡ take count trail.old.items }
 {
     while trail.len() > count {
         if let Some(change) = trail.pop() {
-            change.restore(sets, clauses);
+            change.restore(sets);
         }
     }
 }
@@ -91,7 +75,7 @@ pub(crate) fn note(trail: &mut Vec<Change>, marks: &[usize], change: Change) -> 
     requires { AreRising marks.now (length trail.old.items) }
     ensures room { (0 < length marks.now → vec_len trail.old < vec_capacity trail.old) → IsOk result }
     ensures rising { AreRising marks.now (length trail.new.items) }
-    ensures marked { OnOk result ((known : AllFacts) → length known.sets ≡ 16 → (index : ℕ) → index < length marks.now
+    ensures marked { OnOk result ((known : List NumberFacts) → length known ≡ 16 → (index : ℕ) → index < length marks.now
         → known_at known trail.new.items marks.now index
         ≡ known_at (known_before change known) trail.old.items marks.now index) }
 {

@@ -1,13 +1,15 @@
 //! The laws of a store of facts.
 
 ghost use Rattle.std.specs.Prelude.{◌≡◌, ◌+◌, ◌<◌, ◌≤◌, ◌↔◌, ℕ, List, Bool, IsTrue, true, false};
-ghost use Rattle.std.specs.Prelude.{IsSome, IfSome, IfOk, OnOk, OnErr};
+ghost use Rattle.std.specs.Prelude.{IsSome, IfSome, IfOk, OnOk, OnErr, bit_and, slice_index};
 ghost use Rattle.scf_insn.specs.Words.{IsWords};
 ghost use Rattle.scf_facts.specs.Atoms.{atom_answer, word_of};
+ghost use Rattle.scf_facts.specs.Bits.{HasBits};
 ghost use Rattle.scf_facts.specs.Exactness.{KeepsExact};
 ghost use Rattle.scf_facts.specs.Levels.{IsSameLevel};
 
 use crate::atom::{Atom, Tell};
+use crate::bits::Bits;
 use scf_insn::Memory;
 use std::alloc::Global;
 
@@ -51,20 +53,6 @@ pub trait WordFacts: Sized + Drop {
         ensures refused { OnErr result (
             IsSameLevel allows is_exact self.old (level self.old) self.new (level self.old)) };
 
-    /// Keeps the allowed lists of which at most one of the atoms is true. The marks don't change. If allocation fails,
-    /// nothing changes. A store that has a clause need not be exact.
-    fn learn_clause(&mut self, first: Atom, second: Atom) -> Result<(), Memory>
-        requires first_word { word_of first < 16 }
-        requires second_word { word_of second < 16 }
-        ensures marks { level self.new ≡ level self.old }
-        ensures at_marks { (index : ℕ) → index < level self.old
-            → IsSameLevel allows is_exact self.old index self.new index }
-        ensures law_clause { OnOk result ((words : List ℕ) → allows self.new (level self.old) words
-            ↔ (allows self.old (level self.old) words
-            × (atom_answer first words ≡ true → atom_answer second words ≡ false))) }
-        ensures refused { OnErr result (
-            IsSameLevel allows is_exact self.old (level self.old) self.new (level self.old)) };
-
     /// Opens a mark at what is known now. If allocation fails, none is opened.
     fn mark(&mut self) -> Result<(), Memory>
         ensures opened { OnOk result (level self.new ≡ level self.old + 1) }
@@ -102,6 +90,13 @@ pub trait WordFacts: Sized + Drop {
             → (some : List ℕ) → allows self.now (level self.now) some
             → ((words : List ℕ) → allows self.now (level self.now) words → atom_answer atom words ≡ false)
             → result ≡ Tell.Never };
+
+    /// Bits that the word with this index has in every allowed list.
+    fn known_bits(&self, word: u8) -> Bits
+        requires word { word < 16 }
+        ensures within { bit_and result.value result.mask ≡ result.value }
+        ensures known { (words : List ℕ) → allows self.now (level self.now) words
+            → HasBits result (slice_index words word) };
 
     /// Whether no list is known to be allowed: true only if none is.
     fn is_empty(&self) -> bool

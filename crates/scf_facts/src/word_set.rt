@@ -4,7 +4,8 @@ ghost use Rattle.std.specs.Prelude.{◌≡◌, ◌↔◌, ◌⊎◌, ◌<◌, �
 ghost use Rattle.std.specs.Prelude.{IsSome, IfSome, IfNone, IfOk, OnOk, OnErr};
 ghost use Rattle.std.specs.Int.{IsPowerOfTwo};
 ghost use Rattle.scf_facts.specs.Atoms.{answer_at};
-ghost use Rattle.scf_facts.specs.internal.Bits.{HasBits, LacksBits};
+ghost use Rattle.scf_facts.specs.Bits.{HasBits};
+ghost use Rattle.scf_facts.specs.internal.Bits.{LacksBits};
 ghost use Rattle.scf_facts.specs.Exactness.{KeepsExact};
 ghost use Rattle.scf_facts.specs.internal.Intervals.{LiesIn, LiesOutside, LiesInOne};
 ghost use Rattle.scf_facts.specs.internal.Trail.{facts_before};
@@ -180,6 +181,19 @@ impl WordSet {
         }
     }
 
+    /// The bits that every value is known to have. Refuted bits aren't used.
+    #[tactic(auto, using(crate::proofs::CommonBits::kept_bits))]
+    pub(crate) fn known_bits(&self) -> Bits
+        ensures within { bit_and result.value result.mask ≡ result.value }
+        ensures known { EachNumber self.now (HasBits result) }
+    {
+        let known = Bits::of(self.known.value, self.known.mask);
+        match self.intervals.hull() {
+            Some(hull) => known.union(Bits::between(hull.low, hull.high)),
+            None => known,
+        }
+    }
+
     /// Whether all values lie within a range, or none does, if either is known.
     fn lies_within(&self, range: Interval) -> Option<bool>
         ensures all { result ≡ Some true → EachNumber self.now (LiesIn range) }
@@ -309,54 +323,6 @@ impl WordSet {
             Searched::Found(number) => Some(number),
             Searched::Nothing | Searched::GaveUp => None,
         }
-    }
-
-    /// A possible value for which the atom is false, if one is found.
-    pub(crate) fn pick_without(&self, atom: Atom) -> Option<u32>
-        ensures allowed { IfSome result (λ x. AllowsNumber self.now x) }
-        ensures refuted { IfSome result (λ x. answer_at atom x ≡ false) }
-    {
-        let number = match Query::of(atom) {
-            Query::Within { range, answer } if answer => self.first_outside(range),
-            Query::Within { range, .. } => self.first_in(range, self.known),
-            Query::Masked(bits) => self.first_without(bits),
-        }?;
-        (self.allows(number) && !atom.answer(number)).then_some(number)
-    }
-
-    /// The first value in the range with the bits, refuted or not.
-    fn first_in(&self, range: Interval, bits: Bits) -> Option<u32>
-        ensures { IfSome result (λ x. LiesInOne self.now.intervals x × LiesIn range x × HasBits bits x) }
-    {
-        first_number(self.intervals.as_slice(), range, bits)
-    }
-
-    /// The first value outside the range, refuted or not.
-    fn first_outside(&self, range: Interval) -> Option<u32>
-        ensures { IfSome result (λ x. LiesInOne self.now.intervals x × LiesOutside range x) }
-    {
-        if let Some(below) = Interval::ALL.part_below(range.low) {
-            if let Some(number) = self.first_in(below, self.known) {
-                return Some(number);
-            }
-        }
-        self.first_in(Interval::ALL.part_above(range.high)?, self.known)
-    }
-
-    /// The first value that lacks the lowest of the bits that some value lacks, refuted or not.
-    fn first_without(&self, bits: Bits) -> Option<u32>
-        ensures { IfSome result (λ x. LiesInOne self.now.intervals x × HasBits self.now.known x) }
-    {
-        let mut open = bits.beyond(self.known);
-        while let Some(bit) = open.lowest() {
-            if let Some(joined) = self.known.join(bit.flipped()) {
-                if let Some(number) = self.first_in(Interval::ALL, joined) {
-                    return Some(number);
-                }
-            }
-            open = open.beyond(bit);
-        }
-        None
     }
 
     /// A possible value at an end of an interval.

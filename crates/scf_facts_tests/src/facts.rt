@@ -1,6 +1,6 @@
 //! What facts as a list of atoms tell and pick.
 
-use crate::script::{ALL_BITS, Step, arc, equal, follow_each, is};
+use crate::script::{ALL_BITS, Step, equal, follow_each, is};
 use Step::{IsEmpty, Learn, Picks, PicksNone, Tells};
 use Tell::{Always, Maybe, Never};
 use scf_facts::{Atom, AtomList, Tell};
@@ -40,14 +40,6 @@ const SCRIPTS: &[&'static [Step]] = &[
         Picks(0, 0xc000_003e),
         Learn(Atom::Ge { word: 2, value: 1 }, true),
         PicksNone,
-    ],
-    &[
-        Learn(arc!(9, 4), true),
-        Tells(arc!(9, 4), Always),
-        Tells(arc!(9, 5), Maybe),
-        Learn(is!(4, 2), true),
-        Tells(arc!(3, 9), Never),
-        Picks(0, 2),
     ],
 ];
 

@@ -6,13 +6,11 @@
 #[cfg(test)]
 mod facts;
 #[cfg(test)]
-mod facts_arcs;
+mod facts_bits;
 #[cfg(test)]
 mod facts_exact;
 #[cfg(test)]
 mod facts_largest;
-#[cfg(test)]
-mod facts_pairs;
 #[cfg(test)]
 mod script;
 #[cfg(test)]

@@ -40,31 +40,20 @@ macro_rules! at_least {
 
 pub(crate) use at_least;
 
-/// The numbers of word 4 from the first on up to the last, round the circle.
-macro_rules! arc {
-    ($first:expr, $last:expr) => {
-        Atom::Arc { word: 4, first: $first, last: $last }
-    };
-}
-
-pub(crate) use arc;
-
 /// What is done with a store of facts, or is so of it.
 #[derive(Clone, Copy)]
 pub(crate) enum Step {
     /// An answer of an atom is learned.
     Learn(Atom, bool),
-    /// It is learned that not both are true.
-    NotBoth(Atom, Atom),
     Mark,
     /// The way back to the newest mark.
     Undo,
     OpenMarks(usize),
     Tells(Atom, Tell),
+    /// The mask and the value of the known bits of word 4.
+    Knows(u32, u32),
     /// These are words 0 and 4 of what is picked, and the others are 0.
     Picks(u32, u32),
-    /// What is picked isn't that.
-    PicksOther(u32, u32),
     /// An atom on word 4 has this answer in what is picked.
     PicksBy(Atom, bool),
     PicksNone,
@@ -93,15 +82,15 @@ fn goes_back<F: WordFacts>(facts: &mut F) -> bool {
 fn is_taken<F: WordFacts>(facts: &mut F, step: Step) -> bool {
     match step {
         Step::Learn(atom, holds) => atom.word() < 16 && facts.learn(atom, holds).is_ok(),
-        Step::NotBoth(first, second) => {
-            first.word() < 16 && second.word() < 16 && facts.learn_clause(first, second).is_ok()
-        }
         Step::Mark => facts.mark().is_ok(),
         Step::Undo => goes_back(facts),
         Step::OpenMarks(count) => facts.open_marks() == count,
         Step::Tells(atom, told) => atom.word() < 16 && facts.tell(atom) == told,
+        Step::Knows(mask, value) => {
+            let bits = facts.known_bits(4);
+            bits.mask == mask && bits.value == value
+        }
         Step::Picks(word_0, word_4) => facts.pick() == words_of(word_0, word_4),
-        Step::PicksOther(word_0, word_4) => facts.pick() != words_of(word_0, word_4),
         Step::PicksBy(atom, holds) => facts
             .pick()
             .is_some_and(|words| atom.answer(words[4]) == holds),

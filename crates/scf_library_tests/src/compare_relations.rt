@@ -1,7 +1,7 @@
 //! Filters against profiles by each relation.
 
 use crate::fixtures::{profile_of, push_answer};
-use scf_compare::{Relation, Scope, Verdict, compare_by};
+use scf_compare::{Limit, Relation, Scope, Verdict, compare_by};
 use scf_facts::AtomList;
 use scf_insn::Answer;
 use scf_machine::FilterStack;
@@ -112,7 +112,9 @@ fn says(
     holds: bool,
 ) -> bool {
     let scope = Scope::Native;
-    match compare_by::<AtomList>(alloc, stack, profile, scope, relation, 8).expect(rt, "no fault") {
+    match compare_by::<AtomList>(alloc, stack, profile, scope, relation, Limit::of_steps(8)).expect(
+        rt, "no fault",
+    ) {
         Verdict::Same { .. } => holds,
         Verdict::Differs {
             filter,

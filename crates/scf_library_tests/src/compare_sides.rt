@@ -5,7 +5,7 @@ use scf_compare::Relation::{NoLess, NoMore, Same};
 use scf_compare::Scope::{All, Call, Native};
 use scf_compare::Which::{Left, Right};
 use scf_compare::{
-    Finding, Relation, Scope, Side, Which, compare_sides, compare_sides_within, effort_sides,
+    Finding, Limit, Relation, Scope, Side, Which, compare_sides, compare_sides_within, effort_sides,
 };
 use scf_facts::WordSets;
 use scf_insn::{Answer, CallRecord};
@@ -136,11 +136,13 @@ fn finds(
     wanted: (Scope, Relation, Outcome),
 ) -> bool {
     let (over, by, outcome) = wanted;
-    let limit = effort_sides(&left, &right);
+    let steps = effort_sides(&left, &right);
+    let limit = Limit::of_steps(steps);
     let finding = compare_sides::<WordSets>(alloc, &left, &right, over, by, limit).expect(
         rt, "no fault",
     );
-    let mut left_over = limit;
+    let mut left_over = steps;
+    let mut left_below = steps;
     let within = compare_sides_within::<WordSets>(
         alloc,
         &left,
@@ -149,14 +151,24 @@ fn finds(
         by,
         limit,
         &mut left_over,
-    ).expect(rt, "no fault");
+        &mut left_below,
+    )
+    .expect(rt, "no fault");
     let mut none = 0;
     let unfinished = compare_sides_within::<WordSets>(
-        alloc, &left, &right, over, by, limit, &mut none,
-    ).expect(rt, "no fault");
+        alloc,
+        &left,
+        &right,
+        over,
+        by,
+        limit,
+        &mut none,
+        &mut left_below,
+    )
+    .expect(rt, "no fault");
     is_wanted(finding, left, right, outcome)
         && within == finding
-        && left_over < limit
+        && left_over < steps
         && unfinished == Finding::Unfinished
 }
 

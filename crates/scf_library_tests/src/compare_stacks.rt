@@ -4,7 +4,7 @@
 use crate::fixtures::{holds_of, profile_of, stack_of};
 use scf_compare::Relation::{NoLess, NoMore, Same, SameDisposition};
 use scf_compare::Scope::{All, Call, Native, Numbers, NumbersOf, Of};
-use scf_compare::{Relation, Scope, Verdict, compare_by, compare_stack, effort_stack};
+use scf_compare::{Limit, Relation, Scope, Verdict, compare_by, compare_stack, effort_stack};
 use scf_facts::WordSets;
 use scf_insn::{Answer, Architecture};
 use scf_machine::FilterStack;
@@ -265,9 +265,15 @@ fn says(
     limit: u64,
 ) -> bool {
     let (scope, relation, shown) = wanted;
-    let verdict = compare_by::<WordSets>(alloc, stack, profile, scope, relation, limit).expect(
-        rt, "no fault",
-    );
+    let verdict = compare_by::<WordSets>(
+        alloc,
+        stack,
+        profile,
+        scope,
+        relation,
+        Limit::of_steps(limit),
+    )
+    .expect(rt, "no fault");
     let same = compare_stack::<WordSets>(alloc, stack, profile, scope, limit).expect(
         rt, "no fault",
     );

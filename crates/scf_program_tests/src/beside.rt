@@ -3,7 +3,7 @@
 
 use crate::parts::{ALLOW, NO_TABLE, Part, WITHOUT_WRITE, bundle, filter_of, long_filter};
 use crate::runs::run;
-use scf_compare::{Finding, Relation, Scope};
+use scf_compare::{Finding, Limit, Relation, Scope};
 use scf_insn::ReadFault;
 use scf_insn::faults::{Failing, Reader};
 use scf_machine::PushFault;
@@ -28,8 +28,14 @@ const EPERM: &str = "ret #0x50001";
 
 const ENOSYS: &str = "ret #0x50026";
 
-/// An answer that depends on the parity of a product, which isn't known.
-const EVEN: &str = "ld [16]; mul #6; jset #1, 0, 1; ret #0; ret #0x7fff0000";
+/// One that allows everything, since three times a word, less that word three times, is 0: few splits don't show it.
+const ZERO: &str =
+    "ld [16]; tax; mul #3; sub x; sub x; sub x; jeq #0, 0, 1; ret #0x7fff0000; ret #0";
+
+/// Two that allow where a masked word is at least 5, told by different tests.
+const FROM_FIVE: &str = "ld [16]; and #0xff; jge #5, 0, 1; ret #0x7fff0000; ret #0x50001";
+
+const ABOVE_FOUR: &str = "ld [16]; and #0xff; jgt #4, 0, 1; ret #0x7fff0000; ret #0x50001";
 
 const ROWS: &[Row] = &[
     // No filter on either side, or on one.
@@ -108,18 +114,33 @@ const ROWS: &[Row] = &[
     },
     // An answer that isn't known, on either side.
     Row {
-        words: &["scf", "compare", "--beside"],
-        parts: &[Part::Filter(EVEN), Part::Beside(ALLOW_ALL)],
+        words: &["scf", "compare", "--beside", "--splits", "5"],
+        parts: &[Part::Filter(ZERO), Part::Beside(ALLOW_ALL)],
+        begin: "undecided at ",
+        end: "\n",
+        status: 4,
+    },
+    Row {
+        words: &["scf", "compare", "--beside", "--splits", "5"],
+        parts: &[Part::Filter(ALLOW_ALL), Part::Beside(ZERO)],
+        begin: "undecided at ",
+        end: "\n",
+        status: 4,
+    },
+    // Splits decide it.
+    Row {
+        words: &["scf", "compare", "--beside", "--splits", "0"],
+        parts: &[Part::Filter(FROM_FIVE), Part::Beside(ABOVE_FOUR)],
         begin: "undecided at ",
         end: "\n",
         status: 4,
     },
     Row {
         words: &["scf", "compare", "--beside"],
-        parts: &[Part::Filter(ALLOW_ALL), Part::Beside(EVEN)],
-        begin: "undecided at ",
-        end: "\n",
-        status: 4,
+        parts: &[Part::Filter(FROM_FIVE), Part::Beside(ABOVE_FOUR)],
+        begin: "same\n",
+        end: "",
+        status: 0,
     },
     Row {
         words: &["scf", "compare", "--beside", "--limit", "1"],
@@ -248,7 +269,7 @@ fn found(
         &mut beside,
         Scope::All,
         Relation::Same,
-        1_000,
+        Limit::of_steps(1_000),
     );
     let [first, second] = &filters;
     let [third, fourth] = &beside;
@@ -316,7 +337,7 @@ fn room_of_each_side(rt: HostRuntime) {
         &mut beside,
         Scope::All,
         Relation::Same,
-        1,
+        Limit::of_steps(1),
     );
     assert!(rt; found == Err(BesideFault::Beside(fault)));
 }

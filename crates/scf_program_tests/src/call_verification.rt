@@ -41,11 +41,11 @@ fn is_wanted(told: &CallFinding, wanted: Wanted) -> bool {
     }
 }
 
-/// One call is answered behind more than 64 steps, one by an even product of an argument, which isn't decided, and one
-/// by an errno; the others are allowed. Their numbers are 1, 2 and 3, and 7, 6 and 5.
-const MIXED: &str = "ld [0]; jeq #1, slow, 0; jeq #2, even, 0; jeq #3, other, 0
-    jeq #5, other, 0; jeq #6, even, 0; jeq #7, slow, allow
-    even: ld [16]; mul #6; jset #1, 0, allow; ret #0; other: ret #0x50001
+/// One call is answered behind more than 64 steps, one by a difference that is always 0, which few splits don't show,
+/// and one by an errno; the others are allowed. Their numbers are 1, 2 and 3, and 7, 6 and 5.
+const MIXED: &str = "ld [0]; jeq #1, slow, 0; jeq #2, zero, 0; jeq #3, other, 0
+    jeq #5, other, 0; jeq #6, zero, 0; jeq #7, slow, allow
+    zero: ld [16]; tax; mul #3; sub x; sub x; sub x; jeq #0, allow, 0; ret #0; other: ret #0x50001
     slow: tax; tax; tax; tax; tax; tax; tax; tax; tax; tax; tax; tax; tax; tax; tax; tax
     tax; tax; tax; tax; tax; tax; tax; tax; tax; tax; tax; tax; tax; tax; tax; tax
     tax; tax; tax; tax; tax; tax; tax; tax; tax; tax; tax; tax; tax; tax; tax; tax
@@ -67,12 +67,12 @@ type Call = (u32, &'static [&'static str], Wanted, Wanted);
 const CALLS: &[Call] = &[
     (0, &["same"], Wanted::Same, Wanted::Same),
     (1, &["a"], Wanted::Same, Wanted::Unfinished),
-    // The one filter comes to its `ret #0` at 10, and the other to its last return.
+    // The one filter comes to its `ret #0` at 14, and the other to its last return.
     (
         2,
         &["b"],
-        Wanted::Undecided(&[10, 3]),
-        Wanted::Undecided(&[10, 3]),
+        Wanted::Undecided(&[14, 3]),
+        Wanted::Undecided(&[14, 3]),
     ),
     (3, &["c"], Wanted::Same, Wanted::Same),
     (
@@ -94,11 +94,12 @@ fn given<'a>(older: &'a [u8], newer: &'a [u8], table: &'a str, profile: &'a str)
     [older, newer, table.as_bytes(), profile.as_bytes()]
 }
 
-/// So many steps for each call, and as many as are wanted for all together.
+/// So many steps for each call and as many as are wanted for all together, and few splits.
 fn each(limit: u64) -> Limits {
     Limits {
         each: limit,
         total: u64::MAX,
+        splits: 5,
     }
 }
 

@@ -44,9 +44,12 @@ call_options =
     word_option (codes "nr") 0 ∷ word_option (codes "arch") audit_arch_x86_64 ∷ map (λ name. long_option name 0)
     (codes "ip" ∷ codes "a0" ∷ codes "a1" ∷ codes "a2" ∷ codes "a3" ∷ codes "a4" ∷ codes "a5" ∷ [])
 
--- the options of limits: the most steps of a comparison, and of those of single calls together
+-- the options of limits: the most steps of a comparison, and of those of single calls together, and the most splits
+-- of a comparison
 abbrev pub limit_options : List NumberOption
-limit_options = long_option (codes "limit") 1000000 ∷ long_option (codes "total-limit") 10000000 ∷ []
+limit_options =
+    long_option (codes "limit") 1000000 ∷ long_option (codes "total-limit") 10000000
+    ∷ long_option (codes "splits") 10000 ∷ []
 
 -- the numbers of a record, in the order of its fields
 abbrev pub numbers_of_record : CallRecord → List ℕ
@@ -71,7 +74,7 @@ comparison_options = limit_options ++ range_options
 
 -- the limits, in that order
 abbrev pub numbers_of_limits : Limits → List ℕ
-numbers_of_limits limits = limits.each ∷ limits.total ∷ []
+numbers_of_limits limits = limits.each ∷ limits.total ∷ limits.splits ∷ []
 
 -- the ends of the range over which a comparison goes
 abbrev pub numbers_of_range : Scopes → List ℕ

@@ -85,14 +85,16 @@ const FIRST_NUMBER: &str = "nr-from";
 /// The option of its last number.
 const LAST_NUMBER: &str = "nr-to";
 
-/// The options of a comparison: its most steps, those of all comparisons of `--calls` together, and the ends of a range
-/// of numbers.
-pub(crate) fn comparison_options() -> [NumberOption; 4]
+/// The options of a comparison: its most steps, those of all comparisons of `--calls` together, its most splits, and
+/// the ends of a range of numbers.
+pub(crate) fn comparison_options() -> [NumberOption; 5]
     ensures kept { options_kept result ≡ table.comparison_options }
     ensures fair { AllByRecursion (λ o. o.default ≤ o.most) result }
 {
     let each = "The most steps of a comparison [default: 1000000]";
     let total = "With --calls, the most steps of all its comparisons together [default: 10000000]";
+    let splits =
+        "The most splits of a comparison that tests leave undecided; 2^64-1 for no limit [default: 10000]";
     let first =
         "Only calls of x86-64, or of each of --architectures, with at least this number; not with --calls";
     let last =
@@ -100,6 +102,7 @@ pub(crate) fn comparison_options() -> [NumberOption; 4]
     [
         long("limit", 1_000_000, each),
         long("total-limit", 10_000_000, total),
+        long("splits", 10_000, splits),
         word(FIRST_NUMBER, 0, first),
         word(LAST_NUMBER, MAX_WORD, last),
     ]
@@ -246,21 +249,25 @@ pub(crate) struct ComparisonNumbers {
     pub last: u32,
 }
 
-/// The numbers of the options `limit`, `total-limit`, `nr-from` and `nr-to`: limits in steps and the ends of a range.
-/// If not given, they are 1000000, 10000000, 0 and 2^32 - 1. The error names the first option, in this order, whose
-/// text isn't a number in its range: decimal digits, or `0x` or `0X` and hexadecimal digits, below 2^64 for the limits
-/// and below 2^32 for the ends.
+/// The numbers of the options `limit`, `total-limit`, `splits`, `nr-from` and `nr-to`: two limits in steps, one in
+/// splits, and the ends of a range. If not given, they are 1000000, 10000000, 10000, 0 and 2^32 - 1. The error names
+/// the first option, in this order, whose text isn't a number in its range: decimal digits, or `0x` or `0X` and
+/// hexadecimal digits, below 2^64 for the limits and below 2^32 for the ends.
 pub(crate) fn comparison_numbers(matches: &ArgMatches<'_>) -> Result<ComparisonNumbers, NumberFault>
     ensures ok { IfOk result (λ n. map Some (table.numbers_of_limits n.limits ++ n.first ∷ n.last ∷ [])
         ≡ map (table.number_in (rows_of (found_of matches.now))) table.comparison_options) }
     ensures err { IfErr result (λ fault.
         table.first_wrong table.comparison_options (rows_of (found_of matches.now)) ≡ Some fault.name.now) }
 {
-    let mut numbers = [0; 4];
+    let mut numbers = [0; 5];
     numbers_in(matches, &comparison_options(), &mut numbers)?;
-    let [each, total, first, last] = numbers;
+    let [each, total, splits, first, last] = numbers;
     Ok(ComparisonNumbers {
-        limits: Limits { each, total },
+        limits: Limits {
+            each,
+            total,
+            splits,
+        },
         first: first as u32,
         last: last as u32,
     })

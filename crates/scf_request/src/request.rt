@@ -32,13 +32,15 @@ pub enum Scopes {
     EachCall,
 }
 
-/// How many steps comparisons may take.
+/// How many steps and splits comparisons may take.
 #[derive(Clone, Copy)]
 pub struct Limits {
     /// The most steps of one comparison.
     pub each: u64,
     /// The most steps of the comparisons of single calls together. One comparison over many calls isn't bound by it.
     pub total: u64,
+    /// The most splits of one comparison; 2^64-1 for no limit.
+    pub splits: u64,
 }
 
 /// What a comparison is asked for.

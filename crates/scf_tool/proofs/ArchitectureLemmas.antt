@@ -8,6 +8,7 @@ use Rattle.scf_profile.specs.ProfileAnswers.ProfilesAnswer.{by_profile}
 use Rattle.scf_profile.specs.Scope.{IsInScope, RelatedAnswersIn}
 use Rattle.scf_profile.specs.declared.relation.Relation.{Relation}
 use Rattle.scf_profile.specs.declared.scope.Scope.{Scope}
+use Rattle.scf_compare.specs.declared.budget.Limit.{Limit}
 use Rattle.scf_compare.specs.Verdicts.{IsTrueOfStackBy}
 use Rattle.scf_tool.specs.ArchitectureScopes.{scope_of}
 use Rattle.scf_tool.specs.declared.architecture_scope.NumberRange.{NumberRange}
@@ -89,7 +90,7 @@ module _ (relation : Relation) (over : Architecture → Scope)
   other_is_not_same (Undecided at) is = refl
   other_is_not_same Unfinished is = refl
 
-  module _ (limit : ℕ) where
+  module _ (limit : Limit) where
     abbrev Compared : Profile → Verdict → Type 0
     Compared p verdict = IsComparison relation stack p (over p.architecture) limit verdict
 

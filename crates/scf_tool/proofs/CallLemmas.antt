@@ -7,6 +7,7 @@ use Rattle.scf_insn.specs.Architectures.{row_of}
 use Rattle.scf_insn.specs.Kernel.{x32_syscall_bit}
 use Rattle.scf_insn.specs.declared.architecture.Architecture.{Architecture}
 use Rattle.scf_insn.specs.declared.architecture.Architecture.TheVariants.{Aarch64, Arm, X32, X86, X8664}
+use Rattle.scf_compare.specs.declared.budget.Limit.{Limit}
 use Rattle.scf_compare.specs.Sides.{Behavior}
 use Rattle.scf_profile.specs.NamedCalls.{AreCallsOf, HasItsNames}
 use Rattle.scf_profile.specs.Table.{Names}
@@ -18,7 +19,7 @@ use Rattle.scf_tool.proofs.Common.{AreFound, IsFoundOfCall}
 
 -- one call more
 pub one_finding_more : (relation : Relation) (architecture : Architecture) (left right : Behavior)
-    (limit remaining : ℕ) (of_table : List NamedCall) (calls : List CallFinding) (between : ℕ) (of_last : NamedCall)
+    (limit : Limit) (remaining : ℕ) (of_table : List NamedCall) (calls : List CallFinding) (between : ℕ) (of_last : NamedCall)
     (last : CallFinding) (after : ℕ)
     → AreFound relation architecture left right limit remaining of_table calls between
     → IsFoundOfCall relation (scope_of_call architecture of_last.number) left right limit between of_last last after

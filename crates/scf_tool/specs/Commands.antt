@@ -30,6 +30,7 @@ use Rattle.scf_profile.specs.StatedProfile.{Tables}
 use Rattle.scf_profile.specs.Table.{Names, table_of}
 use Rattle.scf_compile.specs.declared.fault.CompileFault.TheVariants as compiles
 use Rattle.scf_compile.specs.SizeBound.{size_bound_of, size_bound_of_each}
+use Rattle.scf_tool.specs.Comparisons.{limit_of}
 use Rattle.scf_tool.specs.declared.fault.Fault.{Fault}
 use Rattle.scf_tool.specs.declared.fault.Fault.TheVariants as faults
 use Rattle.scf_profile.specs.declared.relation.Relation.{Relation}
@@ -54,6 +55,7 @@ use Rattle.scf_request.specs.Bundle.{AreNoParts, IsArchitecturesBundle, IsBeside
 use Rattle.scf_request.specs.Contents.{texts_for}
 use Rattle.scf_request.specs.declared.bundle.PartKind.{PartKind}
 use Rattle.scf_tool.specs.ArchitectureScopes.{range_of}
+use Rattle.scf_tool.specs.Comparisons.{limit_of}
 use Rattle.scf_tool.specs.CallReports.{calls_text, findings_text, joint_of}
 use Rattle.scf_tool.specs.Lines.{traced_text}
 use Rattle.scf_tool.specs.FilterStacks.{HasStack, HasNoStack}
@@ -211,7 +213,7 @@ abbrev pub ComparesParts : Scopes → Relation → Limits → List (List ℕ) �
 ComparesParts over relation limits filters profile table (Err (faults.Verify fault)) =
     NoReadFailed fault × IsRefusedStack (map Some filters) (Some table) (Some profile) fault
 ComparesParts (AtOnce scope) relation limits filters profile table (Ok reply) = (outcome : Outcome)
-    × IsVerifiedBy relation (map Some filters) (Some table) (Some profile) scope limits.each outcome
+    × IsVerifiedBy relation (map Some filters) (Some table) (Some profile) scope (limit_of limits) outcome
     × IsReport relation outcome reply
 ComparesParts EachCall relation limits filters profile table (Ok reply) = (outcome : CallsOutcome)
     × AreVerifiedCalls relation (map Some filters) (Some table) (Some profile) limits outcome
@@ -251,7 +253,7 @@ ComparesStacks over relation limits filters beside tables (Err (faults.Verify fa
 ComparesStacks over relation limits filters beside tables (Err (faults.Beside fault)) =
     NoReadFailed fault × AreNotCompared over filters beside tables (besides.Beside fault)
 ComparesStacks (AtOnce scope) relation limits filters beside tables (Ok (Compared text status)) = (finding : Finding)
-    × VerifiesBeside relation (map Some filters) (map Some beside) scope limits.each (Ok finding)
+    × VerifiesBeside relation (map Some filters) (map Some beside) scope (limit_of limits) (Ok finding)
     × (text.items ≡ finding_text relation beside_word finding) × (status ≡ finding_status finding)
 ComparesStacks EachCall relation limits filters beside tables (Ok (Compared text status)) =
     (table : List ℕ) × (tables ≡ table ∷ []) × (calls : List CallFinding)
@@ -321,7 +323,7 @@ abbrev pub ComparesProfiles : Scopes → Relation → Limits → List (List ℕ)
 ComparesProfiles over relation limits filters profile tables (Err (faults.Verify fault)) = NoReadFailed fault
     × IsRefusedBehind (map Some filters) (AreProfilesRefused (map known_text tables) (Some profile)) fault
 ComparesProfiles (AtOnce scope) relation limits filters profile tables (Ok reply) = (outcome : Outcome)
-    × AreVerified relation (range_of scope) (map Some filters) (map known_text tables) (Some profile) limits.each
+    × AreVerified relation (range_of scope) (map Some filters) (map known_text tables) (Some profile) (limit_of limits)
     outcome
     × IsReport relation outcome reply
 ComparesProfiles EachCall relation limits filters profile tables (Ok reply) = (outcome : CallsOutcome)

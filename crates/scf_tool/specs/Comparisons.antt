@@ -1,6 +1,9 @@
 -- What findings say of two sides that are compared, over the calls of a scope or call by call of a table.
-use Rattle.std.specs.Prelude.{◌≡◌, ◌*◌, ℕ, List, [], ◌∷◌, min}
+use Rattle.std.specs.Prelude.{◌≡◌, ◌==◌, ◌*◌, ◌-◌, ◌^◌, ℕ, List, [], ◌∷◌, min, if◌then◌else◌}
 use Rattle.scf_insn.specs.declared.architecture.Architecture.{Architecture}
+use Rattle.scf_compare.specs.declared.budget.Limit.{Limit}
+use Rattle.scf_compare.specs.declared.budget.Splits.{Splits}
+use Rattle.scf_compare.specs.declared.budget.Splits.TheVariants.{AtMost, NoLimit}
 use Rattle.scf_compare.specs.declared.finding.Finding.{Finding}
 use Rattle.scf_compare.specs.Findings.{AllRelated, IsFindingDecided, IsFindingWithin, IsTrueFinding, LeavesFindingSteps, compared_in}
 use Rattle.scf_compare.specs.Sides.{Behavior}
@@ -14,28 +17,38 @@ use Rattle.scf_request.specs.declared.request.Limits.{Limits}
 use Rattle.scf_tool.specs.ArchitectureScopes.{scope_of_call}
 use Rattle.scf_tool.specs.declared.call_verification.CallFinding.{CallFinding}
 
+-- a number of splits, of which the greatest stands for no limit
+abbrev pub splits_of : ℕ → Splits
+splits_of number = if number == 2 ^ 64 - 1 then NoLimit else AtMost number
+
+-- the limit of each comparison
+abbrev pub limit_of : Limits → Limit
+limit_of limits = record { steps = limits.each; splits = splits_of limits.splits }
+
 -- A finding on a relation is true of two sides over the calls of a scope, and within the limit and the effort. It
--- decides between plain sides.
-pub record IsFound (relation : Relation) (left right : Behavior) (scope : Scope) (limit : ℕ) (finding : Finding)
+-- decides between plain sides, and between any two if there is no limit of splits.
+pub record IsFound (relation : Relation) (left right : Behavior) (scope : Scope) (limit : Limit) (finding : Finding)
     : Type 0 where
   pub holds : IsTrueFinding (compared_in relation scope left right) finding
-  pub within : IsFindingWithin limit (left.size * right.size) finding
+  pub within : IsFindingWithin limit.steps (left.size * right.size) finding
   pub decided : left.is_plain → right.is_plain
-      → IsFindingDecided (AllRelated (compared_in relation scope left right)) limit (left.size * right.size) finding
+      → IsFindingDecided (AllRelated (compared_in relation scope left right)) limit.steps (left.size * right.size) finding
+  pub settled : limit.splits ≡ NoLimit
+      → IsFindingDecided (AllRelated (compared_in relation scope left right)) limit.steps (left.size * right.size) finding
 
 -- A call of a table is named by its number and its names. The finding on it is one on the two sides over the records of
--- a scope, in at most `limit` steps and no more than are left for all calls. Those that it takes are subtracted.
-pub record IsFoundOfCall (relation : Relation) (scope : Scope) (left right : Behavior) (limit remaining : ℕ)
-    (of_table : NamedCall) (call : CallFinding) (after : ℕ) : Type 0 where
+-- a scope, within a limit and in no more steps than are left for all calls. Those that it takes are subtracted.
+pub record IsFoundOfCall (relation : Relation) (scope : Scope) (left right : Behavior) (limit : Limit)
+    (remaining : ℕ) (of_table : NamedCall) (call : CallFinding) (after : ℕ) : Type 0 where
   pub number : call.number ≡ of_table.number
   pub names : call.names ≡ texts_at of_table.names.items
-  pub found : IsFound relation left right scope (min limit remaining) call.finding
-  pub spent : LeavesFindingSteps (min limit remaining) (left.size * right.size) remaining call.finding after
+  pub found : IsFound relation left right scope (record limit { steps = min limit.steps remaining }) call.finding
+  pub spent : LeavesFindingSteps (min limit.steps remaining) (left.size * right.size) remaining call.finding after
 
 -- Each call of an architecture's table has its finding over its records, one after another, where so many steps are
 -- left before them and so many after.
-abbrev pub AreFound : Relation → Architecture → Behavior → Behavior → ℕ → ℕ → List NamedCall → List CallFinding → ℕ
-    → Type 0
+abbrev pub AreFound : Relation → Architecture → Behavior → Behavior → Limit → ℕ → List NamedCall → List CallFinding
+    → ℕ → Type 0
 AreFound relation architecture left right limit remaining [] [] after = after ≡ remaining
 AreFound relation architecture left right limit remaining (first ∷ of_table) (call ∷ calls) after = (between : ℕ)
     × IsFoundOfCall relation (scope_of_call architecture first.number) left right limit remaining first call between
@@ -46,4 +59,4 @@ AreFound relation architecture left right limit remaining of_table calls after =
 abbrev pub AreFoundOfTable : Relation → Architecture → Behavior → Behavior → Names → Limits → List CallFinding → Type 0
 AreFoundOfTable relation architecture left right names limits calls =
     (of_table : List NamedCall) × AreCallsOf names of_table
-    × (after : ℕ) × AreFound relation architecture left right limits.each limits.total of_table calls after
+    × (after : ℕ) × AreFound relation architecture left right (limit_of limits) limits.total of_table calls after

@@ -13,6 +13,7 @@ use Rattle.scf_profile.specs.Relation.{IsRelated}
 use Rattle.scf_profile.specs.declared.relation.Relation.{Relation}
 use Rattle.scf_profile.specs.Scope.{IsInScope}
 use Rattle.scf_profile.specs.declared.scope.Scope.{Scope}
+use Rattle.scf_compare.specs.declared.budget.Limit.{Limit}
 use Rattle.scf_compare.specs.Sides.{StackCanEndAt}
 use Rattle.scf_compare.specs.declared.verdict.Verdict.{Verdict}
 use Rattle.scf_compare.specs.declared.verdict.Verdict.TheVariants.{Same, Differs, Undecided, Unfinished}
@@ -56,9 +57,9 @@ IsTrueOfEach relation over stack profiles (Undecided at) = StackCanEndAt stack a
 IsTrueOfEach relation over stack profiles Unfinished = Unit {0}
 
 -- A verdict speaks for a stack and several profiles, each compared over the records of the scope for its architecture
--- in at most `limit` steps. So it is true of the records of all of them.
+-- within a limit. So it is true of the records of all of them.
 pub record IsJointComparison (relation : Relation) (over : Architecture → Scope) (stack : List (List Insn))
-    (profiles : List Profile) (limit : ℕ) (verdict : Verdict) : Type 0 where
+    (profiles : List Profile) (limit : Limit) (verdict : Verdict) : Type 0 where
   pub verdicts : List Verdict
   pub each : AllZip (λ p own. IsComparison relation stack p (over p.architecture) limit own) profiles verdicts
   pub joint : verdict ≡ joint_verdict verdicts

@@ -10,6 +10,7 @@ use Rattle.scf_profile.specs.StatedProfile.{Tables}
 use Rattle.scf_profile.specs.Table.{Names}
 use Rattle.scf_profile.specs.declared.loaded.LoadedProfiles.{LoadedProfiles}
 use Rattle.scf_profile.specs.declared.relation.Relation.{Relation}
+use Rattle.scf_compare.specs.declared.budget.Limit.{Limit}
 use Rattle.scf_compare.specs.Sides.{profile_behavior, stack_behavior}
 use Rattle.scf_request.specs.declared.contents.TableReader.{TableReader}
 use Rattle.scf_request.specs.declared.request.Limits.{Limits}
@@ -86,7 +87,7 @@ pub record AreComparedUnder (filters : List (Option (List ℕ))) (texts : List (
 -- They are compared by a relation, and the verdict speaks for all architectures that have a table, where there is a
 -- range over the records with a number of it.
 abbrev pub AreVerified : Relation → Option NumberRange → List (Option (List ℕ)) → List (Architecture × Option (List ℕ))
-    → Option (List ℕ) → ℕ → Outcome → Type 0
+    → Option (List ℕ) → Limit → Outcome → Type 0
 AreVerified relation range filters texts profile limit outcome =
     AreComparedUnder filters texts profile (outcome_left_out outcome)
     (λ stack tables profiles.
@@ -94,7 +95,7 @@ AreVerified relation range filters texts profile limit outcome =
 
 -- What the comparison of a stack with a profile for each architecture, from the bytes of their readers, answers.
 abbrev pub VerifiesArchitectures : Relation → Option NumberRange → List (Option (List ℕ))
-    → List (Architecture × Option (List ℕ)) → Option (List ℕ) → ℕ → Result Outcome VerifyFault → Type 0
+    → List (Architecture × Option (List ℕ)) → Option (List ℕ) → Limit → Result Outcome VerifyFault → Type 0
 VerifiesArchitectures relation range filters texts profile limit (Ok outcome) =
     AreVerified relation range filters texts profile limit outcome
 VerifiesArchitectures relation range filters texts profile limit (Err fault) =

@@ -6,6 +6,7 @@ use Rattle.scf_insn.specs.declared.insn.Insn.{Insn}
 use Rattle.scf_profile.specs.Table.{Names}
 use Rattle.scf_profile.specs.declared.relation.Relation.{Relation}
 use Rattle.scf_profile.specs.declared.scope.Scope.{Scope}
+use Rattle.scf_compare.specs.declared.budget.Limit.{Limit}
 use Rattle.scf_compare.specs.declared.finding.Finding.{Finding}
 use Rattle.scf_compare.specs.Sides.{stack_behavior}
 use Rattle.scf_request.specs.declared.request.Limits.{Limits}
@@ -38,7 +39,7 @@ IsRefusedPair filters beside behind (Beside fault) =
     (left : List (List Insn)) × HasStack filters left × HasNoStack beside fault
 
 -- What the comparison of two stacks by a relation, from the bytes of their readers, answers.
-abbrev pub VerifiesBeside : Relation → List (Option (List ℕ)) → List (Option (List ℕ)) → Scope → ℕ
+abbrev pub VerifiesBeside : Relation → List (Option (List ℕ)) → List (Option (List ℕ)) → Scope → Limit
     → Result Finding BesideFault → Type 0
 VerifiesBeside relation filters beside scope limit (Ok finding) =
     (left : List (List Insn)) × (right : List (List Insn)) × AreStacks filters beside left right

@@ -13,6 +13,8 @@ use Rattle.scf_profile.specs.declared.scope.Scope.{Scope}
 use Rattle.scf_compare.specs.declared.verdict.Verdict.{Verdict}
 use Rattle.scf_compare.specs.Effort.{effort_of_stack}
 use Rattle.scf_profile.specs.Scope.{RelatedAnswersIn}
+use Rattle.scf_compare.specs.declared.budget.Limit.{Limit}
+use Rattle.scf_compare.specs.declared.budget.Splits.TheVariants.{NoLimit}
 use Rattle.scf_compare.specs.Verdicts.{IsTrueOfStackBy, IsWithin, IsDecided}
 use Rattle.scf_tool.specs.declared.left_out.LeftOut.{LeftOut}
 use Rattle.scf_tool.specs.declared.verification.Outcome.{Outcome}
@@ -22,13 +24,15 @@ use Rattle.scf_tool.specs.FilterStacks.{HasStack, HasNoStack, HaveEnded, HaveSto
 use Rattle.scf_tool.specs.Verifying.{IsTable, IsLoaded, IsProfileFault}
 
 -- A verdict on a relation is true of a stack and a profile over the calls of a scope, and within the limit and the
--- effort. It decides between plain filters and a plain profile.
-pub record IsComparison (relation : Relation) (stack : List (List Insn)) (p : Profile) (scope : Scope) (limit : ℕ)
+-- effort. It decides between plain filters and a plain profile, and between any if there is no limit of splits.
+pub record IsComparison (relation : Relation) (stack : List (List Insn)) (p : Profile) (scope : Scope) (limit : Limit)
     (verdict : Verdict) : Type 0 where
   pub holds : IsTrueOfStackBy relation stack p scope verdict
-  pub within : IsWithin limit (effort_of_stack stack p) verdict
+  pub within : IsWithin limit.steps (effort_of_stack stack p) verdict
   pub decided : All IsPlainProgram stack → IsPlainProfile p
-      → IsDecided (RelatedAnswersIn relation scope (StackAnswers stack) p) limit (effort_of_stack stack p) verdict
+      → IsDecided (RelatedAnswersIn relation scope (StackAnswers stack) p) limit.steps (effort_of_stack stack p) verdict
+  pub settled : limit.splits ≡ NoLimit
+      → IsDecided (RelatedAnswersIn relation scope (StackAnswers stack) p) limit.steps (effort_of_stack stack p) verdict
 
 -- what is left out of a profile that is loaded
 abbrev pub left_out_of : Loaded → LeftOut
@@ -53,7 +57,7 @@ pub record AreComparedParties (filters : List (Option (List ℕ))) (table profil
   pub compared : holds stack names loaded.profile
 
 -- They are compared by a relation, and the verdict is one on that stack and that profile.
-abbrev pub IsVerifiedBy : Relation → List (Option (List ℕ)) → Option (List ℕ) → Option (List ℕ) → Scope → ℕ → Outcome
+abbrev pub IsVerifiedBy : Relation → List (Option (List ℕ)) → Option (List ℕ) → Option (List ℕ) → Scope → Limit → Outcome
     → Type 0
 IsVerifiedBy relation filters table profile scope limit outcome =
     AreComparedParties filters table profile (outcome_left_out outcome)
@@ -69,7 +73,7 @@ abbrev pub IsRefusedStack : List (Option (List ℕ)) → Option (List ℕ) → O
 IsRefusedStack filters table profile fault = IsRefusedBehind filters (IsProfileFault table profile) fault
 
 -- What the comparison of a stack with a profile by a relation, from the bytes of their readers, answers.
-abbrev pub VerifiesBy : Relation → List (Option (List ℕ)) → Option (List ℕ) → Option (List ℕ) → Scope → ℕ
+abbrev pub VerifiesBy : Relation → List (Option (List ℕ)) → Option (List ℕ) → Option (List ℕ) → Scope → Limit
     → Result Outcome VerifyFault → Type 0
 VerifiesBy relation filters table profile scope limit (Ok outcome) =
     IsVerifiedBy relation filters table profile scope limit outcome

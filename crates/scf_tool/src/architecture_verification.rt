@@ -16,7 +16,7 @@ use crate::architecture_scope::{NumberRange, scope_of};
 use crate::joint_verdict::joint_verdict;
 use crate::verification::Outcome;
 use crate::verify_fault::VerifyFault;
-use scf_compare::{Verdict, compare_by};
+use scf_compare::{Limit, Verdict, compare_by};
 use scf_facts::WordSets;
 use scf_insn::{Memory, Source};
 use scf_machine::FilterStack;
@@ -25,14 +25,14 @@ use scf_request::TableReader;
 use std::alloc::Global;
 
 /// Compares a stack with the profile of each architecture over its records, or those of them with a number in the
-/// range, each in at most `limit` steps.
+/// range, each within the limit.
 fn compare_profiles(
     alloc: Global,
     stack: &FilterStack,
     profiles: &Profiles,
     range: Option<NumberRange>,
     relation: Relation,
-    limit: u64,
+    limit: Limit,
 ) -> Result<Verdict, Memory>
     ensures { IfOk result
         (IsJointComparison relation (scopes.scope_of range) stack.now profiles.now limit) }
@@ -47,7 +47,7 @@ fn compare_profiles(
 }
 
 /// Reads a stack of filters, syscall tables of several architectures and a profile, and compares the stack by a
-/// relation with the profile of each architecture that has a table, over its records and in at most `limit` steps. If
+/// relation with the profile of each architecture that has a table, over its records and within the limit. If
 /// there is a range, only records with a number in it count.
 ///
 /// What is read, in which order, and the faults are those of `verify_stack`; the tables are read in order, and each
@@ -60,7 +60,7 @@ pub fn verify_architectures<F: Source, P: Source, T: Source>(
     table_readers: &mut [TableReader<T>],
     range: Option<NumberRange>,
     relation: Relation,
-    limit: u64,
+    limit: Limit,
 ) -> Result<Outcome, VerifyFault>
     ensures answer { VerifiesArchitectures relation range (map F.remaining filter_readers.old)
         (map (table_text T.remaining) table_readers.old) (P.remaining profile_reader.old) limit result }

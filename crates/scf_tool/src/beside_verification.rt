@@ -16,7 +16,7 @@ use crate::call_verification::{CallFinding, compare_calls};
 use crate::filter_stack::read_stack;
 use crate::verification::read_table;
 use crate::verify_fault::BesideFault;
-use scf_compare::{Finding, Side, compare_sides};
+use scf_compare::{Finding, Limit, Side, compare_sides};
 use scf_facts::WordSets;
 use scf_insn::{Architecture, Source};
 use scf_machine::FilterStack;
@@ -51,7 +51,7 @@ fn read_stacks<F: Source, B: Source>(
     }
 }
 
-/// Reads two stacks of filters, and compares them over the records of a scope by a relation, in at most `limit` steps.
+/// Reads two stacks of filters, and compares them over the records of a scope by a relation, within a limit.
 ///
 /// The readers are in the order of the stacks, the oldest first. Each filter is read, checked and pushed before the
 /// next, those of the first stack before those of the one beside it; the error is the first fault.
@@ -64,7 +64,7 @@ pub fn verify_beside<F: Source, B: Source>(
     beside_readers: &mut [B],
     scope: Scope,
     relation: Relation,
-    limit: u64,
+    limit: Limit,
 ) -> Result<Finding, BesideFault>
     ensures answer { VerifiesBeside relation (map F.remaining filter_readers.old)
         (map B.remaining beside_readers.old) scope limit result }

@@ -6,6 +6,7 @@ ghost use Rattle.scf_insn.specs.Kernel.{x32_syscall_bit};
 ghost use Rattle.scf_profile.specs.NamedCalls.{HasItsNames};
 ghost use Rattle.scf_profile.specs.References.{texts_at};
 ghost use Rattle.scf_tool.specs.Comparisons.{AreFoundOfTable, IsFoundOfCall};
+ghost use Rattle.scf_tool.specs.Comparisons as comparisons;
 ghost use Rattle.scf_tool.specs.Verifying.{LeavesProfileReader, LeavesTableReader};
 ghost use Rattle.scf_tool.specs.VerifyingCalls.{AreVerifiedCalls, VerifiesCalls};
 ghost use Rattle.scf_tool.specs.VerifyingStacks.{LeavesFilterReaders};
@@ -15,7 +16,7 @@ use crate::architecture_scope::scope_of_call;
 use crate::inputs::{Inputs, read_inputs};
 use crate::left_out::LeftOut;
 use crate::verify_fault::VerifyFault;
-use scf_compare::{Finding, Side, compare_sides_within};
+use scf_compare::{Finding, Limit, Side, Splits, compare_sides_within};
 use scf_facts::WordSets;
 use scf_insn::{Architecture, Memory, Source};
 use scf_profile::{CallTable, NamedCall, Relation, Scope, Texts};
@@ -64,8 +65,23 @@ fn number_in(table: &CallTable, call: &NamedCall<'_>) -> u32
     }
 }
 
-/// Compares two sides over the records of a call, which are those of a scope, by a relation, in at most `limit` steps
-/// and no more than remain. Those that it takes are subtracted from `remaining`.
+/// The limit of each comparison; 2^64-1 splits stand for no limit of them.
+pub(crate) fn limit_of(limits: Limits) -> Limit
+    ensures { result ≡ comparisons.limit_of limits }
+{
+    let splits = if limits.splits == u64::MAX {
+        Splits::NoLimit
+    } else {
+        Splits::AtMost(limits.splits)
+    };
+    Limit {
+        steps: limits.each,
+        splits,
+    }
+}
+
+/// Compares two sides over the records of a call, which are those of a scope, by a relation, within a limit and in no
+/// more steps than remain, of its own and below splits. Those that it takes are subtracted.
 fn compare_call(
     alloc: Global,
     left: &Side<'_>,
@@ -73,14 +89,22 @@ fn compare_call(
     over: Scope,
     call: &NamedCall<'_>,
     relation: Relation,
-    limit: u64,
+    limit: Limit,
     remaining: &mut u64,
+    remaining_below: &mut u64,
 ) -> Result<CallFinding, Memory>
     ensures { IfOk result (λ own. IsFoundOfCall relation over (behavior_of left.now) (behavior_of right.now)
         limit remaining.old call.now own remaining.new) }
 {
     let finding = compare_sides_within::<WordSets>(
-        alloc, left, right, over, relation, limit, remaining,
+        alloc,
+        left,
+        right,
+        over,
+        relation,
+        limit,
+        remaining,
+        remaining_below,
     )?;
     Ok(CallFinding {
         number: call.number,
@@ -104,7 +128,9 @@ pub(crate) fn compare_calls(
 {
     let calls = table.calls(alloc)?;
     let mut findings = Vec::new(alloc);
+    let limit = limit_of(limits);
     let mut remaining = limits.total;
+    let mut remaining_below = limits.total;
     for call in &calls {
         let over = scope_of_call(architecture, number_in(table, call));
         let finding = compare_call(
@@ -114,8 +140,9 @@ pub(crate) fn compare_calls(
             over,
             call,
             relation,
-            limits.each,
+            limit,
             &mut remaining,
+            &mut remaining_below,
         )?;
         findings.push(finding)?;
     }
@@ -155,8 +182,9 @@ fn compare_named_calls(
 }
 
 /// Compares the stack of filters with the profile that readers have, call by call and by a relation: each call that the
-/// table names, by itself and in at most `limits.each` steps. All together take at most `limits.total`: the calls for
-/// which no step is left are `Unfinished`. The profile's names get their numbers from the same table.
+/// table names, by itself, in at most `limits.each` steps and with at most `limits.splits` splits. All together take at
+/// most `limits.total` steps, and as many below splits: the calls for which no step is left are `Unfinished`. The
+/// profile's names get their numbers from the same table.
 ///
 /// What is read, in which order, and the faults are those of `verify_stack`. The finding on a call is what `verify_by`
 /// promises over the records of x86-64 with its number.

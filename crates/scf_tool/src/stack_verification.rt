@@ -1,6 +1,7 @@
 //! Compares a stack of filters with a profile, from their bytes.
 
 ghost use Rattle.std.specs.Prelude.{List, Option, ℕ, IfOk, map};
+ghost use Rattle.scf_compare.specs.Limits.{limit_of_steps};
 ghost use Rattle.scf_tool.specs.Verifying.{LeavesProfileReader, LeavesTableReader};
 ghost use Rattle.scf_tool.specs.VerifyingStacks.{IsVerifiedBy, LeavesFilterReaders, VerifiesBy};
 ghost use Rattle.scf_tool.specs.internal.Verification.{AreInputs};
@@ -8,7 +9,7 @@ ghost use Rattle.scf_tool.specs.internal.Verification.{AreInputs};
 use crate::inputs::{Inputs, read_inputs};
 use crate::verification::Outcome;
 use crate::verify_fault::VerifyFault;
-use scf_compare::compare_by;
+use scf_compare::{Limit, compare_by};
 use scf_facts::WordSets;
 use scf_insn::{Memory, Source};
 use scf_profile::{Relation, Scope};
@@ -20,7 +21,7 @@ pub(crate) fn compare_inputs(
     inputs: Inputs,
     scope: Scope,
     relation: Relation,
-    limit: u64,
+    limit: Limit,
 ) -> Result<Outcome, Memory>
     ensures { IfOk result (λ outcome. (filters : List (Option (List ℕ))) (table profile : Option (List ℕ))
         → AreInputs filters table profile inputs
@@ -55,7 +56,7 @@ pub fn verify_stack<F: Source, P: Source, T: Source>(
     limit: u64,
 ) -> Result<Outcome, VerifyFault>
     ensures answer { VerifiesBy Relation.Same (map F.remaining filter_readers.old)
-        (T.remaining table_reader.old) (P.remaining profile_reader.old) scope limit result }
+        (T.remaining table_reader.old) (P.remaining profile_reader.old) scope (limit_of_steps limit) result }
     ensures filter_readers { LeavesFilterReaders F.remaining F.failures filter_readers.old result filter_readers.new }
     ensures table_reader { LeavesTableReader T.remaining T.failures table_reader.old result table_reader.new }
     ensures profile_reader { LeavesProfileReader P.remaining P.failures profile_reader.old result profile_reader.new }
@@ -67,11 +68,11 @@ pub fn verify_stack<F: Source, P: Source, T: Source>(
         table_reader,
         scope,
         Relation::Same,
-        limit,
+        Limit::of_steps(limit),
     )
 }
 
-/// Reads and compares as `verify_stack` does, by a relation.
+/// Reads and compares as `verify_stack` does, by a relation and within a limit.
 ///
 /// `Same` says that the relation holds of the answers to every record of the scope, and `Differs` shows one of which it
 /// doesn't: see `compare_by`. `verify_stack` is the case of equal answers.
@@ -82,7 +83,7 @@ pub fn verify_by<F: Source, P: Source, T: Source>(
     table_reader: &mut T,
     scope: Scope,
     relation: Relation,
-    limit: u64,
+    limit: Limit,
 ) -> Result<Outcome, VerifyFault>
     ensures answer { VerifiesBy relation (map F.remaining filter_readers.old)
         (T.remaining table_reader.old) (P.remaining profile_reader.old) scope limit result }

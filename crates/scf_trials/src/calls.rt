@@ -7,7 +7,9 @@
 
 use crate::lines::{Lines, tell_twice, twice};
 use crate::{facts, rows};
-use scf_compare::{Relation, Scope, Side, Verdict, compare, compare_sides_within, compare_stack};
+use scf_compare::{
+    Limit, Relation, Scope, Side, Verdict, compare, compare_sides_within, compare_stack,
+};
 use scf_compile::{compile, compile_profiles};
 use scf_facts::WordSets;
 use scf_insn::{Answer, Architecture, CallRecord, Counted, Insn, Memory, read_input, read_program};
@@ -30,6 +32,7 @@ const LIMIT: u64 = 1_000_000;
 const LIMITS: Limits = Limits {
     each: LIMIT,
     total: LIMIT,
+    splits: 100,
 };
 
 /// The first syscall numbers.
@@ -170,6 +173,7 @@ fn compare_filters<R: Print>(lines: &mut Lines<R>, alloc: Global, profile: &Prof
             compare_stack::<WordSets>(alloc, &stack, profile, Scope::All, LIMIT)
         );
         let mut left = LIMIT;
+        let mut left_below = LIMIT;
         tell_twice!(
             lines,
             "compare_sides_within",
@@ -179,8 +183,9 @@ fn compare_filters<R: Print>(lines: &mut Lines<R>, alloc: Global, profile: &Prof
                 &Side::Profile(profile),
                 Scope::All,
                 Relation::Same,
-                LIMIT,
+                Limit::of_steps(LIMIT),
                 &mut left,
+                &mut left_below,
             )
         );
     }
@@ -279,7 +284,7 @@ fn try_verify_by<R: Print>(lines: &mut Lines<R>, alloc: Global) {
             &mut Counted::new(rows::table()),
             Scope::Native,
             Relation::NoMore,
-            LIMIT,
+            Limit::of_steps(LIMIT),
         )
     );
     if let Some(outcome) = verified {
@@ -313,7 +318,7 @@ fn try_verify_architectures<R: Print>(lines: &mut Lines<R>, alloc: Global) {
             ],
             Some(RANGE),
             Relation::Same,
-            LIMIT,
+            Limit::of_steps(LIMIT),
         )
     );
 }
@@ -399,7 +404,7 @@ fn try_verify_beside<R: Print>(lines: &mut Lines<R>, alloc: Global) {
             &mut [Counted::new(rows::allow_all())],
             Scope::All,
             Relation::SameDisposition,
-            LIMIT,
+            Limit::of_steps(LIMIT),
         )
     );
     if let Some(finding) = verified {

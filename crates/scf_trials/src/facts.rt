@@ -21,7 +21,6 @@ fn ge(word: u8, value: u32) -> Atom {
 struct Names {
     all: &'static str,
     learn: &'static str,
-    learn_clause: &'static str,
     mark: &'static str,
     undo: &'static str,
 }
@@ -35,19 +34,6 @@ fn learn<F: WordFacts, R: Print>(
     for (atom, holds) in answers {
         if atom.word() < 16 {
             tell_twice!(lines, call, facts.learn(*atom, *holds));
-        }
-    }
-}
-
-fn learn_clause<F: WordFacts, R: Print>(
-    lines: &mut Lines<R>,
-    call: &str,
-    facts: &mut F,
-    pairs: &[(Atom, Atom)],
-) {
-    for (first, second) in pairs {
-        if first.word() < 16 && second.word() < 16 {
-            tell_twice!(lines, call, facts.learn_clause(*first, *second));
         }
     }
 }
@@ -73,11 +59,9 @@ fn walk<F: WordFacts, R: Print>(lines: &mut Lines<R>, names: &Names, facts: &mut
         (eq(4, 0x8000_0000, 0), true),
         (gt(5, 1000), false),
     ];
-    let pairs = [(ge(6, 0), eq(7, u32::MAX, 0)), (gt(8, 9), gt(9, 9))];
     learn(lines, names.learn, facts, &before);
     tell_twice!(lines, names.mark, facts.mark());
     learn(lines, names.learn, facts, &after);
-    learn_clause(lines, names.learn_clause, facts, &pairs);
     undo(lines, names.undo, facts);
 }
 
@@ -94,7 +78,6 @@ pub(crate) fn try_all<R: Print>(lines: &mut Lines<R>, alloc: Global) {
         &Names {
             all: "AtomList::all",
             learn: "AtomList::learn",
-            learn_clause: "AtomList::learn_clause",
             mark: "AtomList::mark",
             undo: "AtomList::undo",
         },
@@ -105,7 +88,6 @@ pub(crate) fn try_all<R: Print>(lines: &mut Lines<R>, alloc: Global) {
         &Names {
             all: "WordSets::all",
             learn: "WordSets::learn",
-            learn_clause: "WordSets::learn_clause",
             mark: "WordSets::mark",
             undo: "WordSets::undo",
         },

@@ -23,9 +23,3 @@ pub record IsWhole (bit_slice : BitSlice) : Type 0 where
   pub left : bit_slice.left ≡ 0
   pub mask : bit_slice.mask ≡ 2 ^ 32 - 1
   pub flipped : bit_slice.flipped ≡ 0
-
--- Two images of one word, shifted alike.
-pub record AreShiftedAlike (bit_slice other : BitSlice) : Type 0 where
-  pub word : bit_slice.word ≡ other.word
-  pub right : bit_slice.right ≡ other.right
-  pub left : bit_slice.left ≡ other.left

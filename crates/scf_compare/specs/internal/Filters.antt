@@ -77,6 +77,6 @@ leaves_of_filter insns = filter_leaves (IsFilterEnd insns) (RunAnswers insns)
 -- the successors of a test
 abbrev pub IsStepOf : Decision → FilterNode → FilterNode → Step FilterNode SideLeaf → Type 0
 IsStepOf (Decided outcome) if_true if_false step = step ≡ Next (if outcome then if_true else if_false)
-IsStepOf (Asks atoms holds) if_true if_false step =
-    step ≡ (if holds then Branch (Some atoms) if_true if_false else Branch (Some atoms) if_false if_true)
-IsStepOf Open if_true if_false step = step ≡ Branch None if_true if_false
+IsStepOf (Asks atom holds) if_true if_false step =
+    step ≡ (if holds then Branch (Some atom) if_true if_false else Branch (Some atom) if_false if_true)
+IsStepOf (Open open_test) if_true if_false step = step ≡ Branch None if_true if_false

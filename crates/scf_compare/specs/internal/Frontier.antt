@@ -1,26 +1,27 @@
 -- The open branches of a tree, and where the words are that are still to be seen.
-use Rattle.std.specs.Prelude.{◌≡◌, ◌≤◌, ◌⊎◌, ℕ, List, Bool, IsTrue, Option, Some, None, length, slice_get, sum_by}
+use Rattle.std.specs.Prelude.{◌≡◌, ◌<◌, ◌≤◌, ◌⊎◌, ℕ, List, Bool, IsTrue, Option, Some, None, length, slice_get, sum_by}
 use Rattle.scf_facts.specs.declared.word_facts.WordFacts.{Ghosts as Store}
-use Rattle.scf_compare.specs.declared.asking.Atoms.{Atoms}
+use Rattle.scf_facts.specs.declared.atom.Atom.{Atom}
+use Rattle.scf_facts.specs.Atoms.{atom_answer, word_of}
+use Rattle.scf_facts.specs.Exactness.{KeepsExact}
 use Rattle.scf_compare.specs.declared.frontier.OpenBranch.{OpenBranch}
 use Rattle.scf_compare.specs.declared.frontier.Frontier.{Frontier}
-use Rattle.scf_compare.specs.internal.Asking.{AsksOfWords, atoms_answer, StaysExact}
 use Rattle.scf_compare.specs.internal.Trees.{Tree}
 
 -- the words give the answer that is learned, if any is
-abbrev pub GivesLearned : Option (Atoms × Bool) → List ℕ → Type 0
+abbrev pub GivesLearned : Option (Atom × Bool) → List ℕ → Type 0
 GivesLearned None words = Unit {0}
-GivesLearned (Some learned) words = atoms_answer learned.0 words ≡ learned.1
+GivesLearned (Some learned) words = atom_answer learned.0 words ≡ learned.1
 
 -- what is learned is about some of the sixteen words
-abbrev pub LearnsOfWords : Option (Atoms × Bool) → Type 0
+abbrev pub LearnsOfWords : Option (Atom × Bool) → Type 0
 LearnsOfWords None = Unit {0}
-LearnsOfWords (Some learned) = AsksOfWords learned.0
+LearnsOfWords (Some learned) = word_of learned.0 < 16
 
 -- exact facts stay exact where this is learned
-abbrev pub LearnsExactly : Option (Atoms × Bool) → Type 0
+abbrev pub LearnsExactly : Option (Atom × Bool) → Type 0
 LearnsExactly None = Unit {0}
-LearnsExactly (Some learned) = StaysExact learned.0 learned.1
+LearnsExactly (Some learned) = KeepsExact learned.0 learned.1
 
 -- A branch stands at a node of the tree, and what is learned on the way in is about some of the sixteen words.
 pub record IsOpenBranch {K N : Type 0} (tree : K → Tree N) (branch : OpenBranch K N) : Type 0 where

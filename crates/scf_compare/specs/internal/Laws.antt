@@ -1,7 +1,7 @@
 -- Laws that the trees are given with.
 use Rattle.std.specs.Prelude.{◌+◌, ◌*◌, ◌<◌, ◌≤◌, ℕ, List, [], ◌∷◌, Option, Some, drop}
 use Rattle.std.proofs.Common.{zero, suc, arith}
-use Rattle.std.proofs.Math.Nat.{mul-le-mul_left}
+use Rattle.std.proofs.Math.Nat.{mul-le-mul_left, one-le-pow}
 use Rattle.scf_insn.specs.declared.insn.Insn.{Insn}
 use Rattle.scf_insn.specs.declared.operation.Operand.TheVariants.{Index}
 use Rattle.scf_insn.specs.declared.operation.Arithmetic.TheVariants.{Div}
@@ -32,6 +32,9 @@ use Rattle.scf_compare.specs.declared.side.Side.TheVariants.{Stack, Profile as O
 use Rattle.scf_compare.specs.Findings.{Compared}
 use Rattle.scf_compare.specs.Sides.{behavior_of}
 use Rattle.scf_compare.specs.internal.Pairs.{pair_tree}
+use Rattle.scf_compare.specs.declared.settling.SettlingNode.{SettlingNode}
+use Rattle.scf_compare.specs.internal.FixedBits.{lacking}
+use Rattle.scf_compare.specs.internal.Settling.{settling_tree, weight}
 use Rattle.scf_compare.specs.internal.Trees.{Tree}
 use Rattle.scf_compare.specs.internal.NumberedProfiles.{NumberedProfile}
 
@@ -110,3 +113,10 @@ pub pair_counts : {K M A B : Type 0} (compared : Compared) (left : K → Tree A)
 pair_counts compared left right of_left of_right whole known (AtLeft node) =
     scaled_counts ((left known.left).size node) compared.right.size (of_left known.left node) whole
 pair_counts compared left right of_left of_right whole known (AtRight leaf node) = of_right known.right node
+
+-- each node of the second walk counts
+pub settling_counts : {N : Type 0} (effort : ℕ) (tree : Tree N) → ((node : N) → 0 < tree.size node)
+    → (at : SettlingNode N) → 0 < (settling_tree effort tree).size at
+settling_counts effort tree counts at =
+    scaled_counts (tree.size at.node) (weight effort at.fixed.words) (counts at.node)
+    (one-le-pow (lacking at.fixed.words) (2 * effort + 1) (omega arith))

@@ -21,6 +21,11 @@ pub record IsFound (compared : Compared) (finding : Finding) : Type 0 where
   pub decided : (limit effort : ℕ) → IsFindingDecided (AllRelated compared) limit effort finding
   pub counted : (limit taken : ℕ) → 0 < taken → IsStepCount limit finding taken
 
+-- a finding decides whether a claim holds, unless it is Undecided
+abbrev pub DecidesIfKnown : Type 0 → ℕ → ℕ → Finding → Type 0
+DecidesIfKnown claim limit effort (Undecided side at) = Unit {0}
+DecidesIfKnown claim limit effort finding = IsFindingDecided claim limit effort finding
+
 -- the finding once all was seen, in so many steps
 abbrev pub finding_of_all : ℕ → Option (Which × ℕ) → Finding
 finding_of_all steps (Some first) = Undecided first.0 first.1

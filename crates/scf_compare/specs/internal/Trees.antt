@@ -1,9 +1,10 @@
 -- Trees of questions about the words of a call record.
-use Rattle.std.specs.Prelude.{◌≡◌, ◌+◌, ◌≤◌, ◌⊎◌, ℕ, List, Option, None, Some, true, false}
-use Rattle.scf_compare.specs.declared.asking.Atoms.{Atoms}
+use Rattle.std.specs.Prelude.{◌≡◌, ◌+◌, ◌<◌, ◌≤◌, ◌⊎◌, ℕ, List, Option, None, Some, true, false}
+use Rattle.scf_facts.specs.declared.atom.Atom.{Atom}
+use Rattle.scf_facts.specs.Atoms.{atom_answer, word_of}
 use Rattle.scf_compare.specs.declared.step.Step.{Step}
 use Rattle.scf_compare.specs.declared.step.Step.TheVariants.{Next, Branch, Leaf}
-use Rattle.scf_compare.specs.internal.Asking.{AsksOfWords, atoms_answer, KeepsEither}
+use Rattle.scf_compare.specs.internal.Asking.{KeepsEither}
 
 -- A tree by its nodes: which there are, which words come to one, how many steps it takes to see all from one on, and
 -- which are plain: exact facts decide all from one of these on.
@@ -14,50 +15,50 @@ pub record Tree (N : Type 0) : Type 1 where
   pub is_plain : N → Type 0
 
 -- what is asked, if anything is, is about some of the sixteen words
-abbrev pub IsAsked : Option Atoms → Type 0
+abbrev pub IsAsked : Option Atom → Type 0
 IsAsked None = Unit {0}
-IsAsked (Some atoms) = AsksOfWords atoms
+IsAsked (Some atom) = word_of atom < 16
 
 -- the words go the one way or the other as what is asked says, and either way where nothing is
-abbrev pub GoesEither : Option Atoms → List ℕ → Type 0 → Type 0 → Type 0
+abbrev pub GoesEither : Option Atom → List ℕ → Type 0 → Type 0 → Type 0
 GoesEither None words first second = first ⊎ second
-GoesEither (Some atoms) words first second =
-    (atoms_answer atoms words ≡ true → first) × (atoms_answer atoms words ≡ false → second)
+GoesEither (Some atom) words first second =
+    (atom_answer atom words ≡ true → first) × (atom_answer atom words ≡ false → second)
 
 -- something is asked, and exact facts stay exact with either answer
-abbrev pub KeepsAsked : Option Atoms → Type 0
+abbrev pub KeepsAsked : Option Atom → Type 0
 KeepsAsked None = ⊥
-KeepsAsked (Some atoms) = KeepsEither atoms
+KeepsAsked (Some atom) = KeepsEither atom
 
 -- A step leads to nodes of the tree, and asks of some of the sixteen words.
 abbrev pub IsProper : {N E : Type 0} → Tree N → (E → Type 0) → Step N E → Type 0
 IsProper tree is_leaf (Next next) = tree.is_node next
-IsProper tree is_leaf (Branch atoms if_true if_false) = IsAsked atoms × tree.is_node if_true × tree.is_node if_false
+IsProper tree is_leaf (Branch atom if_true if_false) = IsAsked atom × tree.is_node if_true × tree.is_node if_false
 IsProper tree is_leaf (Leaf leaf) = is_leaf leaf
 
 -- The words go on from a step, and what a leaf tells is true of them.
 abbrev pub GoesOn : {N E : Type 0} → Tree N → (E → List ℕ → Type 0) → Step N E → List ℕ → Type 0
 GoesOn tree tells (Next next) words = tree.reaches next words
-GoesOn tree tells (Branch atoms if_true if_false) words =
-    GoesEither atoms words (tree.reaches if_true words) (tree.reaches if_false words)
+GoesOn tree tells (Branch atom if_true if_false) words =
+    GoesEither atom words (tree.reaches if_true words) (tree.reaches if_false words)
 GoesOn tree tells (Leaf leaf) words = tells leaf words
 
 -- how many steps it takes to see all behind a step
 abbrev pub step_size : {N E : Type 0} → Tree N → Step N E → ℕ
 step_size tree (Next next) = tree.size next
-step_size tree (Branch atoms if_true if_false) = tree.size if_true + tree.size if_false
+step_size tree (Branch atom if_true if_false) = tree.size if_true + tree.size if_false
 step_size tree (Leaf leaf) = 0
 
 -- One step, and then what is seen behind it, are within a size.
 abbrev pub Costs : {N E : Type 0} → Tree N → Step N E → ℕ → Type 0
 Costs tree step size = step_size tree step + 1 ≤ size
 
--- The step of a plain node: atoms decide, and complete facts stay complete with their answer; the next nodes are plain,
+-- The step of a plain node: an atom decides, and complete facts stay complete with its answer; the next nodes are plain,
 -- and a leaf tells all.
 abbrev pub StaysPlain : {N E : Type 0} → Tree N → (E → Type 0) → Step N E → Type 0
 StaysPlain tree tells_all (Next next) = tree.is_plain next
-StaysPlain tree tells_all (Branch atoms if_true if_false) =
-    KeepsAsked atoms × tree.is_plain if_true × tree.is_plain if_false
+StaysPlain tree tells_all (Branch atom if_true if_false) =
+    KeepsAsked atom × tree.is_plain if_true × tree.is_plain if_false
 StaysPlain tree tells_all (Leaf leaf) = tells_all leaf
 
 -- Which leaves a tree has, what one tells of the words that come to it, and which tell all that is asked.

@@ -1,12 +1,9 @@
--- Numbers by their bits under a mask.
-use Rattle.std.specs.Prelude.{◌≡◌, ◌≢◌, ◌<◌, ◌^◌, ℕ, bit_and}
+-- Numbers that lack bits under a mask.
+use Rattle.std.specs.Prelude.{◌≢◌, ◌<◌, ◌^◌, ℕ, bit_and}
 use Rattle.scf_facts.specs.declared.bits.Bits.{Bits}
+use Rattle.scf_facts.specs.Bits.{HasBits}
 
--- a number has these bits
-abbrev pub HasBits : Bits → ℕ → Type 0
-HasBits bits x = bit_and x bits.mask ≡ bits.value
-
--- a number doesn't have them
+-- a number doesn't have these bits
 abbrev pub LacksBits : Bits → ℕ → Type 0
 LacksBits bits x = bit_and x bits.mask ≢ bits.value
 

@@ -5,7 +5,7 @@ use Rattle.scf_facts.specs.declared.atom.Atom.{Atom}
 use Rattle.scf_facts.specs.declared.query.Query.{Query}
 use Rattle.scf_facts.specs.declared.query.Query.TheVariants.{Within, Masked}
 use Rattle.scf_facts.specs.Atoms.{answer_at}
-use Rattle.scf_facts.specs.internal.Bits.{HasBits}
+use Rattle.scf_facts.specs.Bits.{HasBits}
 use Rattle.scf_facts.specs.internal.Intervals.{LiesIn}
 use Rattle.scf_facts.specs.Exactness.{KeepsExact}
 

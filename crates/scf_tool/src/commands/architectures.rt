@@ -32,6 +32,7 @@ use crate::architecture_call_verification::verify_calls_of;
 use crate::architecture_scope::range_of;
 use crate::architecture_verification::verify_architectures;
 use crate::buffer::encoding_of;
+use crate::call_verification::limit_of;
 use crate::commands::compare::{report_of, report_of_calls};
 use crate::commands::{only, whole_input};
 use crate::fault::Fault;
@@ -194,7 +195,7 @@ fn compare_at_once(
         &mut tables,
         range_of(scope),
         relation,
-        limits.each,
+        limit_of(limits),
     )?;
     report_of(alloc, relation, &outcome)
 }

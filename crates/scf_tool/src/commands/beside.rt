@@ -8,6 +8,7 @@ ghost use Rattle.scf_tool.specs.Statuses.{LeavesWhole};
 
 use crate::beside_verification::{verify_beside, verify_calls_beside};
 use crate::call_reporting::report_calls_beside;
+use crate::call_verification::limit_of;
 use crate::commands::compare::{status_of_calls, status_of_finding};
 use crate::commands::{only, whole_input};
 use crate::fault::Fault;
@@ -35,7 +36,7 @@ fn compare_at_once(
         → IfErr result (λ fault. ComparesStacks (Scopes.AtOnce scope) relation limits
         (map rest_of filters.old) (map rest_of beside.old) tables (Err (fault_of_beside fault))) }
 {
-    let finding = verify_beside(alloc, filters, beside, scope, relation, limits.each)?;
+    let finding = verify_beside(alloc, filters, beside, scope, relation, limit_of(limits))?;
     let status = status_of_finding(&finding);
     let text = report_beside(alloc, relation, &finding)?;
     Ok(Reply::Compared { text, status })

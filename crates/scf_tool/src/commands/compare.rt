@@ -26,7 +26,7 @@ ghost use Rattle.scf_request.specs.Contents.{rest_of};
 ghost use Rattle.scf_request.specs.declared.request.Comparison.{Comparison};
 
 use crate::call_reporting::{joint_finding, report_calls};
-use crate::call_verification::{CallFinding, CallsOutcome, verify_calls};
+use crate::call_verification::{CallFinding, CallsOutcome, limit_of, verify_calls};
 use crate::commands::{only, whole_input};
 use crate::fault::Fault;
 use crate::reply::Reply;
@@ -102,7 +102,15 @@ fn compare_at_once(
     ensures fault { IfErr result (λ fault. ComparesParts (Scopes.AtOnce scope) relation limits
         (map rest_of filters.old) (rest_of profile.old) (rest_of table.old) (Err (Fault.Verify fault))) }
 {
-    let outcome = verify_by(alloc, filters, profile, table, scope, relation, limits.each)?;
+    let outcome = verify_by(
+        alloc,
+        filters,
+        profile,
+        table,
+        scope,
+        relation,
+        limit_of(limits),
+    )?;
     report_of(alloc, relation, &outcome)
 }
 

@@ -9,11 +9,11 @@ returns-clause-holds g c =
     (rw c.from_ref-filters.ensures.value at c.compare_filters.ensures.holds)
 
 pub returns-clause-within : goal.returns-clause-within
-returns-clause-within g c = rw (c.from_ref-filters.ensures.value, mul-one) at c.compare_filters.ensures.within
+returns-clause-within g c = rw (c.from_ref-filters.ensures.value, mul-one, c.of_steps.ensures) at c.compare_filters.ensures.within
 
 pub returns-clause-decided : goal.returns-clause-decided
 returns-clause-decided g c =
-    let decided = rw (c.from_ref-filters.ensures.value, mul-one) at c.compare_filters.ensures.decided in
+    let decided = rw (c.from_ref-filters.ensures.value, mul-one, c.of_steps.ensures) at c.compare_filters.ensures.decided in
     λ exact plain plain_profile.
     IfOk-weaker c.compare_filters.result _ _
     (λ verdict.

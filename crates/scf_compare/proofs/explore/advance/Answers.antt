@@ -11,7 +11,7 @@ returns-in_ok-next-in-Branch-Some-default-default-clause-stage g c =
     let step = rw (branch.is, branch.field-0-is) at c.step.ensures in
     led g.F.WordFacts (C.compared comparison) tree c.args.frontier.now c.ask.new.frontier c.requires.frontier
     (tree c.args.known.now) c.args.node (tree c.step.new.known)
-    (Branch (Some branch.atoms) branch.if_true branch.if_false)
+    (Branch (Some branch.atom) branch.if_true branch.if_false)
     c.in_ok-next-in-Branch-Some-default-default.next
     step.leads step.costs step.plain c.in_ok-next-in-Branch-Some-default-default.ensures _
 

@@ -1,5 +1,8 @@
 use Rattle.std.specs.Prelude.{sum_by}
 use Rattle.scf_compare.proofs.Common.{ap, length, open_size, sym, ◌≡◌, ◌+◌, ◌<◌, ◌≤◌, ◌⊎◌, ◌∙◌, ℕ, List, inl, inr, arith, refl, Option, None, Some, IfSome, IsSome, IsWords-words_of, call_of-words_of, words_of, Compared, AllRelated, IsFindingDecided, IsTrueFinding, Which, AreWordsIn, IsFirstUndecided, WereSeen, finding_of_all}
+use Rattle.scf_compare.specs.declared.finding.Finding.{Finding}
+use Rattle.scf_compare.specs.declared.finding.Finding.TheVariants.{Fails, Holds, Undecided, Unfinished}
+use Rattle.scf_compare.specs.internal.Stages.{DecidesIfKnown}
 use Rattle.scf_compare.specs.Findings.{IsStepCount, IsFindingWithin}
 use Rattle.scf_compare.proofs.explore.explore.Goals as goal
 
@@ -27,6 +30,7 @@ of_all : (compared : Compared) (steps limit effort : ℕ) (first_undecided : Opt
     → let finding = finding_of_all steps first_undecided in
     IsTrueFinding compared finding × IsFindingWithin limit effort finding
     × (first_undecided ≡ None → IsFindingDecided (AllRelated compared) limit effort finding)
+    × DecidesIfKnown (AllRelated compared) limit effort finding
 of_all compared steps limit effort None index seen bounds =
     let all : AllRelated compared = λ call is_record in_scope.
     let within : AreWordsIn compared (words_of call) =
@@ -35,8 +39,16 @@ of_all compared steps limit effort None index seen bounds =
       | inl related ↦ related
       | inr undecided ↦ absurd (let none = undecided in cc)
     ] in
-    (all, (bounds.1, bounds.2), λ _. all)
-of_all compared steps limit effort (Some first) index seen bounds = (index, bounds.0, λ e. absurd (cc))
+    (all, (bounds.1, bounds.2), (λ _. all), all)
+of_all compared steps limit effort (Some first) index seen bounds = (index, bounds.0, (λ e. absurd (cc)), tt)
+
+-- what decides does so where it is known
+known_decides : (claim : Type 0) (limit effort : ℕ) (finding : Finding) → IsFindingDecided claim limit effort finding
+    → DecidesIfKnown claim limit effort finding
+known_decides claim limit effort (Holds steps) decided = decided
+known_decides claim limit effort (Fails call left right) decided = decided
+known_decides claim limit effort (Undecided side at) decided = tt
+known_decides claim limit effort Unfinished decided = decided
 
 -- as many steps as were taken, which is one or more
 counts_all : (steps limit : ℕ) (first_undecided : Option (Which × ℕ)) → 0 < steps
@@ -97,6 +109,7 @@ returns-in-AllSeen g c =
       };
       decided = λ exact plain.
           let before = c.loop-steps.invariant.exact exact plain in all.2 (after.exact before.1 ∙ before.0);
+      known = all.3;
     })
 
 pub returns-in-Found : goal.returns-in-Found
@@ -112,6 +125,7 @@ returns-in-Found g c =
         of_finding = found.counted _ (c.loop-steps.steps + 1) (omega arith);
       };
       decided = λ _ _. found.decided _ _;
+      known = known_decides _ _ _ c.in-Found.finding (found.decided _ _);
     }
 
 pub loop-steps-preserved : goal.loop-steps-preserved

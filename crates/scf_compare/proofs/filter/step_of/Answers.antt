@@ -1,15 +1,15 @@
 -- The successors of an instruction follow the runs that come to it, and their sizes are within its size.
-use Rattle.scf_compare.proofs.Common.{refl, sym, subst, ◌∙◌, arith, rules, common_steps, IfSome_then, Answer, RunAnswers, filter_tree}
+use Rattle.scf_compare.proofs.Common.{IsPlainValue, refl, sym, subst, ◌∙◌, arith, rules, common_steps, IfSome_then, Answer, RunAnswers, filter_tree}
 use Rattle.scf_compare.proofs.ControlFlows.{plain_flow, size_by_flow}
-use Rattle.scf_compare.proofs.Successors.{leads, step_leads}
+use Rattle.scf_compare.proofs.Successors.{comes_noted, leads, step_leads}
 use Rattle.scf_compare.proofs.filter.step_of.Goals as goal
 
 pub returns-in-FallThrough : goal.returns-in-FallThrough
-returns-in-FallThrough c = record {
+returns-in-FallThrough g c = record {
   proper = search rules;
   leads = λ words w r.
       leads c.requires.stands r (c.requires.safe words) _ (sym c.of.ensures.control_flow ∙ c.in-FallThrough.is) _
-      (λ t. c.apply.ensures.describes words r.state t w r.describes);
+      (λ t. c.apply.ensures.describes words r.state t w.0 w.1 r.describes);
   costs = omega (arith, (rw (sym c.of.ensures.control_flow ∙ c.in-FallThrough.is) at (size_by_flow c.requires.stands)).0);
   plain = λ plain.
       let loads =
@@ -18,7 +18,7 @@ returns-in-FallThrough c = record {
 }
 
 pub returns-in-Jump : goal.returns-in-Jump
-returns-in-Jump c = record {
+returns-in-Jump g c = record {
   proper = search rules;
   leads = λ words w r. leads c.requires.stands r (c.requires.safe words) _ (sym c.of.ensures.control_flow ∙ c.in-Jump.is);
   costs = omega (arith, (rw (sym c.of.ensures.control_flow ∙ c.in-Jump.is) at (size_by_flow c.requires.stands)).0);
@@ -26,7 +26,7 @@ returns-in-Jump c = record {
 }
 
 pub returns-then-if_true-if_false : goal.returns-then-if_true-if_false
-returns-then-if_true-if_false c = record {
+returns-then-if_true-if_false g c = record {
   proper = search rules;
   leads = λ words w r.
       let on = leads c.requires.stands r (c.requires.safe words) _ (sym c.of.ensures.control_flow ∙ c.in-ConditionalJump.is) in
@@ -36,34 +36,38 @@ returns-then-if_true-if_false c = record {
 }
 
 pub returns-else-if_true-if_false : goal.returns-else-if_true-if_false
-returns-else-if_true-if_false c = record {
+returns-else-if_true-if_false g c = record {
   proper = search rules;
   leads = λ words w r.
       let on = leads c.requires.stands r (c.requires.safe words) _ (sym c.of.ensures.control_flow ∙ c.in-ConditionalJump.is) in
       let operand = c.operand.ensures.stands words r.state r.describes in
-      let decides = c.decide-decision.ensures.decides words r.state.a _ w r.describes.a operand in
-      step_leads (filter_tree c.args.insns.now c.args.registers.now) _ words c.decide-decision.result _ _
-      c.step_by.result _ c.step_by.ensures decides on.0 on.1;
+      let decides = c.decide-decision.ensures.decides words r.state.a _ w.0 w.1 r.describes.a operand in
+      let noted = c.note_open.ensures.describes words in
+      step_leads (filter_tree c.args.insns.now c.note_open.new.self) _ words c.decide-decision.result _ _
+      c.step_by.result _ c.step_by.ensures decides (λ holds. comes_noted noted (on.0 holds))
+      (λ holds. comes_noted noted (on.1 holds));
   costs = grind (arith, size_by_flow c.requires.stands);
   plain = λ plain.
       let branch =
       rw (sym c.of.ensures.control_flow ∙ c.in-ConditionalJump.is) at (plain_flow _ _ _ _ plain.0 c.requires.stands) in
       let decided =
       c.decide-decision.ensures.plain c.args.insn.k plain.1 (c.operand.ensures.constant branch.0) branch.1 in
+      let accumulator : IsPlainValue c.note_open.new.self.a = rw c.note_open.ensures.accumulator plain.1 in
       grind (arith, common_steps, c.step_by.ensures);
 }
 
 pub returns-in-DivideByIndex : goal.returns-in-DivideByIndex
-returns-in-DivideByIndex c = record {
+returns-in-DivideByIndex g c = record {
   proper = search rules;
   leads = λ words w r.
       let on =
       leads c.requires.stands r (c.requires.safe words) _ (sym c.of.ensures.control_flow ∙ c.in-DivideByIndex.is) _
-      (λ t. c.apply-in-DivideByIndex.ensures.describes words r.state t w r.describes) in
+      (λ t. c.apply-in-DivideByIndex.ensures.describes words r.state t w.0 w.1
+      (c.note_open-in-DivideByIndex.ensures.describes words r.state r.describes)) in
       step_leads (filter_tree c.args.insns.now c.apply-in-DivideByIndex.new.self) _ words
       c.decide-decision-in-DivideByIndex.result _ _ c.step_by-in-DivideByIndex.result _
       c.step_by-in-DivideByIndex.ensures
-      (c.decide-decision-in-DivideByIndex.ensures.decides words r.state.x 0 w r.describes.x refl) on.0 on.1;
+      (c.decide-decision-in-DivideByIndex.ensures.decides words r.state.x 0 w.0 w.1 r.describes.x refl) on.0 on.1;
   costs = grind (arith, size_by_flow c.requires.stands);
   plain = λ plain.
       let divides = plain_flow _ _ _ _ plain.0 c.requires.stands in
@@ -71,7 +75,7 @@ returns-in-DivideByIndex c = record {
 }
 
 pub returns-in-ReturnConstant : goal.returns-in-ReturnConstant
-returns-in-ReturnConstant c = record {
+returns-in-ReturnConstant g c = record {
   proper = search rules;
   leads = λ words w r.
       leads c.requires.stands r (c.requires.safe words) _ (sym c.of.ensures.control_flow ∙ c.in-ReturnConstant.is);
@@ -80,12 +84,12 @@ returns-in-ReturnConstant c = record {
 }
 
 pub returns-in-ReturnAccumulator : goal.returns-in-ReturnAccumulator
-returns-in-ReturnAccumulator c = record {
+returns-in-ReturnAccumulator g c = record {
   proper = search rules;
   leads = λ words w r.
       let answered =
       leads c.requires.stands r (c.requires.safe words) _ (sym c.of.ensures.control_flow ∙ c.in-ReturnAccumulator.is) in
-      IfSome_then c.answer.result (c.answer.ensures words r.state.a r.describes.a)
+      IfSome_then c.answer.result (c.answer.ensures words r.state w.1 r.describes)
       (λ (answer : Answer) same. subst (RunAnswers c.args.insns.now words) same answered);
   costs = omega (arith, (rw (sym c.of.ensures.control_flow ∙ c.in-ReturnAccumulator.is) at (size_by_flow c.requires.stands)).0);
   plain = λ plain.

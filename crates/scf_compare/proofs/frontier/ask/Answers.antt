@@ -1,26 +1,23 @@
-use Rattle.scf_compare.proofs.Common.{◌≡◌, ◌↔◌, ◌∙◌, ℕ, List, true, arith, atoms_answer}
+use Rattle.scf_compare.proofs.Common.{◌≡◌, ◌↔◌, ◌∙◌, ℕ, List, true, arith, atom_answer}
 use Rattle.scf_compare.proofs.Stages.{asked}
 use Rattle.scf_compare.proofs.frontier.ask.Goals as goal
 
-pub returns-in_ok-learn-in-Unknown : goal.returns-in_ok-learn-in-Unknown
-returns-in_ok-learn-in-Unknown g c =
+pub returns-in_ok-learn-in-Maybe : goal.returns-in_ok-learn-in-Maybe
+returns-in_ok-learn-in-Maybe g c =
     let store = g.F.WordFacts in
     let old = c.args.frontier.now.facts in
-    let mid = c.branch_out.new.self.facts in
-    let new = c.learn.new.facts in
-    let remaining = c.in-Unknown.atoms in
-    let ensures = c.in_ok-branch_out-in-Unknown.ensures in
-    let learned = c.in_ok-learn-in-Unknown.ensures in
+    let new = c.learn.new.self in
+    let ensures = c.in_ok-branch_out-in-Maybe.ensures in
+    let learned = c.in_ok-learn-in-Maybe.ensures in
     let known = rw (← ensures.marks) at ensures.known in
     let now : (words : List ℕ) → store.allows new (store.level new) words
-    ↔ (store.allows old (store.level old) words × (atoms_answer remaining words ≡ true)) = λ words. rw learned.marks (
-      λ h. let both = (learned.learned words).0 h in ((known.0 words).0 both.0, both.1),
-      λ h. (learned.learned words).1 ((known.0 words).1 h.0, h.1),
+    ↔ (store.allows old (store.level old) words × (atom_answer c.args.atom words ≡ true)) = λ words. rw learned.marks (
+      λ h. let both = (learned.law_learn words).0 h in ((known.0 words).0 both.0, both.1),
+      λ h. (learned.law_learn words).1 ((known.0 words).1 h.0, h.1),
     ) in
     asked store (g.C.Comparison.compared c.args.comparison.now) (g.C.Comparison.tree c.args.comparison.now)
     c.args.frontier.now (record { facts = new; branches = c.branch_out.new.self.branches }) c.requires.frontier
-    c.args.known.now c.args.atoms remaining c.args.if_true c.args.if_false c.requires.proper
-    c.in-Unknown.ensures.asks c.in-Unknown.ensures.answers c.in-Unknown.ensures.keeps
+    c.args.known.now c.args.atom c.args.if_true c.args.if_false c.requires.proper
     (record {
       branches = ensures.branches;
       marks = learned.marks ∙ ensures.marks;

@@ -4,10 +4,10 @@ use Rattle.scf_compare.proofs.Stacks.{is_stack_leaf, paths_from}
 use Rattle.scf_compare.proofs.stack.step_from.Goals as goal
 
 pub filter_of-requires : goal.filter_of-requires
-filter_of-requires c = c.loop-next.invariant.node.0
+filter_of-requires g c = c.loop-next.invariant.node.0
 
 pub step_in_filter-requires : goal.step_in_filter-requires
-step_in_filter-requires c = rw c.filter_of.ensures c.loop-next.invariant.node.1
+step_in_filter-requires g c = rw c.filter_of.ensures c.loop-next.invariant.node.1
 
 -- a step's costs in the tree of a filter, with the newer filters behind each of its ends
 whole_costs : (filters : List (List Insn)) (index a b n whole : ℕ) → a + b + 1 ≤ n
@@ -20,7 +20,7 @@ whole_cost : (filters : List (List Insn)) (index a n whole : ℕ) → a + 1 ≤ 
 whole_cost filters index a n whole cost most = grind (arith, whole_costs filters index a 0 n whole)
 
 pub returns-in-Next : goal.returns-in-Next
-returns-in-Next c =
+returns-in-Next g c =
     let step = rw (c.filter_of.ensures, c.in-Next.is) at c.step_in_filter.ensures in
     let so_far = c.loop-next.invariant in
     grind (
@@ -31,7 +31,7 @@ returns-in-Next c =
     )
 
 pub returns-in-Branch : goal.returns-in-Branch
-returns-in-Branch c =
+returns-in-Branch g c =
     let step = rw (c.filter_of.ensures, c.in-Branch.is) at c.step_in_filter.ensures in
     let so_far = c.loop-next.invariant in
     grind (
@@ -43,7 +43,7 @@ returns-in-Branch c =
 
 -- the end of a filter's tree is one of the stack, and so is the end at which all filters so far decide
 pub returns-then-index-filters : goal.returns-then-index-filters
-returns-then-index-filters c =
+returns-then-index-filters g c =
     let filters = c.args.filters.now in
     let index = c.loop-next.index in
     let step = rw (c.filter_of.ensures, c.in-Leaf.is) at c.step_in_filter.ensures in
@@ -68,7 +68,7 @@ returns-then-index-filters c =
     }
 
 pub loop-next-preserved : goal.loop-next-preserved
-loop-next-preserved c =
+loop-next-preserved g c =
     let filters = c.args.filters.now in
     let index = c.loop-next.index in
     let size = filter_size (filter_at filters index) in

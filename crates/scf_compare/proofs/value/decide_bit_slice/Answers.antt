@@ -19,7 +19,3 @@ returns-in-CommonBit-clause-plain c = λ whole simple.
     (c.and.ensures.left ∙ whole.left)
     (rw (c.and.ensures.mask, whole.mask, and_comm 4294967295 c.args.v, ← whole_word c.args.v (omega arith))
     (simple c.in-CommonBit.is)))
-
-pub returns-in-Greater-2-clause-decides : goal.returns-in-Greater-2-clause-decides
-returns-in-Greater-2-clause-decides c = λ words w.
-    rw (c.of.ensures.number words) (c.decide_affine.ensures.decides words w)

@@ -1,4 +1,4 @@
-use Rattle.scf_facts.proofs.Common.{◌≡◌, ◌≤◌, ◌+◌, ◌∷◌, [], length, length-append, take, drop, arith, sym, ap, ◌∙◌, take-append_seam, take-take, restored, AllFacts}
+use Rattle.scf_facts.proofs.Common.{◌≡◌, ◌≤◌, ◌+◌, List, ◌∷◌, [], length, length-append, take, drop, arith, sym, ap, ◌∙◌, take-append_seam, take-take, restored, NumberFacts}
 use Rattle.scf_facts.proofs.TrailLaws.{taken_before}
 use Rattle.scf_facts.proofs.undo.restore.Goals as goal
 
@@ -15,6 +15,6 @@ loop-trail-preserved-in-Some c =
       within = le;
       older = sym (take-take (length rest) _ c.args.trail.now.items (omega (arith, counted)))
           ∙ ap (take (length rest)) (inv.older ∙ items) ∙ take-append_seam rest (c.in-Some.change ∷ []);
-      rest = ap (λ (k : AllFacts). restored k (drop c.args.count rest)) c.restore.ensures
+      rest = ap (λ (k : List NumberFacts). restored k (drop c.args.count rest)) c.restore.ensures
           ∙ taken_before _ _ rest _ c.args.count items le ∙ inv.rest;
     }

@@ -16,6 +16,7 @@ loop-profile-preserved c =
       holds = rw (c.scope_of-over.ensures, c.architecture.ensures) at c.in_ok-verdict.ensures.holds;
       within = c.in_ok-verdict.ensures.within;
       decided = rw (c.scope_of-over.ensures, c.architecture.ensures) at (c.in_ok-verdict.ensures.decided refl);
+      settled = rw (c.scope_of-over.ensures, c.architecture.ensures) at c.in_ok-verdict.ensures.settled;
     } in
     rw (take_more _ _ c.profile-item.result c.loop-profile-test.true, c.in_ok-push.ensures.items)
     (AllZip-more compared _ _ _ _ c.loop-profile.invariant

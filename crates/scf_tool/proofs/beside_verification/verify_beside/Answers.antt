@@ -11,5 +11,6 @@ returns-clause-answer g c =
         holds = rw (c.filters.ensures.same, c.filters-2.ensures.same) at found.holds;
         within = rw (c.filters.ensures.same, c.filters-2.ensures.same) at found.within;
         decided = rw (c.filters.ensures.same, c.filters-2.ensures.same) at (found.decided refl);
+        settled = rw (c.filters.ensures.same, c.filters-2.ensures.same) at found.settled;
       },
     )

@@ -1,5 +1,6 @@
 use Rattle.scf_tool.proofs.Common.{Contains, behavior_of, sym, take_all, take_more}
 use Rattle.scf_tool.proofs.CallLemmas.{has_its_names, has_name, number_fits, one_finding_more}
+use Rattle.scf_tool.specs.Comparisons.{limit_of}
 use Rattle.scf_tool.proofs.call_verification.compare_calls.Goals as goal
 
 pub number_in-requires-clause-named : goal.number_in-requires-clause-named
@@ -23,8 +24,8 @@ pub loop-call-preserved : goal.loop-call-preserved
 loop-call-preserved c =
     rw (take_more _ _ c.call-item.result c.loop-call-test.true, c.in_ok-push.ensures.items)
     (one_finding_more c.args.relation c.args.architecture (behavior_of c.args.left.now) (behavior_of c.args.right.now)
-    c.args.limits.each _ _ _ _ _ _ _ c.loop-call.invariant
-    (rw (c.scope_of_call-over.ensures, c.number_in.ensures.same, c.call-item.is) at c.in_ok-finding.ensures))
+    (limit_of c.args.limits) _ _ _ _ _ _ _ c.loop-call.invariant
+    (rw (c.scope_of_call-over.ensures, c.number_in.ensures.same, c.call-item.is, c.limit_of-limit.ensures) at c.in_ok-finding.ensures))
 
 pub returns : goal.returns
 returns c = (

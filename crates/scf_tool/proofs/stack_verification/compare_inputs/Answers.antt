@@ -8,4 +8,5 @@ returns c = λ filters table profile read.
       holds = c.in_ok-verdict.ensures.holds;
       within = c.in_ok-verdict.ensures.within;
       decided = c.in_ok-verdict.ensures.decided refl;
+      settled = c.in_ok-verdict.ensures.settled;
     })

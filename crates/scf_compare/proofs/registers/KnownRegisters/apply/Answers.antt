@@ -4,17 +4,17 @@ use Rattle.scf_compare.proofs.BitSlices.{of_whole_word}
 use Rattle.scf_compare.proofs.registers.KnownRegisters.apply.Goals as goal
 
 pub returns-in-LoadWord-clause-describes : goal.returns-in-LoadWord-clause-describes
-returns-in-LoadWord-clause-describes c = λ words s t w d e.
+returns-in-LoadWord-clause-describes g c = λ words s t w allowed d e.
     let word = c.of_word-word.ensures in
     let loaded = of_whole_word c.of_word-word.result words _ word.whole word.word (word_below words w _) in
     grind (arith, c.set.ensures.describes words s _ d loaded)
 
 pub returns-in-LoadLength-clause-describes : goal.returns-in-LoadLength-clause-describes
-returns-in-LoadLength-clause-describes c = λ words s t w d e.
+returns-in-LoadLength-clause-describes g c = λ words s t w allowed d e.
     let set = c.set-in-LoadLength.ensures.describes words s _ d refl in grind arith
 
 pub returns-in-LoadConstant-clause-describes : goal.returns-in-LoadConstant-clause-describes
-returns-in-LoadConstant-clause-describes c = λ words s t w d e.
+returns-in-LoadConstant-clause-describes g c = λ words s t w allowed d e.
     let set = c.set-in-LoadConstant.ensures.describes words s _ d refl in grind arith
 
 -- a scratch word that is loaded was stored
@@ -25,31 +25,31 @@ loaded true f r s t None e = absurd (cc)
 loaded false f r s t found e = absurd (cc)
 
 pub returns-in-LoadScratch-clause-describes : goal.returns-in-LoadScratch-clause-describes
-returns-in-LoadScratch-clause-describes c = λ words s t w d. rw c.in-LoadScratch.is (λ e.
+returns-in-LoadScratch-clause-describes g c = λ words s t w allowed d. rw c.in-LoadScratch.is (λ e.
     let (value, found, same) = loaded _ _ _ s t _ e in
     let stored = d.scratch c.args.insn.k value _ ((rw c.in-LoadScratch.is at c.requires.scratch) tt) found in
     subst (Describes c.set-in-LoadScratch.new.self words) same
     (c.set-in-LoadScratch.ensures.describes words s value d stored))
 
 pub returns-in-StoreScratch-clause-describes : goal.returns-in-StoreScratch-clause-describes
-returns-in-StoreScratch-clause-describes c = λ words s t w d e.
+returns-in-StoreScratch-clause-describes g c = λ words s t w allowed d e.
     let store = c.store.ensures.describes words s _ d (c.get-value.ensures.stands words s d) in grind arith
 
 pub returns-in-Compute-clause-describes : goal.returns-in-Compute-clause-describes
-returns-in-Compute-clause-describes c = λ words s t w d e.
-    let operand = c.operand_in_computation-value.ensures.stands words s d in
-    let computed = c.computed-computed.ensures.stands words s.a _ d.a operand in
+returns-in-Compute-clause-describes g c = λ words s t w allowed d e.
+    let operand = c.operand_in_computation-value.ensures.stands words s allowed d in
+    let computed = c.computed-computed.ensures.stands words s.a _ allowed d.a operand in
     grind (arith, c.set-in-Compute.ensures.describes words s _ d computed)
 
 pub returns-in-Negate-clause-describes : goal.returns-in-Negate-clause-describes
-returns-in-Negate-clause-describes c = λ words s t w d e.
-    let negated = c.taken_from-negated.ensures.stands words s.a d.a in
+returns-in-Negate-clause-describes g c = λ words s t w allowed d e.
+    let negated = c.computed-negated.ensures.stands words 0 s.a allowed refl d.a in
     grind (arith, c.set-in-Negate.ensures.describes words s _ d negated)
 
 pub returns-in-CopyToIndex-clause-describes : goal.returns-in-CopyToIndex-clause-describes
-returns-in-CopyToIndex-clause-describes c = λ words s t w d e.
+returns-in-CopyToIndex-clause-describes g c = λ words s t w allowed d e.
     let set = c.set-in-CopyToIndex.ensures.describes words s _ d d.a in grind arith
 
 pub returns-in-CopyToAccumulator-clause-describes : goal.returns-in-CopyToAccumulator-clause-describes
-returns-in-CopyToAccumulator-clause-describes c = λ words s t w d e.
+returns-in-CopyToAccumulator-clause-describes g c = λ words s t w allowed d e.
     let set = c.set-in-CopyToAccumulator.ensures.describes words s _ d d.x in grind arith

@@ -1,16 +1,17 @@
-use Rattle.scf_facts.proofs.Common.{◌<◌, arith, length, refl, set-get_or, WordChange}
-use Rattle.scf_facts.proofs.TrailLaws.{known_now, noted, allows_learned, exact_learned}
+use Rattle.scf_facts.proofs.Common.{◌≡◌, ◌<◌, arith, length, refl, set-get_or, answer_at, Change}
+use Rattle.scf_facts.proofs.StoreLaws.{allows_set, exact_set}
+use Rattle.scf_facts.proofs.TrailLaws.{known_now, noted}
 use Rattle.scf_facts.proofs.word_sets.WordSetsWordFacts.learn.Goals as goal
 
 pub returns-clause-at_marks : goal.returns-clause-at_marks
 returns-clause-at_marks c =
     let facts = c.args.self.now in
-    let change : WordChange = record {
+    let change : Change = record {
       word = c.word-word.result;
       former = c.in_ok-former.former;
       about_word = omega (arith, c.word-word.ensures, c.requires.word);
     } in
-    noted facts.sets.items facts.clauses.items change c.index_mut.result.now c.learn.new.self facts.trail.items _ _
+    noted facts.sets.items change c.index_mut.result.now c.learn.new.self facts.trail.items _ _
     facts.marks.items _ c.deref-2.ensures.value c.make_room.ensures.items c.in_ok-note.ensures.marked facts.sixteen
     c.index_mut.ensures.value c.in_ok-former.ensures.before
 
@@ -19,17 +20,17 @@ returns-clause-law_learn c = λ words.
     let facts = c.args.self.now in
     let within : c.word-word.result < length facts.sets.items =
     omega (arith, c.word-word.ensures, c.requires.word, facts.sixteen) in
-    simp known_now (allows_learned facts.sets.items facts.clauses.items c.word-word.result
-    c.index_mut.result.now c.learn.new.self within c.index_mut.ensures.value c.args.atom c.args.holds
-    c.word-word.ensures c.in_ok-former.ensures.learned words)
+    simp known_now (rw (← c.word-word.ensures) (allows_set facts.sets.items c.word-word.result
+    c.index_mut.result.now within c.index_mut.ensures.value c.learn.new.self
+    (λ x. answer_at c.args.atom x ≡ c.args.holds) c.in_ok-former.ensures.learned words))
 
 pub returns-clause-exact : goal.returns-clause-exact
 returns-clause-exact c = λ keeps.
     let facts = c.args.self.now in
     let within : c.word-word.result < length facts.sets.items =
     omega (arith, c.word-word.ensures, c.requires.word, facts.sixteen) in
-    simp known_now (exact_learned facts.sets.items facts.clauses.items c.word-word.result
-    c.index_mut.result.now c.learn.new.self within c.index_mut.ensures.value (c.in_ok-former.ensures.exact keeps))
+    simp known_now (exact_set facts.sets.items c.word-word.result c.index_mut.result.now within
+    c.index_mut.ensures.value c.learn.new.self (c.in_ok-former.ensures.exact keeps))
 
 pub returns-in_err-former-clause-at_marks : goal.returns-in_err-former-clause-at_marks
 returns-in_err-former-clause-at_marks c = λ index _.

@@ -1,4 +1,4 @@
-use Rattle.scf_facts.proofs.Common.{List, drop, ap, ◌∙◌, with_items_is, restored, NumberFacts, known_of}
+use Rattle.scf_facts.proofs.Common.{List, drop, ap, ◌∙◌, with_items_is, restored, NumberFacts}
 use Rattle.scf_facts.proofs.CountLaws.{rising_cut}
 use Rattle.scf_facts.proofs.TrailLaws.{same_known, known_closed}
 use Rattle.scf_facts.proofs.word_sets.WordSetsWordFacts.undo.Goals as goal
@@ -10,10 +10,8 @@ invariant_of-self-clause-rising c = rw c.restore.ensures.trail
 pub returns-in-Some-clause-law_undo : goal.returns-in-Some-clause-law_undo
 returns-in-Some-clause-law_undo c = λ index lt.
     let facts = c.args.self.now in
-    let back = ap (λ (s : List NumberFacts). known_of s c.restore.new.clauses.items)
-    (with_items_is facts.sets c.restore.new.sets (c.restore.auto.sets ∙ c.deref_mut.ensures.len))
+    let back = with_items_is facts.sets c.restore.new.sets (c.restore.auto.sets ∙ c.deref_mut.ensures.len)
     ∙ c.restore.ensures.known
-    ∙ ap (λ (s : List NumberFacts). restored (known_of s facts.clauses.items) (drop c.in-Some.count facts.trail.items))
-    c.deref_mut.ensures.value in
-    same_known _ _ (known_closed (known_of facts.sets.items facts.clauses.items) _ facts.trail.items _ facts.marks.items _
+    ∙ ap (λ (s : List NumberFacts). restored s (drop c.in-Some.count facts.trail.items)) c.deref_mut.ensures.value in
+    same_known _ _ (known_closed facts.sets.items _ facts.trail.items _ facts.marks.items _
     c.in-Some.count index back c.restore.ensures.trail c.in-Some.ensures.items facts.rising lt)

@@ -23,6 +23,7 @@ pub returns-clause-reply : goal.returns-clause-reply
 returns-clause-reply c =
     let verified = rw (
       c.range_of.ensures,
+      c.limit_of.ensures,
       c.deref_mut.ensures.value,
       c.deref_mut-2.ensures.value,
       told_of_parts c.args.parts.filters.items,

@@ -21,7 +21,7 @@ returns-in_err-text-clause-fault c = λ tables.
 pub returns-clause-reply : goal.returns-clause-reply
 returns-clause-reply c = λ tables. (
   c.in_ok-finding.finding,
-  rw (told_of_parts c.args.filters.now, told_of_parts c.args.beside.now) at c.in_ok-finding.ensures.answer,
+  rw (told_of_parts c.args.filters.now, told_of_parts c.args.beside.now, c.limit_of.ensures) at c.in_ok-finding.ensures.answer,
   c.in_ok-text.ensures,
   c.status_of_finding-status.ensures,
 )

@@ -16,7 +16,11 @@ returns-in_err-outcome-clause-fault c =
 pub returns-clause-reply : goal.returns-clause-reply
 returns-clause-reply c =
     IfOk-weaker c.report_of.result _ _
-    (λ reply is. (c.in_ok-outcome.outcome, rw (told_of_parts c.args.filters.now) at c.in_ok-outcome.ensures.answer, is))
+    (λ reply is. (
+      c.in_ok-outcome.outcome,
+      rw (told_of_parts c.args.filters.now, c.limit_of.ensures) at c.in_ok-outcome.ensures.answer,
+      is,
+    ))
     c.report_of.ensures.reply
 
 pub returns-clause-fault : goal.returns-clause-fault

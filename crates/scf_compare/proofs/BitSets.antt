@@ -1,0 +1,76 @@
+-- The bits that splits have fixed.
+use Rattle.std.specs.Prelude.{sum_by, slice_set}
+use Rattle.std.proofs.lemmas.Nat.{pow_below}
+use Rattle.std.proofs.lemmas.Nat.Bits.{bit_at-trailing_ones}
+use Rattle.std.specs.Int.{trailing_ones}
+use Rattle.scf_facts.proofs.Common.{IsPowerOfTwo, and_pow, one_shl, w32}
+use Rattle.scf_compare.proofs.Bits.{whole_word}
+use Rattle.std.proofs.lemmas.List.Sums.{sum_by-set}
+use Rattle.std.proofs.lemmas.List.{get_or-set_same}
+use Rattle.std.proofs.lemmas.Nat.{or_disjoint}
+use Rattle.std.specs.Int.Bits.{or_zero_r}
+use Rattle.scf_facts.proofs.MaskLaws.{in_joined, joined, under_power}
+use Rattle.scf_facts.specs.declared.bits.Bits.{Bits}
+use Rattle.scf_facts.specs.Bits.{HasBits}
+use Rattle.scf_compare.proofs.Common.{◌≡◌, ◌∙◌, ◌+◌, ◌*◌, ◌%◌, ◌<◌, ◌-◌, ◌^◌, ℕ, List, arith, bit_and, bit_or, common_steps, eq-eqb, eqb, false, get_or, inl, inr, length, or_lt, refl, slice_index, sym}
+use Rattle.scf_compare.specs.internal.FixedBits.{HaveBits, bits_at, lacking}
+
+-- a number with some bits and further ones has both
+pub more_bits : (x k a m v : ℕ) → bit_and x k ≡ a → bit_and x m ≡ v → bit_and x (bit_or k m) ≡ bit_or a v
+more_bits x k a m v p q = let both = in_joined x k a m v p q in (joined x k a m v both.0 both.1).1 (p, q)
+
+-- a number that doesn't have a bit lacks it
+pub lacks_bit : (x m : ℕ) → IsPowerOfTwo m → eqb (bit_and x m) m ≡ false → bit_and x m ≡ 0
+lacks_bit x m one lacks = elim (under_power x m one) [
+  | inl none ↦ none
+  | inr some ↦ absurd (let has = eq-eqb _ _ some in cc)
+]
+
+-- the bit of a word at an index
+pub power_at : (index : ℕ) → index < 32 → IsPowerOfTwo (1 * 2 ^ index % 2 ^ 32)
+power_at index lt = (index, one_shl index 32 lt)
+
+-- a number with some bits that lacks a further one has both
+pub no_more_bits : (x k a m : ℕ) → IsPowerOfTwo m → bit_and x k ≡ a → eqb (bit_and x m) m ≡ false
+    → bit_and x (bit_or k m) ≡ a
+no_more_bits x k a m one p lacks = more_bits x k a m 0 p (lacks_bit x m one lacks) ∙ or_zero_r a
+
+-- what is fixed of one word changes
+pub have_set : (fixed : List Bits) (word : ℕ) (new : Bits) (words : List ℕ) → word < length fixed
+    → HaveBits fixed words → HasBits new (slice_index words word) → HaveBits (slice_set fixed word new) words
+have_set fixed word new words lt have this = λ k. grind (arith, common_steps, have k, this)
+
+-- one more bit of a word leaves less to fix
+pub lacking_less : (fixed : List Bits) (word m v : ℕ) → word < length fixed → 0 < m
+    → bit_and (bits_at fixed word).mask m ≡ 0 → (bits_at fixed word).mask + m < 2 ^ 32
+    → lacking (slice_set fixed word (record { mask = bit_or (bits_at fixed word).mask m; value = v })) < lacking fixed
+lacking_less fixed word m v lt some apart fits =
+    let none : Bits = record { mask = 0; value = 0 } in
+    let new : Bits = record { mask = bit_or (bits_at fixed word).mask m; value = v } in
+    omega (
+      arith,
+      sum_by-set (λ bits. 2 ^ 32 - 1 - bits.mask) fixed word new none lt,
+      or_disjoint (bits_at fixed word).mask m apart,
+    )
+
+-- the lowest bit that a mask lacks
+pub lowest_lacking : (mask : ℕ) → mask + 1 < 2 ^ 32
+    → let bit = 1 * 2 ^ trailing_ones w32 mask % 2 ^ 32 in
+    IsPowerOfTwo bit × (bit_and mask bit ≡ 0) × (mask + bit < 2 ^ 32)
+lowest_lacking mask more =
+    let lowest = bit_at-trailing_ones w32 mask more in
+    let apart : bit_and mask (2 ^ trailing_ones w32 mask) ≡ 0 = rw (and_pow mask, lowest.1) (omega arith) in
+    rw (one_shl _ 32 lowest.0) (
+      (trailing_ones w32 mask, refl),
+      apart,
+      rw (← or_disjoint mask (2 ^ trailing_ones w32 mask) apart)
+          (or_lt 32 mask (2 ^ trailing_ones w32 mask) (omega arith) (pow_below _ 32 lowest.0)),
+    )
+
+-- a word under all of its bits is the word
+pub whole_bits : (x m v : ℕ) → x < 2 ^ 32 → m ≡ 2 ^ 32 - 1 → bit_and x m ≡ v → v ≡ x
+whole_bits x m v fits whole has = sym (whole_word x fits ∙ rw whole at has)
+
+-- a mask and a bit that it lacks fit 32 bits together
+pub room_for : (mask bit : ℕ) → mask < 2 ^ 32 → bit < 2 ^ 32 → bit_and mask bit ≡ 0 → mask + bit < 2 ^ 32
+room_for mask bit fits fits_bit apart = rw (← or_disjoint mask bit apart) (or_lt 32 mask bit fits fits_bit)

@@ -1,0 +1,23 @@
+use Rattle.scf_compare.proofs.Common.{◌≡◌, ◌+◌, ◌⊎◌, ℕ, List, AreWordsIn, IsAhead, IsFrontier, open_size}
+use Rattle.scf_compare.specs.Findings.{WordsRelated}
+use Rattle.scf_compare.specs.declared.budget.Budget.TheVariants.{NoLimit}
+use Rattle.scf_compare.specs.internal.Settling.{settling_trees}
+use Rattle.scf_compare.proofs.settle.settle.Given as goal
+
+abbrev pub invariant-loop-settling : goal.invariant-loop-settling
+invariant-loop-settling g l =
+    let store = g.F.WordFacts in
+    let compared = g.C.Comparison.compared l.fn.comparison in
+    let trees = settling_trees (g.C.Comparison.tree l.fn.comparison) l.fn.start l.fn.root in
+    record {
+      frontier : IsFrontier store trees (AreWordsIn compared) l.frontier;
+      node : (trees l.known).is_node l.node;
+      words : (words : List ℕ) → AreWordsIn compared words
+          → WordsRelated compared words ⊎ IsAhead store trees l.frontier ((trees l.known).reaches l.node) words;
+      budget : l.fn.budget ≡ NoLimit → l.budget ≡ NoLimit;
+    }
+
+abbrev pub decreases-loop-settling : goal.decreases-loop-settling
+decreases-loop-settling g l =
+    let trees = settling_trees (g.C.Comparison.tree l.fn.comparison) l.fn.start l.fn.root in
+    open_size trees l.frontier + (trees l.known).size l.node

@@ -1,0 +1,84 @@
+//! Computed values of which only single bits may be known.
+
+ghost use Rattle.std.specs.Prelude.{◌≡◌, ◌<◌, ◌^◌, ℕ, List, IfSome};
+ghost use Rattle.scf_machine.specs.Machine.{value_computed};
+ghost use Rattle.scf_compare.specs.internal.Values.{Abstracts, IsComputedNumber, IsValue};
+
+use crate::known_bits::known_result;
+use crate::sources::Sources;
+use crate::value::Value;
+use scf_facts::Bits;
+use scf_insn::Arithmetic;
+
+/// The bits that are known of a value, and those of the record's words on which it depends.
+#[derive(Clone, Copy)]
+pub(crate) struct Computed {
+    pub(crate) bits: Bits,
+    pub(crate) sources: Sources,
+}
+
+impl Computed {
+    /// A value of which nothing is known: that of a scratch word that isn't stored.
+    pub(crate) const UNKNOWN: Computed = Computed {
+        bits: Bits::NONE,
+        sources: Sources::NONE,
+    };
+
+    /// A constant.
+    #[tactic(auto, using(crate::proofs::Bits::whole_word))]
+    pub(crate) fn constant(value: u32) -> Computed
+        ensures { IsComputedNumber result value }
+    {
+        Computed {
+            bits: Bits {
+                mask: u32::MAX,
+                value,
+            },
+            sources: Sources::NONE,
+        }
+    }
+
+    /// The number, if all its bits are known.
+    #[tactic(auto, using(crate::proofs::Bits::whole_word))]
+    pub(crate) fn number(self) -> Option<u32>
+        ensures { (x : ℕ) → IsComputedNumber self x → IfSome result (λ number. x ≡ number) }
+    {
+        if self.bits.mask == u32::MAX {
+            Some(self.bits.value)
+        } else {
+            None
+        }
+    }
+
+    /// As a value: a constant if all its bits are known.
+    pub(crate) fn value(self) -> Value
+        ensures value { IsValue result }
+        ensures stands { (words : List ℕ) (x : ℕ) → IsComputedNumber self x → Abstracts result words x }
+    {
+        match self.number() {
+            Some(number) => Value::Known(number),
+            None => Value::Computed(self),
+        }
+    }
+
+    /// Abstract `self op other`.
+    #[tactic(auto, using(crate::proofs::Bits::computed_fits))]
+    pub(crate) fn combined(self, arithmetic: Arithmetic, other: Computed) -> Computed
+        ensures { (a v : ℕ) → IsComputedNumber self a → IsComputedNumber other v
+            → IsComputedNumber result (value_computed arithmetic a v) }
+    {
+        let bits = known_result(arithmetic, self.bits, other.bits);
+        let joined = self.sources.and(other.sources);
+        let sources = match arithmetic {
+            Arithmetic::Add | Arithmetic::Sub | Arithmetic::Mul | Arithmetic::Lsh =>
+                joined.raised(),
+            Arithmetic::Div => joined.lowered_by(u32::BITS),
+            Arithmetic::Rsh => joined.lowered_by(other.number().unwrap_or(u32::BITS)),
+            Arithmetic::And | Arithmetic::Or | Arithmetic::Xor => joined,
+        };
+        Computed {
+            bits,
+            sources: sources.changing(!bits.mask),
+        }
+    }
+}
