@@ -58,7 +58,7 @@ install: $(PROGRAM) uninstall
 
 uninstall:
 	for it in "$(LIB)"/tools/*; do rm -f "$(BIN)/scf-$${it##*/}" "$(MAN)/scf-$${it##*/}.1"; done
-	rm -f "$(BIN)/scf" "$(MAN)/scf.1" "$(BASH)/scf" "$(ZSH)/_scf" "$(FISH)/scf.fish"
+	rm -f "$(BIN)/scf" "$(MAN)/scf.1" "$(MAN)/scf-asm.1" "$(MAN)/scf-dis.1" "$(BASH)/scf" "$(ZSH)/_scf" "$(FISH)/scf.fish"
 	rm -rf "$(LIB)" "$(DOC)"
 
 lib:

@@ -8,8 +8,7 @@ from __future__ import annotations
 import json
 from collections.abc import Iterator
 
-from . import arguments, entries, filters
-from .answers import Answer
+from . import answers, constants, entries, filters
 from .client import Refusal
 from .entries import Object
 from .events import Event
@@ -54,13 +53,13 @@ class Amendment:
 
 def conditions_of(event: Event, name: str) -> list[dict[str, object]]:
     """Conditions that hold of the known arguments that the syscall has and that are no addresses."""
-    kinds, found = arguments.read().get(name, ""), []
+    kinds, found = constants.kinds().get(name, ""), []
     for index, values in enumerate(event.arguments[:len(kinds)]):
-        if values is None or kinds[index] == arguments.ADDRESS:
+        if values is None or kinds[index] == constants.ADDRESS:
             continue
         if len(values) == 1:
             found.append({"index": index, "value": values[0], "op": EQUAL})
-        elif kinds[index] == arguments.HALF and len({value & HALF for value in values}) == 1:
+        elif kinds[index] == constants.HALF and len({value & HALF for value in values}) == 1:
             found.append({"index": index, "value": HALF, "valueTwo": values[0] & HALF, "op": MASKED})
     return found
 
@@ -97,7 +96,7 @@ class Search:
 
     def _is_proved(self, change: Amendment) -> bool:
         """Whether scf proves that the changed profile allows these calls, and answers all others as before."""
-        excepted = filters.with_exception(self.filter, self.number, change.conditions, Answer("ALLOW", 0).word)
+        excepted = filters.with_exception(self.filter, self.number, change.conditions, answers.ALLOW.word)
         if len(excepted) > LONGEST * filters.INSTRUCTION.size:
             return False
         try:

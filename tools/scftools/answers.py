@@ -28,6 +28,8 @@ DENYING = ("ERRNO", "TRAP", "KILL_THREAD", "KILL_PROCESS", "UNNAMED")
 # The disposition of a syscall, the strictest first. It follows from the action alone; the rank of an answer only says
 # which of a stack's answers decides.
 DISPOSITIONS = DENIED, DELEGATED, ALLOWED = "denied", "delegated to a supervisor or tracer", "allowed"
+# Actions whose data a profile gives, as an errno or a number, 1 if it gives none (the OCI specification).
+WITH_ERRNO = ("ERRNO", "TRACE")
 # Actions whose data is always printed, even if it is 0.
 HAS_DATA = ("ERRNO", "TRACE", "TRAP", "UNNAMED")
 # Linux's names of errno(3); of two names for a number, the one that the header defines by the number.
@@ -106,22 +108,42 @@ class Answer:
         return f"{self} ({ERRNOS[self.data]})" if self.action == "ERRNO" and self.data in ERRNOS else str(self)
 
     @classmethod
-    def of_profile(cls, action: str, data: int) -> Answer:
-        """The answer of an action of the OCI specification with its number."""
+    def of_profile(cls, action: str, number: object) -> Answer:
+        """The answer of an action of the OCI specification with its number, None if it has none."""
         word = action.removeprefix("SCMP_ACT_")
-        return cls({"NOTIFY": "USER_NOTIF", "KILL": "KILL_THREAD"}.get(word, word), data)
+        word = {"NOTIFY": "USER_NOTIF", "KILL": "KILL_THREAD"}.get(word, word)
+        return cls(word, number if isinstance(number, int) else int(word in WITH_ERRNO))
+
+    @property
+    def oci(self) -> str:
+        """The name of its action in the OCI specification."""
+        return f"SCMP_ACT_{'NOTIFY' if self.action == 'USER_NOTIF' else self.action}"
+
+    @property
+    def is_of_profiles(self) -> bool:
+        """Whether a profile can give it."""
+        return self.action in WITH_ERRNO or self.action != "UNNAMED" and not self.data
+
+    def members(self, action: str = "action", number: str = "errnoRet") -> dict[str, object]:
+        """The members of an entry, or of the default, that give it."""
+        return {action: self.oci, **({number: self.data} if self.action in WITH_ERRNO else {})}
+
+    def default(self) -> dict[str, object]:
+        """The members of a profile whose default it is."""
+        return self.members("defaultAction", "defaultErrnoRet")
 
     def as_profile(self, architectures: Sequence[str] = ()) -> bytes | None:
         """A profile that gives every syscall of these architectures, by default x86-64's, this answer, or None if none
         can."""
-        if self.action in ("USER_NOTIF", "UNNAMED") or (self.data and self.action not in ("ERRNO", "TRACE")):
+        if self.action == "USER_NOTIF" or not self.is_of_profiles:
             return None
-        errno_member = {"defaultErrnoRet": self.data} if self.action in ("ERRNO", "TRACE") else {}
-        return json.dumps({"defaultAction": f"SCMP_ACT_{self.action}", **errno_member,
-                           "architectures": list(architectures)}).encode()
+        return json.dumps({**self.default(), "architectures": list(architectures)}).encode()
 
     def as_json(self, explains: bool = False) -> dict[str, object]:
         found: dict[str, object] = {"action": self.action, "data": self.data}
         if self.action == "ERRNO" and self.data in ERRNOS:
             found["errno"] = ERRNOS[self.data]
         return {**found, "does": self.does()} if explains else found
+
+
+ALLOW, KILL_PROCESS, ENOSYS = Answer("ALLOW", 0), Answer("KILL_PROCESS", 0), Answer("ERRNO", 38)

@@ -50,6 +50,10 @@ class Architecture:
         """The greatest value of an argument."""
         return (1 << self.bits) - 1
 
+    def marked(self, text: str) -> str:
+        """A text about a syscall of it, after its name if it isn't x86-64."""
+        return text if self.oci == NATIVE else f"{self.name} {text}"
+
     @property
     def file(self) -> str:
         """The file of its table."""
@@ -116,7 +120,7 @@ def judged_in(text: str | None) -> Architecture:
 
 def number_in(text: str) -> str:
     """The number of an architecture, as scf takes it, given by a name, a number, or as in the audit log
-    (arch=c000003e, in hexadecimal). Raises Refused if it is unknown or ambiguous."""
+    (arch=c000003e, in hexadecimal). Raises ToolError if it is unknown or ambiguous."""
     name = name_in(text)
     if name is not None:
         return hex(NUMBERS[name])

@@ -7,29 +7,24 @@ compared once, by scf.
 """
 from __future__ import annotations
 
-import glob
 import json
 import os
 import time
 from collections import Counter
 from collections.abc import Callable, Iterable, Sequence
 
-from . import (bundles, client, compare, container_files, hooks, machine, membership, newer, other_abis, output,
-               program, units, verdicts)
+from . import (bundles, client, compare, container_files, engines, machine, newer, other_abis, output,
+               program, units, verdicts, verify)
 from .compare import Comparison
 from .container_files import Described
 from .filters import Filter
 from .machine import Process, Snapshot
 from .processes import Kernel, Stack
-from .questions import IS_MADE
+from .questions import IS_ALLOWED
 from .tables import Table
-from .values import dataclass, field, replace
+from .values import Any, dataclass, field, replace
 from .verdicts import NO_LESS, NO_MORE, SAME, Verdict
 from .verify import Request
-
-TYPE_CHECKING = False
-if TYPE_CHECKING:
-    from typing import Any
 
 # The verdicts. Unconfined rows stand first, then these in this order.
 (UNCONFINED_THOUGH, UNCONFINED, WEAKER, NOT_KNOWN, OTHERWISE, STRICTER, AS_CONFIGURED) = VERDICTS = (
@@ -119,6 +114,19 @@ class Row:
         return any(it.judgement.is_unconfined for it in self.parts)
 
     @property
+    def names(self) -> dict[int, bytes]:
+        """The names of its processes by their numbers."""
+        return {it.number: it.name for it in self.processes}
+
+    @property
+    def capabilities(self) -> list[str]:
+        """The capabilities that some of its processes have."""
+        held = 0
+        for process in self.processes:
+            held |= process.capabilities
+        return engines.capabilities_in(held)
+
+    @property
     def order(self) -> tuple[bool, int, int, str, str]:
         """Where it stands: unconfined containers and units first."""
         return (not self.is_unconfined, VERDICTS.index(self.verdict), KINDS.index(self.kind), self.name, self.key)
@@ -156,6 +164,11 @@ class Audit:
         return Counter((it.kind, it.verdict) for it in self.rows)
 
     @property
+    def confined(self) -> int:
+        """The processes with a filter in some thread."""
+        return sum(it.is_confined for it in self.snapshot.processes.values())
+
+    @property
     def unconfined(self) -> int:
         """The processes without a filter in some thread."""
         stack = self.snapshot.stacks.get(((), False))
@@ -180,7 +193,7 @@ class Judge:
         self.limit = limit
         self.tell = tell
         self.known: dict[tuple[object, ...], Judgement] = {}
-        self.foreign: dict[tuple[tuple[object, ...], ...], list[other_abis.Proved | other_abis.Tried]] = {}
+        self.foreign: dict[tuple[tuple[object, ...], ...], list[other_abis.Known]] = {}
 
     def judge(self, stack: Stack, asked: Request | None, relation: str = SAME) -> Judgement:
         """The verdict on a stack with filters."""
@@ -200,7 +213,7 @@ class Judge:
         comparison = asked.comparison(stack.named, relation)
         stub = asked.applied.stub if asked.applied is not None else {}
         _, report, has_stub = newer.compared_with_stub(comparison, comparison.scope, stub)
-        comparison = newer.expecting_stub(comparison, stub if has_stub else {})
+        comparison = replace(comparison, stub=stub if has_stub else {})
         found = self._of_report(comparison, report)
         if is_of_nothing:
             # (the call that shows it would be answered by no profile of a user)
@@ -237,11 +250,10 @@ class Judge:
         for one in self.foreign[key]:
             if one.kind.of.oci in names:
                 continue
-            if isinstance(one, other_abis.Proved) and not one.lets_none_through or \
-                    isinstance(one, other_abis.Tried) and one.let_through:
+            if one.not_denied:
                 return Judgement(WEAKER, why=f"the profile doesn't name {one.kind.of.oci}; {one.describe()}",
                                  comparison=found.comparison)
-            if isinstance(one, other_abis.Tried):
+            if not one.is_proved:
                 found = replace(found, verdict=NOT_KNOWN, why=one.describe())
         return replace(found, not_compared=tuple(names))
 
@@ -270,7 +282,7 @@ class Options:
         """Raises a ToolError if scf refuses a profile, the table or the limit. Two entries that conflict, or two
         conditions on one argument, are left to the runtimes, which accept them."""
         for name, profile in filter(None, (self.expected, self.baseline, ("", ALLOWS_ALL))):
-            comparison = Comparison([Filter("", IS_MADE.filter)], profile, self.table, self.limit,
+            comparison = Comparison([Filter("", IS_ALLOWED.filter)], profile, self.table, self.limit,
                                     is_native=self.scope is not None)
             fault = comparison.run(comparison.scope)[1].fault
             if fault is not None and fault.kind not in ("Conflict", "RepeatedIndex"):
@@ -292,9 +304,9 @@ class Expectations:
         key = json.dumps(config), runtime
         if key not in self.known:
             try:
-                self.known[key] = hooks.request_of(config, runtime, False, self.options.table, self.options.limit, SAME,
-                                                     self.options.scope)
-            except hooks.HookError as why:
+                self.known[key] = verify.request_of(config, runtime, False, self.options.table, self.options.limit,
+                                                    SAME, self.options.scope)
+            except verify.ContainerError as why:
                 self.known[key] = str(why)
         return self.known[key]
 
@@ -321,8 +333,8 @@ class Expectations:
         if one.why is not None:
             return Expected(source=one.config or None, why=one.why)
         try:
-            config = hooks.seccomp_in(one.configuration, one.config)
-        except hooks.HookError as why:
+            config = verify.seccomp_in(one.configuration, one.config)
+        except verify.ContainerError as why:
             return Expected(source=one.config, why=str(why))
         if config is None:
             return Expected(source=one.config)
@@ -358,12 +370,12 @@ class Expectations:
 def rows_of(kernel: Kernel, snapshot: Snapshot, options: Options) -> list[Row]:
     """The rows without their parts."""
     described = container_files.all_described(kernel, options.roots)
-    members = membership.Membership(kernel, described, snapshot.processes)
+    members = container_files.Membership(kernel, described, snapshot.processes)
     found: dict[tuple[str, str], Row] = {}
     unknown = Expected()
     for process in snapshot.processes.values():
-        container = members.container_of(process) or membership.named_container(process)
-        unit = membership.unit_of(process) if container is None else None
+        container = members.container_of(process) or container_files.named_container(process)
+        unit = container_files.unit_of(process) if container is None else None
         if container is not None:
             kind, key = CONTAINER, container.identifier
         elif unit is not None:
@@ -434,7 +446,7 @@ def of_machine(options: Options, judge: Judge) -> Audit:
     found = Audit([], machine.read(kernel, options.is_forced), time.time(),
                   allows_unconfined=options.allows_unconfined)
     found.snapshot.notes += [f"no folder is --runtime-root {output.escaped(it)}" for it in options.roots
-                             if not any(map(os.path.isdir, glob.glob(it)))]
+                             if not any(map(os.path.isdir, container_files.matching(it)))]
     rows = rows_of(kernel, found.snapshot, options)
     if _look_again(kernel, found.snapshot, rows, options):
         rows = rows_of(kernel, found.snapshot, options)

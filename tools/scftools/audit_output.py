@@ -6,7 +6,7 @@ import re
 import time
 from collections.abc import Iterable, Iterator
 
-from . import engines, output
+from . import output
 from .audit import CONTAINER, KINDS, PROGRAM, STRICTER, UNIT, VERDICTS, Audit, Judgement, Part, Row, stack_digest
 from .tables import Table
 
@@ -28,12 +28,12 @@ METRICS = {
 }
 
 
-def time_told(seconds: float) -> str:
+def time_text(seconds: float) -> str:
     """A time as in RFC 3339, in UTC."""
     return time.strftime("%Y-%m-%dT%H:%M:%SZ", time.gmtime(seconds))
 
 
-def number_told(count: int, word: str, plural: str | None = None) -> str:
+def number_text(count: int, word: str, plural: str | None = None) -> str:
     return f"{count} {word if count == 1 else plural or word + 's'}"
 
 
@@ -52,14 +52,14 @@ def about(row: Row) -> list[str]:
     return [it for it in known if it]
 
 
-def row_told(row: Row) -> str:
+def row_text(row: Row) -> str:
     """What a row is called."""
     known = about(row)
     name = short(row.key) if row.name == row.key else row.name
     return f"{row.kind} {name}" + (f" ({', '.join(known)})" if known else "")
 
 
-def judgement_told(judgement: Judgement, table: Table) -> str:
+def judgement_text(judgement: Judgement, table: Table) -> str:
     """What shows a verdict: why it isn't known, or a call with both answers."""
     than = "the baseline" if judgement.is_of_baseline else "the profile"
     if judgement.shown is None or judgement.shown.call is None:
@@ -71,23 +71,22 @@ def judgement_told(judgement: Judgement, table: Table) -> str:
             f"{judgement.shown.profile}")
 
 
-def _processes_told(row: Row, part: Part) -> str:
+def _processes_text(row: Row, part: Part) -> str:
     """Which processes of a row have a stack."""
-    names = {it.number: it.name for it in row.processes}
-    shown = [f"{it} ({output.escaped(names.get(it, b''))})" for it in list(part.threads)[:MOST_NAMED]]
+    shown = [f"{it} ({output.escaped(row.names.get(it, b''))})" for it in list(part.threads)[:MOST_NAMED]]
     more = len(part.threads) - len(shown)
     return f"process{'es' * (len(part.threads) > 1)} {', '.join(shown)}" + (f" and {more} more" if more else "")
 
 
 def row_lines(row: Row, table: Table) -> Iterator[str]:
     """A line for a row, and for each further verdict in it one more."""
-    yield f"{row.verdict}: {row_told(row)}: {number_told(len(row.processes), 'process', 'processes')}"
+    yield f"{row.verdict}: {row_text(row)}: {number_text(len(row.processes), 'process', 'processes')}"
     verdicts = [it.judgement.verdict for it in row.parts]
     for at, part in enumerate(row.parts):
-        text = judgement_told(part.judgement, table) if part.judgement.verdict != STRICTER else ""
+        text = judgement_text(part.judgement, table) if part.judgement.verdict != STRICTER else ""
         if part.judgement.verdict in verdicts[:at] or not text and len(set(verdicts)) == 1:
             continue
-        yield f"    {part.judgement.verdict}: {_processes_told(row, part)}" + (f": {text}" if text else "")
+        yield f"    {part.judgement.verdict}: {_processes_text(row, part)}" + (f": {text}" if text else "")
 
 
 def summary(audit: Audit) -> Iterator[str]:
@@ -95,18 +94,13 @@ def summary(audit: Audit) -> Iterator[str]:
     for kind in KINDS:
         shown = [f"{verdict} {audit.counts[kind, verdict]}" for verdict in VERDICTS if audit.counts[kind, verdict]]
         yield f"{PLURALS[kind]}: {', '.join(shown) or 'none'}"
-    yield (f"processes: confined {len(audit.snapshot.processes) - unconfined_only(audit)}, unconfined "
-           f"{audit.unconfined}; distinct stacks: {len(audit.stacks)}; seconds: {audit.seconds:.2f}")
+    yield (f"processes: confined {audit.confined}, unconfined {audit.unconfined}; distinct stacks: "
+           f"{len(audit.stacks)}; seconds: {audit.seconds:.2f}")
     named = sorted({name for row in audit.rows for part in row.parts for name in part.judgement.not_compared})
     if named:
         yield f"not compared: syscalls of {', '.join(named)}, which profiles name beside SCMP_ARCH_X86_64"
     yield from (f"not looked at: {it}" for it in audit.left_out)
     yield from audit.snapshot.notes
-
-
-def unconfined_only(audit: Audit) -> int:
-    """The processes without a confined thread."""
-    return sum(1 for it in audit.snapshot.processes.values() if not it.is_confined)
 
 
 def lines(audit: Audit, table: Table) -> Iterator[str]:
@@ -118,7 +112,7 @@ def lines(audit: Audit, table: Table) -> Iterator[str]:
 
 def known_rows(audit: Audit) -> dict[tuple[str, str], tuple[str, str]]:
     """Of each row, by its kind and key, what it is called and its verdict."""
-    return {(it.kind, output.escaped(it.key)): (row_told(it), it.verdict) for it in audit.rows}
+    return {(it.kind, output.escaped(it.key)): (row_text(it), it.verdict) for it in audit.rows}
 
 
 def rows_in(value: object) -> dict[tuple[str, str], tuple[str, str]]:
@@ -136,7 +130,7 @@ def rows_in(value: object) -> dict[tuple[str, str], tuple[str, str]]:
 
 def changes(before: dict[tuple[str, str], tuple[str, str]], audit: Audit) -> Iterator[dict[str, object]]:
     """What changed since an earlier audit: rows that are new, gone, or have another verdict."""
-    now, at = known_rows(audit), time_told(audit.time)
+    now, at = known_rows(audit), time_text(audit.time)
     for key, (told, verdict) in now.items():
         was = before.get(key, (told, None))[1]
         if was != verdict:
@@ -146,7 +140,7 @@ def changes(before: dict[tuple[str, str], tuple[str, str]], audit: Audit) -> Ite
             yield {"time": at, "kind": key[0], "row": output.escaped(told), "verdict": None, "was": was}
 
 
-def change_told(change: dict[str, object]) -> str:
+def change_text(change: dict[str, object]) -> str:
     """A line for a change."""
     was = f" (was {change['was']})" if change["was"] is not None else ""
     return f"{change['time']} {change['verdict'] or 'gone'}: {change['row']}{was}"
@@ -158,7 +152,7 @@ def _judgement_json(judgement: Judgement, table: Table) -> dict[str, object]:
         found["why"] = output.escaped(judgement.why)
     shown = judgement.shown
     if shown is not None and shown.call is not None and shown.filters is not None and shown.profile is not None:
-        found.update(call=shown.call.as_json(table), filter=shown.filters.as_json(), profile=shown.profile.as_json())
+        found.update(shown.as_json(table))
     if judgement.is_of_baseline:
         found["baseline"] = True
     if judgement.not_compared:
@@ -167,10 +161,10 @@ def _judgement_json(judgement: Judgement, table: Table) -> dict[str, object]:
 
 
 def _part_json(row: Row, part: Part, numbers: dict[int, int], table: Table) -> dict[str, object]:
-    names = {it.number: output.escaped(it.name) for it in row.processes}
+    names = row.names
     return {**_judgement_json(part.judgement, table), "stack": numbers.get(id(part.stack)),
             "is_unconfined": part.judgement.is_unconfined,
-            "processes": [{"process": it, "name": names.get(it, ""), "threads": len(threads)}
+            "processes": [{"process": it, "name": output.escaped(names.get(it, b"")), "threads": len(threads)}
                           for it, threads in part.threads.items()]}
 
 
@@ -186,10 +180,7 @@ def row_json(row: Row, numbers: dict[int, int], table: Table) -> dict[str, objec
     found["profile"] = {"source": None if row.expected.source is None else output.escaped(row.expected.source),
                         "sha256": row.expected.digest,
                         **({"why": output.escaped(row.expected.why)} if row.expected.why is not None else {})}
-    held = 0
-    for process in row.processes:
-        held |= process.capabilities
-    return {**found, "capabilities": engines.capabilities_in(held),
+    return {**found, "capabilities": row.capabilities,
             "no_new_privileges": all(it.has_no_new_privileges for it in row.processes),
             "users": sorted({it.user for it in row.processes}),
             "parts": [_part_json(row, it, numbers, table) for it in row.parts]}
@@ -200,12 +191,12 @@ def _numbers(audit: Audit) -> dict[int, int]:
 
 
 def head_json(audit: Audit) -> dict[str, object]:
-    """What is said of the whole."""
+    """The JSON of the whole audit, without its rows."""
     system = os.uname()
-    return {"status": audit.status, "host": system.nodename, "kernel": system.release, "time": time_told(audit.time),
+    return {"status": audit.status, "host": system.nodename, "kernel": system.release, "time": time_text(audit.time),
             "seconds": round(audit.seconds, 3),
             "verdicts": {kind: {it: audit.counts[kind, it] for it in VERDICTS} for kind in KINDS},
-            "processes": {"confined": len(audit.snapshot.processes) - unconfined_only(audit),
+            "processes": {"confined": audit.confined,
                           "unconfined": audit.unconfined, "unread": len(audit.snapshot.unread)},
             "left_out": [output.escaped(it) for it in audit.left_out],
             "notes": [output.escaped(it) for it in audit.snapshot.notes],
@@ -242,7 +233,7 @@ def _samples(audit: Audit) -> dict[str, list[tuple[list[tuple[str, str | None]],
                     ("pod", it.container.pod), ("verdict", it.verdict)], 1)
                   for it in audit.rows if it.kind == CONTAINER and it.container is not None]
     single = {"scf_unconfined_processes": audit.unconfined,
-              "scf_confined_processes": len(audit.snapshot.processes) - unconfined_only(audit),
+              "scf_confined_processes": audit.confined,
               "scf_unread_processes": len(audit.snapshot.unread), "scf_distinct_stacks": len(audit.stacks),
               "scf_audit_status": audit.status, "scf_audit_seconds": f"{audit.seconds:.3f}",
               "scf_audit_timestamp_seconds": f"{audit.time:.3f}"}

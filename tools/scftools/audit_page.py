@@ -6,14 +6,12 @@ import os
 import shlex
 from collections.abc import Iterator
 
-from . import audit_output, client, engines, output, reasons, surface_page, surfaces
+from . import audit_output, client, compare, output, pages, surfaces
 from .audit import (AS_CONFIGURED, NOT_KNOWN, OTHERWISE, STRICTER, UNIT, WEAKER, Audit, Judgement, Part, Row,
                     stack_digest)
-from .compare_page import c_call
-from .groups import Groups
-from .html_page import Markup, document, joined, listed, preformatted, table, tag
 from .processes import Stack
-from .surface_page import Named
+from .surface_output import Groups
+from .pages import Markup, Named, c_call, document, joined, listed, preformatted, table, tag
 from .surfaces import Surface
 from .tables import Table
 
@@ -26,10 +24,6 @@ DIGITS, FEW = 12, 3
 
 def _coloured(verdict: str) -> Markup:
     return tag("span", verdict, class_=COLOURS.get(verdict, "bad"))
-
-
-def _hash(digest: str | None) -> Markup:
-    return tag("code", digest[:DIGITS], title=digest) if digest else Markup("")
 
 
 def repeat(row: Row, part: Part) -> list[str]:
@@ -49,16 +43,15 @@ def _head(audit: Audit) -> Iterator[Markup]:
     system = os.uname()
     version = client.run(["--version"]).text.strip()
     yield tag("h1", f"seccomp audit of {output.escaped(system.nodename)}")
-    yield tag("p", f"{audit_output.time_told(audit.time)} · Linux {system.release} · {version} · "
+    yield tag("p", f"{audit_output.time_text(audit.time)} · Linux {system.release} · {version} · "
                    f"{audit.seconds:.2f} seconds")
     yield listed(audit_output.summary(audit))
     yield tag("p", PROVED, class_="faint")
 
 
 def _processes(row: Row) -> Markup:
-    names = {it.number: it.name for it in row.processes}
-    shown = [f"{number} {output.escaped(name)}" for number, name in names.items()]
-    count = audit_output.number_told(len(shown), "process", "processes")
+    shown = [f"{number} {output.escaped(name)}" for number, name in row.names.items()]
+    count = audit_output.number_text(len(shown), "process", "processes")
     return tag("details", tag("summary", count), listed(shown))
 
 
@@ -78,11 +71,10 @@ def _stacks_of(row: Row, audit: Audit) -> Markup:
 
 
 def _row(row: Row, audit: Audit) -> list[object]:
-    held = 0
-    for process in row.processes:
-        held |= process.capabilities
-    capabilities = engines.capabilities_in(held)
-    source = [row.expected.source or "nothing is configured", " ", _hash(row.expected.digest)]
+    capabilities = row.capabilities
+    digest = row.expected.digest
+    source = [row.expected.source or "nothing is configured", " "]
+    source += [tag("code", digest[:DIGITS], title=digest)] if digest else []
     if row.expected.why is not None:
         source += [" ", row.expected.why]
     return [_coloured(row.verdict), joined([row.kind, " ", tag("strong", row.name, class_="long")]),
@@ -111,7 +103,7 @@ def _shown(judgement: Judgement, table_of: Table) -> Iterator[Markup]:
     than = "the baseline" if judgement.is_of_baseline else "the profile"
     sides = [(it.describe() if it is not None else "unknown") for it in (shown.filters, shown.profile)]
     yield listed((f"the filters answer {sides[0]}", f"{than} answers {sides[1]}"))
-    lines = list(reasons.of_difference(judgement.comparison, shown))
+    lines = list(compare.of_difference(judgement.comparison, shown))
     if lines:
         yield preformatted(lines)
 
@@ -125,7 +117,7 @@ def _findings(audit: Audit, table_of: Table) -> Iterator[Markup]:
     if not bad:
         yield tag("p", "Nothing is weaker than configured, otherwise, or not known.")
     for row, part in bad:
-        yield tag("h3", _coloured(part.judgement.verdict), f" {audit_output.row_told(row)}")
+        yield tag("h3", _coloured(part.judgement.verdict), f" {audit_output.row_text(row)}")
         yield from _shown(part.judgement, table_of)
         command = repeat(row, part)
         if command:
@@ -163,11 +155,11 @@ def _stacks(audit: Audit, table_of: Table, limit: str | None) -> Iterator[Markup
              in enumerate(zip(audit.stacks, _surfaces(audit.stacks, table_of, limit)))]
     if not found:
         return
-    yield from surface_page.matrix(found, groups)
-    yield from surface_page.dangerous(found, table_of)
+    yield from pages.matrix(found, groups)
+    yield from pages.dangerous(found, table_of)
     yield tag("h2", "Distinct stacks")
     for one in found:
-        yield from surface_page.stack(one, groups)
+        yield from pages.stack(one, groups)
 
 
 def page(audit: Audit, table_of: Table, limit: str | None,

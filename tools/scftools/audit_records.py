@@ -15,7 +15,7 @@ from . import architectures, output, program
 from .answers import ACTIONS
 from .calls import SKIPPED
 from .tables import Table
-from .values import dataclass
+from .values import Pattern, dataclass
 
 ACTIONS_LOGGED = "/proc/sys/kernel/seccomp/actions_logged"
 KERNEL_LOG = "/dev/kmsg"
@@ -23,26 +23,26 @@ KERNEL_LOG = "/dev/kmsg"
 LONGEST = 1 << 13
 # How the two kinds of records begin: by their number (linux/audit.h), auditd's name, and journald's, where a record is
 # one that it took from the kernel itself.
-KINDS = re.compile(r"(?:\A|\s)(?:type=(1326|SECCOMP|1300|SYSCALL) (?:msg=)?(?=audit\()|"
-                   r"audit(?:\[[0-9]{1,10}\])?: (SECCOMP|SYSCALL) )")
+KINDS = Pattern(r"(?:\A|\s)(?:type=(1326|SECCOMP|1300|SYSCALL) (?:msg=)?(?=audit\()|"
+                r"audit(?:\[[0-9]{1,10}\])?: (SECCOMP|SYSCALL) )")
 SECCOMP, SYSCALL = ("1326", "SECCOMP"), ("1300", "SYSCALL")
 # Records of other types, and ausearch's lines between those of one event.
-OTHER = re.compile(r"(?:\A|\s)type=[A-Z0-9_\[\]]{1,40} (?:msg=)?audit\(|\A(?:----|time->.*|<no matches>)\Z")
+OTHER = Pattern(r"(?:\A|\s)type=[A-Z0-9_\[\]]{1,40} (?:msg=)?audit\(|\A(?:----|time->.*|<no matches>)\Z")
 # The fields that the kernel writes behind all that a process may choose. A name in quotes has no blank and no quote;
 # one with such characters is in hexadecimal. ausearch -i prints names as they are.
-TAIL = re.compile(r" sig=(\S+)(?: arch=(\S+))? syscall=(\S+) compat=(\S+) ip=(\S+) code=(\S+)")
-WHO = re.compile(r" pid=(\S+) comm=(\"[^\"]*\"|\S+)")
-CALL = re.compile(r" arch=(\S+) syscall=(\S+)(?: per=\S+)?(?: success=\S+ exit=.*?)?"
-                  r" a0=(\S+) a1=(\S+) a2=(\S+) a3=(\S+) ")
-TIME = re.compile(r"audit\(([0-9]{1,12})\.([0-9]{3}):")
+TAIL = Pattern(r" sig=(\S+)(?: arch=(\S+))? syscall=(\S+) compat=(\S+) ip=(\S+) code=(\S+)")
+WHO = Pattern(r" pid=(\S+) comm=(\"[^\"]*\"|\S+)")
+CALL = Pattern(r" arch=(\S+) syscall=(\S+)(?: per=\S+)?(?: success=\S+ exit=.*?)?"
+               r" a0=(\S+) a1=(\S+) a2=(\S+) a3=(\S+) ")
+TIME = Pattern(r"audit\(([0-9]{1,12})\.([0-9]{3}):")
 # auditd puts these before what it adds to a record itself, which names what the kernel's part has as numbers.
 ENRICHED = "\x1d"
 # The kernel leaves out records if too many come at once (kauditd_printk_skb in kernel/audit.c).
-SUPPRESSED = re.compile(r"\baudit: kauditd_printk_skb: ([0-9]{1,9}) callbacks suppressed")
+SUPPRESSED = Pattern(r"\baudit: kauditd_printk_skb: ([0-9]{1,9}) callbacks suppressed")
 # What ausearch -i calls the actions: those that kill alike (auparse/seccomp-code-table.h of audit 3.0).
 CODES = {"kill": ("KILL_PROCESS", "KILL_THREAD"), "trap": ("TRAP",), "errno": ("ERRNO",),
          "user-notify": ("USER_NOTIF",), "trace": ("TRACE",), "log": ("LOG",), "allow": ("ALLOW",)}
-UNKNOWN_CODE = re.compile(r"unknown-seccomp-code\((0x[0-9a-f]{1,8})\)")
+UNKNOWN_CODE = Pattern(r"unknown-seccomp-code\((0x[0-9a-f]{1,8})\)")
 
 
 class Malformed(Exception):
@@ -75,12 +75,8 @@ class Syscall:
 def _number(text: str, what: str, most: int, base: int = 10) -> int:
     """A field as a number, from 0 to `most`."""
     if not re.fullmatch("[0-9]{1,20}" if base == 10 else "(?:0x)?[0-9a-fA-F]{1,16}", text) or int(text, base) > most:
-        raise Malformed(f"{what}={_shown(text)} isn't {'an address' if base == 16 else f'a number up to {most}'}")
+        raise Malformed(f"{what}={output.cut(text)} isn't {'an address' if base == 16 else f'a number up to {most}'}")
     return int(text, base)
-
-
-def _shown(text: str) -> str:
-    return text if len(text) <= 64 else f"{text[:64]}.."
 
 
 def architecture_of(text: str | None) -> int:
@@ -91,7 +87,7 @@ def architecture_of(text: str | None) -> int:
     if name is not None:
         return architectures.NUMBERS[name]
     if not re.fullmatch("[0-9a-fA-F]{1,8}", text):
-        raise Malformed(f"arch={_shown(text)} isn't an architecture")
+        raise Malformed(f"arch={output.cut(text)} isn't an architecture")
     return int(text, 16)
 
 
@@ -109,7 +105,7 @@ def number_of(text: str, architecture: int, tables: dict[str, Table]) -> int:
         return _number(text, "syscall", 0xFFFFFFFF)
     number = named_number(text, architecture, tables)
     if number is None:
-        raise Malformed(f"syscall={_shown(text)}: the table has no such name: print the record without -i")
+        raise Malformed(f"syscall={output.cut(text)}: the table has no such name: print the record without -i")
     return number
 
 
@@ -120,7 +116,7 @@ def halves_of(text: str) -> tuple[int, ...]:
     unknown = UNKNOWN_CODE.fullmatch(text)
     text = unknown[1] if unknown else text
     if not re.fullmatch("0x[0-9a-f]{1,8}", text):
-        raise Malformed(f"code={_shown(text)} isn't an action")
+        raise Malformed(f"code={output.cut(text)} isn't an action")
     if int(text, 16) & 0xFFFF:
         raise Malformed(f"code={text} has data, which the kernel leaves out")
     return (int(text, 16) >> 16,)

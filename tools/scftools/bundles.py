@@ -3,11 +3,8 @@ from __future__ import annotations
 
 from collections.abc import Iterable, Sequence
 
+from .tables import Tables
 from .values import Pattern
-
-TYPE_CHECKING = False
-if TYPE_CHECKING:
-    from .tables import Tables
 
 TABLES = ("table", "table-x86", "table-x32", "table-aarch64", "table-arm")
 KINDS = ("filter", "profile", *TABLES)

@@ -1,7 +1,6 @@
 """Syscall records: what a filter sees, how one is given as options, and how one is printed."""
 from __future__ import annotations
 
-
 from . import architectures, constants, tables
 from .answers import X32, X86_64
 from .tables import Table
@@ -87,10 +86,6 @@ class Call:
         """The syscall as C would have it, with constants for its arguments; None if it has no name on x86-64."""
         named = self.names(table) if self.is_native else []
         return constants.call_text(named[0], self.arguments) if named else None
-
-    def left_out_of_native(self) -> str:
-        """What --native leaves out, of which this foreign syscall is a part."""
-        return "other architectures" if self.architecture != X86_64 else "numbers from 0x40000000 on"
 
     def as_json(self, table: Table) -> dict[str, object]:
         return {"number": self.number, "names": self.names(table), "c": self.as_c(table),

@@ -3,7 +3,7 @@ from __future__ import annotations
 
 from collections.abc import Iterator, Sequence
 
-from . import amendment, ask, client, decisions, output, paths, program, reasons, refusals, tables
+from . import amendment, client, decisions, listing, output, program, reasons, refusals, tables
 from .amendment import Amendment
 from .answers import ERRNOS
 from .calls import Call
@@ -46,7 +46,7 @@ class Side:
 
 @dataclass(frozen=True)
 class Inputs:
-    """What is given beside events: a profile, filters oldest first, and how scf is asked."""
+    """What events are explained by: a profile, filters oldest first, and the settings for scf."""
 
     trial: Trial
     profile: bytes | None = None
@@ -107,7 +107,7 @@ def of(event: Event, count: int, given: Inputs) -> Cause:
         found.profile = Side("the profile", refusal=why)
         return found
     reason = reasons.of(given.profile, given.judged, event.call.words())
-    if ask.is_undetermined(reason, event.call, given.profile, given.judged):
+    if decisions.is_undetermined(reason, event.call, given.profile, given.judged):
         found.profile = Side("the profile", is_undetermined=True)
         return found
     found.profile = _side("the profile", stack, event)
@@ -179,19 +179,13 @@ def _of_case(case: Case, event: Event, table: Table) -> Iterator[str]:
         yield "whatever the arguments are" if len(event.unknown) == 6 else "whatever the other arguments are"
 
 
-def _of_refusal(why: Refusal, given: Inputs) -> Iterator[str]:
-    yield why.line
-    if why.fault is not None:
-        yield from output.notes(refusals.sentences(why.fault, given.profile or b"", given.judged))
-
-
 def _of_profile(cause: Cause) -> Iterator[str]:
     """What the profile answers, and by which entry."""
     side, given = cause.profile, cause.given
     if side is None or given.profile is None:
         return
     if side.refusal is not None:
-        yield from _of_refusal(side.refusal, given)
+        yield from refusals.lines_of(side.refusal, given.profile or b"", given.judged)
         return
     if side.is_undetermined:
         yield FOR_OTHER_ABI
@@ -208,9 +202,9 @@ def _of_profile(cause: Cause) -> Iterator[str]:
 
 def _of_path(case: Case, given: Inputs) -> Iterator[str]:
     """Which of the filters gives the answer, and its last tests."""
-    givers = paths.deciding_filters(given.filters, case.call.words(), case.answer)
+    givers = listing.deciding_filters(given.filters, case.call.words(), case.answer)
     yield from decisions.of_givers(given.filters, givers)
-    giver = paths.to_show(givers)
+    giver = listing.to_show(givers)
     if giver is not None:
         yield from giver.last_tests(case.call, given.table)
 
@@ -221,7 +215,7 @@ def _of_filters(cause: Cause) -> Iterator[str]:
     if side is None:
         return
     if side.refusal is not None:
-        yield from _of_refusal(side.refusal, Inputs(given.trial))
+        yield from refusals.lines_of(side.refusal, b"", given.judged)
         return
     for case in side.found:
         yield str(case.answer) if case.answer.action == "UNNAMED" else f"{case.answer.action} {case.answer.data}"
@@ -272,7 +266,7 @@ def as_json(cause: Cause) -> dict[str, object]:
     if cause.filters is not None:
         found["filters"] = _side_json(cause.filters, cause)
         for case, shown in zip(cause.filters.found, found["filters"]["cases"]):
-            givers = paths.deciding_filters(given.filters, case.call.words(), case.answer)
+            givers = listing.deciding_filters(given.filters, case.call.words(), case.answer)
             shown["filters"] = [it.filter.name for it in givers]
     found["changes"] = [it.as_json() for it in cause.changes]
     return found

@@ -1,15 +1,16 @@
-"""Changes: two profiles compared syscall by syscall, by verdicts of scf on the filters of both."""
+"""Changes: two profiles compared syscall by syscall, by verdicts of scf on both filters; in lines and as JSON."""
 from __future__ import annotations
 
 import functools
 import json
 from collections.abc import Iterator, Sequence
 
-from . import client, compare, entries, newer, program, reasons, tables, unnamed
-from .answers import DISPOSITIONS, Answer
+from . import client, compare, constants, entries, newer, output, program, questions, reasons, tables
+from .answers import DISPOSITIONS, ENOSYS, X32, Answer
 from .architectures import JUDGED, NATIVE, Architecture
 from .calls import Call
 from .client import Refusal
+from .explanation import join_names
 from .filters import Filter
 from .profiles import STUB, Origin
 from .questions import checked
@@ -28,6 +29,14 @@ KINDS = (MORE, LESS, OTHERWISE, UNDECIDED, UNFINISHED)
 FAILED = {SAME: DIFFERS, NO_MORE: MORE, NO_LESS: LESS}
 # The relation that the old profile has to the new one, if the new one has this to the old one.
 TURNED = {NO_MORE: NO_LESS, NO_LESS: NO_MORE}
+# The heading of each kind of change, printed before its count.
+HEADINGS = {MORE: "syscalls for which the new profile is more permissive",
+            LESS: "syscalls for which the new profile is stricter",
+            OTHERWISE: "syscalls that get another answer, neither more permissive nor stricter",
+            UNDECIDED: "syscalls that are undecided",
+            UNFINISHED: "syscalls that are undecided within the limit"}
+# At most so many names are listed.
+MOST_LISTED = 20
 
 
 @dataclass(frozen=True)
@@ -70,7 +79,7 @@ class Side:
         """What the profile answers to a syscall and why, by scf on the entries that have its number."""
         data, places = self.source.data, None
         if call.number >= self.source.stub.get(call.abi or "", 1 << 32):
-            return Reason(program.SUCCESS, "", newer.ENOSYS, len(self.source.origins or ()))
+            return Reason(program.SUCCESS, "", ENOSYS, len(self.source.origins or ()))
         if self.top is not None:
             names = call.names(self.judged.native)
             own = dict(sorted((index, it) for name in names for index, it in self.indices.get(name, {}).items()))
@@ -88,8 +97,8 @@ class Side:
 
 
 @dataclass(frozen=True)
-class Given:
-    """Both sides, the table of x86-64, and the most steps, as a text, where they aren't scf's."""
+class ProfilePair:
+    """Both profiles, the table of x86-64, and the step limit as a text, or None for scf's."""
 
     sides: dict[str, Side]
     table: Table
@@ -210,25 +219,25 @@ class Changes:
 def _kinds(same: NamedCall | None, more: NamedCall | None, less: NamedCall | None) -> Iterator[tuple[str, NamedCall]]:
     """The kinds of change of a number, each with scf's line for it."""
     found = [(kind, line) for kind, line in ((MORE, more), (LESS, less)) if line is not None and line.verdict.fails]
-    untold = [line for line in (more, less) if line is not None and not line.verdict.fails]
+    undecided = [line for line in (more, less) if line is not None and not line.verdict.fails]
     yield from found
-    if untold:
-        yield untold[0].verdict.word, same if same is not None and same.verdict.fails and not found else untold[0]
+    if undecided:
+        yield undecided[0].verdict.word, same if same is not None and same.verdict.fails and not found else undecided[0]
     elif same is not None and not found:
         yield OTHERWISE if same.verdict.fails else same.verdict.word, same
 
 
-def _of_calls(given: Given) -> list[Change]:
+def _of_calls(pair: ProfilePair) -> list[Change]:
     """The syscalls that differ: first more permissive, then stricter, then others."""
     found = []
-    for one, _ in given.both:
+    for one, _ in pair.both:
         # the new profile is more permissive where the old one is stricter
-        lists = [{line.number: line for line in given.of_calls(one, relation)}
+        lists = [{line.number: line for line in pair.of_calls(one, relation)}
                  for relation in (SAME, NO_LESS, NO_MORE)]
         for number in sorted({number for lines in lists for number in lines}):
             for kind, line in _kinds(*(lines.get(number) for lines in lists)):
                 call = line.verdict.call
-                found.append(Change(number, line.names, kind, call, given.asked(call) if call else {}, one))
+                found.append(Change(number, line.names, kind, call, pair.asked(call) if call else {}, one))
     return sorted(found, key=lambda it: KINDS.index(it.kind))
 
 
@@ -238,27 +247,27 @@ def _kind_of(before: Answer | None, after: Answer | None) -> str:
     return MORE if one < other else LESS if one > other else OTHERWISE
 
 
-def _of_unnamed(given: Given) -> Change | None:
+def _of_unnamed(pair: ProfilePair) -> Change | None:
     """Whether the defaults differ, which answer all numbers that a table doesn't name: by the least of them."""
-    for one, table in given.both:
-        stubs = [side.source.stub[one.oci] - one.first for side in given.sides.values() if one.oci in side.source.stub]
-        number = next((first for first, _ in unnamed.gaps(table, one) if first < min(stubs, default=unnamed.X32)), None)
-        verdict = None if number is None else given.of_number(one, number)
+    for one, table in pair.both:
+        stubs = [side.source.stub[one.oci] - one.first for side in pair.sides.values() if one.oci in side.source.stub]
+        number = next((first for first, _ in questions.gaps(table, one) if first < min(stubs, default=X32)), None)
+        verdict = None if number is None else pair.of_number(one, number)
         if number is None or verdict is None or verdict.holds:
             continue
         if not verdict.fails:
             return Change(number, (), verdict.word, architecture=one)
         call = Call(one.first + number, one.number)
-        asked = given.asked(call)
+        asked = pair.asked(call)
         return Change(number, (), _kind_of(asked[OLD].answer, asked[NEW].answer), call, asked, one)
     return None
 
 
-def _whole(given: Given, same: Verdict, relation: str) -> Verdict:
+def _whole(pair: ProfilePair, same: Verdict, relation: str) -> Verdict:
     """The verdict on whether the new profile has a relation to the old one, given that on whether they are the same."""
     if relation == SAME or same.holds:
         return Verdict(relation) if same.holds else same
-    found = given.compared(TURNED[relation]).verdict
+    found = pair.compared(TURNED[relation]).verdict
     assert found is not None
     return Verdict(relation) if found.holds else replace(found, word=FAILED[relation]) if found.fails else found
 
@@ -266,16 +275,119 @@ def _whole(given: Given, same: Verdict, relation: str) -> Verdict:
 def of_profiles(old: Source, new: Source, table: Table, limit: str | None, relation: str,
                 is_native: bool = False) -> Changes:
     """What changes from one profile to another."""
-    given = Given({name: Side(name, source, tables.of_profile(source.data, table, is_native))
-                   for name, source in ((OLD, old), (NEW, new))}, table, limit, is_native)
-    compared = given.compared(SAME)
+    pair = ProfilePair({name: Side(name, source, tables.of_profile(source.data, table, is_native))
+                        for name, source in ((OLD, old), (NEW, new))}, table, limit, is_native)
+    compared = pair.compared(SAME)
     same = compared.verdict
     assert same is not None
-    left_out = given.left_out_beside(compared)
-    both = {one.oci for one, _ in given.both}
-    return Changes(relation, _whole(given, same, relation), [] if same.holds else _of_calls(given),
-                   None if same.holds else _of_unnamed(given),
-                   {name: side.with_stub_origin() for name, side in given.sides.items()},
+    left_out = pair.left_out_beside(compared)
+    both = {one.oci for one, _ in pair.both}
+    return Changes(relation, _whole(pair, same, relation), [] if same.holds else _of_calls(pair),
+                   None if same.holds else _of_unnamed(pair),
+                   {name: side.with_stub_origin() for name, side in pair.sides.items()},
                    {name: it.skipped for name, it in left_out.items()},
                    {name: it.architectures for name, it in left_out.items()},
-                   {name: [it for it in side.judged.of if it not in both] for name, side in given.sides.items()})
+                   {name: [it for it in side.judged.of if it not in both] for name, side in pair.sides.items()})
+
+
+def _by(reason: Reason, source: Source) -> str:
+    """What gives an answer: an entry, by its index in the user's profile, or something else."""
+    index = reasons.index_of(reason, source.origins)
+    if index == STUB.index:
+        return "stub"
+    return "foreign" if reason.is_foreign else "default" if index is None else f"entry {index}"
+
+
+def line_of(change: Change, sources: dict[str, Source]) -> str:
+    """The line of a change: number, names, kind, an example, and for each profile its answer and what gives it."""
+    shown = (str(change.number), ",".join(change.names), change.kind)
+    words = [change.architecture.marked(" ".join(filter(None, shown)))]
+    if change.call is not None:
+        words += ["args", *map(hex, change.call.arguments)]
+        words += [f"{side} {reason.answer} {_by(reason, sources[side])}" for side, reason in change.reasons.items()]
+    return " ".join(words)
+
+
+def _conditions(changes: Changes, change: Change) -> Iterator[str]:
+    """The conditions of both profiles' entries that the example meets, and the example as C would have it."""
+    for side, reason in change.reasons.items():
+        source = changes.sources[side]
+        for line in list(reasons.describe(reason, source.data, change.call, source.origins))[1:]:
+            yield f"{side}: {line}"
+    if change.names and change.call is not None and any(change.call.arguments):
+        yield f"the syscall is {constants.call_text(change.names[0], change.call.arguments)}"
+
+
+def _entries(changes: Changes) -> Iterator[str]:
+    """The entries that give answers, each once, and the defaults."""
+    for side in (OLD, NEW):
+        found = {change.reasons[side].entry: change.reasons[side] for change in (*changes.calls, changes.unnamed)
+                 if change is not None and change.reasons}
+        source = changes.sources[side]
+        for place in sorted((it for it in found if it is not None)):
+            by = next(iter(reasons.describe(found[place], source.data, None, source.origins)), "")
+            yield f"{side}: {by.partition(' ')[2]}"
+        if None in found:
+            answer = found[None].answer
+            yield f"{side}: default: {answer.describe() if answer else ''}"
+
+
+def _apart(what: str, of_sides: dict[str, tuple[str, ...]]) -> Iterator[str]:
+    """What is left out of both profiles, and what only of one."""
+    counts = {side: len(set(names)) for side, names in of_sides.items()}
+    if not any(counts.values()):
+        return
+    yield f"{what}: {counts[OLD]} in the old profile, {counts[NEW]} in the new one"
+    for side, other in ((OLD, NEW), (NEW, OLD)):
+        others = set(of_sides[other])
+        names = [name for name in dict.fromkeys(of_sides[side]) if name not in others]
+        if names:
+            yield f"only in the {side} one: {output.some(names, MOST_LISTED)}"
+
+
+def lines(changes: Changes) -> Iterator[str]:
+    """The verdict, the counts, and the changes; added lines are marked by `# `."""
+    yield changes.verdict
+    yield ", ".join(f"{kind} {count}" for kind, count in changes.counts.items()
+                    if count or kind not in (UNDECIDED, UNFINISHED))
+    for kind in KINDS:
+        those = [change for change in changes.calls if change.kind == kind]
+        if those:
+            yield f"# {HEADINGS[kind]}: {len(those)}"
+        for change in those:
+            yield line_of(change, changes.sources)
+            yield from output.notes(_conditions(changes, change))
+    if changes.unnamed is not None and changes.unnamed.call is not None:
+        yield "# numbers that the table doesn't name get the defaults, for example:"
+        yield line_of(changes.unnamed, changes.sources)
+    elif changes.unnamed is not None:
+        yield f"# numbers that the table doesn't name: {changes.unnamed.kind}"
+    yield from output.notes(_entries(changes))
+    yield from output.notes(_apart("names that were skipped because the table doesn't have them", changes.skipped))
+    for side, other in ((OLD, NEW), (NEW, OLD)):
+        if changes.alone[side]:
+            yield (f"# only the {side} profile names {join_names(changes.alone[side])}: the {other} one kills a "
+                   f"process that makes such a syscall")
+    yield from output.notes(_apart("other architectures, not compared", changes.architectures))
+
+
+def _change_json(changes: Changes, change: Change, table: Table) -> dict[str, object]:
+    found: dict[str, object] = {"number": change.number, "names": list(change.names), "change": change.kind}
+    if change.architecture.oci != NATIVE:
+        found["architecture"] = change.architecture.name
+    if change.call is not None:
+        found["call"] = change.call.as_json(table)
+    for side, reason in change.reasons.items():
+        answer = {"answer": reason.answer.as_json(explains=True)} if reason.answer else {}
+        source = changes.sources[side]
+        found[side] = {**answer, **reasons.as_json(reason, source.data, change.call, source.origins)}
+    return found
+
+
+def as_json(changes: Changes, table: Table) -> dict[str, object]:
+    """The same as `lines`, as one object."""
+    return {"status": changes.status, "relation": changes.relation, "verdict": changes.verdict,
+            "counts": changes.counts, "changes": [_change_json(changes, change, table) for change in changes.calls],
+            "unnamed": None if changes.unnamed is None else _change_json(changes, changes.unnamed, table),
+            "skipped": {side: list(names) for side, names in changes.skipped.items()},
+            "alone": changes.alone, "other": {side: list(names) for side, names in changes.architectures.items()}}

@@ -6,9 +6,10 @@ tool kills the child, and if the tool can't, the child's own timer does: the ker
 """
 from __future__ import annotations
 
+# (the module signal makes enums of its constants)
+import _signal as signal
 import os
 import select
-import signal
 import time
 from collections.abc import Callable
 

@@ -6,11 +6,8 @@ from collections.abc import Iterable, Sequence
 
 from . import bundles, output, program
 from .program import NEGATIVE, NOT_BUILT, SUCCESS, UNKNOWN, ToolError
+from .tables import Tables
 from .values import Pattern, dataclass
-
-TYPE_CHECKING = False
-if TYPE_CHECKING:
-    from .tables import Tables
 
 # In the sources the command, which builds the program where it never was; the program, as it is installed or was built.
 SCF = os.path.join(program.TOP, "scf")

@@ -3,16 +3,19 @@ from __future__ import annotations
 
 from collections.abc import Iterable, Iterator, Sequence
 
-from . import (architectures, bundles, client, explanation, newer, other_abis, profiles, program, reasons, refusals,
-               tables, verdicts)
-from .answers import DENIED, Answer
+from . import (architectures, bundles, client, explanation, listing, newer, other_abis, profiles, program, reasons,
+               refusals, tables, verdicts)
+from .answers import ALLOW, DENIED
 from .client import Refusal
+from .calls import Call
 from .filters import RETURN_CONSTANT, Filter, instruction, looks_at_pointer
 from .profiles import Origin, Profile
 from .explanation import join_names
+from .listing import Giver
+from .reasons import Reason
 from .refusals import faulty_filters
 from .tables import Table, Tables
-from .values import dataclass, field, replace
+from .values import Any, dataclass, field, replace
 from .verdicts import (ALL, CALLS, DIFFERS, FOR_OTHER_ABI, LESS, LISTED, MORE, NATIVE, NO_LESS, NO_MORE, RELATIONS,
                        SAME, SCOPES, UNDECIDED, UNDETERMINED, NamedCall, Report, Verdict)
 
@@ -30,9 +33,9 @@ MOST_UNDECIDED = 20
 
 @dataclass
 class Comparison:
-    """Filters, oldest first, a profile and x86-64's table; the step limit as a text, or None for scf's; a relation; of a
-    resolved profile the index of each entry in the user's, and for each architecture the least number that runc answers
-    with ENOSYS; whether x86-64 alone is judged, whatever the profile names; and the OCI name of the table's
+    """Filters, oldest first, a profile and x86-64's table; the step limit as a text, or None for scf's; a relation; of
+    a resolved profile the index of each entry in the user's, and for each architecture the least number that runc
+    answers with ENOSYS; whether x86-64 alone is judged, whatever the profile names; and the OCI name of the table's
     architecture, if that isn't x86-64."""
 
     filters: Sequence[Filter]
@@ -193,10 +196,10 @@ def count_lines(calls: Sequence[NamedCall], other: str = PROFILE) -> Iterator[st
         yield f"syscalls in the table {FAILED[differing[0].verdict.word].format(other)}: {len(differing)}"
         yield from (call.line for call in differing)
     if len(differing) < len(calls):
-        untold = [call.line for call in calls if not call.verdict.fails]
-        yield f"syscalls in the table without a verdict: {len(untold)}"
-        yield from untold[:MOST_UNDECIDED]
-        yield from [f"more such syscalls: {len(untold) - MOST_UNDECIDED}"] * (len(untold) > MOST_UNDECIDED)
+        undecided = [call.line for call in calls if not call.verdict.fails]
+        yield f"syscalls in the table without a verdict: {len(undecided)}"
+        yield from undecided[:MOST_UNDECIDED]
+        yield from [f"more such syscalls: {len(undecided) - MOST_UNDECIDED}"] * (len(undecided) > MOST_UNDECIDED)
 
 
 def of_calls(comparison: Comparison, report: Report) -> tuple[list[str], list[str]]:
@@ -228,14 +231,14 @@ def of_calls(comparison: Comparison, report: Report) -> tuple[list[str], list[st
     return (lines + newer_lines, []) if found.has(report.verdict.call) else ([], lines + newer_lines)
 
 
-def of_both_relations(comparison: Comparison, scope: str) -> tuple[Report, Report]:
-    """Reports on filters that differ: whether they are nowhere more permissive, and whether nowhere stricter."""
-    return comparison.run(scope, NO_MORE)[1], comparison.run(scope, NO_LESS)[1]
+def dispositions(comparison: Any, scope: str) -> list[Verdict | None]:
+    """The verdicts on whether filters are nowhere more permissive than the other side, and whether nowhere stricter."""
+    return [comparison.run(scope, relation)[1].verdict for relation in (NO_MORE, NO_LESS)]
 
 
 def of_refusing_more(comparison: Comparison, scope: str) -> Iterator[str]:
     """A line if filters that differ from the profile are never more permissive."""
-    no_more, no_less = (report.verdict for report in of_both_relations(comparison, scope))
+    no_more, no_less = dispositions(comparison, scope)
     if no_more is None or not no_more.holds:
         return
     they, are, s = ("they", "are", "") if len(comparison.filters) > 1 else ("it", "is", "s")
@@ -263,10 +266,10 @@ def of_left_out(comparison: Comparison, report: Report) -> Iterator[str]:
     yield from explanation.of_architectures(report)
 
 
-def foreign_of(comparison: Comparison, scope: str) -> list[other_abis.Proved | other_abis.Tried]:
+def foreign_of(comparison: Comparison, scope: str) -> list[other_abis.Known]:
     """What is known of the syscalls of other ABIs that a scope doesn't cover."""
     judged = comparison.tables.of if scope in (LISTED, CALLS) else ()
-    return other_abis.let_through([one.data for one in comparison.filters], comparison.limit, judged)
+    return other_abis.known_of([one.data for one in comparison.filters], comparison.limit, judged)
 
 
 def of_foreign(comparison: Comparison, report: Report, scope: str, is_quiet: bool = False) -> Iterator[str]:
@@ -281,7 +284,50 @@ def of_foreign(comparison: Comparison, report: Report, scope: str, is_quiet: boo
         yield compared + ABIS_CHECKED
         yield from other_abis.describe(found, report.architectures)
     elif not is_quiet and not comparison.tables.is_native:
-        yield f"{compared}; an x86-64 kernel has no others" if architectures.NATIVE in comparison.tables.of else compared
+        yield compared + ("; an x86-64 kernel has no others" if architectures.NATIVE in comparison.tables.of else "")
+
+
+@dataclass(frozen=True)
+class Difference:
+    """Why filters and a profile differ on a syscall: the profile's reason, None if runc's stub answers, and the filter
+    whose path is shown."""
+
+    comparison: Comparison
+    call: Call
+    reason: Reason | None
+    giver: Giver | None
+
+    @classmethod
+    def of(cls, comparison: Comparison, verdict: Verdict) -> Difference | None:
+        """Why the example of a verdict differs, None if it has none."""
+        call = verdict.call
+        if call is None or verdict.filters is None or verdict.profile is None:
+            return None
+        is_stub = call.number >= comparison.stub.get(call.abi or "", 1 << 32)
+        reason = None if is_stub else reasons.of(comparison.profile, comparison.tables, call.words())
+        return cls(comparison, call, reason,
+                   listing.to_show(listing.deciding_filters(comparison.filters, call.words(), verdict.filters)))
+
+    def lines(self) -> Iterator[str]:
+        """What decides in the profile, and the last tests on the filter's path."""
+        if self.reason is None:
+            yield reasons.BY_STUB
+        else:
+            yield from reasons.describe(self.reason, self.comparison.profile, self.call, self.comparison.origins)
+        if self.giver is not None:
+            yield from self.giver.last_tests(self.call, self.comparison.table)
+
+    def as_json(self) -> dict[str, object]:
+        found: dict[str, object] = {"reason": "stub"}
+        if self.reason is not None:
+            found = reasons.as_json(self.reason, self.comparison.profile, self.call, self.comparison.origins)
+        return {**found, "path": self.giver.as_json()} if self.giver is not None else found
+
+
+def of_difference(comparison: Comparison, verdict: Verdict) -> Iterator[str]:
+    """The lines after a syscall that differs."""
+    found = Difference.of(comparison, verdict)
+    yield from found.lines() if found is not None else ()
 
 
 def notes(comparison: Comparison, report: Report, scope: str) -> Iterator[str]:
@@ -301,7 +347,7 @@ def notes(comparison: Comparison, report: Report, scope: str) -> Iterator[str]:
     yield from before
     if report.verdict:
         yield from explanation.of_verdict(report, table, scope != ALL, count)
-        yield from reasons.of_difference(comparison, report.verdict)
+        yield from of_difference(comparison, report.verdict)
         yield from of_left_out(comparison, report)
     yield from behind
     yield from (line for _, line in responsible(comparison, report, scope))
@@ -319,34 +365,21 @@ def compile_profile(profile: bytes, judged: Tables, origins: Sequence[Origin] | 
     report = left_out(profile, judged)
     facts = profiles.read(profile) if report.skipped else None
     lets_through = bool(facts and facts.allows_by_default)
-    return done.status, done.out, [*explanation.of_skipped(report, judged, lets_through),
-                                   *explanation.of_killed_architectures(report)]
+    killed = (f"{line}: the filter kills a process that makes such a syscall"
+              for line in explanation.of_architectures(report))
+    return done.status, done.out, [*explanation.of_skipped(report, judged, lets_through), *killed]
 
 
 def left_out(profile: bytes, judged: Tables) -> Report:
     """What scf leaves out of a profile, which a comparison without a step reports."""
-    allows = instruction(RETURN_CONSTANT, Answer("ALLOW", 0).word)
+    allows = instruction(RETURN_CONSTANT, ALLOW.word)
     done = client.compare(SCOPES[LISTED], bundles.of_comparison([allows], profile, judged), "0")
     known = profiles.read(profile) if b"\nskipped " in done.out else None
     return verdicts.report(done.text, known.names if known else None, judged.has)
 
 
-def _side_json(verdict: Verdict, table: Table) -> dict[str, object]:
-    """A verdict's example, as members of an object."""
-    found: dict[str, object] = {}
-    if verdict.call:
-        found["call"] = verdict.call.as_json(table)
-    for side, answer in (("filter", verdict.filters), ("profile", verdict.profile)):
-        if answer:
-            found[side] = answer.as_json()
-    if verdict.at is not None:
-        found["at"] = verdict.at
-    return found
-
-
 def as_json(comparison: Comparison, report: Report, scope: str, status: int) -> dict[str, object]:
-    """The same as `added`, as one object without scf's lines."""
-    table = comparison.table
+    """The same as `notes`, as one object without scf's lines."""
     found: dict[str, object] = {"status": status, "scope": scope,
                                 "verdict": report.verdict.word if report.verdict else None}
     if scope == LISTED:
@@ -356,19 +389,19 @@ def as_json(comparison: Comparison, report: Report, scope: str, status: int) -> 
     if report.fault:
         found["fault"] = report.fault.as_json(sentences_of(comparison, report.fault))
     if report.verdict:
-        found.update(_side_json(report.verdict, table))
-        difference = reasons.Difference.of(comparison, report.verdict)
+        found.update(report.verdict.as_json(comparison.table))
+        difference = Difference.of(comparison, report.verdict)
         found.update(difference.as_json() if difference else {})
     calls = report.calls
     if report.verdict and report.verdict.word == DIFFERS:
-        for member, one in zip(("no_more", "no_less"), of_both_relations(comparison, scope)):
-            found[member] = one.verdict.word if one.verdict else None
+        for member, one in zip(("no_more", "no_less"), dispositions(comparison, scope)):
+            found[member] = one.word if one else None
     if scope in (NATIVE, LISTED) and report.verdict and report.verdict.fails:
         calls = comparison.of_calls()
         apart = newer.calls_of(comparison)
         if apart:
             found["newer"] = {**apart.as_json(), "are_all": newer.another_call(comparison, apart) is None}
-    found["calls"] = [{**one.as_json(), **_side_json(one.verdict, table)} for one in calls]
+    found["calls"] = [{**one.as_json(), **one.verdict.as_json(comparison.table)} for one in calls]
     found["skipped"], found["other"] = list(report.skipped), list(report.architectures)
     if report.skipped:
         found["unknown"] = [{"name": name, "nearest": near}

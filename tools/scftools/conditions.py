@@ -8,20 +8,20 @@ from __future__ import annotations
 
 from collections.abc import Callable, Iterator, Mapping, Sequence
 
-from . import arguments
+from . import constants
 from .answers import Answer
 from .architectures import JUDGED
 from .calls import Call
 from .entries import Condition, Entry, Reading, record_of, where_met
 from .findings import MOST, Finding, Owners, listed
-from .questions import IS_MADE
+from .questions import IS_ALLOWED
 from .reasons import Reason
 from .tables import Tables
 from .trials import JointTrial
 from .values import dataclass
 
 LOW = (1 << 32) - 1
-DENIES = "SCMP_ACT_ERRNO", 1
+DENIES = Answer("ERRNO", 1)
 # The most answers to compute in the search for evaded denials.
 LOOKS = 200000
 # A bit of the upper half, as an example for all of them.
@@ -79,9 +79,9 @@ class Argument:
         found: tuple[dict[Owners, list[str]], ...] = ({}, {}, {})
         for name in entry.names:
             having = list(judged.numbers_of(name))
-            kinds = {it: arguments.of_architecture(it)[name] for it in having if name in arguments.of_architecture(it)}
+            kinds = {it: constants.kinds_on(it)[name] for it in having if name in constants.kinds_on(it)}
             whole = [it for it in having if JUDGED[it].greatest > LOW]
-            for its, among, letter in zip(found, (having, having, whole), ("", arguments.ADDRESS, arguments.HALF)):
+            for its, among, letter in zip(found, (having, having, whole), ("", constants.ADDRESS, constants.HALF)):
                 on = [it for it in among if it in kinds and kinds[it][index:index + 1] == letter]
                 if on:
                     its.setdefault(Owners.of(on, among, judged), []).append(name)
@@ -121,7 +121,7 @@ def _not_covered(trial: JointTrial, its: Mapping[str, Sequence[Entry]]) -> Itera
     for one in map(trial.only, trial.tables.of):
         numbers = {name: one.table.number_of(name) for name in its if one.table.number_of(name) is not None}
         calls = "".join(f"{name} {number}\n" for name, number in numbers.items()).encode()
-        report = one.report([IS_MADE.filter], one.profile_of(DENIES, allowed), calls, "--calls", "--no-more")
+        report = one.report([IS_ALLOWED.filter], one.profile_of(DENIES, allowed), calls, "--calls", "--no-more")
         left_out = {it.number for it in report.calls}
         yield from (name for name, number in numbers.items() if number in left_out)
 
@@ -129,7 +129,7 @@ def _not_covered(trial: JointTrial, its: Mapping[str, Sequence[Entry]]) -> Itera
 def of_unions(trial: JointTrial, found: Sequence[Entry]) -> Iterator[Finding]:
     """Entries with conditions and one answer that together cover every call of a syscall: they were meant to hold all
     at once, and one of them is enough."""
-    having: dict[tuple[str, tuple[str, int]], list[Entry]] = {}
+    having: dict[tuple[str, Answer], list[Entry]] = {}
     for entry in found:
         for name in entry.names:
             having.setdefault((name, entry.answer), []).append(entry)
@@ -207,12 +207,12 @@ class Denials:
 
     def run(self, found: Sequence[Entry]) -> Iterator[Evasion]:
         """The evaded denials, each syscall and argument once."""
-        known, seen, count = arguments.of_architecture(self.reading.one.oci), set(), 0
+        known, seen, count = constants.kinds_on(self.reading.one.oci), set(), 0
         for entry in found:
             for one in entry.conditions:
                 for name in entry.names:
                     number = self.reading.table.number_of(name)
-                    is_half = known.get(name, "")[one.index:one.index + 1] == arguments.HALF
+                    is_half = known.get(name, "")[one.index:one.index + 1] == constants.HALF
                     if number is None or not is_half or (number, one.index) in seen or self.looks <= 0:
                         continue
                     pair = self._evaded(number, entry, one)

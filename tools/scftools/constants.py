@@ -1,27 +1,44 @@
-"""Constants of C, by which arguments are given and shown: AF_INET, CLONE_NEWUSER|SIGCHLD.
+"""Arguments of syscalls, of which kind each is, and constants of C, by which they are given and shown: AF_INET.
 
-Their numbers on x86-64 are those of tables/arguments.symbols. Some have another number on i386, x32, aarch64 or arm, or
-none (tables/arguments.unlike). For further architectures no constant is known. Which of them an argument of x86-64's
-syscalls is, tables/x86_64.constants says.
+tables/x86_64.arguments says how many arguments each syscall has and of which kind, and tables/x86_64.constants which
+constants an argument may be. The constants' numbers on x86-64 are those of tables/arguments.symbols. Some have another
+number on i386, x32, aarch64 or arm, or none (tables/arguments.unlike). For further architectures no constant is known.
 """
 from __future__ import annotations
 
 import functools
 import operator
-import os
 import re
 from collections.abc import Sequence
 
-from . import architectures, arguments, program
+from . import architectures, program, tables
+from .architectures import AARCH64, ARM, I386
 from .values import Pattern, dataclass, field
 
-FILE, UNLIKE = (os.path.join(program.TOP, "tables", f"arguments.{it}") for it in ("symbols", "unlike"))
-FAMILIES = os.path.join(program.TOP, "tables", "x86_64.constants")
+# Of an argument the kernel reads 32 bits or fewer; a whole register; an address.
+HALF, WHOLE, ADDRESS = "i", "w", "p"
+# The syscalls that have other arguments on an architecture than on x86-64: clone, whose last two are swapped; of 32
+# bits those with a number of 64, which takes two arguments; and on i386 those that read all of theirs from memory.
+SWAPPED = ("clone",)
+SPLIT = (*SWAPPED, "fadvise64", "fallocate", "fanotify_mark", "pread64", "pwrite64", "readahead", "sync_file_range")
+OTHER_KINDS = {AARCH64: SWAPPED, ARM: SPLIT, I386: (*SPLIT, "mmap", "select")}
 NAME = Pattern(r"[A-Za-z_]\w*", re.A)
 # Architectures whose registers have 32 bits.
-NARROW = tuple(f"{architectures.PREFIX}{it}" for it in ("X86", "ARM"))
-# The least similarity of a nearest name, and the longest name that gets one.
-LIKENESS, LONGEST = 0.75, 64
+NARROW = I386, ARM
+
+
+@functools.lru_cache(None)
+def kinds() -> dict[str, str]:
+    """A letter for each argument of x86-64's syscalls, by their names."""
+    rows = (line.split() for line in program.lines_of("x86_64.arguments"))
+    return {name: letters.strip("-") for letters, *names in rows for name in names}
+
+
+@functools.lru_cache(None)
+def kinds_on(name: str) -> dict[str, str]:
+    """The same of another architecture by its OCI name, as far as its syscalls have the arguments of x86-64's."""
+    others = OTHER_KINDS.get(name, ())
+    return {called: letters for called, letters in kinds().items() if called not in others}
 
 
 def number_in(text: str) -> int | None:
@@ -34,20 +51,15 @@ def number_in(text: str) -> int | None:
 @functools.lru_cache(None)
 def numbers() -> dict[str, int]:
     """The constants and their numbers on x86-64."""
-    with open(FILE, encoding="ascii") as file:
-        rows = (line.split() for line in file if not line.startswith("#"))
-        return {name: int(number) for name, number in rows}
+    return {name: int(number) for name, number in map(str.split, program.lines_of("arguments.symbols"))}
 
 
 @functools.lru_cache(None)
 def _unlike() -> dict[str, set[str]]:
     """By the OCI name of an architecture the constants that aren't there what they are on x86-64."""
     found: dict[str, set[str]] = {architectures.NATIVE: set()}
-    with open(UNLIKE, encoding="ascii") as file:
-        for line in file:
-            if not line.startswith("#"):
-                architecture, *names = line.split()
-                found.setdefault(architectures.name_in(architecture) or architecture, set()).update(names)
+    for architecture, *names in map(str.split, program.lines_of("arguments.unlike")):
+        found.setdefault(architectures.name_in(architecture) or architecture, set()).update(names)
     return found
 
 
@@ -60,11 +72,8 @@ def numbers_on(architecture: str) -> dict[str, int]:
 
 def _nearest(name: str) -> str:
     """What a message says of the constant most like a name."""
-    from difflib import get_close_matches  # pylint: disable=import-outside-toplevel
-
-    upper = name.upper() if len(name) <= LONGEST else ""
-    found = [upper] if upper in numbers() else get_close_matches(upper, numbers(), 1, LIKENESS)
-    return f"; the nearest is {found[0]}" if found else ""
+    near = tables.most_like(name.upper(), numbers())
+    return f"; the nearest is {near}" if near else ""
 
 
 def number_of(name: str, architecture: str) -> int:
@@ -165,23 +174,24 @@ class Family:
         """A value below 2^32 by its constants, or None if it has none."""
         low, rest = value & self.mask, value & ~self.mask
         found = [self.of_mask[low]] if low in self.of_mask and (low or self.mask or not rest) else []
-        rest += 0 if found else low
-        for number, name in self.bits.items():
-            if rest & number == number:
-                found.append(name)
-                rest -= number
+        named, rest = self._of_bits(rest if found else rest + low)
+        found += named
         if not found or len(found) > MOST_NAMES:
             return None
         return "|".join(sorted(found, key=lambda it: self.ranks[it]) + ([hex(rest)] if rest else []))
 
+    def _of_bits(self, rest: int) -> tuple[list[str], int]:
+        """The constants of bits, and those bits that have none."""
+        found = []
+        for number, name in self.bits.items():
+            if rest & number == number:
+                found.append(name)
+                rest -= number
+        return found, rest
 
     def bit_names(self, value: int) -> str | None:
         """A mask below 2^32 by the constants of its bits, or None if one of them has none."""
-        found, rest = [], value
-        for number, name in self.bits.items():
-            if number and rest & number == number:
-                found.append(name)
-                rest -= number
+        found, rest = self._of_bits(value)
         return "|".join(sorted(found, key=lambda it: self.ranks[it])) if found and not rest else None
 
 
@@ -191,22 +201,19 @@ def _families(architecture: str = architectures.NATIVE) -> tuple[dict[str, Famil
     each argument by the syscall, `-` for none."""
     families: dict[str, Family] = {}
     calls: dict[str, list[str]] = {}
-    with open(FAMILIES, encoding="ascii") as file:
-        for line in file:
-            first, *rest = line.split() or "#"
-            if first == "=":
-                for word in rest[1:]:
-                    families.setdefault(rest[0], Family()).add(word)
-            elif first != "#":
-                calls[first] = rest
-    unlike = _unlike()[architecture]
+    for first, *rest in map(str.split, program.lines_of("x86_64.constants")):
+        if first == "=":
+            for word in rest[1:]:
+                families.setdefault(rest[0], Family()).add(word)
+        else:
+            calls[first] = rest
     for family in families.values():
-        family.fill({name: number for name, number in numbers().items() if name not in unlike})
+        family.fill(numbers_on(architecture))
     return families, calls
 
 
 def _number_text(value: int, kind: str) -> str:
-    if kind == arguments.ADDRESS:
+    if kind == ADDRESS:
         return hex(value) if value else "NULL"
     if value >= REGISTER - SMALL:
         return str(value - REGISTER)
@@ -216,7 +223,7 @@ def _number_text(value: int, kind: str) -> str:
 def _value_text(value: int, kind: str, family: Family | None) -> str:
     """An argument as C would have it. Of an `int` the sign of 64 bits is that of 32."""
     known = value
-    if kind == arguments.HALF and value >= REGISTER - WORD // 2:
+    if kind == HALF and value >= REGISTER - WORD // 2:
         known = value % WORD
     named = family.describe(known) if family is not None and known < WORD else None
     return _number_text(value, kind) if named is None else named
@@ -234,16 +241,12 @@ def family_of(name: str, index: int, first: int | None, architecture: str = arch
 def call_text(name: str, values: Sequence[int]) -> str:
     """A syscall of x86-64 as C would have it: socket(AF_NETLINK, 0, NETLINK_AUDIT). `..` stands for three zeros or more
     at the end; syscall(SYS_NAME, ..) for a call with more arguments than it is known to have."""
-    families, calls = _families()
-    kinds = arguments.read().get(name, "")
-    words = calls.get(name, [])
-    first = families[words[0]].describe(values[0]) if words and words[0] in families and values[0] < WORD else None
-    words = calls.get(f"{name}[{first}]", words)
-    is_whole = name in arguments.read() and not any(values[len(kinds):])
+    letters = kinds().get(name, "")
+    is_whole = name in kinds() and not any(values[len(letters):])
     shown = []
-    for index, value in enumerate(values[:len(kinds)] if is_whole else values):
-        family = families.get(words[index]) if index < len(words) else None
-        shown.append(_value_text(value, kinds[index] if index < len(kinds) else arguments.WHOLE, family))
+    for index, value in enumerate(values[:len(letters)] if is_whole else values):
+        kind = letters[index] if index < len(letters) else WHOLE
+        shown.append(_value_text(value, kind, family_of(name, index, values[0])))
     zeros = next((at for at, value in enumerate(reversed(values[:len(shown)])) if value), len(shown))
     if zeros > MOST_ZEROS:
         shown = [*shown[:len(shown) - zeros], ".."]

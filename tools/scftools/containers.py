@@ -8,13 +8,12 @@ systemd's names for sibling groups. If there is none, it is the process's.
 from __future__ import annotations
 
 import os
-import re
 from collections.abc import Callable, Iterator
 
 from . import output
 from .hold import Unreadable
 from .ptrace import Kernel
-from .values import dataclass
+from .values import Pattern, dataclass
 
 # The cgroup hierarchies in which a container is searched for, in this order: that of version 2, which names no
 # controllers, and of version 1 those of systemd and of the pids controller.
@@ -23,12 +22,12 @@ HIERARCHIES = ("", "name=systemd", "pids")
 # docker-ID.scope, cri-containerd-ID.scope and crio-ID.scope; podman's has the container in a group below. runc and crun
 # by themselves make NAME.scope of a name; LXC and systemd-nspawn name what is the container's beside what is their own,
 # and the group of conmon, which watches a container of podman or CRI-O, isn't the container's.
-NAMED = re.compile(rb".*/(?![a-z]+-conmon-)(?:(?:[a-z-]+-)?[0-9a-f]{64}(?:\.scope)?(?:/container)?|"
-                   rb"(?:runc|crun)-[^/]+\.scope(?:/container)?|"
-                   rb"lxc\.payload[./][^/]+|(?:machine-[^/]+\.scope|systemd-nspawn@[^/]+\.service)/payload)(?=/|\Z)")
+NAMED = Pattern(rb".*/(?![a-z]+-conmon-)(?:(?:[a-z-]+-)?[0-9a-f]{64}(?:\.scope)?(?:/container)?|"
+                rb"(?:runc|crun)-[^/]+\.scope(?:/container)?|"
+                rb"lxc\.payload[./][^/]+|(?:machine-[^/]+\.scope|systemd-nspawn@[^/]+\.service)/payload)(?=/|\Z)")
 # systemd's groups (systemd.special(7)) if they aren't at the top, and aren't those of a user's service manager.
-OF_SYSTEMD = re.compile(rb"(/.*?[^/]+)/(?:init\.scope|system\.slice)(?:/|\Z)")
-OF_A_USER = re.compile(rb".*/user@[^/]*\.service")
+OF_SYSTEMD = Pattern(rb"(/.*?[^/]+)/(?:init\.scope|system\.slice)(?:/|\Z)")
+OF_A_USER = Pattern(rb".*/user@[^/]*\.service")
 # At most so many processes that weren't checked are listed.
 MOST_SHOWN = 5
 
@@ -39,8 +38,8 @@ class Group:
 
     hierarchy: str
     path: bytes
-    # Whether something tells that it is a container's.
-    is_told: bool
+    # whether it is known to be a container's
+    is_of_container: bool
 
     def has(self, kernel: Kernel, process: int) -> bool:
         """Whether a process is in it or in a group below."""
@@ -125,7 +124,7 @@ def is_unknown(kernel: Kernel, process: int) -> bool:
         group = group_of(kernel, process)
     except Unreadable:
         return True
-    return group is None or not group.is_told
+    return group is None or not group.is_of_container
 
 
 def others_note(kernel: Kernel, container: Container) -> str | None:

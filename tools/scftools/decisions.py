@@ -1,26 +1,25 @@
-"""What filters answer to syscalls: the records of a command line, and which filter of a stack gives the answer."""
+"""What filters or a profile answer to syscalls: the records of a command line, and what gives the answer."""
 from __future__ import annotations
 
 import re
 from collections.abc import Callable, Iterable, Iterator, Sequence
 
-from . import architectures, bundles, client, explanation, inputs, output, paths, program, tables, verdicts
+from . import (architectures, bundles, client, explanation, inputs, listing, output, profiles, program, reasons,
+               refusals, tables, verdicts)
 from .answers import X32, X86_64, Answer
 from .calls import OPTIONS, SKIPPED, Call
 from .client import Fault
 from .constants import argument_in, number_in
 from .explanation import join_names
 from .filters import Filter
-from .paths import Giver
+from .listing import Giver
+from .profiles import Origin
+from .reasons import Reason
 from .refusals import faulty_filters
-from .tables import Table
+from .tables import Table, Tables
 from .values import dataclass, replace
-from .verdicts import Decision
-
-TYPE_CHECKING = False
-if TYPE_CHECKING:
-    from .words import Parser
-
+from .verdicts import FOR_OTHER_ABI, UNDETERMINED, Decision
+from .words import Parser
 
 # No name of a syscall and no number is longer.
 LONGEST_WORD = 256
@@ -55,19 +54,13 @@ def query_in(words: Sequence[str]) -> Query:
     return Query(tuple(found.items()))
 
 
-def _add_numbers(parser: Parser) -> None:
+def add_numbers(parser: Parser) -> None:
     """Adds the options for a record's fields beside its number."""
     parser.add_argument("--arch", metavar="ARCH", help="the architecture, by name (i386, x32, SCMP_ARCH_AARCH64 ..) or "
                                                        "number, also as in the audit log (c000003e) [default: x86_64]")
     for name in OPTIONS[2:]:
         takes = "" if name == "ip" else ": a number, or constants such as AF_INET or CLONE_NEWUSER|SIGCHLD"
         parser.add_argument(f"--{name}", metavar="N", help=f"{HELP[name]}{takes if name == 'a0' else ''} [default: 0]")
-
-
-def add_one_call(parser: Parser, what: str) -> None:
-    """Adds the options that give one record, or none."""
-    parser.add_argument("--nr", metavar="NUMBER|NAME", help=f"{what}, by number or by name [default: 0]")
-    _add_numbers(parser)
 
 
 def add_options(parser: Parser) -> None:
@@ -77,9 +70,8 @@ def add_options(parser: Parser) -> None:
     parser.add_argument("--calls-from", metavar="FILE",
                         help="more syscalls, one a line: a number or a name, and any arguments from the first on; - "
                              "is standard input")
-    _add_numbers(parser)
-    parser.table()
-    parser.json()
+    add_numbers(parser)
+    parser.add("--table", "--json")
 
 
 @dataclass(frozen=True)
@@ -171,13 +163,6 @@ def queries(options: object, table: Table) -> list[Query]:
     return found or [Query((("nr", numbering.number_of("0")), *rest))]
 
 
-def of_fault(filters: Sequence[Filter], decision: Decision) -> Iterator[str]:
-    """Which filter of several causes a fault."""
-    found = faulty_filters(filters, decision.fault) if decision.fault and len(filters) > 1 else []
-    if found:
-        yield f"the filter is {join_names(found)}"
-
-
 def of_givers(filters: Sequence[Filter], givers: Sequence[Giver]) -> Iterator[str]:
     """Which filter of several gives the answer."""
     found = [it.filter.name for it in givers]
@@ -241,19 +226,19 @@ def of_stack(filters: Sequence[Filter], query: Query, table: Table) -> Reply:
     status, decision = decide(filters, query)
 
     def givers() -> list[Giver]:
-        return paths.deciding_filters(filters, query.words(), decision.answer) if decision.answer else []
+        return listing.deciding_filters(filters, query.words(), decision.answer) if decision.answer else []
 
     def reasons() -> Iterator[str]:
-        yield from of_fault(filters, decision)
+        yield from refusals.of_stack(filters, decision.fault)
         found = givers()
         yield from of_givers(filters, found)
-        giver = paths.to_show(found)
+        giver = listing.to_show(found)
         if giver is not None:
             yield f"the path in {giver.describe()}: {giver.path.describe()}"
 
     def members() -> dict[str, object]:
         found = givers()
-        giver, files = paths.to_show(found), [it.filter.name for it in found]
+        giver, files = listing.to_show(found), [it.filter.name for it in found]
         if decision.fault:
             files = faulty_filters(filters, decision.fault)
         return {**({"filters": files} if len(filters) > 1 and (giver or decision.fault) else {}),
@@ -265,10 +250,28 @@ def of_stack(filters: Sequence[Filter], query: Query, table: Table) -> Reply:
 
 def of_run(one: Filter, query: Query, table: Table, with_path: bool) -> Reply:
     """What a filter answers to a syscall, in how many instructions, and on request by which path."""
-    path = paths.of(one.data, query.words(), with_path)
-    members = {"steps": path.decision.steps, "path": list(path.places) or None}
+    path = listing.path_of(one.data, query.words(), with_path)
+    members = {"steps": path.decision.steps, "path": list(path.indexes) or None}
     return replace(_reply(path.status, path.lines, query, path.decision, table),
                    members=lambda: {name: it for name, it in members.items() if it is not None})
+
+
+def is_undetermined(reason: Reason, call: Call, profile: bytes, judged: Tables) -> bool:
+    """Whether a syscall is of an architecture that the profile names, and that isn't judged."""
+    return reason.is_foreign and call.abi not in judged.of and call.abi in profiles.architectures_of(profile)
+
+
+def of_profile(profile: bytes, query: Query, judged: Tables, origins: Sequence[Origin] | None = None) -> Reply:
+    """What a profile answers to a syscall, and why; of one that was resolved with the entries' indexes in the file."""
+    reason, call = reasons.of(profile, judged, query.words()), query.call
+    if call is not None and is_undetermined(reason, call, profile, judged):
+        return Reply(program.UNKNOWN, [FOR_OTHER_ABI], call, reasons=lambda: explanation.of_call(call, judged.native),
+                     members=lambda: {"reason": UNDETERMINED})
+    fault = reason.fault
+    return Reply(reason.status, [reason.line] if reason.line else [], call, reason.answer, fault,
+                 lambda: refusals.sentences(fault, profile, judged, origins) if fault else (),
+                 lambda: reasons.describe(reason, profile, call, origins),
+                 lambda: reasons.as_json(reason, profile, call, origins))
 
 
 def print_replies(those: Sequence[Query], answer: Callable[[Query], Reply], table: Table, is_json: bool) -> int:

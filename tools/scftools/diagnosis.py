@@ -8,8 +8,8 @@ from __future__ import annotations
 
 from collections.abc import Iterator, Sequence
 
-from . import bundles, client, entries, filters, paths, verdicts
-from .answers import ACTIONS, Answer
+from . import bundles, client, entries, filters, listing, verdicts
+from .answers import ACTIONS, ALLOW, Answer
 from .calls import Call
 from .client import Refusal
 from .entries import Condition, Entry
@@ -20,7 +20,6 @@ from .values import dataclass
 from .verdicts import SAME, Verdict
 
 FITS, CONTRADICTS, UNKNOWN = "fits", "contradicts", "unknown"
-ALLOW = Answer("ALLOW", 0)
 WORD = (1 << 64) - 1
 EQUAL = "SCMP_CMP_EQ"
 # The offset of the first argument in struct seccomp_data (linux/seccomp.h).
@@ -50,13 +49,6 @@ def weaker(outcome: Outcome) -> Answer | None:
     return next((Answer(name, 0) for half, name in ACTIONS.items() if rank(half) > least), None)
 
 
-def as_profiles(answer: Answer) -> tuple[str, int] | None:
-    """An answer as a profile says it, None if none can."""
-    if answer.action == "UNNAMED" or answer.data and answer.action not in ("ERRNO", "TRACE"):
-        return None
-    return f"SCMP_ACT_{'NOTIFY' if answer.action == 'USER_NOTIF' else answer.action}", answer.data
-
-
 class Stack:
     """Filters, oldest first, whose answers are asked of scf."""
 
@@ -80,11 +72,10 @@ class Stack:
                   more: Sequence[bytes] = ()) -> Verdict | None:
         """Whether the filters, with more of them, answer so to each call of a number with these arguments; None if it
         can't be compared."""
-        wanted = as_profiles(answer)
-        if wanted is None:
+        if not answer.is_of_profiles:
             return None
         conditions = tuple(Condition(index, EQUAL, value, 0) for index, value in values.items())
-        profile = entries.profile_of(("SCMP_ACT_ALLOW", 0), [Entry(0, ("it",), wanted, conditions)])
+        profile = entries.profile_of(ALLOW, [Entry(0, ("it",), answer, conditions)])
         exact = [(index, WORD, value) for index, value in values.items()]
         only = [filters.only_on(it, number, exact, ALLOW.word) for it in self.data]
         if any(len(it) > filters.LONGEST * filters.INSTRUCTION.size for it in only):
@@ -104,8 +95,8 @@ class Stack:
         known: if none does, they are the same instructions for all of them."""
         first = filters.POINTER[0] if call.pointer is None else ARGUMENTS
         return any(code == LOAD_WORD and k >= first for data in self.data for code, _, _, k in (
-            filters.INSTRUCTION.unpack_from(data, place * filters.INSTRUCTION.size)
-            for place in paths.of(data, call.words()).places))
+            filters.INSTRUCTION.unpack_from(data, index * filters.INSTRUCTION.size)
+            for index in listing.path_of(data, call.words()).indexes))
 
     def as_strict(self, call: Call, values: dict[int, int], outcome: Outcome) -> Call | bool | None:
         """A call with these arguments that is answered at least as strictly as the outcome says; False if scf proved

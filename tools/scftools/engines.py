@@ -103,7 +103,7 @@ def excerpt(value: Any) -> str:
     if isinstance(value, (list, dict)):
         return "a list" if isinstance(value, list) else "an object"
     text = value if isinstance(value, str) else json.dumps(value)
-    return text if len(text) <= MAX_TOLD else f"{text[:MAX_TOLD]}.."
+    return output.cut(text, MAX_TOLD)
 
 
 def excerpts(texts: Sequence[Any]) -> str:
@@ -406,6 +406,17 @@ class Resolver:
                 kept.append((entry, origin))
         profile["syscalls"] = [entry for entry, _ in kept]
         self.origins = [origin for _, origin in kept]
+
+
+def resolve(value: Any, setting: Setting, tell: Callable[[str], None],
+            keeps_first: bool = False) -> tuple[dict[str, Any], list[Origin]]:
+    """The resolved profile, and the origin of each entry; on request without later answers to a syscall."""
+    resolver = Resolver(setting, tell)
+    profile = resolver.resolved(value)
+    if keeps_first:
+        resolver.keep_first(profile)
+    resolver.tell_more()
+    return profile, resolver.origins
 
 
 def names_of(entry: dict[str, Any]) -> str:

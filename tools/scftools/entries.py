@@ -8,24 +8,16 @@ import itertools
 import json
 from collections.abc import Callable, Iterable, Iterator, Sequence
 
+from .answers import ALLOW, Answer
 from .architectures import JUDGED, Architecture
 from .calls import Call
-from .profiles import LONGEST_NUMBER
-from .reasons import HOLDS
+from .profiles import HOLDS, LONGEST_NUMBER
 from .tables import Table
-from .values import dataclass, replace
-
-TYPE_CHECKING = False
-if TYPE_CHECKING:
-    from typing import Any
+from .values import Any, dataclass, replace
 
 MOST = (1 << 64) - 1
 # The most values of an argument to try, and the most records.
 VALUES, RECORDS = 32, 512
-# The actions with two names, and those with an errno or data (the OCI specification; 1 if none is given).
-TWICE_NAMED = {"SCMP_ACT_KILL": "SCMP_ACT_KILL_THREAD"}
-WITH_ERRNO = ("SCMP_ACT_ERRNO", "SCMP_ACT_TRACE")
-ALLOWING = ("SCMP_ACT_ALLOW", "SCMP_ACT_LOG")
 
 
 @dataclass(frozen=True)
@@ -60,33 +52,22 @@ class Entry:
 
     place: int
     names: tuple[str, ...]
-    answer: tuple[str, int]
+    answer: Answer
     conditions: tuple[Condition, ...]
     has_others: bool = False
 
     def as_json(self) -> dict[str, object]:
-        found: dict[str, object] = {"names": list(self.names), "action": self.answer[0]}
-        if self.answer[0] in WITH_ERRNO:
-            found["errnoRet"] = self.answer[1]
-        return {**found, "args": [it.as_json() for it in self.conditions]}
+        return {"names": list(self.names), **self.answer.members(), "args": [it.as_json() for it in self.conditions]}
 
     def allowing(self, names: Sequence[str]) -> Entry:
         """The entry for some names, with ALLOW as its action."""
-        return replace(self, names=tuple(names), answer=("SCMP_ACT_ALLOW", 0))
+        return replace(self, names=tuple(names), answer=ALLOW)
 
 
-def profile_of(default: tuple[str, int], entries: Iterable[Entry], architectures: Iterable[str] = ()) -> bytes:
+def profile_of(default: Answer, entries: Iterable[Entry], architectures: Iterable[str] = ()) -> bytes:
     """The text of a profile for these architectures, by default x86-64, without entries that have no names."""
-    errno = {"defaultErrnoRet": default[1]} if default[0] in WITH_ERRNO else {}
-    listed = [it.as_json() for it in entries if it.names]
-    return json.dumps({"defaultAction": default[0], **errno, "architectures": list(architectures),
-                       "syscalls": listed}).encode()
-
-
-def answer_of(action: str, errno: object) -> tuple[str, int]:
-    """An action under one of its names, with its data."""
-    number = errno if isinstance(errno, int) else 1 if action in WITH_ERRNO else 0
-    return TWICE_NAMED.get(action, action), number
+    return json.dumps({**default.default(), "architectures": list(architectures),
+                       "syscalls": [it.as_json() for it in entries if it.names]}).encode()
 
 
 class Object(dict):
@@ -122,8 +103,8 @@ def read(data: bytes) -> Object | None:
     return top if isinstance(top, Object) else None
 
 
-def default_of(top: Object) -> tuple[str, int]:
-    return answer_of(top["defaultAction"], top.get("defaultErrnoRet"))
+def default_of(top: Object) -> Answer:
+    return Answer.of_profile(top["defaultAction"], top.get("defaultErrnoRet"))
 
 
 def entry_of(place: int, entry: Object, number_of: Callable[[str], int | None]) -> Entry:
@@ -132,7 +113,8 @@ def entry_of(place: int, entry: Object, number_of: Callable[[str], int | None]) 
                        for it in entry.get("args", []))
     names = dict.fromkeys(entry["names"])
     known = tuple(name for name in names if number_of(name) is not None)
-    return Entry(place, known, answer_of(entry["action"], entry.get("errnoRet")), conditions, len(known) < len(names))
+    answer = Answer.of_profile(entry["action"], entry.get("errnoRet"))
+    return Entry(place, known, answer, conditions, len(known) < len(names))
 
 
 def entries_of(top: Object, number_of: Callable[[str], int | None]) -> list[Entry]:
@@ -181,7 +163,7 @@ class Reading:
     """What a profile answers to the syscalls of an architecture, by its entries as they are read here; scf has the last
     word. A number is one of the architecture's table."""
 
-    def __init__(self, one: Architecture, table: Table, default: tuple[str, int], found: Iterable[Entry]):
+    def __init__(self, one: Architecture, table: Table, default: Answer, found: Iterable[Entry]):
         self.one, self.table, self.default = one, table, default
         self._of_number: dict[int | None, list[Entry]] = {}
         for entry in found:
@@ -200,16 +182,15 @@ class Reading:
         """The entry that decides on a syscall with these arguments, the first that it meets; None for the default."""
         return next((it for it in self.having(number) if meet(it.conditions, record)), None)
 
-    def answer(self, number: int | None, record: dict[int, int]) -> tuple[str, int]:
+    def answer(self, number: int | None, record: dict[int, int]) -> Answer:
         """The answer to a syscall with these arguments."""
         decides = self.deciding(number, record)
         return self.default if decides is None else decides.answer
 
     def allows(self, number: int | None, record: dict[int, int]) -> bool:
-        return self.answer(number, record)[0] in ALLOWING
+        return self.answer(number, record).allows
 
     def always_allows(self, number: int | None) -> bool:
         """Whether an entry without conditions allows a number, or the default does, and no entry has it."""
         having = self.having(number)
-        return any(it.answer[0] in ALLOWING and not it.conditions for it in having) or \
-            not having and self.default[0] in ALLOWING
+        return any(it.answer.allows and not it.conditions for it in having) or not having and self.default.allows

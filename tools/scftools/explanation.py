@@ -5,13 +5,11 @@ from __future__ import annotations
 import re
 from collections.abc import Iterator, Sequence
 
-from . import architectures, program, tables, verdicts
-from .answers import Answer
+from . import architectures, output, program, tables, verdicts
+from .answers import X86_64, Answer
 from .calls import Call
 from .tables import Table, Tables
 from .verdicts import Fault, Report
-
-UNNAMED = ["docs/FAULTS.md doesn't name this line."]
 
 
 def join_names(names: Sequence[str]) -> str:
@@ -39,7 +37,7 @@ def _rows() -> dict[str, list[str]]:
 
 def what_a_row_says(line: str) -> list[str]:
     """The sentences of a printed line's row: when it appears, and what to do."""
-    return _rows().get(_key(line), UNNAMED)
+    return _rows().get(_key(line), ["docs/FAULTS.md doesn't name this line."])
 
 
 def of_fault(fault: Fault, table: Table | None = None) -> Iterator[str]:
@@ -49,13 +47,20 @@ def of_fault(fault: Fault, table: Table | None = None) -> Iterator[str]:
         yield f"the syscall is {Call(fault.numbers['number']).describe(table)}"
 
 
+def of_line(line: str) -> Iterator[str]:
+    """What a line of scf means if it is a fault."""
+    fault = Fault.read(line)
+    yield from of_fault(fault) if fault is not None else ()
+
+
 def of_call(call: Call, table: Table, is_native: bool | None = None) -> Iterator[str]:
     """A syscall's name, with the arguments as C would have them, and whether --native leaves it out, if that could be
     given."""
     shown = call.as_c(table) if any(call.arguments) else None
     yield f"the syscall is {call.describe(table)}" + (f": {shown}" if shown is not None else "")
     if is_native is False and not call.is_native:
-        yield f"--native leaves out {call.left_out_of_native()}"
+        what = "other architectures" if call.architecture != X86_64 else "numbers from 0x40000000 on"
+        yield f"--native leaves out {what}"
 
 
 def of_differing(verdict: verdicts.Verdict, table: Table, is_native: bool, count: int) -> Iterator[str]:
@@ -94,9 +99,8 @@ def of_skipped(report: Report, judged: Tables, default_lets_through: bool) -> It
     for name in found.left_out[:tables.MOST_LISTED]:
         yield f"{name} is an x86-64 syscall that this table leaves out"
     for name, near in found.unknown[:tables.MOST_LISTED]:
-        shown = name if len(name) <= tables.LONGEST else f"{name[:tables.LONGEST]}.."
         nearest = f"; the nearest name in the table is {near}" if near else ""
-        yield f"no known syscall is named {shown}{nearest}"
+        yield f"no known syscall is named {output.cut(name)}{nearest}"
     more = max(len(found.left_out) - tables.MOST_LISTED, 0) + max(len(found.unknown) - tables.MOST_LISTED, 0)
     if more:
         yield f"more such names: {more}"
@@ -111,12 +115,6 @@ def of_architectures(report: Report) -> Iterator[str]:
         yield f"--native leaves out {join_names(left_out)}, which the profile also names"
     if len(left_out) < len(set(report.architectures)):
         yield "the profile's other architectures aren't judged, since scf has no table of them"
-
-
-def of_killed_architectures(report: Report) -> Iterator[str]:
-    """What a filter that scf compiles does with the architectures of its profile that are left out."""
-    for line in of_architectures(report):
-        yield f"{line}: the filter kills a process that makes such a syscall"
 
 
 def of_answer(call: Call | None, answer: Answer, table: Table) -> Iterator[str]:

@@ -1,11 +1,12 @@
 """Filters: instructions of classic BPF as their bytes (linux/filter.h, linux/bpf_common.h)."""
 from __future__ import annotations
 
+import os
 import struct
 from collections.abc import Sequence
 
 from . import bundles, forms, inputs, program
-from .values import dataclass
+from .forms import Filter
 
 # linux/filter.h: struct sock_filter, and BPF_MAXINSNS.
 INSTRUCTION = struct.Struct("<HBBI")
@@ -24,19 +25,6 @@ CODES = frozenset(bytes.fromhex("208081000160610203040c141c242c343c444c545c646c7
 LONGEST_STACK, MORE_OF_OLDER = 32768, 4
 
 
-@dataclass(frozen=True)
-class Filter:
-    """A filter with the name of its file."""
-
-    name: str
-    data: bytes
-
-    @property
-    def count(self) -> int:
-        """The number of its complete instructions."""
-        return len(self.data) // INSTRUCTION.size
-
-
 def are_codes(data: bytes) -> bool:
     """Whether bytes are complete instructions with codes that the kernel takes."""
     whole = bool(data) and len(data) % INSTRUCTION.size == 0
@@ -44,8 +32,8 @@ def are_codes(data: bytes) -> bool:
 
 
 def read(name: str) -> Filter:
-    """The filter of a file, a pipe or standard input: raw, or a text in one of the forms of `forms`, which is told on
-    standard error."""
+    """The filter of a file, a pipe or standard input: raw, or a text in one of the forms of `forms`, whose name
+    is printed on standard error."""
     return filter_in(name, inputs.read(name, "filter", most=LONGEST_TEXT))
 
 
@@ -62,6 +50,14 @@ def filter_in(name: str, data: bytes) -> Filter:
         return raw
     program.say(f"{inputs.label(name)} is read as {form.name}, instructions: {form.count}")
     return Filter(name, form.data)
+
+
+def saved_in(folder: str) -> list[str]:
+    """The filters in a folder, as `scf filters-of` writes them: its *.bpf, in the order of their names."""
+    try:
+        return sorted(os.path.join(folder, it) for it in os.listdir(folder) if it.endswith(".bpf") and it[0] != ".")
+    except OSError:
+        return []
 
 
 def read_stack(names: Sequence[str]) -> list[Filter]:

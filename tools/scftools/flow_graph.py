@@ -56,7 +56,7 @@ def _sides(insn: Instruction, ranges: Ranges) -> tuple[Ranges, Ranges]:
 class Node:
     """A node: the indexes of its instructions, the word that it tests, if any, and where the values of that lead."""
 
-    places: list[int]
+    indexes: list[int]
     word: int | None = None
     known: Known = Known()
     targets: dict[int, Ranges] = field(default_factory=dict)
@@ -71,52 +71,52 @@ class Graph:
         self.nodes: dict[int, Node] = {}
         # the first return of each answer
         self.returns: dict[int, int] = {}
-        for place, insn in enumerate(self.insns):
+        for index, insn in enumerate(self.insns):
             if insn.code == RETURN_CONSTANT:
-                self.returns.setdefault(insn.k, place)
+                self.returns.setdefault(insn.k, index)
         waiting = [self.behind_jumps(0)]
         while waiting:
-            place = waiting.pop()
-            if place < len(self.insns) and place not in self.nodes:
-                self.nodes[place] = self._node(place)
-                waiting += self.nodes[place].targets
+            index = waiting.pop()
+            if index < len(self.insns) and index not in self.nodes:
+                self.nodes[index] = self._node(index)
+                waiting += self.nodes[index].targets
 
-    def behind_jumps(self, place: int) -> int:
+    def behind_jumps(self, index: int) -> int:
         """The first instruction from there on that isn't an unconditional jump; of equal returns the first."""
-        while place < len(self.insns) and self.insns[place].code == JUMP:
-            place += 1 + self.insns[place].k
-        if place < len(self.insns) and self.insns[place].code == RETURN_CONSTANT:
-            return self.returns[self.insns[place].k]
-        return place
+        while index < len(self.insns) and self.insns[index].code == JUMP:
+            index += 1 + self.insns[index].k
+        if index < len(self.insns) and self.insns[index].code == RETURN_CONSTANT:
+            return self.returns[self.insns[index].k]
+        return index
 
-    def _word_tested(self, place: int) -> int | None:
+    def _word_tested(self, index: int) -> int | None:
         """The word that a test compares with a constant, if ranges of it say how it goes on."""
-        insn = self.insns[place]
+        insn = self.insns[index]
         is_of_ranges = insn.is_test and not insn.code & BY_X and insn.code & 0xF0 in (JEQ, JGT, JGE)
-        return self.known[place].word if is_of_ranges else None
+        return self.known[index].word if is_of_ranges else None
 
     def _node(self, first: int) -> Node:
         """The instructions from there on up to a test, or to what returns."""
-        places, place = [first], first
-        while not self.insns[place].is_test and self.insns[place].kind != RETURNS:
-            place = self.behind_jumps(place + 1)
-            if place >= len(self.insns) or self.insns[place].kind == RETURNS:
-                return Node(places, targets={place: []})
-            places.append(place)
-        word = self._word_tested(place)
+        indexes, index = [first], first
+        while not self.insns[index].is_test and self.insns[index].kind != RETURNS:
+            index = self.behind_jumps(index + 1)
+            if index >= len(self.insns) or self.insns[index].kind == RETURNS:
+                return Node(indexes, targets={index: []})
+            indexes.append(index)
+        word = self._word_tested(index)
         if word is not None:
-            return self._switch(places, place, word)
-        return Node(places, targets={self.behind_jumps(it): [] for it in self.insns[place].targets(place)})
+            return self._switch(indexes, index, word)
+        return Node(indexes, targets={self.behind_jumps(it): [] for it in self.insns[index].targets(index)})
 
-    def _switch(self, places: list[int], place: int, word: int) -> Node:
+    def _switch(self, indexes: list[int], index: int, word: int) -> Node:
         """The tests of a word from there on: no jump goes backwards, so each is met after all that lead to it."""
-        node, waiting = Node(places, word, self.known[place]), {place: [(0, GREATEST)]}
+        node, waiting = Node(indexes, word, self.known[index]), {index: [(0, GREATEST)]}
         while waiting:
             at = min(waiting)
             ranges = waiting.pop(at)
             if at < len(self.insns) and self._word_tested(at) == word:
-                if at not in node.places:
-                    node.places.append(at)
+                if at not in node.indexes:
+                    node.indexes.append(at)
                 for target, side in zip(self.insns[at].targets(at), _sides(self.insns[at], ranges)):
                     target = self.behind_jumps(target)
                     if side:
@@ -166,31 +166,31 @@ class Drawing:
         self.lines = [" ".join(it.split()) for it in lines]
         # the nodes on the path, in their order, and the edges between them
         self.way = list(map(graph.behind_jumps, path[:1]))
-        for place in map(graph.behind_jumps, path[1:]):
-            # (a node may go through a place that is another one's first)
-            if place in graph.nodes[self.way[-1]].targets:
-                self.way.append(place)
+        for index in map(graph.behind_jumps, path[1:]):
+            # (a node may contain the first instruction of another one)
+            if index in graph.nodes[self.way[-1]].targets:
+                self.way.append(index)
         self.edges = set(zip(self.way, self.way[1:]))
 
-    def name_of(self, place: int) -> str:
+    def name_of(self, index: int) -> str:
         """The name of a node; of a return the answer's."""
         insns = self.graph.insns
-        if place >= len(insns):
+        if index >= len(insns):
             return "end"
-        return f"r{insns[place].k}" if insns[place].code == RETURN_CONSTANT else f"n{place}"
+        return f"r{insns[index].k}" if insns[index].code == RETURN_CONSTANT else f"n{index}"
 
     def _label(self, node: Node) -> str:
         if node.word is None:
-            return "\n".join(self.lines[it] for it in node.places)
-        before = [self.lines[it] for it in node.places if not self.graph.insns[it].is_test]
-        tests = len(node.places) - len(before)
-        shown = f"{tests} tests, the last is {max(node.places)}" if tests > 1 else f"{node.places[-1]}"
+            return "\n".join(self.lines[it] for it in node.indexes)
+        before = [self.lines[it] for it in node.indexes if not self.graph.insns[it].is_test]
+        tests = len(node.indexes) - len(before)
+        shown = f"{tests} tests, the last is {max(node.indexes)}" if tests > 1 else f"{node.indexes[-1]}"
         return "\n".join([*before, f"{word_name(node.word)}? ({shown})"])
 
     def _nodes(self) -> Iterator[str]:
-        for place, node in sorted(self.graph.nodes.items()):
-            name, mark = self.name_of(place), MARK if place in self.way else ""
-            insn = self.graph.insns[place]
+        for index, node in sorted(self.graph.nodes.items()):
+            name, mark = self.name_of(index), MARK if index in self.way else ""
+            insn = self.graph.insns[index]
             if insn.code == RETURN_CONSTANT:
                 answer = answers.Answer.of_word(insn.k)
                 yield (f"    {name} [shape=ellipse, style=filled, fillcolor={COLOURS[answer.disposition]}, "
@@ -199,7 +199,7 @@ class Drawing:
                 yield f"    {name} [label={_quoted(self._label(node))}{mark}];"
 
     def _edges(self) -> Iterator[str]:
-        for place, node in sorted(self.graph.nodes.items()):
+        for index, node in sorted(self.graph.nodes.items()):
             sizes = {target: sum(high - low + 1 for low, high in ranges) for target, ranges in node.targets.items()}
             rest = max(sizes, key=lambda it: sizes[it], default=None) if node.word is not None else None
             for at, (target, ranges) in enumerate(node.targets.items()):
@@ -207,8 +207,8 @@ class Drawing:
                     label = _edge_text(ranges, target == rest and len(ranges) > 1, node, self.table)
                 else:
                     label = ("yes", "no")[at] if len(node.targets) > 1 else ""
-                mark = MARK if (place, target) in self.edges else ""
-                yield f"    {self.name_of(place)} -> {self.name_of(target)} [label={_quoted(label)}{mark}];"
+                mark = MARK if (index, target) in self.edges else ""
+                yield f"    {self.name_of(index)} -> {self.name_of(target)} [label={_quoted(label)}{mark}];"
 
     def text(self) -> str:
         """The graph in dot's language."""

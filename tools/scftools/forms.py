@@ -40,15 +40,15 @@ OTHERS = (
 
 
 @dataclass(frozen=True)
-class Form:
-    """A filter in a form: what it is called, and the bytes of its instructions."""
+class Filter:
+    """A filter, with the name of its file, or of the form that it was read in."""
 
     name: str
     data: bytes
 
     @property
     def count(self) -> int:
-        """The number of its instructions."""
+        """The number of its complete instructions."""
         return len(self.data) // SIZE
 
 
@@ -118,14 +118,14 @@ def _of_assembler(text: str) -> bytes | None:
 FORMS = ((HEXADECIMAL, _of_hexadecimal), (DECIMALS, _of_decimals), (ARRAY, _of_array), (ASSEMBLER, _of_assembler))
 
 
-def _forms_of(text: str, label: str) -> Iterator[Form]:
+def _forms_of(text: str, label: str) -> Iterator[Filter]:
     for name, read in FORMS:
         try:
             data = read(text)
         except c_arrays.Malformed as why:
             raise program.ToolError(f"{label} begins as {name}, but isn't one: {why}") from why
         if data is not None:
-            yield Form(name, data)
+            yield Filter(name, data)
 
 
 def is_text(data: bytes) -> bool:
@@ -133,7 +133,7 @@ def is_text(data: bytes) -> bool:
     return bool(data.strip()) and re.fullmatch(rb"[\t\n\r -~]*", data) is not None
 
 
-def form_of(data: bytes, label: str) -> Form | None:
+def form_of(data: bytes, label: str) -> Filter | None:
     """The form of a filter that isn't raw, or None if the bytes are to be judged as they are. `label` names the input.
     Raises ToolError if they are known to be something else, or can be read in two ways."""
     for begins, what, hint in OTHERS:

@@ -87,11 +87,6 @@ def why_not_traced(kernel: Kernel, thread: int, process: int, error: OSError) ->
     return None
 
 
-def signal_of(state: int) -> int:
-    """The signal that a thread was stopped at and is to get when it runs on, 0 for none."""
-    return 0 if state >> 16 == PTRACE_EVENT_STOP else os.WSTOPSIG(state)
-
-
 class Hold:
     """Threads that are stopped, and that run on where the block that holds them ends, whatever ends it."""
 
@@ -171,7 +166,8 @@ class Hold:
     def stop_all(self) -> None:
         """Stops threads until all that are listed are stopped."""
         while self.seize_listed() or self.seized or self.stopping:
-            if self.is_unsure() or self.waiting():
+            # (a thread that the kernel refuses to trace may become traceable)
+            if not all(is_sure(*refused) for refused in self.refused.values()) or self.waiting():
                 self.let_stopped_go()
                 time.sleep(PAUSE_UNHELD)
                 self.look_at_traced()
@@ -184,10 +180,6 @@ class Hold:
             child.look_for_signals()
             if time.monotonic() > self.until:
                 raise self.why_impatient()
-
-    def is_unsure(self) -> bool:
-        """Whether a thread that the kernel refuses to trace may become traceable."""
-        return not all(is_sure(*refused) for refused in self.refused.values())
 
     def waiting(self) -> list[int]:
         """The threads that aren't to be stopped, since their calls would go to their supervisors again."""
@@ -278,7 +270,8 @@ class Hold:
         self.forget(thread)
         if not os.WIFSTOPPED(state):
             return
-        self.stopped[thread] = signal_of(state)
+        # the signal that it is to get when it runs on, 0 for none
+        self.stopped[thread] = 0 if state >> 16 == PTRACE_EVENT_STOP else os.WSTOPSIG(state)
         try:
             self.restarts.at_stop(thread)
         except OSError as error:
@@ -345,10 +338,10 @@ def why_no_filter(kernel: Kernel, thread: int, process: int, place: int, error: 
 
 
 def filter_at(kernel: Kernel, thread: int, process: int, place: int) -> bytes | None:
-    """The bytes of the filter at this place, 0 being the oldest, or None behind the newest.
+    """The bytes of the filter with this index, 0 being the oldest, or None behind the newest.
 
     ptrace(2) says that 0 is the newest; the kernel counts from the oldest (get_nth_filter in kernel/seccomp.c). The
-    length is asked before the copy and told by it, and the room is that of the longest filter.
+    length is queried before the copy and returned by it, and the buffer has room for the longest filter.
     """
     import ctypes  # pylint: disable=import-outside-toplevel
 

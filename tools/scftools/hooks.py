@@ -16,15 +16,13 @@ import os
 import select
 import signal
 import stat
-import sys
 import time
 from collections.abc import Callable, Iterator, Sequence
 
-from . import (compare, containers, engines, hold, inputs, output, processes, profiles, program, runtimes,
-               verdicts, verify)
+from . import compare, containers, engines, hold, inputs, output, processes, program, verdicts, verify
 from .processes import Inspection, Kernel
-from .tables import Table
 from .values import Any, dataclass
+from .verify import ContainerError
 from .watchdog import Watchdog, Worker
 
 CONFIG = "config.json"
@@ -46,10 +44,6 @@ OF_NO_GROUP = ("the container has neither a PID namespace nor a control group of
 STARTUP = 10
 
 
-class HookError(Exception):
-    """Why it is unknown whether the container is confined."""
-
-
 @dataclass(frozen=True)
 class Container:
     """A container, as the runtime states it."""
@@ -67,7 +61,7 @@ class Container:
 def _member(state: dict[str, Any], name: str) -> str:
     value = state.get(name)
     if not isinstance(value, str) or not value:
-        raise HookError(f"the container's state has no {name}")
+        raise ContainerError(f"the container's state has no {name}")
     return value
 
 
@@ -76,16 +70,16 @@ def container_of(data: bytes) -> Container:
     try:
         state = json.loads(data.decode("utf-8"))
     except (ValueError, RecursionError) as error:
-        raise HookError("the container's state on standard input isn't JSON") from error
+        raise ContainerError("the container's state on standard input isn't JSON") from error
     if not isinstance(state, dict):
-        raise HookError("the container's state isn't an object")
+        raise ContainerError("the container's state isn't an object")
     _member(state, "ociVersion")
     name, status, bundle = (_member(state, it) for it in ("id", "status", "bundle"))
     pid = state.get("pid")
     if type(pid) is not int or not 0 < pid < 2**31:
-        raise HookError(f"the state of container {name} has no pid")
+        raise ContainerError(f"the state of container {name} has no pid")
     if not bundle.startswith("/") or "\0" in bundle:
-        raise HookError(f"the bundle of container {name} isn't an absolute path")
+        raise ContainerError(f"the bundle of container {name} isn't an absolute path")
     return Container(name, status, pid, bundle)
 
 
@@ -95,14 +89,14 @@ def state(seconds: float) -> bytes:
     while len(found) <= inputs.LIMITS["state"]:
         try:
             if not select.select([0], [], [], max(0.0, until - time.monotonic()))[0]:
-                raise HookError(f"the container's state didn't come on standard input within {seconds:g} seconds")
+                raise ContainerError(f"the container's state didn't come on standard input within {seconds:g} seconds")
             piece = os.read(0, 1 << 16)
         except OSError as error:
-            raise HookError(inputs.why("-", "state", error)) from error
+            raise ContainerError(inputs.why("-", "state", error)) from error
         if not piece:
             return found
         found += piece
-    raise HookError(f"the state on standard input has more than {inputs.LIMITS['state']} bytes")
+    raise ContainerError(f"the state on standard input has more than {inputs.LIMITS['state']} bytes")
 
 
 def contents(name: str) -> bytes:
@@ -112,56 +106,18 @@ def contents(name: str) -> bytes:
     except (OSError, ValueError):
         is_other = False
     if is_other and not os.path.isdir(name):
-        raise HookError(f"'{name}' isn't a regular file")
+        raise ContainerError(f"'{name}' isn't a regular file")
     return inputs.read_whole(name, "profile")
 
 
 def configured(container: Container) -> dict[str, Any] | None:
-    """What the container's config.json says about seccomp, as `seccomp_in`."""
+    """What the container's config.json says about seccomp, as `verify.seccomp_in`."""
     name = os.path.join(container.bundle, CONFIG)
     try:
         value = engines.read(contents(name))
     except (program.ToolError, engines.Refused) as why:
-        raise HookError(f"the container's configuration: {why}") from why
-    return seccomp_in(value, name)
-
-
-def seccomp_in(value: Any, name: str) -> dict[str, Any] | None:
-    """What a configuration with this name says about seccomp, as a config.json with nothing else in it, or None if it
-    says nothing. Runtimes read only `linux.seccomp`, whatever else is in it."""
-    linux = member(value, "linux", name)
-    seccomp = None if linux is None else member(linux, "seccomp", name)
-    return None if seccomp is None else {"linux": {"seccomp": seccomp}}
-
-
-def member(value: Any, wanted: str, path: str) -> Any:
-    """A member of an object in a configuration; refused if a runtime in Go also reads another one as it."""
-    if not isinstance(value, dict):
-        raise HookError(f"'{path}' isn't a container's configuration")
-    others = [it for it in value if it != wanted and profiles.folded(it) == wanted]
-    if others:
-        raise HookError(f"'{path}' has a member '{others[0]}', which runc reads as {wanted} and crun doesn't")
-    return value.get(wanted)
-
-
-def request_of(config: dict[str, Any], runtime: str | None, keeps_first: bool, table: Table, limit: str | None,
-               relation: str, scope: str | None = None) -> verify.Request:
-    """The question about a container with this configuration, as its runtime applies it; over all architectures that
-    its profile names unless a scope is given."""
-    try:
-        if runtime is not None:
-            return verify.Request.of_runtime(runtimes.applied(config, runtime), table, limit, scope, relation)
-        text = json.dumps(config)
-        if keeps_first:
-            resolver = engines.Resolver(engines.Setting((), (0, 0), False), lambda _: None)
-            profile = resolver.resolved(config)
-            resolver.keep_first(profile)
-            text = engines.printed(profile)
-        return verify.Request(text.encode(), table, limit, scope, relation)
-    except RecursionError as error:
-        raise HookError("the container's configuration: the profile is nested too deep") from error
-    except engines.Refused as why:
-        raise HookError(f"the container's configuration: {why}") from why
+        raise ContainerError(f"the container's configuration: {why}") from why
+    return verify.seccomp_in(value, name)
 
 
 @dataclass(frozen=True)
@@ -228,9 +184,9 @@ class Process:
         try:
             self.file = os.pidfd_open(container.pid)
         except ProcessLookupError as error:
-            raise HookError(f"there is no process {container.pid}") from error
+            raise ContainerError(f"there is no process {container.pid}") from error
         except OSError as error:
-            raise HookError(f"process {container.pid} can't be held: {error.strerror}") from error
+            raise ContainerError(f"process {container.pid} can't be held: {error.strerror}") from error
         self.members = members_of(self.kernel, container.pid)
 
     def has_ended(self, seconds: float = 0.0) -> bool:
@@ -329,7 +285,7 @@ class Finding:
 
 
 def finding_of(found: Inspection, request: verify.Request, members: Members) -> Finding:
-    """What is said of each distinct stack, but for the names that were left out, which are counted."""
+    """The result for all distinct stacks. Its text has no line for each name or architecture that was left out."""
     blocks, others = verify.blocks(found, request), members.others_note()
     status, verdict = verify.worst(blocks), blocks[0].verdict
     if others is not None and status == program.SUCCESS:
@@ -489,16 +445,11 @@ def hook_file(path: str, words: Sequence[str], seconds: float) -> str:
                       indent=4) + "\n"
 
 
-def own_path() -> str:
-    """Where this tool is, by the name that called it."""
-    return os.path.abspath(sys.argv[0])
-
-
 def run_safely(find: Callable[[], Finding]) -> Finding:
     """What is found; if anything fails, why."""
     try:
         return find()
-    except (HookError, program.ToolError) as why:
+    except (ContainerError, program.ToolError) as why:
         return failure(str(why), program.NOT_BUILT if getattr(why, "status", None) == program.NOT_BUILT
                        else program.IO_ERROR)
     except processes.Unreadable as why:

@@ -60,13 +60,9 @@ def pieces(name: str, kind: str, room: int, status: int = program.USAGE_ERROR) -
         raise program.ToolError(f"there is no file '{output.escaped(name)}'", status) from error
 
 
-def is_too_long(data: bytes, kind: str) -> bool:
-    return len(data) > LIMITS[kind]
-
-
 def read_whole(name: str, kind: str) -> bytes:
-    """The bytes of an input that scf doesn't see; raises Refused if there are too many."""
+    """The bytes of an input that scf doesn't see; raises ToolError if there are too many."""
     data = read(name, kind)
-    if is_too_long(data, kind):
+    if len(data) > LIMITS[kind]:
         raise program.ToolError(f"the {kind} {label(name)} has more than {LIMITS[kind]} bytes")
     return data

@@ -1,14 +1,17 @@
-"""A listing of a filter: instruction indexes, jump targets, and names of syscalls and answers."""
+"""Listings of filters: instruction indexes, jump targets, and names of syscalls and answers; and paths: which
+instructions run on a syscall, by `scf run --path`, and the last tests among them."""
 from __future__ import annotations
 
 from collections.abc import Iterable, Iterator, Sequence
 
+from . import client, verdicts
 from .answers import ACTIONS, X32, X86_64, Answer
 from .architectures import shown_name
 from .calls import Call, number_text
-from .filters import BY_X, INSTRUCTION, JEQ, JGE, JGT, JSET, JUMP, LOAD_WORD, RETURN_CONSTANT
+from .filters import BY_X, INSTRUCTION, JEQ, JGE, JGT, JSET, JUMP, LOAD_WORD, RETURN_CONSTANT, Filter
 from .tables import Table
-from .values import dataclass, replace
+from .values import Pattern, dataclass, replace
+from .verdicts import Decision
 
 # The 32-bit words of a record, by their index (struct seccomp_data in linux/seccomp.h).
 NUMBER, ARCHITECTURE, ARGUMENTS, END = 0, 1, 4, 16
@@ -18,6 +21,9 @@ WORDS = {NUMBER: "the syscall number", ARCHITECTURE: "the architecture", 2: "the
 MOST_NAMED = 3
 # linux/bpf_common.h: instruction classes, and the one BPF_MISC code that changes the accumulator.
 LOADS, ALU, JUMPS, RETURNS, TXA = 0, 4, 5, 6, 0x87
+PATH = Pattern(r"path((?: [0-9]+)+)")
+# At most so many of the last tests are printed.
+MOST_TESTS = 12
 
 
 @dataclass(frozen=True)
@@ -46,15 +52,15 @@ class Instruction:
     def changes_a(self) -> bool:
         return self.kind in (LOADS, ALU) or self.code == TXA
 
-    def targets(self, place: int) -> list[int]:
+    def targets(self, index: int) -> list[int]:
         """The indexes of its successors, given its own."""
         if self.kind == RETURNS:
             return []
         if self.code == JUMP:
-            return [place + 1 + self.k]
+            return [index + 1 + self.k]
         if self.kind == JUMPS:
-            return [place + 1 + self.if_true, place + 1 + self.if_false]
-        return [place + 1]
+            return [index + 1 + self.if_true, index + 1 + self.if_false]
+        return [index + 1]
 
 
 def instructions(data: bytes) -> list[Instruction]:
@@ -118,12 +124,12 @@ def _after(insn: Instruction, known: Known) -> Iterator[Known]:
 def known_facts(insns: Sequence[Instruction]) -> list[Known]:
     """What holds at each instruction; all jumps go forwards."""
     found: dict[int, Known] = {0: Known()}
-    for place, insn in enumerate(insns):
-        if place in found:
-            for target, after in zip(insn.targets(place), _after(insn, found[place])):
+    for index, insn in enumerate(insns):
+        if index in found:
+            for target, after in zip(insn.targets(index), _after(insn, found[index])):
                 if not after.architectures.is_empty:
                     found[target] = found[target].beside(after) if target in found else after
-    return [found.get(place, Known()) for place in range(len(insns))]
+    return [found.get(index, Known()) for index in range(len(insns))]
 
 
 def _name_on(k: int, architecture: int, table: Table) -> str:
@@ -163,7 +169,7 @@ def _tested(insn: Instruction, known: Known, table: Table) -> str | None:
     return {JEQ: name, JGT: f"above {name}", JGE: f"from {name} on"}.get(test)
 
 
-def _meaning(place: int, insn: Instruction, known: Known, table: Table, count: int) -> str | None:
+def _meaning(index: int, insn: Instruction, known: Known, table: Table, count: int) -> str | None:
     """The comment on an instruction, or None."""
     if insn.word is not None:
         return word_name(insn.word)
@@ -172,22 +178,126 @@ def _meaning(place: int, insn: Instruction, known: Known, table: Table, count: i
         return Answer(action, data).named() if data or action == "ERRNO" else action
     if insn.kind != JUMPS or (insn.code != JUMP and insn.code & 0xF0 not in (JEQ, JGT, JGE, JSET)):
         return None
-    shown = [f"{it}" if it < count else f"{it}, which is out of range" for it in insn.targets(place)]
+    shown = [f"{it}" if it < count else f"{it}, which is out of range" for it in insn.targets(index)]
     what = _tested(insn, known, table) if insn.code != JUMP else None
     return (f"{what}: " if what else "") + f"to {shown[0]}" + (f", else {shown[1]}" if len(shown) > 1 else "")
 
 
-def mark_lines(lines: Iterable[str], places: Iterable[int]) -> Iterator[str]:
+def mark_lines(lines: Iterable[str], indexes: Iterable[int]) -> Iterator[str]:
     """The lines of a listing, some instructions marked by `>`."""
-    on_path = frozenset(places)
-    for place, line in enumerate(lines):
-        yield f"{'>' if place in on_path else ' '} {line}"
+    on_path = frozenset(indexes)
+    for index, line in enumerate(lines):
+        yield f"{'>' if index in on_path else ' '} {line}"
 
 
 def listing_lines(data: bytes, lines: Sequence[str], table: Table) -> Iterator[str]:
     """The lines of `scf dis`, each after its index and before its comment."""
     insns = instructions(data)
-    place_width, line_width = len(str(len(lines) - 1)), max(map(len, lines), default=0)
-    for place, (line, insn, known) in enumerate(zip(lines, insns, known_facts(insns))):
-        means = _meaning(place, insn, known, table, len(insns))
-        yield f"{place:{place_width}}  " + (f"{line:{line_width}}  // {means}" if means else line)
+    index_width, line_width = len(str(len(lines) - 1)), max(map(len, lines), default=0)
+    for index, (line, insn, known) in enumerate(zip(lines, insns, known_facts(insns))):
+        means = _meaning(index, insn, known, table, len(insns))
+        yield f"{index:{index_width}}  " + (f"{line:{line_width}}  // {means}" if means else line)
+
+
+@dataclass(frozen=True)
+class Path:
+    """What a filter answers to a syscall, and the indexes of the instructions that run; none after a fault."""
+
+    status: int
+    lines: tuple[str, ...]
+    decision: Decision
+    indexes: tuple[int, ...] = ()
+
+    def describe(self) -> str:
+        """The indexes; three or more consecutive ones as a range."""
+        return " ".join(f"{first}-{last}" if last - first > 1 else " ".join(map(str, range(first, last + 1)))
+                        for first, last in _ranges(self.indexes))
+
+
+def _ranges(indexes: Sequence[int]) -> list[tuple[int, int]]:
+    found: list[tuple[int, int]] = []
+    for index in indexes:
+        if found and index == found[-1][1] + 1:
+            found[-1] = found[-1][0], index
+        else:
+            found.append((index, index))
+    return found
+
+
+def path_of(data: bytes, words: Sequence[str], with_path: bool = True) -> Path:
+    """A filter's answer to the record that scf's options give, and on request the path to it."""
+    done = client.run(["run", *["--path"] * with_path, *words], data)
+    found = PATH.fullmatch("".join(done.lines[1:2]))
+    return Path(done.status, tuple(done.lines), verdicts.decision(done.text),
+                tuple(map(int, found[1].split())) if found else ())
+
+
+@dataclass(frozen=True)
+class Giver:
+    """A filter that gives its stack's answer, with its path, and whether it is the only filter."""
+
+    filter: Filter
+    is_alone: bool
+    path: Path
+
+    def describe(self) -> str:
+        return "the filter" if self.is_alone else self.filter.name
+
+    def last_tests(self, call: Call, table: Table, name: str = "") -> Iterator[str]:
+        """The last tests on its path, with a line before them that calls the filter so."""
+        before, lines = last_tests(self.filter.data, self.path, call, table)
+        yield (f"the last tests on the path in {name or self.describe()}"
+               + (f", after {before} others:" if before else ":"))
+        yield from lines
+
+    def as_json(self) -> dict[str, object]:
+        return {"filter": self.filter.name, "places": list(self.path.indexes)}
+
+
+def deciding_filters(filters: Sequence[Filter], words: Sequence[str], answer: Answer) -> list[Giver]:
+    """The filters of a stack, oldest first, that give its answer; the kernel takes it from the last of them.
+
+    It runs the newest first, and of equal actions keeps the one that it has (seccomp_run_filters in kernel/seccomp.c).
+    """
+    runs = (Giver(one, len(filters) == 1, path_of(one.data, words)) for one in filters)
+    return [it for it in runs if it.path.decision.answer == answer and it.path.indexes]
+
+
+def to_show(found: Sequence[Giver]) -> Giver | None:
+    """Of the filters with the same answer, the one whose path is shown: the newest, whose answer the kernel takes.
+
+    The kernel begins with ALLOW and takes it from no filter: then it is the one that runs the most instructions, since
+    others may not even load the syscall number.
+    """
+    if not found:
+        return None
+    answer = found[-1].path.decision.answer
+    is_allowed = answer is not None and answer.action == "ALLOW"
+    return max(reversed(found), key=lambda it: len(it.path.indexes)) if is_allowed else found[-1]
+
+
+def _tests(insns: Sequence[Instruction], indexes: Sequence[int], call: Call) -> Iterator[tuple[int, str]]:
+    """The indexes of the tests on a path and of its end, each with the value loaded and the branch taken."""
+    halves = (half for it in (call.pointer or 0, *call.arguments) for half in (it & 0xFFFFFFFF, it >> 32))
+    # the 32-bit words of the record, in order (struct seccomp_data in linux/seccomp.h)
+    words, loaded = [call.number, call.architecture, *halves], ""
+    for at, index in enumerate(indexes):
+        insn = insns[index]
+        if insn.is_test:
+            yield index, f"; {loaded}went to {indexes[at + 1]}"
+        elif insn.kind == RETURNS:
+            yield index, ""
+        elif insn.word is not None:
+            loaded = f"loaded {words[insn.word]:#x}, "
+        elif insn.kind == ALU and loaded:
+            loaded = loaded.partition(",")[0] + ", computed with it, "
+        elif insn.changes_a:
+            loaded = ""
+
+
+def last_tests(data: bytes, path: Path, call: Call, table: Table) -> tuple[int, list[str]]:
+    """The last tests on a path and its end, as lines of the listing; and the number of tests before them."""
+    insns = instructions(data)
+    lines = list(listing_lines(data, client.run(["dis"], data).lines, table))
+    found = [f"{lines[index]}{way}" for index, way in _tests(insns, path.indexes, call)]
+    return max(len(found) - MOST_TESTS, 0), found[-MOST_TESTS:]

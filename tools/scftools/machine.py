@@ -7,22 +7,21 @@ are left out.
 """
 from __future__ import annotations
 
+# (the module signal makes enums of its constants)
+import _signal as signal
 import mmap
 import os
 import re
-import signal
 import time
 from collections.abc import Callable, Iterable, Iterator
 
 from . import child, processes
-from .hold import Unreadable, require_rights
+from .hold import PF_KTHREAD, Unreadable, require_rights
 from .processes import Kernel, Stack
 from .ptrace import contents
 from .restart import Restarts
-from .values import dataclass, field
+from .values import Pattern, dataclass, field
 
-# linux/sched.h: a thread of the kernel.
-PF_KTHREAD = 0x00200000
 # linux/proc_ns.h: the number of the initial PID namespace.
 PROC_PID_INIT_INO = 0xEFFFFFFC
 # How long the threads of a process may take to stop, and at the second attempt, for a machine that does much else; how
@@ -36,7 +35,7 @@ MOST_HELD, MOST_NEW = 200, 400
 MOST_STUCK, LISTINGS = 3, 3
 # What a thread waits in whose control group of version 1 is frozen (proc_pid_wchan(5)): it can't be stopped.
 FROZEN = b"__refrigerator"
-SECCOMP = re.compile(rb"^Seccomp:\t([0-2])", re.M)
+SECCOMP = Pattern(rb"^Seccomp:\t([0-2])", re.M)
 
 
 @dataclass(frozen=True)

@@ -8,7 +8,7 @@ from __future__ import annotations
 
 from collections.abc import Callable, Iterator
 
-from . import entries
+from .answers import Answer
 from .architectures import I386
 from .engines import MAX_RULES, Refused
 from .values import Any
@@ -39,15 +39,16 @@ def rules_of(entry: dict[str, Any]) -> Iterator[dict[str, Any]]:
                 yield {**entry, "names": [multiplexer], "args": [first, *others]}
 
 
-def with_rules(profile: dict[str, Any], note: Callable[[str], None] = lambda _: None) -> tuple[dict[str, Any], list[int]]:
+def with_rules(profile: dict[str, Any],
+               note: Callable[[str], None] = lambda _: None) -> tuple[dict[str, Any], list[int]]:
     """A resolved profile with the entries that libseccomp makes for i386, each behind its own, and for each entry the
-    place of its own. Engines pass on no entry whose answer is the default's."""
+    index of its own. Engines pass on no entry whose answer is the default's."""
     entries_of = profile["syscalls"]
     if I386 not in profile.get("architectures", ()):
         note(f"no rule of socketcall or ipc is added: architectures lacks {I386}")
         return profile, list(range(len(entries_of)))
-    default = entries.answer_of(profile["defaultAction"], profile.get("defaultErrnoRet"))
-    differs = [entries.answer_of(it["action"], it.get("errnoRet")) != default for it in entries_of]
+    default = Answer.of_profile(profile["defaultAction"], profile.get("defaultErrnoRet"))
+    differs = [Answer.of_profile(it["action"], it.get("errnoRet")) != default for it in entries_of]
     unconditional = {name for entry, is_passed_on in zip(entries_of, differs)
                      if is_passed_on and not entry.get("args") for name in entry["names"] if name in NUMBERS}
     for name in sorted(unconditional):

@@ -9,6 +9,7 @@ from __future__ import annotations
 
 from collections.abc import Iterable, Iterator, Sequence
 
+from .answers import Answer
 from .calls import Call
 from .entries import Entry, where_met
 from .findings import Owners
@@ -17,7 +18,7 @@ from .trials import JointTrial, Trial
 from .values import dataclass, replace
 from .verdicts import MORE, SAME, Verdict
 
-REFUSES, ALLOWS = ("SCMP_ACT_ERRNO", 1), ("SCMP_ACT_ALLOW", 0)
+DENIES = Answer("ERRNO", 1)
 # The most comparisons of one run, pairs of entries to check, and candidates to cover an entry.
 COMPARISONS, PAIRS, COVERS = 500, 10000, 8
 # The most entries to consider in the search for a syscall that only one answers.
@@ -38,7 +39,7 @@ class Needless:
 
 
 @dataclass(frozen=True)
-class Untold:
+class Undecided:
     """An undecided name of an entry, and the verdict; None if it wasn't checked."""
 
     place: int
@@ -55,12 +56,12 @@ class Search:
     """The entries of a profile, its filter for all architectures that are judged, and the names of entries that are
     still kept."""
 
-    def __init__(self, trial: JointTrial, data: bytes, default: tuple[str, int], entries: Sequence[Entry]):
+    def __init__(self, trial: JointTrial, data: bytes, default: Answer, entries: Sequence[Entry]):
         self.trial, self.filter, self.default = trial, data, default
         self.entries = {it.place: it for it in entries}
         self.looks = LOOKS
         self.gone: set[Named] = set()
-        self.untold: list[Untold] = []
+        self.undecided: list[Undecided] = []
         self._having: dict[Syscall, dict[Named, Entry]] = {}
         for entry in entries:
             for name in entry.names:
@@ -105,7 +106,7 @@ class Search:
     def _settle(self, doubtful: Sequence[Named]) -> None:
         """Removes what scf proves to be without effect: all of it, or else the same for its halves."""
         if self.trial.count >= COMPARISONS:
-            self.untold += [Untold(*it, None) for it in doubtful]
+            self.undecided += [Undecided(*it, None) for it in doubtful]
             return
         gone = self.gone | set(doubtful)
         verdict = self.trial.verdict([self.filter], self.trial.profile_of(self.default, self._kept(gone)))
@@ -115,12 +116,12 @@ class Search:
             self._settle(doubtful[:len(doubtful) // 2])
             self._settle(doubtful[len(doubtful) // 2:])
         elif not verdict.fails:
-            self.untold.append(Untold(*doubtful[0], verdict))
+            self.undecided.append(Undecided(*doubtful[0], verdict))
 
     def _is_within(self, entry: Entry, names: Sequence[str], others: Sequence[Entry]) -> bool:
         """Whether scf proves that others cover an entry."""
         wider = [other.allowing(names) for other in others]
-        alone, beside = (self.trial.profile_of(REFUSES, its) for its in (wider, [*wider, entry.allowing(names)]))
+        alone, beside = (self.trial.profile_of(DENIES, its) for its in (wider, [*wider, entry.allowing(names)]))
         return self.trial.verdict([self.trial.filter_of(alone)], beside).word == SAME
 
     def _why(self, entry: Entry, names: Sequence[str]) -> tuple[str, tuple[int, ...]]:
@@ -141,7 +142,7 @@ class Search:
         return TOGETHER, tuple(sorted(set.union(*having)))
 
     def run(self) -> Iterator[Needless]:
-        """What is without effect, all together, by entry; afterwards `untold` has what is undecided."""
+        """What is without effect, all together, by entry; afterwards `undecided` has what is undecided."""
         doubtful = self._doubtful()
         if doubtful:
             self._settle(doubtful)
@@ -166,8 +167,8 @@ class Conflict:
 
 def _call_of_both(trial: Trial, first: Entry, second: Entry, name: str) -> Call | None:
     """A syscall that two entries have: one that filters of both allow."""
-    filters = [trial.filter_of(trial.profile_of(REFUSES, [it.allowing([name])])) for it in (first, second)]
-    verdict = trial.verdict(filters, trial.profile_of(REFUSES, []), "--no-more")
+    filters = [trial.filter_of(trial.profile_of(DENIES, [it.allowing([name])])) for it in (first, second)]
+    verdict = trial.verdict(filters, trial.profile_of(DENIES, []), "--no-more")
     return verdict.call if verdict.word == MORE else None
 
 

@@ -9,7 +9,7 @@ from __future__ import annotations
 from collections.abc import Iterator, Sequence
 
 from . import entries, filters
-from .answers import Answer
+from .answers import ENOSYS, Answer
 from .architectures import JUDGED
 from .calls import Call
 from .explanation import join_names
@@ -23,9 +23,6 @@ if TYPE_CHECKING:
 
 # By the OCI name of an architecture, the first of its numbers, as in a record, above all that a profile names.
 Bounds = dict[str, int]
-
-# The answer of runc's stub, ENOSYS.
-ENOSYS = Answer("ERRNO", 38)
 
 
 def _split(data: bytes, bounds: Bounds, answer: Answer, runs_beyond: bool) -> bytes:
@@ -49,7 +46,7 @@ def _only(comparison: Comparison, bounds: Bounds, answer: Answer, is_beyond: boo
 def _default_of(profile: bytes) -> Answer | None:
     """The answer of a profile to what it doesn't name."""
     top = entries.read(profile)
-    return Answer.of_profile(*entries.default_of(top)) if top is not None and "defaultAction" in top else None
+    return entries.default_of(top) if top is not None and "defaultAction" in top else None
 
 
 def _below(comparison: Comparison, bounds: Bounds) -> Comparison:
@@ -77,11 +74,6 @@ def around_stub(comparison: Comparison) -> list[Comparison]:
     if not _can_split(comparison, comparison.stub):
         return []
     return [_below(comparison, comparison.stub), _beyond(comparison, comparison.stub, ENOSYS)]
-
-
-def expecting_stub(comparison: Comparison, bounds: Bounds) -> Comparison:
-    """The comparison that explains a difference if a stub answers the numbers from the bounds on."""
-    return replace(comparison, stub=bounds) if bounds else comparison
 
 
 def compared_with_stub(comparison: Comparison, scope: str, bounds: Bounds) -> tuple[int, Report, bool]:

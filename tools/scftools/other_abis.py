@@ -11,20 +11,16 @@ from __future__ import annotations
 from collections.abc import Collection, Iterable, Sequence
 
 from . import architectures, bundles, client, tables, verdicts
-from .answers import ALLOWED, Answer
+from .answers import ALLOWED, KILL_PROCESS, Answer
 from .architectures import JUDGED, Architecture
 from .calls import NO_CALL, Call, number_text
-from .filters import RETURN_CONSTANT, instruction, split
-from .questions import IS_REFUSED, Asker
+from .filters import split
+from .questions import IS_ALLOWED, IS_DENIED, Asker
 from .tables import Table
 from .values import dataclass
-
-TYPE_CHECKING = False
-if TYPE_CHECKING:
-    from .verdicts import Verdict
+from .verdicts import Verdict
 
 ALLOWS_NATIVE = b'{"defaultAction": "SCMP_ACT_ALLOW"}'
-ALLOW, KILL = Answer("ALLOW", 0).word, Answer("KILL_PROCESS", 0).word
 OTHERS = "other ABIs: the kernel has no others"
 NONE = "other ABIs: every i386 and x32 syscall is denied; the kernel has no others"
 
@@ -48,7 +44,7 @@ class Kind:
     @property
     def alone(self) -> bytes:
         """The filter that allows only these syscalls."""
-        return split(instruction(RETURN_CONSTANT, ALLOW), [(self.of.number, self.of.first, self.last)], KILL, True)
+        return split(IS_ALLOWED.filter, [(self.of.number, self.of.first, self.last)], KILL_PROCESS.word, True)
 
     def describe(self, number: int) -> str:
         """A syscall's name and number."""
@@ -72,90 +68,77 @@ KINDS = (
 
 
 def denial_filters(names: Iterable[str]) -> list[bytes]:
-    """A filter that denies every record of the architectures with these OCI names, and allows all else; none for none."""
+    """What denies every record of the architectures with these OCI names, and allows all others: a filter, or none."""
     bounds = [architectures.bounds_of(it) for it in dict.fromkeys(names) if it in architectures.NUMBERS]
-    return [split(instruction(RETURN_CONSTANT, ALLOW), bounds, KILL, False)] if bounds else []
+    return [split(IS_ALLOWED.filter, bounds, KILL_PROCESS.word, False)] if bounds else []
 
 
 @dataclass(frozen=True)
-class Proved:
-    """A proof for all syscalls of a kind: every one is denied, or the one given isn't."""
+class Known:
+    """What is known of a kind's syscalls: that every one is denied, or else one that isn't, with its answer. If that
+    isn't proved, these are the ones that filters allow, of those that were tried."""
 
     kind: Kind
-    call: Call | None = None
-    answer: Answer | None = None
+    not_denied: tuple[tuple[Call, Answer], ...] = ()
+    is_proved: bool = True
 
     @property
-    def lets_none_through(self) -> bool:
-        return self.call is None
+    def are_denied(self) -> bool:
+        """Whether it is proved that every syscall is denied."""
+        return self.is_proved and not self.not_denied
 
     def describe(self) -> str:
-        if self.call is None or self.answer is None:
+        if self.are_denied:
             return f"{self.kind.name}: every syscall is denied"
-        which = "some syscalls are allowed" if self.answer.disposition == ALLOWED else "not every syscall is denied"
-        return f"{self.kind.name}: {which}, such as {self.kind.describe(self.call.number)}: {self.answer}"
+        count, such = len(self.not_denied), ""
+        for call, answer in self.not_denied[:1]:
+            such = f", such as {self.kind.describe(call.number)}: {answer}"
+        if self.is_proved:
+            is_allowed = self.not_denied[0][1].disposition == ALLOWED
+            which = "some syscalls are allowed" if is_allowed else "not every syscall is denied"
+            return f"{self.kind.name}: {which}{such}"
+        how = f"{count} {'is' if count == 1 else 'are'}{such}" if count else "none is"
+        return f"{self.kind.name}: undecided whether any syscall is allowed; of {len(self.kind.calls)} tried, {how}"
 
     def as_json(self) -> dict[str, object]:
-        shown = [] if self.call is None or self.answer is None else [
-            {"number": self.call.number, "names": self.kind.names(self.call.number),
-             "architecture": hex(self.call.architecture), "answer": self.answer.as_json()}]
-        return {"kind": self.kind.name, "is_decided": True, "let_through": shown}
+        found: dict[str, object] = {"kind": self.kind.name, "is_decided": self.is_proved}
+        if self.is_proved:
+            return {**found, "let_through": [
+                {"number": call.number, "names": self.kind.names(call.number), "architecture": hex(call.architecture),
+                 "answer": answer.as_json()} for call, answer in self.not_denied]}
+        return {**found, "tried": len(self.kind.calls), "let_through": [
+            {"name": self.kind.names(call.number)[0], "number": call.number, "answer": answer.as_json()}
+            for call, answer in self.not_denied]}
 
 
-@dataclass(frozen=True)
-class Tried:
-    """The syscalls of a kind that filters allow, of those that were tried, with their answers."""
-
-    kind: Kind
-    let_through: tuple[tuple[str, int, Answer], ...]
-
-    def describe(self) -> str:
-        tried = f"{self.kind.name}: undecided whether any syscall is allowed; of {len(self.kind.calls)} tried,"
-        if not self.let_through:
-            return f"{tried} none is"
-        _, number, answer = self.let_through[0]
-        verb = "is" if len(self.let_through) == 1 else "are"
-        return f"{tried} {len(self.let_through)} {verb}, such as {self.kind.describe(number)}: {answer}"
-
-    def as_json(self) -> dict[str, object]:
-        return {"kind": self.kind.name, "is_decided": False, "tried": len(self.kind.calls),
-                "let_through": [{"name": name, "number": number, "answer": answer.as_json()}
-                                for name, number, answer in self.let_through]}
-
-
-def _proved(filters: Sequence[bytes], kind: Kind, limit: str | None) -> Proved | None:
+def _proved(filters: Sequence[bytes], kind: Kind, limit: str | None) -> Known | None:
     """scf's result for all syscalls of a kind, or None if it can't decide."""
     try:
-        verdict = Asker(filters, limit, kind.of).of_numbers(IS_REFUSED, 0, kind.last - kind.of.first)
+        verdict = Asker(filters, limit, kind.of).of_numbers(IS_DENIED, 0, kind.last - kind.of.first)
     except client.Refusal:
         return None
-    if verdict is None:
+    if verdict is None or not verdict.holds and (verdict.call is None or verdict.filters is None):
         return None
-    if verdict.holds:
-        return Proved(kind)
-    return Proved(kind, verdict.call, verdict.filters) if verdict.call else None
+    return Known(kind, () if verdict.holds else ((verdict.call, verdict.filters),))
 
 
-def _tried(filters: Sequence[bytes], kind: Kind) -> Tried | None:
+def _tried(filters: Sequence[bytes], kind: Kind) -> Known | None:
     """What filters answer to some syscalls of a kind, or None if scf refuses the filters."""
-    given = bundles.of_stack(filters)
     found = []
-    for name, number in ((name, kind.of.first + number) for name, number in kind.calls):
-        done = client.run(["decide", *Call(number, kind.of.number).words()], given)
-        answer = verdicts.decision(done.text).answer
+    for call in (Call(kind.of.first + number, kind.of.number) for _, number in kind.calls):
+        answer = Asker(filters).decided(call)
         if answer is None:
             return None
-        if answer.allows:
-            found.append((name, number, answer))
-    return Tried(kind, tuple(found))
+        found += [(call, answer)] if answer.allows else []
+    return Known(kind, tuple(found), False)
 
 
-def are_none(found: Sequence[Proved | Tried]) -> bool:
+def are_none(found: Sequence[Known]) -> bool:
     """Whether it is proved that every foreign syscall is denied."""
-    return all(isinstance(one, Proved) and one.lets_none_through for one in found)
+    return all(one.are_denied for one in found)
 
 
-def describe(found: Sequence[Proved | Tried], profile_names: Sequence[str] = ()) -> list[str]:
+def describe(found: Sequence[Known], profile_names: Sequence[str] = ()) -> list[str]:
     """A line for each kind, given a profile that names these other architectures."""
     if are_none(found):
         return [NONE]
@@ -163,25 +146,25 @@ def describe(found: Sequence[Proved | Tried], profile_names: Sequence[str] = ())
     return [*(one.describe() + named.get(one.kind.of.oci, "") for one in found), OTHERS]
 
 
-def all_denied() -> list[Proved | Tried]:
+def all_denied() -> list[Known]:
     """What is known if every foreign syscall is denied."""
-    return [Proved(kind) for kind in KINDS]
+    return [Known(kind) for kind in KINDS]
 
 
 def of_each(filters: Sequence[bytes], limit: str | None, example: Verdict | None = None,
-            judged: Collection[str] = ()) -> list[Proved | Tried]:
+            judged: Collection[str] = ()) -> list[Known]:
     """For each kind that isn't judged otherwise, whether filters, oldest first, allow any foreign syscall, given one
     that they allow, if there is one; nothing if scf refuses the filters."""
     call = example.call if example is not None else None
     abi = call.abi if call is not None and call.number < NO_CALL else None
-    found = (Proved(kind, call, example.filters) if kind.of.oci == abi else
+    found = (Known(kind, ((call, example.filters),)) if kind.of.oci == abi else
              _proved(filters, kind, limit) or _tried(filters, kind)
              for kind in KINDS if kind.of.oci not in judged)
     return [one for one in found if one is not None]
 
 
-def let_through(filters: Sequence[bytes], limit: str | None = None, judged: Collection[str] = ()) -> list[Proved | Tried]:
-    """The same, and if all are denied by one comparison, but where some kinds are judged otherwise."""
+def known_of(filters: Sequence[bytes], limit: str | None = None, judged: Collection[str] = ()) -> list[Known]:
+    """The same; one comparison is enough if all are denied, unless some kinds are judged otherwise."""
     if any(kind.of.oci in judged for kind in KINDS):
         return of_each(filters, limit, None, judged)
     given = bundles.of_comparison(filters, ALLOWS_NATIVE, tables.native_alone(b""))

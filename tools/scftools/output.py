@@ -40,6 +40,11 @@ def escaped(text: str | bytes) -> str:
     return CONTROL.sub(_bytes_of, data.decode("utf-8", "backslashreplace"))
 
 
+def cut(text: str, most: int = 64) -> str:
+    """A text, cut if it is longer than this."""
+    return text if len(text) <= most else f"{text[:most]}.."
+
+
 def some(texts: Sequence[str], most: int) -> str:
     """The first texts of a list, so many, and how many more there are."""
     return ", ".join(texts[:most]) + (f" and {len(texts) - most} more" if len(texts) > most else "")
@@ -95,14 +100,11 @@ def notes(lines: Iterable[str]) -> Iterator[str]:
     return (f"# {line}" for line in lines)
 
 
-def say(name: str, text: str) -> None:
-    """Prints a line on standard error, after the tool's name; nothing if that is closed."""
-    if sys.stderr is None:
-        return
-    try:
-        print(f"{escaped(name)}: {escaped(text)}", file=sys.stderr, flush=True)
-    except (OSError, ValueError):
-        pass
+def put_explained(lines: Iterable[str], added: Iterable[str]) -> None:
+    """Prints scf's lines, and those that explain them, for which the verdict doesn't wait."""
+    put_lines(lines)
+    flush()
+    put_lines(notes(added))
 
 
 def flush() -> None:

@@ -8,7 +8,6 @@ may be reused later.
 from __future__ import annotations
 
 import os
-import signal
 from collections.abc import Callable, Sequence
 
 from . import child, output, program
@@ -17,12 +16,9 @@ from .containers import Container, container_of
 from .filters import Filter
 from .hold import Ended, Hold, Unreadable, Waiting, called, require_rights, stack_of
 from .ptrace import Kernel
+from .restart import Restarts
 from .values import Any, dataclass, field
-
-TYPE_CHECKING = False
-if TYPE_CHECKING:
-    from .restart import Restarts
-    from .words import Parser
+from .words import Parser
 
 __all__ = ("Container", "Inspection", "Interrupted", "Kernel", "Stack", "Unreadable", "called", "container_of")
 
@@ -54,6 +50,12 @@ class Stack:
         """The filters, by the names that `scf filters-of` gives their files."""
         width = len(str(len(self.filters) - 1))
         return [Filter(f"{at:0{width}}.bpf", data) for at, data in enumerate(self.filters)]
+
+    def as_json(self, names: dict[int, bytes]) -> dict[str, object]:
+        """The lengths of its filters, and the threads that have it, given the names of processes."""
+        return {"filters": [one.count for one in self.named],
+                "processes": [{"process": process, "name": output.escaped(names[process]), "threads": threads}
+                              for process, threads in self.threads.items()]}
 
     @property
     def description(self) -> str:
@@ -187,13 +189,6 @@ def number_in(text: str, parser: Parser) -> int:
     return int(text)
 
 
-def add_force(parser: Parser) -> None:
-    """Adds `--force`."""
-    parser.add_argument("--force", action="store_true",
-                        help="also stop threads that wait for a seccomp supervisor, which then gets their syscalls a "
-                             "second time")
-
-
 def read_or_end(read: Callable[[], Any], has_force: bool = False, is_json: bool = False) -> Any:
     """What is read; ends the tool where that can't be, with an object that says so where one is wanted, or where a
     signal came that ends it."""
@@ -205,6 +200,8 @@ def read_or_end(read: Callable[[], Any], has_force: bool = False, is_json: bool 
             output.put_json({"status": program.IO_ERROR, "verdict": None, "stacks": [], "why": output.escaped(why)})
         raise program.ToolError(why, program.IO_ERROR) from error
     except Interrupted as came:
+        import signal  # pylint: disable=import-outside-toplevel
+
         number = came.args[0]
         program.say(f"ended by {signal.Signals(number).name}; all stopped threads continue")
         signal.signal(number, signal.SIG_DFL)

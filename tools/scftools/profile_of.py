@@ -9,25 +9,21 @@ from __future__ import annotations
 from collections import Counter
 from collections.abc import Iterable, Iterator, Sequence
 
-from . import answer_sets, architectures, engines, newer, output, program, reasons, runtimes, tables, unnamed
+from . import answer_sets, architectures, engines, newer, output, program, questions, reasons, runtimes, tables
 from .answer_sets import COMPUTED, UNFOLLOWED, UPPER, Answers
-from .answers import ALLOWED, DISPOSITIONS, X32, Answer
+from .answers import ALLOWED, DISPOSITIONS, ENOSYS, X32, Answer
 from .architectures import JUDGED, NATIVE, Architecture
-from .argument_sets import ALL, NONE, OTHERS, Sets, TooMany
+from .argument_sets import ALL, NONE, OTHERS, Alternative, Covers, Sets, TooMany
 from .calls import NO_CALL, Call
 from .client import Refusal
 from .compare import Comparison
-from .covers import Alternative, Covers
 from .explanation import join_names
 from .filters import Filter
-from .newer import ENOSYS
-from .questions import EVERYTHING, IS_REFUSED, NOTHING, Asker
+from .questions import EVERYTHING, IS_DENIED, NOTHING, Asker
 from .tables import Table, Tables
 from .values import dataclass, field, replace
 from .verdicts import NO_LESS, NO_MORE, SAME, NamedCall, Report
 
-# The actions whose data a profile says.
-WITH_DATA = ("ERRNO", "TRACE")
 # How far a draft may be from the filters: it says all that a profile can; one answer for all calls of a number that the
 # filters give to some of them; the utmost answer.
 EXACT, CONSTANT, UTMOST = range(3)
@@ -40,20 +36,14 @@ def nearest(word: int | None, is_permissive: bool) -> Answer:
     answer = Answer.of_word(word)
     if answer.action == "UNNAMED":
         return NOTHING
-    return answer if answer.action in WITH_DATA else Answer(answer.action, 0)
-
-
-def members_of(answer: Answer, action: str = "action", errno: str = "errnoRet") -> dict[str, object]:
-    """The members of an entry that give this answer."""
-    name = "NOTIFY" if answer.action == "USER_NOTIF" else answer.action
-    return {action: f"SCMP_ACT_{name}", **({errno: answer.data} if answer.action in WITH_DATA else {})}
+    return answer if answer.is_of_profiles else Answer(answer.action, 0)
 
 
 def entry_of(names: Sequence[str], answer: Answer, alternative: Alternative) -> dict[str, object]:
     """An entry of a profile."""
     args = [{"index": it.index, "value": it.value, **({"valueTwo": it.two} if it.op == "SCMP_CMP_MASKED_EQ" else {}),
              "op": it.op} for it in alternative]
-    return {"names": list(names), **members_of(answer), **({"args": args} if args else {})}
+    return {"names": list(names), **answer.members(), **({"args": args} if args else {})}
 
 
 @dataclass(frozen=True)
@@ -190,7 +180,7 @@ class Draft:
             known.update(draft.filters.table.names())
         order = sorted(entries.items(), key=lambda it: (bool(it[0][1]), -DISPOSITIONS.index(it[0][0].disposition)))
         listed = [entry_of(sorted(names), *key) for key, names in order]
-        return {**members_of(default, "defaultAction", "defaultErrnoRet"),
+        return {**default.default(),
                 "architectures": [it.filters.architecture.oci for it in drafts], "syscalls": listed}
 
 
@@ -258,7 +248,7 @@ class Request:
     def calls(self, profile: dict[str, object], relation: str) -> list[NamedCall]:
         """The syscalls in the table of which this relation isn't proved, of a profile that scf takes."""
         comparison, first = self.comparison(profile, relation)
-        expected = newer.expecting_stub(comparison, first if relation == SAME else {})
+        expected = replace(comparison, stub=first if relation == SAME else {})
         return expected.calls_of(self.architecture.oci)
 
     def check(self) -> None:
@@ -268,8 +258,8 @@ class Request:
     def answers(self) -> FilterAnswers:
         """What accepted filters answer, number by number; nothing is known if they compute too much."""
         one, sets = self.architecture, Sets(self.architecture.bits)
-        numbers = sorted({*self.table.numbers(), *unnamed.tested(self.data, one),
-                          *(first for first, _ in unnamed.gaps(self.table, one))})
+        numbers = sorted({*self.table.numbers(), *questions.numbers_tested(self.data, one),
+                          *(first for first, _ in questions.gaps(self.table, one))})
         try:
             found = answer_sets.of_filters(sets, self.data, one, numbers)
         except TooMany:
@@ -341,7 +331,7 @@ def _other_number(request: Request, answers: FilterAnswers, profile: dict[str, o
     for number, found in answers.others():
         for word, arguments in found:
             answer = nearest(word, True)
-            if word == answer.word and members_of(answer, "defaultAction", "defaultErrnoRet") == default:
+            if word == answer.word and answer.default() == default:
                 continue
             least = answers.sets.least(answers.sets.possible(arguments))
             call = Call(one.first + number, one.number, arguments=least)
@@ -389,7 +379,7 @@ def _covered(request: Request, listed: Sequence[str], count: int = 1) -> Iterato
 def _allowed(request: Request, one: Architecture) -> Iterator[str]:
     """A line if scf doesn't prove that the filters deny every syscall of an architecture."""
     # no syscall has a number from NO_CALL on
-    verdict = Asker(request.data, request.limit, one).of_numbers(IS_REFUSED, 0, min(one.last, NO_CALL - 1) - one.first)
+    verdict = Asker(request.data, request.limit, one).of_numbers(IS_DENIED, 0, min(one.last, NO_CALL - 1) - one.first)
     if verdict is None or verdict.holds:
         return
     said = "undecided whether any syscall is allowed"

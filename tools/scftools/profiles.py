@@ -7,7 +7,7 @@ from __future__ import annotations
 import functools
 import json
 import re
-from collections.abc import Callable, Iterator, Sequence
+from collections.abc import Iterator, Sequence
 
 from . import json_places
 from .values import Any, Pattern, dataclass
@@ -21,6 +21,13 @@ LONGEST_NUMBER = 40
 ALLOWING = ("SCMP_ACT_ALLOW", "SCMP_ACT_LOG")
 ACTIONS = tuple(f"SCMP_ACT_{it}" for it in
                 "ALLOW LOG ERRNO TRACE TRAP NOTIFY KILL KILL_THREAD KILL_PROCESS".split())
+# What each comparison tests of an argument and its value; for masks the value is the mask.
+HOLDS = {
+    "SCMP_CMP_NE": lambda it, value, two: it != value, "SCMP_CMP_LT": lambda it, value, two: it < value,
+    "SCMP_CMP_LE": lambda it, value, two: it <= value, "SCMP_CMP_EQ": lambda it, value, two: it == value,
+    "SCMP_CMP_GE": lambda it, value, two: it >= value, "SCMP_CMP_GT": lambda it, value, two: it > value,
+    "SCMP_CMP_MASKED_EQ": lambda it, value, two: it & value == two & value,
+}
 
 # The members of a profile, in the form of the OCI runtime specification (config-linux.md: Seccomp) and in those of the
 # engines (profiles/seccomp of moby, pkg/seccomp of containers-common), each with what its value is: a text, a whole
@@ -59,57 +66,44 @@ class Profile:
         return self.default in ALLOWING
 
 
-def _top(data: bytes, parse_int: Callable[[str], object]) -> dict[str, Any]:
-    """The seccomp object of a profile, or of a whole config.json."""
-    top = json.loads(data.decode("utf-8"), parse_int=parse_int, parse_float=str)
-    if isinstance(top, dict) and top.get("defaultAction") is None and top.get("linux") is not None:
-        top = top["linux"]["seccomp"]
-    return top
+@functools.lru_cache(2)
+def _top(data: bytes) -> dict[str, Any]:
+    """The seccomp object of a profile, or of a whole config.json; nothing in it if it can't be read. A number larger
+    than any that scf takes stays a string, and so does a fraction."""
+    try:
+        top = json.loads(data.decode("utf-8"), parse_float=str,
+                         parse_int=lambda text: int(text) if len(text) <= LONGEST_NUMBER else text)
+        if isinstance(top, dict) and top.get("defaultAction") is None and top.get("linux") is not None:
+            top = top["linux"]["seccomp"]
+    except (ValueError, LookupError, TypeError, RecursionError):
+        return {}
+    return top if isinstance(top, dict) else {}
 
 
-@functools.lru_cache(4)
 def architectures_of(data: bytes) -> tuple[str, ...]:
     """The OCI names in a profile's list of architectures; none if it has no list, or it can't be read."""
     if b"architectures" not in data and b"\\u" not in data:
         return ()
-    try:
-        found = _top(data, str).get("architectures")
-    except (ValueError, LookupError, TypeError, AttributeError, RecursionError):
-        return ()
+    found = _top(data).get("architectures")
     return tuple(it for it in found if isinstance(it, str)) if isinstance(found, list) else ()
 
 
-@functools.lru_cache(2)
-def _entries(data: bytes) -> list[object] | None:
-    """The entries of a profile, parsed once even if two are compared."""
-    try:
-        found = _top(data, lambda text: int(text) if len(text) <= LONGEST_NUMBER else text)["syscalls"]
-    except (ValueError, LookupError, TypeError, AttributeError, RecursionError):
-        return None
-    return found if isinstance(found, list) else None
-
-
 def entry_at(data: bytes, place: int) -> object:
-    """The entry at an index of `syscalls`, from 0 on, or None if it can't be read.
-
-    A number larger than any that scf takes stays a string, and so does a fraction.
-    """
-    entries = _entries(data)
-    return entries[place] if entries is not None and place < len(entries) else None
+    """The entry at an index of `syscalls`, from 0 on, or None if it can't be read."""
+    entries = _top(data).get("syscalls")
+    return entries[place] if isinstance(entries, list) and place < len(entries) else None
 
 
 def read(data: bytes) -> Profile | None:
     """What the tools need of a profile, or None if it can't be read."""
+    top = _top(data)
     try:
-        # numbers stay strings: none is needed, and a long one would take long
-        top = _top(data, str)
-        default, entries = top["defaultAction"], top.get("syscalls") or []
-        names = [name for entry in entries for name in entry["names"]]
-    except (ValueError, KeyError, TypeError, AttributeError, RecursionError):
+        names = [name for entry in top.get("syscalls") or [] for name in entry["names"]]
+    except (LookupError, TypeError):
         return None
-    if not isinstance(default, str) or not all(isinstance(name, str) for name in names):
+    if not isinstance(top.get("defaultAction"), str) or not all(isinstance(name, str) for name in names):
         return None
-    return Profile(default, names)
+    return Profile(top["defaultAction"], names)
 
 
 @functools.lru_cache(1024)
@@ -183,14 +177,12 @@ def errno_by_name(data: bytes) -> str | None:
     """Where a profile has an errno by name, which only podman reads, or None if it has none."""
     if not any(it in data for it in (b'errno"', b'defaultErrno"', b"\\u")):
         return None
-    try:
-        top = _top(data, str)
-        holders = [("the profile", "defaultErrno", top)]
-        holders += [(f"entry {at}", "errno", entry) for at, entry in enumerate(top.get("syscalls") or [])]
-        found = ((where, name, holder.get(name)) for where, name, holder in holders if isinstance(holder, dict))
-        return next((f"{where} has {name} {json.dumps(value)}" for where, name, value in found if value), None)
-    except (ValueError, LookupError, TypeError, AttributeError, RecursionError):
-        return None
+    top = _top(data)
+    entries = top.get("syscalls")
+    holders = [("the profile", "defaultErrno", top)]
+    holders += [(f"entry {at}", "errno", it) for at, it in enumerate(entries if isinstance(entries, list) else ())]
+    found = ((where, name, holder.get(name)) for where, name, holder in holders if isinstance(holder, dict))
+    return next((f"{where} has {name} {json.dumps(value)}" for where, name, value in found if value), None)
 
 
 def _too_deep(text: str) -> int | None:

@@ -11,13 +11,17 @@ from . import output
 from .values import NoReturn
 
 TOP = os.path.dirname(os.path.dirname(os.path.dirname(os.path.realpath(__file__))))
-TABLE = os.path.join(TOP, "tables", "x86_64.table")
-OTHER_NAMES = os.path.join(TOP, "tables", "other_architectures.names")
 FAULTS = os.path.join(TOP, "docs", "FAULTS.md")
 
 # The statuses of scf and of its tools: all is as it should be; something differs, is found or is refused; a usage
 # error; an input can't be read or the output not written; it isn't known; scf isn't built.
 SUCCESS, NEGATIVE, USAGE_ERROR, IO_ERROR, UNKNOWN, NOT_BUILT = 0, 1, 2, 3, 4, 125
+
+
+def lines_of(table: str) -> list[str]:
+    """The lines of a file in tables/, but for empty ones and comments, which begin with `#`."""
+    with open(os.path.join(TOP, "tables", table), encoding="ascii") as file:
+        return [line for line in file if line.strip() and not line.startswith("#")]
 
 
 def name() -> str:
@@ -27,9 +31,12 @@ def name() -> str:
 
 
 def say(*lines: str) -> None:
-    """Prints lines on standard error, each after the tool's name."""
-    for line in lines:
-        output.say(name(), line)
+    """Prints lines on standard error, each after the tool's name; nothing if that is closed."""
+    try:
+        for line in lines if sys.stderr is not None else ():
+            print(f"{output.escaped(name())}: {output.escaped(line)}", file=sys.stderr, flush=True)
+    except (OSError, ValueError):
+        pass
 
 
 class ToolError(Exception):

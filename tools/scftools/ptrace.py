@@ -52,6 +52,17 @@ def contents(path: str) -> bytes:
         return b""
 
 
+def stat_of(process: int) -> list[bytes]:
+    """The fields of /proc/PROCESS/stat from the third one on, which is behind the name; none where it isn't there."""
+    return contents(f"/proc/{process}/stat").rpartition(b")")[2].split()
+
+
+def ticks_at_start(process: int) -> int | None:
+    """When a process started, in the kernel's clock ticks (proc_pid_stat(5))."""
+    fields = stat_of(process)
+    return int(fields[19]) if len(fields) > 19 else None
+
+
 class Kernel:
     """What is asked of the kernel; an OSError where a call of it fails."""
 
@@ -121,7 +132,7 @@ class Kernel:
 
     def flags_of(self, thread: int) -> int:
         """The flags of a thread, as linux/sched.h has them: the ninth field of /proc/THREAD/stat."""
-        fields = contents(f"/proc/{thread}/stat").rpartition(b")")[2].split()
+        fields = stat_of(thread)
         return int(fields[6]) if len(fields) > 6 else 0
 
     def name_of(self, process: int) -> bytes:

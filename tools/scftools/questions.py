@@ -1,4 +1,5 @@
-"""Questions: whether filters always deny or allow syscalls, by comparison with a profile of a single answer.
+"""Questions: whether filters always deny or allow syscalls, by comparison with a profile of a single answer; and so of
+the numbers that the table of an architecture doesn't name: how many of them filters don't always deny.
 
 A syscall is always denied if the filters are no more permissive than a profile that denies everything, and always
 allowed if they are no stricter than one that allows everything. Compared with a profile that delegates everything to a
@@ -7,18 +8,22 @@ tracer, no more means never allowed, and no less never denied. If a relation fai
 from __future__ import annotations
 
 import json
-from collections.abc import Sequence
+from collections.abc import Iterator, Sequence
 
 from . import bundles, client, program, verdicts
-from .answers import Answer
+from .answers import ALLOW, KILL_PROCESS, X32, Answer
 from .architectures import JUDGED, NATIVE, Architecture
 from .calls import Call
-from .filters import RETURN_CONSTANT, instruction, looks_at_pointer
+from .filters import INSTRUCTION, JEQ, JGE, JGT, JUMP, RETURN_CONSTANT, instruction, looks_at_pointer
 from .tables import Table, Tables
 from .values import dataclass
 from .verdicts import ALL, CALLS, LISTED, NO_LESS, NO_MORE, RELATIONS, SCOPES, Report, Verdict
 
-NOTHING, EVERYTHING = Answer("KILL_PROCESS", 0), Answer("ALLOW", 0)
+NOTHING, EVERYTHING = KILL_PROCESS, ALLOW
+# The most ranges of numbers without a name to check.
+MOST = 256
+# The most numbers of a gap that are all checked one by one, and the most of all gaps.
+FEW, ALL_FEW = 256, 4096
 
 
 @dataclass(frozen=True)
@@ -33,8 +38,8 @@ class Question:
         return instruction(RETURN_CONSTANT, self.answer.word)
 
 
-IS_REFUSED, IS_MADE = Question(NO_MORE, NOTHING), Question(NO_LESS, EVERYTHING)
-IS_NEVER_MADE, IS_NEVER_REFUSED = (Question(relation, Answer("TRACE", 0)) for relation in (NO_MORE, NO_LESS))
+IS_DENIED, IS_ALLOWED = Question(NO_MORE, NOTHING), Question(NO_LESS, EVERYTHING)
+IS_NEVER_ALLOWED, IS_NEVER_DENIED = (Question(relation, Answer("TRACE", 0)) for relation in (NO_MORE, NO_LESS))
 
 
 def checked(status: int, report: Report, scope: str) -> Report:
@@ -100,3 +105,91 @@ class Asker:
         """What the filters answer to a record."""
         done = client.run(["decide", *call.words()], bundles.of_stack(self.filters))
         return verdicts.decision(done.text).answer
+
+
+@dataclass
+class Unnamed:
+    """How many numbers have no name, how many of them aren't always denied, and how many are undecided."""
+
+    count: int
+    not_denied: int = 0
+    undecided: int = 0
+    # whether all of them are always allowed
+    are_allowed: bool = True
+    # an example that isn't denied
+    shown: Verdict | None = None
+
+    @property
+    def _as_shown(self) -> str:
+        if self.shown is None or self.shown.call is None:
+            return ""
+        return f", such as {self.shown.call.number}: {self.shown.filters}"
+
+    def describe(self) -> str:
+        if self.are_allowed:
+            return f"all {self.count} are always allowed"
+        if self.undecided:
+            least = f"at least {self.not_denied} of {self.count} are allowed or delegated with some arguments" \
+                    f"{self._as_shown}; " if self.not_denied else ""
+            return f"{least}{self.undecided} are undecided"
+        if not self.not_denied:
+            return f"all {self.count} are always denied"
+        which = f"all {self.count}" if self.not_denied == self.count else f"{self.not_denied} of {self.count}"
+        return f"{which} are allowed or delegated with some arguments{self._as_shown}"
+
+    def as_json(self) -> dict[str, object]:
+        found: dict[str, object] = {"count": self.count, "let_through": self.not_denied, "untold": self.undecided,
+                                    "are_made": self.are_allowed}
+        if self.shown is not None and self.shown.call is not None and self.shown.filters is not None:
+            found["shown"] = {"number": self.shown.call.number, "answer": self.shown.filters.as_json()}
+        return found
+
+
+def gaps(table: Table, one: Architecture = JUDGED[NATIVE]) -> Iterator[tuple[int, int]]:
+    """The ranges of numbers of an architecture that its table doesn't name: the first of each, and the one after the
+    last."""
+    before = 0
+    for number in [*sorted(table.numbers()), one.last - one.first + 1]:
+        if before < number:
+            yield before, number
+        before = number + 1
+
+
+def numbers_tested(filters: Sequence[bytes], one: Architecture = JUDGED[NATIVE]) -> set[int]:
+    """The numbers at which tests of the filters change, as far as a table can name them."""
+    found: set[int] = set()
+    for data in filters:
+        whole = data[:len(data) // INSTRUCTION.size * INSTRUCTION.size]
+        for code, _, _, k in INSTRUCTION.iter_unpack(whole):
+            if code in (JUMP | JEQ, JUMP | JGT, JUMP | JGE):
+                found.update((k - one.first, k - one.first + 1))
+    return {it for it in found if 0 <= it < X32}
+
+
+def with_more_names(table: Table, one: Architecture, *filters: bytes) -> Table:
+    """A table that also names numbers without a name, by which they are checked one by one: all of a small gap, and of
+    any other the first, and those at which tests of the filters change."""
+    prefix, turns, numbers = "_", sorted(numbers_tested(filters, one)), []
+    while any(name.startswith(prefix) for name in table.names()):
+        prefix += "_"
+    for first, end in gaps(table, one):
+        few = range(first, end) if end - first <= FEW else [it for it in turns if first < it < end]
+        numbers += dict.fromkeys([first, *few])
+    before = b"" if table.data[-1:] in (b"", b"\n") else b"\n"
+    return Table(table.data + before + "".join(f"{prefix}{it} {it}\n" for it in numbers[:ALL_FEW]).encode())
+
+
+def count_unnamed(asker: Asker, ranges: Sequence[tuple[int, int]], found: Unnamed) -> None:
+    """Adds ranges of numbers to what is known, if scf proves that they are all denied, or never; the longest first."""
+    for at, (first, end) in enumerate(sorted(ranges, key=lambda it: it[0] - it[1])):
+        if found.are_allowed and asker.of_numbers(IS_ALLOWED, first, end - 1).holds:
+            found.not_denied += end - first
+            continue
+        found.are_allowed = False
+        some = asker.of_numbers(IS_DENIED, first, end - 1) if at < MOST else None
+        if some is not None and some.call is not None:
+            found.shown = found.shown or some
+        if some is None or not some.holds and not asker.of_numbers(IS_NEVER_DENIED, first, end - 1).holds:
+            found.undecided += end - first
+        elif not some.holds:
+            found.not_denied += end - first

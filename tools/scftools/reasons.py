@@ -1,34 +1,21 @@
-"""Reasons: why a profile answers a syscall as it does, by `scf ask`, with the entry that decides and its conditions;
-and why filters and a profile differ on a syscall."""
+"""Reasons: why a profile answers a syscall as it does, by `scf ask`, with the entry that decides and its conditions."""
 from __future__ import annotations
 
 import json
 from collections.abc import Iterator, Sequence
 
-from . import bundles, client, explanation, paths, profiles, program
+from . import bundles, client, explanation, profiles, program
 from .answers import Answer
 from .calls import Call
-from .paths import Giver
-from .profiles import Origin
+from .profiles import HOLDS, Origin
 from .tables import Table, Tables
 from .values import Pattern, dataclass
-from .verdicts import Fault, Verdict
-
-TYPE_CHECKING = False
-if TYPE_CHECKING:
-    from .compare import Comparison
+from .verdicts import Fault
 
 PRINTED = Pattern(r"(\w+ \w+) (?:entry ([0-9]+)|(default)|(foreign))")
 BY_STUB = "by the ENOSYS that runc puts before the filter"
 # At most so many characters of an entry are printed.
 LONGEST = 400
-# What each comparison tests of an argument and its value; for masks the value is the mask.
-HOLDS = {
-    "SCMP_CMP_NE": lambda it, value, two: it != value, "SCMP_CMP_LT": lambda it, value, two: it < value,
-    "SCMP_CMP_LE": lambda it, value, two: it <= value, "SCMP_CMP_EQ": lambda it, value, two: it == value,
-    "SCMP_CMP_GE": lambda it, value, two: it >= value, "SCMP_CMP_GT": lambda it, value, two: it > value,
-    "SCMP_CMP_MASKED_EQ": lambda it, value, two: it & value == two & value,
-}
 
 
 @dataclass(frozen=True)
@@ -131,45 +118,3 @@ def as_json(reason: Reason, profile: bytes, call: Call | None,
         held = [_condition_text(it, call) for it in _conditions(entry)] if call else []
         found.update(place=index, entry=entry, held=[it for it in held if it])
     return found
-
-
-@dataclass(frozen=True)
-class Difference:
-    """Why filters and a profile differ on a syscall: the profile's reason, None if runc's stub answers, and the filter
-    whose path is shown."""
-
-    comparison: Comparison
-    call: Call
-    reason: Reason | None
-    giver: Giver | None
-
-    @classmethod
-    def of(cls, comparison: Comparison, verdict: Verdict) -> Difference | None:
-        """Why the example of a verdict differs, None if it has none."""
-        call = verdict.call
-        if call is None or verdict.filters is None or verdict.profile is None:
-            return None
-        is_stub = call.number >= comparison.stub.get(call.abi or "", 1 << 32)
-        return cls(comparison, call, None if is_stub else of(comparison.profile, comparison.tables, call.words()),
-                   paths.to_show(paths.deciding_filters(comparison.filters, call.words(), verdict.filters)))
-
-    def lines(self) -> Iterator[str]:
-        """What decides in the profile, and the last tests on the filter's path."""
-        if self.reason is None:
-            yield BY_STUB
-        else:
-            yield from describe(self.reason, self.comparison.profile, self.call, self.comparison.origins)
-        if self.giver is not None:
-            yield from self.giver.last_tests(self.call, self.comparison.table)
-
-    def as_json(self) -> dict[str, object]:
-        found: dict[str, object] = {"reason": "stub"}
-        if self.reason is not None:
-            found = as_json(self.reason, self.comparison.profile, self.call, self.comparison.origins)
-        return {**found, "path": self.giver.as_json()} if self.giver is not None else found
-
-
-def of_difference(comparison: Comparison, verdict: Verdict) -> Iterator[str]:
-    """The lines after a syscall that differs."""
-    found = Difference.of(comparison, verdict)
-    yield from found.lines() if found is not None else ()

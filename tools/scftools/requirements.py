@@ -10,8 +10,8 @@ import itertools
 import json
 from collections.abc import Iterable, Iterator, Sequence
 
-from . import bundles, client, entries, output, profiles, program, reasons, refusals, strace, tables, traces, verdicts
-from .answers import ALLOWED, Answer
+from . import client, entries, output, profiles, program, reasons, strace, tables, traces, verdicts
+from .answers import ALLOW, ALLOWED, Answer
 from .architectures import JUDGED, NATIVE, Architecture, of_machine
 from .calls import Call
 from .client import Refusal
@@ -25,11 +25,8 @@ from .traces import Trace
 from .values import dataclass
 from .verdicts import Verdict
 
-TYPE_CHECKING = False
-if TYPE_CHECKING:
-    # an example that is allowed, and one that isn't, with its answer
-    Answers = tuple[Call | None, tuple[Call, Answer] | None]
-
+# An example that is allowed, and one that isn't, with its answer.
+Answers = "tuple[Call | None, tuple[Call, Answer] | None]"
 IS_ALLOWED, ISNT_ALLOWED, DEPENDS, UNDECIDED = "made", "not made", "depends", "untold"
 # The words of text output; JSON has those above.
 WORDS = {IS_ALLOWED: "allowed", ISNT_ALLOWED: "not allowed", DEPENDS: DEPENDS, UNDECIDED: "undecided"}
@@ -43,7 +40,7 @@ TAKEN = ("a log that doesn't say its architecture is taken as {}'s, since the pr
          "another")
 # The most entries with conditions for one name, and the most syscalls to judge, each with each of its values.
 CONDITIONS, WAYS = 64, 2000
-REFERRED, EQUAL = ("SCMP_ACT_TRACE", 1), "SCMP_CMP_EQ"
+DELEGATE, EQUAL = Answer("TRACE", 1), "SCMP_CMP_EQ"
 # What each least profile allows where an architecture has it: a process calls these, which a log needn't show, to
 # continue after a stop or a signal, and to end.
 ALWAYS = ("restart_syscall", "rt_sigreturn", "exit", "exit_group", "sigreturn")
@@ -55,11 +52,6 @@ OF_RUNTIMES = {
             "getpid getppid newfstatat openat prctl read setgid setgroups setuid write",
     "crun": "capset close execve prctl rt_sigaction rt_sigprocmask setresgid setresuid write",
 }
-
-
-def marked(one: Architecture, text: str) -> str:
-    """A text about a syscall, after the name of its architecture if that isn't x86-64."""
-    return text if one.oci == NATIVE else f"{one.name} {text}"
 
 
 @dataclass(frozen=True)
@@ -95,16 +87,12 @@ class TracedCall:
 
     @property
     def shown_name(self) -> str:
-        return marked(self.architecture, self.name)
-
-    def has_name(self, known: dict[str, Table]) -> bool:
-        """Whether the table of its architecture, by OCI names, has its name."""
-        return known[self.architecture.oci].number_of(self.name) is not None
+        return self.architecture.marked(self.name)
 
     def describe(self) -> str:
         shown = "".join(f" arg {index} {values[0]:#x}" for index, values in self.arguments
                         if values is not None and len(values) == 1)
-        return marked(self.architecture, f"{self.number} {self.name}{shown}")
+        return self.architecture.marked(f"{self.number} {self.name}{shown}")
 
 
 @dataclass(frozen=True)
@@ -114,8 +102,8 @@ class Judgement:
     traced: TracedCall
     disposition: str
     line: str = ""
-    made: Call | None = None
-    refused: tuple[Call, Answer] | None = None
+    allowed: Call | None = None
+    denied: tuple[Call, Answer] | None = None
     # whether the profile doesn't list its architecture
     is_foreign: bool = False
 
@@ -173,15 +161,15 @@ class Judge:
                        for name in (*table.names_of(number), f"syscall_{number:#x}")}
 
     def of(self, traced: TracedCall) -> Judgement:
-        made, refused = None, None
+        allowed, denied = None, None
         for values in traced.known():
             answers = self._compared(traced, values) if traced.unknown else self._asked(traced, values)
             if isinstance(answers, Verdict):
                 return Judgement(traced, UNDECIDED, answers.word)
-            made, refused = answers[0] or made, answers[1] or refused
-        reason = self._reason(refused[0]) if refused else None
-        disposition = DEPENDS if made and refused else IS_ALLOWED if made else ISNT_ALLOWED
-        return Judgement(traced, disposition, reason.line if reason else "", made, refused,
+            allowed, denied = answers[0] or allowed, answers[1] or denied
+        reason = self._reason(denied[0]) if denied else None
+        disposition = DEPENDS if allowed and denied else IS_ALLOWED if allowed else ISNT_ALLOWED
+        return Judgement(traced, disposition, reason.line if reason else "", allowed, denied,
                          reason is not None and reason.is_foreign)
 
     def _reason(self, call: Call) -> Reason:
@@ -196,23 +184,19 @@ class Judge:
         answer = self._reason(call).answer
         return (call, None) if answer is None or answer.disposition == ALLOWED else (None, (call, answer))
 
-    def _verdict(self, traced: TracedCall, values: dict[int, int], default: str, answer: tuple[str, int],
+    def _verdict(self, traced: TracedCall, values: dict[int, int], default: Answer, answer: Answer,
                  relation: str) -> Verdict:
         """What scf says of the filter beside a profile that gives the calls with these arguments an answer."""
         conditions = tuple(Condition(index, EQUAL, value, 0) for index, value in values.items())
         one = traced.architecture.oci
-        beside = entries.profile_of((default, 1), [Entry(0, ("it",), answer, conditions)], [one])
-        given = bundles.of_comparison([self.filter], beside, Tables({one: Table(b"it %d\n" % traced.number)}))
-        done = client.compare(["--architectures", relation], given, self.limit)
-        verdict = verdicts.report(done.text).verdict
-        if verdict is None:
-            raise Refusal(done.line, done.status)
-        return verdict
+        beside = entries.profile_of(default, [Entry(0, ("it",), answer, conditions)], [one])
+        table = Tables({one: Table(b"it %d\n" % traced.number)})
+        return verdicts.compared([self.filter], beside, table, ["--architectures", relation], self.limit).verdict
 
     def _compared(self, traced: TracedCall, values: dict[int, int]) -> Answers | Verdict:
         """By comparisons: a syscall with these arguments that is allowed, and one that isn't; or only a verdict."""
-        less = self._verdict(traced, values, "SCMP_ACT_ERRNO", ("SCMP_ACT_ALLOW", 0), "--no-less")
-        more = self._verdict(traced, values, "SCMP_ACT_ALLOW", REFERRED, "--no-more")
+        less = self._verdict(traced, values, Answer("ERRNO", 1), ALLOW, "--no-less")
+        more = self._verdict(traced, values, ALLOW, DELEGATE, "--no-more")
         for verdict in (less, more):
             if not verdict.holds and verdict.call is None:
                 return verdict
@@ -220,11 +204,13 @@ class Judge:
 
 
 class Judges:
-    """A profile, which judges each syscall in its architecture. `own` is the architecture of what doesn't say it."""
+    """A profile, which judges each syscall in its architecture. `own` is the architecture of what doesn't say it: the
+    machine's, or, if the profile doesn't list that, the first that it lists."""
 
     def __init__(self, profile: bytes, named: Architecture | None, table: str | None, limit: str | None):
         self.profile, self.limit, machine = profile, limit, JUDGED[of_machine()]
-        self.own = named or _own_of(profile, machine)
+        listed = tables.of_profile(profile, tables.read(None)).of
+        self.own = named or (machine if machine.oci in listed else JUDGED[next(iter(listed))])
         self.taken = "" if self.own in (named, machine) else TAKEN.format(self.own.name, machine.name)
         # of all architectures, by OCI names; a table that is handed in is that of the log's own
         self.tables = tables.of_architectures(JUDGED, tables.read(None)).of
@@ -249,12 +235,6 @@ class Judges:
         return self._looked[architecture].get(name, ())
 
 
-def _own_of(profile: bytes, machine: Architecture) -> Architecture:
-    """The machine's own architecture, or the first that a profile lists, where it doesn't list that one."""
-    listed = tables.of_profile(profile, tables.read(None)).of
-    return machine if machine.oci in listed else JUDGED[next(iter(listed))]
-
-
 def find(log: Trace, judges: Judges) -> Needs:
     """The calls of a log, by their architectures and numbers, each judged."""
     counts = log.foreign.count, log.cut.count, log.left.count, log.unread.count, log.lost.count
@@ -263,7 +243,7 @@ def find(log: Trace, judges: Judges) -> Needs:
     for (architecture, name, values), seen in log.calls.items():
         one, number = JUDGED[architecture], log.number_of(architecture, name)
         if number is None:
-            shown = marked(one, name)
+            shown = one.marked(name)
             found.unnamed[shown] = found.unnamed.get(shown, 0) + seen.count
         else:
             arguments = tuple(zip(judges.looked_at(architecture, name), values))
@@ -294,8 +274,8 @@ def _of_judged(one: Judgement, are_several: bool) -> Iterator[str]:
         unsure = one.traced.unsure
         args = f"arg {unsure[0]}" if len(unsure) == 1 else f"args {', '.join(map(str, unsure))}"
         yield f"{one.traced.describe()} depends on {args}"
-        if one.made and one.refused:
-            yield (f"# allowed with {_arguments(one.made)}; with {_arguments(one.refused[0])} it is {one.refused[1]}")
+        if one.allowed and one.denied:
+            yield f"# allowed with {_arguments(one.allowed)}; with {_arguments(one.denied[0])} it is {one.denied[1]}"
     else:
         yield f"{one.traced.describe()} {one.line}"
     yield f"# {_where(one.traced.seen, are_several)}"
@@ -349,11 +329,11 @@ def as_json(needs: Needs, table: Table) -> dict[str, object]:
             "depends_on": traced.unsure if one.disposition == DEPENDS else [],
             "arguments": {str(index): None if values is None else list(map(hex, values))
                           for index, values in traced.arguments}}
-        if one.refused:
-            shown["refused"] = {"call": one.refused[0].as_json(table), "answer": one.refused[1].as_json(),
+        if one.denied:
+            shown["refused"] = {"call": one.denied[0].as_json(table), "answer": one.denied[1].as_json(),
                                 "reason": one.line.split(" ", 2)[-1]}
-        if one.made and one.disposition == DEPENDS:
-            shown["made"] = one.made.as_json(table)
+        if one.allowed and one.disposition == DEPENDS:
+            shown["made"] = one.allowed.as_json(table)
         if one.disposition == UNDECIDED:
             shown["verdict"] = one.line
         found.append(shown)
@@ -391,7 +371,8 @@ def least_profile(needs: Needs, judges: Judges) -> tuple[str, list[str]]:
         found["defaultErrnoRet"] = top["defaultErrnoRet"]
     found.update((name, top[name]) for name in ("architectures", *KEPT) if name in top)
     listed = [it for it in needs.judged if not it.is_foreign]
-    named = [it for it in listed if it.traced.has_name(judges.tables)]
+    named = [it for it in listed
+             if judges.tables[it.traced.architecture.oci].number_of(it.traced.name) is not None]
     seen = dict.fromkeys((judges.own.oci, *(it.traced.architecture.oci for it in named)))
     always = (name for name in ALWAYS if any(judges.tables[it].number_of(name) is not None for it in seen))
     found["syscalls"] = list(_entries(named, always))
@@ -400,13 +381,6 @@ def least_profile(needs: Needs, judges: Judges) -> tuple[str, list[str]]:
     remarks += [f"{it.traced.shown_name}: the log doesn't show arguments {', '.join(map(str, it.traced.unknown))} as "
                 "numbers: they may be any" for it in named if it.traced.unknown]
     return json.dumps(found, indent=4) + "\n", remarks
-
-
-def of_refusal(why: Refusal, judges: Judges) -> Iterator[str]:
-    """scf's line, and what it means."""
-    yield why.line
-    if why.fault:
-        yield from output.notes(refusals.sentences(why.fault, judges.profile, judges.listed))
 
 
 def read(names: Sequence[str], judges: Judges, runtime: str | None = None) -> Needs:

@@ -12,7 +12,7 @@ from __future__ import annotations
 import errno
 from collections.abc import Sequence
 
-from . import bundles, client, paths, program, verdicts
+from . import bundles, client, listing, program, verdicts
 from .answers import ALLOWED, DENIED, I386, X32, X86_64, Answer
 from .calls import Call
 from .filters import INSTRUCTION, LOAD_WORD, POINTER, RETURN_CONSTANT
@@ -158,7 +158,7 @@ def answer_of(filters: tuple[bytes, ...], call: Call) -> Answer | None:
 def is_by_number(data: bytes, call: Call) -> bool:
     """Whether a filter answers a syscall without loading its arguments or its instruction pointer: then every syscall
     with that number and architecture takes the same path."""
-    found = paths.PRINTED.fullmatch("".join(client.lines_of(run(["run", "--path", *call.words()], data))[1:2]))
+    found = listing.PATH.fullmatch("".join(client.lines_of(run(["run", "--path", *call.words()], data))[1:2]))
     insns = list(INSTRUCTION.iter_unpack(data))
     return found is not None and not any(insns[int(place)][0] == LOAD_WORD and insns[int(place)][3] >= POINTER[0]
                                          for place in found[1].split())

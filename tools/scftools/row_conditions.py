@@ -3,26 +3,23 @@ from __future__ import annotations
 
 import functools
 import json
-import os
 from collections.abc import Iterator, Sequence
 
 from . import constants, program
 from .answer_sets import Answers
 from .architectures import I386, Architecture
 from .answers import ERRNOS, Answer
-from .argument_sets import NONE
+from .argument_sets import ALL_LISTED, NONE, Alternative
 from .client import Refusal
-from .covers import ALL_LISTED, Alternative
 from .entries import Condition
 from .filters import Filter
-from .profile_of import FilterAnswers, Request, entry_of, members_of
+from .profile_of import FilterAnswers, Request, entry_of
 from .questions import EVERYTHING, NOTHING, Asker
 from .surfaces import Row, disposition_of, word_of
 from .tables import Table
 from .values import dataclass
 from .verdicts import NO_LESS, NO_MORE, SAME
 
-NAMES = os.path.join(program.TOP, "tables", "argument.names")
 SIGNS = {"SCMP_CMP_EQ": "==", "SCMP_CMP_NE": "!=", "SCMP_CMP_LE": "<=", "SCMP_CMP_GE": ">="}
 HALF = (1 << 32) - 1
 # The syscall of i386 whose first argument points to the others.
@@ -34,9 +31,7 @@ ANSWERS = EVERYTHING, Answer("TRACE", 0), NOTHING
 @functools.lru_cache(None)
 def argument_names() -> dict[str, list[str]]:
     """The names of tables/argument.names by their syscall; `-` for an argument without a name."""
-    with open(NAMES, encoding="ascii") as file:
-        lines = [line.split() for line in file if line.strip() and not line.startswith("#")]
-    return {name: names for name, *names in lines}
+    return {name: names for name, *names in map(str.split, program.lines_of("argument.names"))}
 
 
 def _name_of(syscall: str, index: int) -> str:
@@ -148,7 +143,7 @@ def _of_number(answers: FilterAnswers, names: Sequence[str], found: Answers) -> 
 def _failed(asker: Asker, those: Sequence[tuple[Row, Conditions]]) -> set[int]:
     """The numbers for which scf doesn't prove these conditions, which have one answer otherwise."""
     table = "".join(f"{it.names[0]} {row.number}\n" for row, it in those).encode()
-    profile = {**members_of(those[0][1].otherwise, "defaultAction", "defaultErrnoRet"),
+    profile = {**those[0][1].otherwise.default(),
                "architectures": [asker.architecture.oci],
                "syscalls": [entry for _, it in those for entry in it.entries()]}
     found: set[int] = set()

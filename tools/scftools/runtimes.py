@@ -19,30 +19,21 @@ import os
 from collections.abc import Callable, Iterator, Sequence
 
 from . import engines, libseccomp, multiplexed, profile_inputs, program, tables
-from .architectures import JUDGED, NATIVE
+from .answers import MAX_ERRNO, WITH_ERRNO, Answer
+from .architectures import JUDGED, NATIVE, PREFIX
 from .engines import MAX_RULES, Origin, Refused, Setting, excerpt, excerpts
 from .explanation import join_names
 from .libseccomp import Library
+from .profiles import ACTIONS
 from .values import Any, dataclass, field, replace
-
-TYPE_CHECKING = False
-if TYPE_CHECKING:
-    from . import processes
-    from .words import Parser
+from .words import Parser
 
 RUNC, CRUN = "runc", "crun"
-# The actions that the runtimes know, under one name each if they have two; and those that take a number, which is
-# EPERM if none is given.
-ACTIONS = {f"SCMP_ACT_{it}": f"SCMP_ACT_{it}" for it in
-           ("KILL_PROCESS", "KILL_THREAD", "TRAP", "ERRNO", "NOTIFY", "TRACE", "LOG", "ALLOW")}
-ACTIONS["SCMP_ACT_KILL"] = "SCMP_ACT_KILL_THREAD"
-ERRNO, NOTIFY = "SCMP_ACT_ERRNO", "SCMP_ACT_NOTIFY"
-WITH_NUMBER = (ERRNO, "SCMP_ACT_TRACE")
-# Defaults beside which runc's stub isn't put before the filter (isAllowAction of patchbpf).
-ALLOWS = ("SCMP_ACT_ALLOW", "SCMP_ACT_LOG", "SCMP_ACT_TRACE")
-# The greatest errno that libseccomp takes, and the most conditions of an entry that crun reads.
-MAX_ERRNO, CRUN_CONDITIONS = 4095, 6
-PREFIX = "SCMP_ARCH_"
+NOTIFY = "SCMP_ACT_NOTIFY"
+# Actions of a default beside which runc's stub isn't put before the filter (isAllowAction of patchbpf).
+WITHOUT_STUB = ("ALLOW", "LOG", "TRACE")
+# The most conditions of an entry that crun reads.
+CRUN_CONDITIONS = 6
 
 
 @dataclass(frozen=True)
@@ -103,16 +94,6 @@ def setting_of_words(options: Any, parser: Parser) -> Setting:
         parser.error(str(why))
 
 
-def setting_of_process(options: Any, kernel: processes.Kernel) -> Setting:
-    """The container of a process: without `--caps` with the capabilities of the process's bounding set, which are those
-    that the engine gave the container."""
-    bounding = kernel.status_of(options.pid).get("CapBnd")
-    if options.caps is not None or bounding is None:
-        return options.setting
-    return replace(options.setting, capabilities=engines.capabilities_in(int(bounding, 16)),
-                   source="the process's bounding set")
-
-
 @dataclass(frozen=True)
 class AppliedProfile:
     """A profile as a runtime applies it, in a form of which scf says the same."""
@@ -143,14 +124,10 @@ class AppliedProfile:
 
 
 def stub_note(stub: dict[str, int]) -> str:
-    """What is said of a filter with runc's stub before it."""
+    """The note on a filter that begins with runc's stub."""
     firsts = [("" if name == NATIVE else f"of {JUDGED[name].name} ") + f"from {first - JUDGED[name].first} on"
               for name, first in stub.items()]
     return f"runc answers the numbers {join_names(firsts)}, above all that the profile names, with ENOSYS"
-
-
-# An action and its number.
-Answer = tuple[str, int]
 
 
 @dataclass
@@ -163,12 +140,7 @@ class _Rule:
     origin: Origin
 
     def as_entry(self) -> dict[str, Any]:
-        return {"names": self.names, **_members_of(self.answer, "action", "errnoRet"),
-                **({"args": self.args} if self.args else {})}
-
-
-def _members_of(answer: Answer, action: str, number: str) -> dict[str, Any]:
-    return {action: answer[0], **({number: answer[1]} if answer[0] in WITH_NUMBER else {})}
+        return {"names": self.names, **self.answer.members(), **({"args": self.args} if self.args else {})}
 
 
 @dataclass
@@ -202,27 +174,27 @@ class _Application:
         """What libseccomp is given for an action and its number."""
         if action not in ACTIONS:
             self.refuse(f"{where} has an unknown action: '{excerpt(action)}'")
-        action = ACTIONS[action]
-        if action in WITH_NUMBER:
+        found = Answer.of_profile(action, None)
+        if found.action in WITH_ERRNO:
             if self.runtime.program == CRUN and number is not None and number >= 1 << 32:
                 self.refuse(f"the errno {number} of {where}")
-            return action, 1 if number is None else number & 0xFFFF
+            return found if number is None else replace(found, data=number & 0xFFFF)
         if number is not None and self.runtime.program == CRUN:
-            self.refuse(f"{where} has an errno beside {action}")
+            self.refuse(f"{where} has an errno beside {found.oci}")
         if number is not None and not self.has_ignored:
             self.has_ignored = True
             self.remarks.append(f"an errno beside an action that takes none is ignored: the first is that of {where}")
-        return action, 0
+        return found
 
     def check(self, answer: Answer, where: str) -> None:
         """Refuses an errno that libseccomp refuses."""
-        if answer[0] == ERRNO and answer[1] > MAX_ERRNO:
-            self.refuse(f"libseccomp takes no errno above {MAX_ERRNO}, and {where} has {answer[1]}")
+        if answer.action == "ERRNO" and answer.data > MAX_ERRNO:
+            self.refuse(f"libseccomp takes no errno above {MAX_ERRNO}, and {where} has {answer.data}")
 
     def default_of(self, profile: dict[str, Any]) -> Answer:
         answer = self.answer_of(profile["defaultAction"], profile.get("defaultErrnoRet"), "the default")
         self.check(answer, "the default")
-        if answer[0] == NOTIFY and self.runtime.program == RUNC:
+        if answer.oci == NOTIFY and self.runtime.program == RUNC:
             self.refuse(f"{NOTIFY} can't be the default action")
         return answer
 
@@ -246,7 +218,7 @@ class _Application:
         where = f"entry {origin.index}"
         answer = self.answer_of(entry["action"], entry.get("errnoRet"), where)
         names = self.known(entry["names"], where)
-        if answer[0] == NOTIFY and self.runtime.program == RUNC and "write" in entry["names"]:
+        if answer.oci == NOTIFY and self.runtime.program == RUNC and "write" in entry["names"]:
             self.refuse(f"{where} has write with {NOTIFY}")
         if answer == default:
             self.notes.append(f"{origin.describe()} left out: its answer is the default's")
@@ -294,8 +266,8 @@ class _Application:
         return [self.native, *names]
 
     def stub_of(self, default: Answer) -> dict[str, int]:
-        """By architecture the least number that runc's stub answers (findLastSyscalls of patchbpf), where it has one."""
-        if self.runtime.program != RUNC or default[0] in ALLOWS:
+        """By architecture the least number that runc's stub answers (findLastSyscalls of patchbpf), if it has one."""
+        if self.runtime.program != RUNC or default.action in WITHOUT_STUB:
             return {}
         return {name: self.greatest[name] + 1 for name in JUDGED if self.greatest.get(name)}
 
@@ -318,7 +290,7 @@ class _Application:
                 self.refuse(f"it has {NOTIFY} and no listenerPath")
         self.keep_counting(rules)
         rules = [rule for rule in rules if rule.names]
-        found = _members_of(default, "defaultAction", "defaultErrnoRet")
+        found = default.default()
         architectures = self.architectures_of(profile.get("architectures", []))
         if architectures:
             found["architectures"] = architectures
@@ -326,8 +298,8 @@ class _Application:
         found["syscalls"] = [rule.as_entry() for rule in rules]
         self.tell_unknown()
         handed, places = multiplexed.with_rules(found)
-        return AppliedProfile(self.runtime, found, handed, [rules[it].origin for it in places], self.remarks, self.notes,
-                              self.stub_of(default))
+        return AppliedProfile(self.runtime, found, handed, [rules[it].origin for it in places], self.remarks,
+                              self.notes, self.stub_of(default))
 
 
 def _number_in_tables(name: str, architecture: str) -> int | None:
@@ -338,18 +310,6 @@ def _number_in_tables(name: str, architecture: str) -> int | None:
     if number is not None:
         return JUDGED[architecture].first + number
     return None if all(it is None for it in found.values()) else -1
-
-
-def _is_config(value: Any) -> bool:
-    """Whether it is a whole config.json, which holds what the engine has resolved already."""
-    return isinstance(value, dict) and value.get("linux") is not None
-
-
-def _seccomp_of(value: Any) -> Any:
-    """The seccomp object of a config.json, where runtimes look for it and nowhere else."""
-    if value.get("defaultAction") is not None:
-        raise Refused("both defaultAction and linux are at the top: is it a profile or a config.json?")
-    return value
 
 
 def _refuse_engines(value: Any, program: str) -> None:
@@ -370,14 +330,16 @@ def setting_of(runtime: Runtime) -> Setting:
 
 
 def applied(value: Any, name: str, setting: Setting | None = None) -> AppliedProfile:
-    """What the runtime of a name makes of a profile, or of a whole config.json, that `engines.read` read. Refused where
-    the runtime, or the engine before it, refuses it or reads it otherwise than it is spelled."""
+    """What the runtime of a name makes of a profile, or of a whole config.json, that `engines.read` read. Raises
+    Refused if the runtime, or the engine before it, refuses it or reads it otherwise than it is spelled."""
     runtime = RUNTIMES[name]
     setting = setting or setting_of(runtime)
     notes: list[str] = []
-    if _is_config(value):
-        # the engine has done its part, and the other members aren't read
-        value, setting = _seccomp_of(value), replace(setting, engine=None, ignored=None)
+    if isinstance(value, dict) and value.get("linux") is not None:
+        # of a whole config.json the engine has done its part, and the other members aren't read
+        if value.get("defaultAction") is not None:
+            raise Refused("both defaultAction and linux are at the top: is it a profile or a config.json?")
+        setting = replace(setting, engine=None, ignored=None)
         seccomp = (value["linux"] or {}).get("seccomp") if isinstance(value["linux"], dict) else None
         _refuse_engines(seccomp, runtime.program)
     elif setting.engine is None:

@@ -3,12 +3,13 @@ from __future__ import annotations
 
 from collections.abc import Iterator, Sequence
 
-from . import bundles, client, compare, explanation, output, paths, refusals, verdicts
+from . import bundles, client, compare, explanation, listing, output, refusals, verdicts
 from .compare import ALL, CALLS, NATIVE
 from .filters import Filter, looks_at_pointer
+from .listing import Giver
 from .tables import Table
 from .values import dataclass
-from .verdicts import DIFFERS, NO_LESS, NO_MORE, RELATIONS, SAME, SCOPES, Report, Verdict
+from .verdicts import DIFFERS, RELATIONS, SAME, SCOPES, Report, Verdict
 
 
 @dataclass(frozen=True)
@@ -39,15 +40,9 @@ class StackComparison:
         return self.run(ALL, numbers=(first, last))[1].verdict
 
 
-def _dispositions(comparison: StackComparison, scope: str) -> tuple[Verdict | None, Verdict | None]:
-    """The verdicts on whether the left side is nowhere more permissive, and nowhere stricter."""
-    no_more, no_less = (comparison.run(scope, relation)[1].verdict for relation in (NO_MORE, NO_LESS))
-    return no_more, no_less
-
-
 def _of_dispositions(comparison: StackComparison, scope: str) -> Iterator[str]:
     """A line on which side of two that differ is the more permissive one, if it is so of every syscall."""
-    no_more, no_less = (verdict is not None and verdict.holds for verdict in _dispositions(comparison, scope))
+    no_more, no_less = (verdict is not None and verdict.holds for verdict in compare.dispositions(comparison, scope))
     they, are = ("they", "are") if len(comparison.left) > 1 else ("it", "is")
     if no_more and no_less:
         yield f"{they} {are} neither more permissive nor stricter than the other side: only the answers differ"
@@ -61,27 +56,22 @@ def _answers(side: Sequence[Filter]) -> str:
     return "filters answer" if len(side) > 1 else "filter answers"
 
 
-def _of_path(filters: Sequence[Filter], words: Sequence[str], verdict: Verdict, table: Table,
-             is_right: bool) -> Iterator[str]:
-    """The last tests on a side's path to its answer."""
-    answer = verdict.profile if is_right else verdict.filters
-    giver = None if answer is None else paths.to_show(paths.deciding_filters(filters, words, answer))
-    if giver is not None and verdict.call is not None:
-        before, lines = paths.last_tests(giver.filter.data, giver.path, verdict.call, table)
-        yield f"the last tests on the path in {giver.filter.name}" + (f", after {before} others:" if before else ":")
-        yield from lines
+def _givers(comparison: StackComparison, verdict: Verdict) -> list[Giver | None]:
+    """Of each side the filter that gives its answer to the example."""
+    sides, call = ((comparison.left, verdict.filters), (comparison.right, verdict.profile)), verdict.call
+    return [None if call is None or answer is None else
+            listing.to_show(listing.deciding_filters(side, call.words(), answer)) for side, answer in sides]
 
 
 def _of_difference(comparison: StackComparison, verdict: Verdict) -> Iterator[str]:
     """The syscall that differs, both answers, and which tests of which filter lead to each."""
     if verdict.call is None or verdict.filters is None or verdict.profile is None:
         return
-    words, table = verdict.call.words(), comparison.table
-    yield from explanation.of_call(verdict.call, table)
+    yield from explanation.of_call(verdict.call, comparison.table)
     yield f"the {_answers(comparison.left)} {verdict.filters.describe()}"
     yield f"the other {_answers(comparison.right)} {verdict.profile.describe()}"
-    yield from _of_path(comparison.left, words, verdict, table, False)
-    yield from _of_path(comparison.right, words, verdict, table, True)
+    for giver in filter(None, _givers(comparison, verdict)):
+        yield from giver.last_tests(verdict.call, comparison.table, giver.filter.name)
 
 
 def _of_calls(comparison: StackComparison) -> Iterator[str]:
@@ -125,47 +115,25 @@ def added(comparison: StackComparison, report: Report, scope: str) -> Iterator[s
         yield from _of_calls(comparison)
 
 
-def _path_json(filters: Sequence[Filter], verdict: Verdict, is_right: bool) -> dict[str, object] | None:
-    answer = verdict.profile if is_right else verdict.filters
-    if verdict.call is None or answer is None:
-        return None
-    giver = paths.to_show(paths.deciding_filters(filters, verdict.call.words(), answer))
-    return None if giver is None else giver.as_json()
-
-
-def _verdict_json(verdict: Verdict, table: Table) -> dict[str, object]:
-    """A verdict with its example, as members of an object."""
-    found: dict[str, object] = {"verdict": verdict.word}
-    if verdict.call is not None:
-        found["call"] = verdict.call.as_json(table)
-    for side, answer in (("filter", verdict.filters), (bundles.BESIDE, verdict.profile)):
-        if answer is not None:
-            found[side] = answer.as_json()
-    if verdict.at is not None:
-        found["at"] = verdict.at
-    return found
-
-
 def as_json(comparison: StackComparison, report: Report, scope: str, status: int) -> dict[str, object]:
     """The same as `added`, as one object without scf's lines."""
     verdict, table = report.verdict, comparison.table
     found: dict[str, object] = {"status": status, "scope": scope, "relation": comparison.relation, "verdict": None}
     if report.fault is not None:
-        sentences = list(explanation.of_fault(report.fault))
-        found["fault"] = {**report.fault.as_json(), "sentences": sentences, "files": faulty(comparison, report)}
+        found["fault"] = {**report.fault.as_json(explanation.of_fault(report.fault)),
+                          "files": faulty(comparison, report)}
     if verdict is None:
         return found
-    found.update(_verdict_json(verdict, table))
+    found.update(verdict=verdict.word, **verdict.as_json(table, bundles.BESIDE))
     if verdict.fails and verdict.call is not None:
-        found["path"] = _path_json(comparison.left, verdict, False)
-        found["path_beside"] = _path_json(comparison.right, verdict, True)
+        found.update(zip(("path", "path_beside"), (None if it is None else it.as_json()
+                                                   for it in _givers(comparison, verdict))))
     if verdict.word == DIFFERS and comparison.relation == SAME:
-        of_dispositions = zip(("no_more", "no_less"), _dispositions(comparison, scope))
+        of_dispositions = zip(("no_more", "no_less"), compare.dispositions(comparison, scope))
         found.update((member, one.word if one is not None else None) for member, one in of_dispositions)
     if scope == CALLS or verdict.fails:
         calls = report.calls if scope == CALLS else comparison.run(CALLS)[1].calls
-        found["calls"] = [{"number": one.number, "names": list(one.names), **_verdict_json(one.verdict, table)}
-                          for one in calls]
+        found["calls"] = [{**one.as_json(), **one.verdict.as_json(table, bundles.BESIDE)} for one in calls]
     return found
 
 
@@ -175,10 +143,5 @@ def tell(comparison: StackComparison, scope: str, is_json: bool) -> int:
     if is_json:
         output.put_json(as_json(comparison, report, scope, status))
         return status
-    for line in report.printed:
-        output.put_line(line)
-    # the verdict doesn't wait for what explains it
-    output.flush()
-    for line in added(comparison, report, scope):
-        output.put_line(f"# {line}")
+    output.put_explained(report.printed, added(comparison, report, scope))
     return status

@@ -1,24 +1,178 @@
-"""The surfaces of a stack of files or of a process's stacks, each with a status, and their output."""
+"""The surfaces of a stack of files or of a process's stacks, each with a status, and their output; and two surfaces
+compared: the syscalls that get different answers, and those that are undecided, as scf compares the filters of both."""
 from __future__ import annotations
 
 from collections.abc import Iterator, Sequence
 
-from . import beside, client, explanation, output, program, row_conditions, surface_output, surfaces, verify
+from . import (client, constants, explanation, other_abis, output, program, questions, refusals, surface_output,
+               surfaces, verify)
 from .architectures import JUDGED, NATIVE, Architecture
-from .beside import Beside
 from .client import Fault, Refusal
-from .explanation import join_names
+from .compare import CALLS
 from .filters import Filter
-from .groups import Groups
 from .processes import Inspection, Stack
+from .questions import Asker
 from .refusals import faulty_filters
-from .surfaces import Surface
+from .stack_comparison import StackComparison
+from .surface_output import LEAST, Groups, details, fitted, grouped, of_whole, row_json, wrapped
+from .surfaces import DEPENDS, Row, Surface, word_of
 from .tables import Table
 from .values import dataclass
+from .verdicts import NamedCall, Verdict
+
+BESIDE = "beside"
 
 
 @dataclass(frozen=True)
-class Asked:
+class Pair:
+    """A syscall in two surfaces, and scf's line on its answers: they differ, or that is undecided."""
+
+    one: Row
+    other: Row
+    line: NamedCall
+
+    @property
+    def number(self) -> int:
+        return self.one.number
+
+    @property
+    def names(self) -> list[str]:
+        return self.one.names
+
+    @property
+    def is_decided(self) -> bool:
+        return self.line.verdict.fails
+
+    @property
+    def example(self) -> str:
+        """The call that scf shows and both answers, if the rows alone don't tell them apart; else nothing."""
+        verdict = self.line.verdict
+        one, other = self.one, self.other
+        is_alike = one.said == other.said and (one.said == DEPENDS or one.answer == other.answer)
+        if not is_alike or verdict.call is None or verdict.filters is None or verdict.profile is None:
+            return ""
+        told = constants.call_text(self.names[0], verdict.call.arguments)
+        return f"such as {told}: {verdict.filters.named()} {BESIDE} {verdict.profile.named()}"
+
+
+@dataclass(frozen=True)
+class Beside:
+    """Two surfaces over one table."""
+
+    one: Surface
+    other: Surface
+    pairs: tuple[Pair, ...] = ()
+    # scf's verdicts on the numbers that the table doesn't name, and on the syscalls of other ABIs
+    of_unnamed: tuple[Verdict | None, ...] = ()
+    of_foreign: tuple[Verdict | None, ...] = ()
+
+    @property
+    def foreign_differ(self) -> bool:
+        """Whether some syscall of another ABI gets different answers."""
+        return any(it is not None and it.fails for it in self.of_foreign)
+
+    @property
+    def unnamed_differ(self) -> bool:
+        return any(it is not None and it.fails for it in self.of_unnamed)
+
+    @property
+    def status(self) -> int:
+        """1 if they differ, 4 if something is undecided, else 0."""
+        if any(pair.is_decided for pair in self.pairs) or self.foreign_differ or self.unnamed_differ:
+            return client.NEGATIVE
+        are_same = all(it is not None and it.holds for it in (*self.of_unnamed, *self.of_foreign))
+        return client.SUCCESS if are_same and not self.pairs else client.UNKNOWN
+
+
+def _comparison(one: Asker, other: Asker, table: Table, before: Sequence[bytes] = ()) -> StackComparison:
+    sides = ([Filter("", data) for data in (*before, *it.filters)] for it in (one, other))
+    return StackComparison(*sides, table, one.limit)
+
+
+def are_same(one: Surface, filters: Sequence[bytes]) -> bool:
+    """Whether scf proves that other filters answer every syscall as those of a surface."""
+    verdict = _comparison(one.asker, Asker(filters), one.table).run()[1].verdict
+    return verdict is not None and verdict.holds
+
+
+def of_surfaces(one: Surface, other: Surface) -> Beside:
+    """Compares two surfaces."""
+    comparison = _comparison(one.asker, other.asker, one.table)
+    lines = {line.number: line for line in comparison.run(CALLS)[1].calls}
+    pairs = tuple(Pair(*rows, lines[rows[0].number]) for rows in zip(one.rows, other.rows) if rows[0].number in lines)
+    of_unnamed = tuple(comparison.of_numbers(first, end - 1) for first, end in questions.gaps(one.table))
+    # no scope of scf has the syscalls of another ABI alone
+    of_kinds = (_comparison(one.asker, other.asker, one.table, [kind.alone]) for kind in other_abis.KINDS)
+    return Beside(one, other, pairs, of_unnamed, tuple(it.run()[1].verdict for it in of_kinds))
+
+
+def _of_both(found: Beside) -> Iterator[str]:
+    """The lines about the whole of one side, and those of the other that differ."""
+    for at, (one, other) in enumerate(zip(of_whole(found.one), of_whole(found.other))):
+        yield one
+        if at == 0 or one != other:
+            yield f"{BESIDE}: {other}"
+
+
+def _told(pair: Pair, is_in_table: bool) -> list[str]:
+    """Both sides of a pair, each with its examples."""
+    return [" ".join([word_of(row.said), *details(row, is_in_table)]) for row in (pair.one, pair.other)]
+
+
+def _as_table(found: Beside, groups: Groups, width: int) -> Iterator[str]:
+    of_groups = grouped(found.pairs, groups)
+    before = max((len(group) for group, _ in of_groups), default=0) + 2
+    before = before if width - before >= LEAST else 1
+    for group, pairs in of_groups:
+        heading = f"{group:{before}}" if before > 1 else ""
+        if before == 1:
+            yield group
+        for pair in pairs:
+            one, other = _told(pair, True)
+            parts = [*pair.names, f"({pair.number})"], one.split(), [f"{BESIDE}:", *other.split()], pair.example.split()
+            for at, words in enumerate(parts):
+                for line in wrapped(words, width - before - 2 * (at > 0)):
+                    yield f"{heading or ' ' * before}{'  ' * (at > 0)}{line}"
+                    heading = " " * before
+
+
+def _lines_beside(found: Beside, groups: Groups, width: int | None) -> Iterator[str]:
+    """The text output for two surfaces."""
+    undecided = sum(not pair.is_decided for pair in found.pairs)
+    count = f"syscalls that differ: {len(found.pairs) - undecided}" + f", undecided: {undecided}" * (undecided > 0)
+    yield from fitted([*_of_both(found), count], width)
+    if width is not None:
+        yield from _as_table(found, groups, width)
+    else:
+        for group, pairs in grouped(found.pairs, groups):
+            for pair in pairs:
+                one, other = _told(pair, False)
+                yield " ".join(filter(None, [group, str(pair.number), ",".join(pair.names), one, BESIDE, other,
+                                             pair.example]))
+    for what, differ in (("numbers without a name", found.unnamed_differ), ("syscalls of other ABIs",
+                                                                           found.foreign_differ)):
+        if differ:
+            yield from fitted([f"{what}: some get different answers"], width)
+
+
+def _pair_json(pair: Pair, groups: Groups) -> dict[str, object]:
+    verdict = pair.line.verdict
+    found: dict[str, object] = {"one": row_json(pair.one, groups), "other": row_json(pair.other, groups),
+                                "verdict": verdict.word}
+    if verdict.call is not None and verdict.filters is not None and verdict.profile is not None:
+        found.update(arguments=[hex(it) for it in verdict.call.arguments], filter=verdict.filters.as_json(),
+                     beside=verdict.profile.as_json())
+    return found
+
+
+def _json_beside(found: Beside, groups: Groups) -> dict[str, object]:
+    """The members of JSON beyond those of the first surface."""
+    return {"differs": [_pair_json(pair, groups) for pair in found.pairs], "foreign_differ": found.foreign_differ,
+            "unnamed_differ": found.unnamed_differ}
+
+
+@dataclass(frozen=True)
+class Settings:
     """The settings for each stack, and the filters to compare it with, if any."""
 
     table: Table
@@ -46,37 +200,39 @@ class Block:
         return self.fault is not None and self.fault.source in verify.OF_ALL
 
 
-def _surface(filters: Sequence[Filter], asked: Asked) -> Surface:
+def _surface(filters: Sequence[Filter], settings: Settings) -> Surface:
     data = [one.data for one in filters]
-    found = surfaces.of_filters(data, asked.table, asked.limit, asked.architecture)
-    if not asked.other:
+    found = surfaces.of_filters(data, settings.table, settings.limit, settings.architecture)
+    if not settings.other:
         found.add_others()
-    if asked.has_conditions:
-        row_conditions.add(data, asked.table, asked.limit, found.rows, asked.architecture)
+    if settings.has_conditions:
+        from . import row_conditions  # pylint: disable=import-outside-toplevel
+
+        row_conditions.add(data, settings.table, settings.limit, found.rows, settings.architecture)
     return found
 
 
-def of_stack(filters: Sequence[Filter], asked: Asked, threads: Stack | None = None) -> Block:
+def of_stack(filters: Sequence[Filter], settings: Settings, threads: Stack | None = None) -> Block:
     """The surface of filters, oldest first, and its comparison with others."""
     refused = filters
     try:
-        one = _surface(filters, asked)
-        if not asked.other:
-            return Block(program.SUCCESS if one.is_told else program.UNKNOWN, filters, one, threads=threads)
-        refused = asked.other
-        is_same = beside.are_same(one, [it.data for it in asked.other])
-        both = Beside(one, one) if is_same else beside.of_surfaces(one, _surface(asked.other, asked))
+        one = _surface(filters, settings)
+        if not settings.other:
+            return Block(program.SUCCESS if one.is_decided else program.UNKNOWN, filters, one, threads=threads)
+        refused = settings.other
+        is_same = are_same(one, [it.data for it in settings.other])
+        both = Beside(one, one) if is_same else of_surfaces(one, _surface(settings.other, settings))
     except Refusal as why:
         return Block(why.status, refused, fault=why.fault, threads=threads)
     return Block(both.status, filters, one, both, threads=threads)
 
 
-def of_process(found: Inspection, asked: Asked) -> list[Block]:
+def of_process(found: Inspection, settings: Settings) -> list[Block]:
     """A block for each distinct stack of a process, the worst first; a fault of all stacks is reported once."""
     blocks = []
     for stack in found.stacks:
         if stack.filters:
-            blocks.append(of_stack(stack.named, asked, stack))
+            blocks.append(of_stack(stack.named, settings, stack))
             if blocks[-1].is_of_all:
                 break
         else:
@@ -91,9 +247,7 @@ def _of_refusal(block: Block) -> Iterator[str]:
         return
     yield block.fault.line
     yield from (f"# {line}" for line in explanation.of_fault(block.fault))
-    those = faulty_filters(block.filters, block.fault) if len(block.filters) > 1 else []
-    if those:
-        yield f"# the filter is {join_names(those)}"
+    yield from output.notes(refusals.of_stack(block.filters, block.fault))
 
 
 def lines(blocks: Sequence[Block], found: Inspection | None, width: int | None) -> Iterator[str]:
@@ -104,7 +258,7 @@ def lines(blocks: Sequence[Block], found: Inspection | None, width: int | None) 
             yield ""
         yield from _of_refusal(block)
         if block.beside is not None:
-            yield from beside.lines(block.beside, groups, width)
+            yield from _lines_beside(block.beside, groups, width)
         elif block.surface is not None:
             yield from surface_output.lines(block.surface, groups, width)
         if block.threads is not None and found is not None and not block.is_of_all:
@@ -116,17 +270,15 @@ def lines(blocks: Sequence[Block], found: Inspection | None, width: int | None) 
 def _json_of(block: Block, found: Inspection | None, groups: Groups) -> dict[str, object]:
     said: dict[str, object] = {"status": block.status}
     if block.fault is not None:
-        said["fault"] = {**block.fault.as_json(), "sentences": list(explanation.of_fault(block.fault))}
+        said["fault"] = block.fault.as_json(explanation.of_fault(block.fault))
         said["files"] = faulty_filters(block.filters, block.fault)
     if block.surface is not None:
         said.update(surface_output.as_json(block.surface, groups))
     if block.beside is not None:
-        said["beside"] = {**surface_output.as_json(block.beside.other, groups), **beside.as_json(block.beside, groups)}
+        said["beside"] = {**surface_output.as_json(block.beside.other, groups), **_json_beside(block.beside, groups)}
     if block.threads is not None and found is not None:
         said["confined"] = "by filters" if block.filters else "strict" if block.threads.is_strict else "not"
-        said["filters"] = [len(data) // 8 for data in block.threads.filters]
-        said["processes"] = [{"process": process, "name": output.escaped(found.names[process]), "threads": threads}
-                             for process, threads in block.threads.threads.items()]
+        said.update(block.threads.as_json(found.names))
     return said
 
 

@@ -13,11 +13,8 @@ from .architectures import AARCH64, ARM, I386, JUDGED, NATIVE, X32
 from .tables import Table
 from .values import Pattern, dataclass, field
 
-TYPE_CHECKING = False
-if TYPE_CHECKING:
-    # the values that arguments may have, by their indexes; None if they aren't known
-    Arguments = dict[int, tuple[int, ...] | None]
-
+# The values that arguments may have, by their indexes; None if they aren't known.
+Arguments = "dict[int, tuple[int, ...] | None]"
 # The most bytes that are read of a log, of a line, of a syscall that isn't finished yet and of an argument.
 LIMIT, LINE, BEGINNING, ARGUMENT = 1 << 30, 1 << 16, 1 << 13, 1 << 12
 # The most unfinished syscalls and the most with other names or arguments that are kept; how many more are counted; and
@@ -124,7 +121,7 @@ def values_of(text: str, architecture: str = NATIVE) -> tuple[int, ...] | None:
 
 
 def _past(text: str, at: int) -> int | None:
-    """The place behind a text in quotes, a comment or a path that begins here; None where it has no end."""
+    """The index behind a text in quotes, a comment or a path that begins here; None if it has no end."""
     if text[at] == '"':
         found = STRING.match(text, at)
         return found.end() if found else None
@@ -140,7 +137,7 @@ def _past(text: str, at: int) -> int | None:
 
 
 def arguments_in(text: str, at: int) -> tuple[list[str], int | None]:
-    """The arguments that stand whole from a place on, and the place behind their closing bracket, if they have one."""
+    """The arguments that stand whole from an index on, and the index behind their closing bracket, if they have one."""
     found, begun, depth = [], at, 0
     while True:
         stop = STOP.search(text, at)
@@ -288,18 +285,14 @@ class Log:
         """The number of a syscall in the table of an architecture."""
         return number_of(name, self.tables[architecture]) if architecture in self.tables else None
 
-    def _printed_so(self, architecture: str, name: str) -> dict[str, int]:
-        """The syscalls that strace prints by a name, and their numbers: on i386 it prints what socketcall and ipc do by
-        its own name."""
-        names = [name, *(it for it, its in multiplexed.NUMBERS.items() if architecture == I386 and name in its)]
-        numbers = {it: self.number_of(architecture, it) for it in names}
-        return {it: number for it, number in numbers.items() if number is not None}
-
     def _numbered(self, architecture: str, name: str) -> dict[str, int]:
-        """The same, kept for the names that have a number."""
+        """The syscalls that strace prints by a name, and their numbers: on i386 it prints what socketcall and ipc do by
+        its own name. They are kept for the names that have a number."""
         found = self._known.get((architecture, name))
         if found is None:
-            found = self._printed_so(architecture, name)
+            names = [name, *(it for it, its in multiplexed.NUMBERS.items() if architecture == I386 and name in its)]
+            numbers = {it: self.number_of(architecture, it) for it in names}
+            found = {it: number for it, number in numbers.items() if number is not None}
             if found and len(self._known) < KEPT:
                 self._known[architecture, name] = found
         return found

@@ -4,13 +4,29 @@ from __future__ import annotations
 import os
 from collections.abc import Iterable, Iterator, Sequence
 
-from . import other_abis
+from . import other_abis, program
 from .architectures import NATIVE
-from .groups import Groups
-from .surfaces import DEPENDS, MADE, REFUSED, SAID, Row, Surface, word_of
+from .surfaces import ALLOWED, DENIED, DEPENDS, SAID, Row, Surface, word_of
 
 # The width of a terminal that doesn't report one, and the least width of a column of names beside others.
 USUAL, LEAST = 80, 24
+# The group of a syscall that the file doesn't name.
+OTHER = "other"
+
+
+class Groups:
+    """What syscalls are for (tables/calls.groups, which names its sources): the group of each name, and the groups in
+    order."""
+
+    def __init__(self) -> None:
+        self.of_names: dict[str, str] = {}
+        for group, *names in map(str.split, program.lines_of("calls.groups")):
+            self.of_names.update((name, group) for name in names)
+        self.order = [*dict.fromkeys(self.of_names.values()), OTHER]
+
+    def of_call(self, names: Iterable[str]) -> str:
+        """The group of a syscall with these names."""
+        return next((self.of_names[name] for name in names if name in self.of_names), OTHER)
 
 
 def width_of_terminal() -> int | None:
@@ -41,7 +57,7 @@ def fitted(told: Iterable[str], width: int | None) -> Iterator[str]:
 
 def _summary(surface: Surface) -> str:
     counts = surface.counts
-    shown = [said for said in SAID if counts[said] or said in (MADE, DEPENDS, REFUSED)]
+    shown = [said for said in SAID if counts[said] or said in (ALLOWED, DEPENDS, DENIED)]
     one, told = surface.asker.architecture, ", ".join(f"{word_of(said)} {counts[said]}" for said in shown)
     return told if one.oci == NATIVE else f"{one.name}: {told}"
 
@@ -53,22 +69,15 @@ def of_whole(surface: Surface) -> list[str]:
     return [_summary(surface), *foreign, *others, f"numbers without a name: {surface.unnamed.describe()}"]
 
 
-def details(row: Row) -> list[str]:
-    """The conditions of a number, or its examples by disposition, or else one answer."""
+def details(row: Row, is_in_table: bool = False) -> list[str]:
+    """The conditions of a number, or its examples by disposition, or else one answer. A table is read by people: in it
+    syscalls are as C would have them, and errnos have names."""
     if row.conditions is not None:
         return [row.conditions.describe()]
+    name = row.names[0] if is_in_table else None
     if row.shown:
-        return [f"{word_of(disposition)} {shown.describe()}" for disposition, shown in row.shown.items()]
-    return [str(row.answer)] if row.answer else []
-
-
-def details_as_c(row: Row) -> list[str]:
-    """The same for a table, which is read by people: syscalls as C would have them, and errnos by name."""
-    if row.conditions is not None:
-        return [row.conditions.describe()]
-    if row.shown:
-        return [f"{word_of(disposition)} {shown.describe_as_c(row.names[0])}" for disposition, shown in row.shown.items()]
-    return [row.answer.named()] if row.answer else []
+        return [f"{word_of(disposition)} {shown.describe(name)}" for disposition, shown in row.shown.items()]
+    return [row.answer.named() if is_in_table else str(row.answer)] if row.answer else []
 
 
 def plain(rows: Iterable[Row], groups: Groups) -> Iterator[str]:
@@ -94,7 +103,7 @@ def _cell(said: str, rows: Sequence[Row], width: int) -> list[str]:
     lines: list[str] = []
     for row in rows:
         lines += wrapped([*" or ".join(row.names).split(), f"({row.number})"], width)
-        for detail in details_as_c(row):
+        for detail in details(row, True):
             lines += [f"  {line}" for line in wrapped(detail.split(), width - 2)]
     return lines
 

@@ -4,13 +4,12 @@ from __future__ import annotations
 from collections import Counter
 from collections.abc import Iterable, Sequence
 
-from . import answers, constants, other_abis, tables, unnamed
+from . import answers, constants, other_abis, questions, tables
 from .answers import Answer
 from .architectures import JUDGED, NATIVE, Architecture
 from .calls import Call
-from .questions import IS_MADE, IS_NEVER_MADE, IS_NEVER_REFUSED, IS_REFUSED, Asker, Question
+from .questions import IS_ALLOWED, IS_DENIED, IS_NEVER_ALLOWED, IS_NEVER_DENIED, Asker, Question, Unnamed
 from .tables import Table
-from .unnamed import Unnamed
 from .values import dataclass, field
 from .verdicts import UNDECIDED, UNFINISHED, NamedCall
 
@@ -18,12 +17,12 @@ TYPE_CHECKING = False
 if TYPE_CHECKING:
     from .row_conditions import Conditions
 
-MADE, REFERRED, REFUSED, DEPENDS = "made", "referred", "refused", "depends"
-DISPOSITIONS = {answers.ALLOWED: MADE, answers.DELEGATED: REFERRED, answers.DENIED: REFUSED}
+ALLOWED, DELEGATED, DENIED, DEPENDS = "made", "referred", "refused", "depends"
+DISPOSITIONS = {answers.ALLOWED: ALLOWED, answers.DELEGATED: DELEGATED, answers.DENIED: DENIED}
 # What may hold for all syscalls of a number, in the order in which it is printed; the last two if scf can't decide.
-SAID = (MADE, DEPENDS, REFERRED, REFUSED, UNDECIDED, UNFINISHED)
+SAID = (ALLOWED, DEPENDS, DELEGATED, DENIED, UNDECIDED, UNFINISHED)
 # The words of text output; JSON has those above.
-WORDS = {MADE: "allowed", REFERRED: "delegated", REFUSED: "denied"}
+WORDS = {ALLOWED: "allowed", DELEGATED: "delegated", DENIED: "denied"}
 
 
 def word_of(said: str) -> str:
@@ -43,13 +42,11 @@ class Shown:
     answer: Answer
     is_whole: bool
 
-    def describe(self) -> str:
+    def describe(self, name: str | None = None) -> str:
+        """The example; given the syscall's name as C would have it, and with the name of an errno."""
         at = f"ip {self.call.pointer:#x} " if self.call.pointer else "" if self.is_whole else "at some ip "
-        return f"{at}args {' '.join(map(hex, self.call.arguments))} {self.answer}"
-
-    def describe_as_c(self, name: str) -> str:
-        """The same, as C would have the syscall, and with the name of an errno."""
-        at = f"ip {self.call.pointer:#x} " if self.call.pointer else "" if self.is_whole else "at some ip "
+        if name is None:
+            return f"{at}args {' '.join(map(hex, self.call.arguments))} {self.answer}"
         return f"{at}{constants.call_text(name, self.call.arguments)} {self.answer.named()}"
 
     def as_json(self) -> dict[str, object]:
@@ -83,32 +80,27 @@ class Row:
         return found
 
     @property
-    def shows_both(self) -> bool:
-        """Whether a syscall is shown that is allowed, and one that is denied."""
-        return MADE in self.failed and REFUSED in self.failed
-
-    @property
     def said(self) -> str:
         """The disposition of all syscalls of the number, or that it depends or is undecided."""
-        if self.holds(IS_REFUSED):
-            return REFUSED
-        if self.holds(IS_MADE):
-            return MADE
-        if self.holds(IS_NEVER_MADE) and self.holds(IS_NEVER_REFUSED):
-            return REFERRED
+        if self.holds(IS_DENIED):
+            return DENIED
+        if self.holds(IS_ALLOWED):
+            return ALLOWED
+        if self.holds(IS_NEVER_ALLOWED) and self.holds(IS_NEVER_DENIED):
+            return DELEGATED
         if len(self.failed) > 1:
             return DEPENDS
         words = [line.verdict.word for line in self.lines.values() if line is not None]
         return UNFINISHED if UNFINISHED in words else UNDECIDED
 
     @property
-    def is_told(self) -> bool:
+    def is_decided(self) -> bool:
         return self.said not in (UNDECIDED, UNFINISHED)
 
     @property
     def never(self) -> list[str]:
         """The dispositions that are proved not to occur."""
-        return [it for it, question in ((MADE, IS_NEVER_MADE), (REFUSED, IS_NEVER_REFUSED)) if self.holds(question)]
+        return [it for it, question in ((ALLOWED, IS_NEVER_ALLOWED), (DENIED, IS_NEVER_DENIED)) if self.holds(question)]
 
     @property
     def answer(self) -> Answer | None:
@@ -123,7 +115,7 @@ class Surface:
     asker: Asker
     table: Table
     rows: list[Row]
-    foreign: list[other_abis.Proved | other_abis.Tried]
+    foreign: list[other_abis.Known]
     unnamed: Unnamed
     # those of other ABIs of which some syscall may be allowed, on request
     others: list[Surface] = field(default_factory=list)
@@ -133,16 +125,15 @@ class Surface:
         return Counter(row.said for row in self.rows)
 
     @property
-    def is_told(self) -> bool:
+    def is_decided(self) -> bool:
         """Whether scf decided everything."""
-        return (all(row.is_told for row in self.rows) and not self.unnamed.untold
-                and all(isinstance(one, other_abis.Proved) for one in self.foreign)
-                and all(one.is_told for one in self.others))
+        return (all(row.is_decided for row in self.rows) and not self.unnamed.undecided
+                and all(one.is_proved for one in self.foreign)
+                and all(one.is_decided for one in self.others))
 
     def add_others(self) -> None:
         """Adds the surfaces of the ABIs that aren't proved to be denied."""
-        denied = [it for it in self.foreign if isinstance(it, other_abis.Proved) and it.lets_none_through]
-        for one in (it.kind.of for it in self.foreign if it not in denied):
+        for one in (it.kind.of for it in self.foreign if not it.are_denied):
             table = tables.of_architecture(one.oci)
             if table is not None:
                 self.others.append(of_filters(self.asker.filters, table, self.asker.limit, one))
@@ -174,13 +165,13 @@ def _shown(asker: Asker, question: Question, line: NamedCall) -> Shown:
 def rows_of(asker: Asker, table: Table) -> list[Row]:
     """A row for each number in the table. The last two questions are asked only if they add something: if the first two
     don't show a syscall that is allowed and one that is denied."""
-    first = asker.of_named(IS_REFUSED, table.data)
+    first = asker.of_named(IS_DENIED, table.data)
     lines = {line.number: line for line in first.calls}
-    rows = [Row(number, table.names_of(number), {IS_REFUSED: lines.get(number)}) for number in sorted(table.numbers())]
-    _asked(asker, IS_MADE, rows)
-    for question in (IS_NEVER_MADE, IS_NEVER_REFUSED):
-        _asked(asker, question, [row for row in rows if not row.holds(IS_REFUSED) and not row.holds(IS_MADE)
-                                 and not row.shows_both])
+    rows = [Row(number, table.names_of(number), {IS_DENIED: lines.get(number)}) for number in sorted(table.numbers())]
+    _asked(asker, IS_ALLOWED, rows)
+    for question in (IS_NEVER_ALLOWED, IS_NEVER_DENIED):
+        _asked(asker, question, [row for row in rows if not row.holds(IS_DENIED) and not row.holds(IS_ALLOWED)
+                                 and not (ALLOWED in row.failed and DENIED in row.failed)])
     return rows
 
 
@@ -188,22 +179,22 @@ def _of_unnamed(rows: Iterable[Row], count: int) -> Unnamed:
     """What is known of so many numbers without a name, by the rows of some."""
     found = Unnamed(count)
     for row in rows:
-        line = row.lines[IS_REFUSED]
-        found.are_made = found.are_made and row.holds(IS_MADE)
+        line = row.lines[IS_DENIED]
+        found.are_allowed = found.are_allowed and row.holds(IS_ALLOWED)
         if line is not None and line.verdict.call is not None:
             found.shown = found.shown or line.verdict
-        if line is not None and (line.verdict.fails or row.holds(IS_MADE) or row.holds(IS_NEVER_REFUSED)):
-            found.let_through += 1
+        if line is not None and (line.verdict.fails or row.holds(IS_ALLOWED) or row.holds(IS_NEVER_DENIED)):
+            found.not_denied += 1
         elif line is not None:
-            found.untold += 1
+            found.undecided += 1
     return found
 
 
 def _of_rest(asker: Asker, rows: Sequence[Row], table: Table,
-             found: Unnamed) -> list[other_abis.Proved | other_abis.Tried]:
+             found: Unnamed) -> list[other_abis.Known]:
     """What filters allow of other ABIs, beside x86-64; and adds the numbers that no row has. Both are asked at once if
     the numbers before these are denied."""
-    ranges, denied = list(unnamed.gaps(table, asker.architecture)), {it.number for it in rows if it.holds(IS_REFUSED)}
+    ranges, denied = list(questions.gaps(table, asker.architecture)), {it.number for it in rows if it.holds(IS_DENIED)}
     names, verdict, own = [row.names[0] for row in rows], None, None
     has_foreign, are_denied = asker.architecture.oci == NATIVE, all(first - 1 in denied for first, _ in ranges)
     if are_denied and has_foreign:
@@ -212,27 +203,27 @@ def _of_rest(asker: Asker, rows: Sequence[Row], table: Table,
     if is_foreign or are_denied and not has_foreign:
         own = asker.of_rest(names, table.data)
     if any(it is not None and it.holds for it in (verdict, own)):
-        found.are_made = found.are_made and not ranges
+        found.are_allowed = found.are_allowed and not ranges
     else:
-        unnamed.count(asker, ranges, found)
+        questions.count_unnamed(asker, ranges, found)
     if not has_foreign:
         return []
     if verdict is not None and verdict.holds:
         return other_abis.all_denied()
     if verdict is not None and is_foreign:
         return other_abis.of_each(asker.filters, asker.limit, verdict)
-    return other_abis.let_through(asker.filters, asker.limit)
+    return other_abis.known_of(asker.filters, asker.limit)
 
 
 def of_filters(filters: Sequence[bytes], table: Table, limit: str | None,
                one: Architecture = JUDGED[NATIVE]) -> Surface:
     """The surface of filters, oldest first, to an architecture with this table."""
-    asker, wider = Asker(filters, limit, one), unnamed.with_more_names(table, one, *filters)
+    asker, wider = Asker(filters, limit, one), questions.with_more_names(table, one, *filters)
     rows = rows_of(asker, wider)
     named = [row for row in rows if table.names_of(row.number)]
     for row in named:
-        if row.said not in (MADE, REFERRED, REFUSED):
+        if row.said not in (ALLOWED, DELEGATED, DENIED):
             row.shown = {disposition: _shown(asker, *found) for disposition, found in row.failed.items()}
     found = _of_unnamed((row for row in rows if not table.names_of(row.number)),
-                        sum(end - first for first, end in unnamed.gaps(table, one)))
+                        sum(end - first for first, end in questions.gaps(table, one)))
     return Surface(asker, table, named, _of_rest(asker, rows, wider, found), found)

@@ -4,7 +4,7 @@ from __future__ import annotations
 import functools
 from collections.abc import Iterable, Sequence
 
-from . import architectures, bundles, inputs, profiles, program
+from . import architectures, inputs, profiles, program
 from .architectures import JUDGED, NATIVE, Architecture
 from .values import Pattern, dataclass
 
@@ -123,13 +123,6 @@ def native_alone(data: bytes) -> Tables:
     return Tables({NATIVE: Table(data)})
 
 
-def of_bundle(bundle: bytes) -> Tables | None:
-    """The tables in a bundle, None if it has none."""
-    found = {name: bundles.part_of(bundle, one.kind) for name, one in JUDGED.items()}
-    return Tables({name: Table(data) for name, data in found.items() if data is not None}) if any(
-        it is not None for it in found.values()) else None
-
-
 def of_architectures(names: Iterable[str], table: Table, own: str = NATIVE) -> Tables:
     """The tables of those architectures with these OCI names that scf judges, with this one for x86-64's, or another's
     own; this one alone if scf judges none of them."""
@@ -149,8 +142,7 @@ def of_profile(profile: bytes, table: Table, is_native: bool = False, own: str =
 def names_elsewhere() -> set[str]:
     """The names of syscalls that Linux has only on other architectures."""
     try:
-        with open(program.OTHER_NAMES, encoding="ascii", errors="replace") as file:
-            return {line.strip() for line in file if line.strip() and not line.startswith("#")}
+        return set(map(str.strip, program.lines_of("other_architectures.names")))
     except FileNotFoundError:
         return set()
 
@@ -166,18 +158,19 @@ class Skipped:
     # unknown names, each with the nearest name in a table
     unknown: list[tuple[str, str | None]]
 
-    def __bool__(self) -> bool:
-        return bool(self.elsewhere or self.left_out or self.unknown)
 
-
-def nearest(name: str, *among: Table) -> str | None:
-    """The name in the tables most similar to this one in small letters, or None if none is similar."""
+def most_like(name: str, known: Iterable[str], least: float = NEAR) -> str | None:
+    """The name most similar to this one, None if none is so similar, or if it is a long one."""
     if len(name) > LONGEST:
         return None
     from difflib import get_close_matches  # pylint: disable=import-outside-toplevel
 
-    known = list(dict.fromkeys(it for table in among for it in table.names()))
-    return next(iter(get_close_matches(name.lower(), known, n=1, cutoff=NEAR)), None)
+    return next(iter(get_close_matches(name, list(known), 1, least)), None)
+
+
+def nearest(name: str, *among: Table) -> str | None:
+    """The name in the tables most similar to this one in small letters, or None if none is similar."""
+    return most_like(name.lower(), dict.fromkeys(it for table in among for it in table.names()))
 
 
 def classify(names: Sequence[str], judged: Tables) -> Skipped:

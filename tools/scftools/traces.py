@@ -20,7 +20,7 @@ from .strace import KEPT, LEFT
 from .tables import Table
 from .values import Pattern
 
-NAME, HEXADECIMAL = "[a-z_][a-z0-9_]{0,63}", re.compile("0x[0-9a-f]{1,16}")
+NAME, HEXADECIMAL = "[a-z_][a-z0-9_]{0,63}", Pattern("0x[0-9a-f]{1,16}")
 # perf trace: `0.017 ( 0.002 ms): ls/1234 brk() = 0x1`; one that was interrupted ends with `...`, and goes on behind
 # `... [continued]: `.
 PERF = Pattern(rf" *(?:[0-9]+\.[0-9]+|\?) \( *(?:[0-9.]+ ms)? *\): (?:(?:.{{0,64}}?/)?([0-9]{{1,10}}) +)?"

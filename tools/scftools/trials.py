@@ -3,9 +3,9 @@ from __future__ import annotations
 
 from collections.abc import Iterable, Sequence
 
-from . import bundles, client, entries, verdicts
+from . import client, entries, verdicts
+from .answers import Answer
 from .architectures import JUDGED, NATIVE, Architecture
-from .client import Refusal
 from .entries import Entry
 from .tables import Table, Tables
 from .values import dataclass
@@ -25,7 +25,7 @@ class JointTrial:
         """The same with the table of one of the architectures, by its OCI name."""
         return Trial(self.tables.of[name], self.limit, JUDGED[name])
 
-    def profile_of(self, default: tuple[str, int], found: Iterable[Entry]) -> bytes:
+    def profile_of(self, default: Answer, found: Iterable[Entry]) -> bytes:
         """The text of a profile for the architectures, without entries that have no names."""
         return entries.profile_of(default, found, self.tables.of)
 
@@ -35,12 +35,7 @@ class JointTrial:
 
     def _report(self, filters: Sequence[bytes], profile: bytes, tables: Tables, words: Sequence[str]) -> Report:
         self.count += 1
-        given = bundles.of_comparison(filters, profile, tables)
-        done = client.compare([*tables.words, *words], given, self.limit)
-        report = verdicts.report(done.text)
-        if report.verdict is None:
-            raise Refusal(report.lines[0] if report.lines else "", done.status)
-        return report
+        return verdicts.compared(filters, profile, tables, [*tables.words, *words], self.limit)
 
     def verdict(self, filters: Sequence[bytes], profile: bytes, *words: str) -> Verdict:
         """scf's verdict on filters compared with a profile."""

@@ -14,6 +14,7 @@ import re
 from collections.abc import Callable, Iterator, Sequence
 
 from . import libseccomp, output, program
+from .answers import ALLOW, KILL_PROCESS, MAX_ERRNO, Answer
 from .architectures import NATIVE
 from .values import Pattern, dataclass, field
 
@@ -24,7 +25,6 @@ SECTIONS = {kind: f"[{kind.capitalize()}]" for kind in ("service", "socket", "mo
 # How `systemctl show` prints the error number of what is killed: SECCOMP_ERROR_NUMBER_KILL, which is INT_MAX - 1; older
 # systemds print 0.
 KILLED = ("2147483646", "0", "kill", "")
-MOST_ERRNO = 4095
 # asm-generic/errno.h; Python's module lacks it.
 ERRNOS = {**{name: number for number, name in errno.errorcode.items()}, "EHWPOISON": 133}
 # An errno as safe_atoi of systemd's basic/parse-util.c reads it: in C's notation, also with the prefixes 0b and 0o.
@@ -54,17 +54,6 @@ class UnknownSettings(Exception):
     """The contents of a unit's files can't be known."""
 
 
-@dataclass(frozen=True)
-class Answer:
-    """An answer: an action of the OCI specification, and its errno if it has one."""
-
-    action: str
-    errno: int | None = None
-
-
-ALLOW, LOG, KILL = (Answer(f"SCMP_ACT_{name}") for name in ("ALLOW", "LOG", "KILL_PROCESS"))
-
-
 @dataclass
 class CallList:
     """The calls of SystemCallFilter= or SystemCallLog=, each with an answer of its own or None.
@@ -81,7 +70,7 @@ class Settings:
     """A unit's settings; lists that aren't set are None."""
 
     filter: CallList | None
-    refusal: Answer = KILL
+    refusal: Answer = KILL_PROCESS
     architectures: Sequence[str] = ()
     log: CallList | None = None
 
@@ -94,7 +83,7 @@ class Settings:
             is_denied = own is not None or is_named == self.filter.is_inverted
             answer = (own or self.refusal) if is_denied else ALLOW
         is_logged = self.log is not None and (name in self.log.calls) != self.log.is_inverted
-        return LOG if answer == ALLOW and is_logged else answer
+        return Answer("LOG", 0) if answer == ALLOW and is_logged else answer
 
     def names(self) -> Iterator[str]:
         """The names of all lists, each once."""
@@ -105,18 +94,18 @@ class Settings:
 def answer_of_errno(text: str) -> Answer:
     """What an errno by its name or its number stands for, or the word `kill`."""
     if text in (KILLED[0], "kill"):
-        return KILL
+        return KILL_PROCESS
     number = getattr(errno, text, ERRNOS.get(text)) if re.fullmatch("E[A-Z0-9]+", text) else None
     if number is None and len(text) <= 16 and NUMBER.fullmatch(text):
         number = int(re.sub("^([+-]?)0(?=[0-7])", r"\g<1>0o", text), 0)
-    if number is None or number > MOST_ERRNO:
+    if number is None or number > MAX_ERRNO:
         raise SettingError(f"'{text[:64]}' isn't an errno")
-    return Answer("SCMP_ACT_ERRNO", number)
+    return Answer("ERRNO", number)
 
 
 def refusal_of(text: str) -> Answer:
     """What SystemCallErrorNumber= stands for."""
-    return KILL if text in KILLED else answer_of_errno(text)
+    return KILL_PROCESS if text in KILLED else answer_of_errno(text)
 
 
 def architectures_of(text: str) -> list[str]:
@@ -320,11 +309,6 @@ def shown_by_systemctl(names: Sequence[str]) -> list[dict[str, str]]:
             for block in text.split("\n\n")]
 
 
-def of_unit(unit: str, reader: Reader) -> Settings:
-    """A unit's settings, as systemctl shows them."""
-    return settings_in(shown_by_systemctl([unit])[0], unit, reader)
-
-
 def settings_in(shown: dict[str, str], unit: str, reader: Reader) -> Settings:
     """The settings of a unit of which systemctl shows this."""
     if shown.get("LoadState", "loaded") != "loaded":
@@ -352,11 +336,6 @@ def profile_of(settings: Settings) -> str:
         answer = settings.answer_of(name)
         if answer != default:
             named.setdefault(answer, []).append(name)
-    top: dict[str, object] = {"defaultAction": default.action}
-    if default.errno is not None:
-        top["defaultErrnoRet"] = default.errno
-    top["architectures"] = list(settings.architectures)
-    top["syscalls"] = [{"names": names, "action": answer.action,
-                        **({} if answer.errno is None else {"errnoRet": answer.errno})}
-                       for answer, names in named.items()]
+    entries = [{"names": names, **answer.members()} for answer, names in named.items()]
+    top = {**default.default(), "architectures": list(settings.architectures), "syscalls": entries}
     return json.dumps(top, indent=4) + "\n"

@@ -21,10 +21,10 @@ class Pattern:
     """A regular expression, which is compiled when it is first used."""
 
     def __init__(self, text: str | bytes, flags: int = 0):
-        self._given = text, flags
+        self.pattern, self._flags = text, flags
 
     def __getattr__(self, name: str) -> Any:
-        compiled = re.compile(*self._given)
+        compiled = re.compile(self.pattern, self._flags)
         self.__dict__.update((it, getattr(compiled, it)) for it in ("finditer", "fullmatch", "match", "search", "sub"))
         return getattr(compiled, name)
 

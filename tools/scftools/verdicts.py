@@ -9,12 +9,13 @@ from __future__ import annotations
 import re
 from collections.abc import Callable, Sequence
 
-from . import client
+from . import bundles, client
 from .answers import Answer
 from .architectures import NATIVE as X86_64
 from .architectures import Architecture
 from .calls import Call
-from .client import Fault
+from .client import Fault, Refusal
+from .tables import Table, Tables
 from .values import Pattern, dataclass, replace
 
 # The sets of syscalls that are compared: all records, x86-64's, x86-64's in the table one by one, or those of each
@@ -23,7 +24,8 @@ ALL, NATIVE, CALLS, LISTED = "all", "native", "calls", "listed"
 SAME, DIFFERS, UNDECIDED, UNFINISHED = "same", "differs", "undecided", "unfinished"
 # The options of scf for each of them.
 SCOPES = {ALL: [], NATIVE: ["--native"], CALLS: ["--calls"], LISTED: ["--architectures"]}
-# Only from the tools: the syscall that decides is of an architecture that the profile names, and scf has no table of it.
+# Only from the tools: the syscall that decides is of an architecture that the profile names, and scf has no table of
+# it.
 UNDETERMINED = "undetermined"
 FOR_OTHER_ABI = f"{UNDETERMINED}: the profile is for this architecture, too"
 # The first two with --no-more and --no-less.
@@ -61,6 +63,14 @@ class Verdict:
     def both_deny(self) -> bool:
         return bool(self.filters and self.profile and self.filters.denies and self.profile.denies)
 
+    def as_json(self, table: Table, other: str = "profile") -> dict[str, object]:
+        """Its example, as members of an object; `other` is what the other side is called."""
+        found: dict[str, object] = {} if self.call is None else {"call": self.call.as_json(table)}
+        for side, answer in (("filter", self.filters), (other, self.profile)):
+            if answer is not None:
+                found[side] = answer.as_json()
+        return found if self.at is None else {**found, "at": self.at}
+
 
 @dataclass(frozen=True)
 class NamedCall:
@@ -86,8 +96,7 @@ class NamedCall:
         if call is not None:
             call = replace(call, number=one.first + self.number, architecture=one.number)
             verdict = replace(verdict, call=call)
-        line = self.line if one.oci == X86_64 else f"{one.name} {self.line}"
-        return replace(self, line=line, verdict=verdict, architecture=one)
+        return replace(self, line=one.marked(self.line), verdict=verdict, architecture=one)
 
     def as_json(self) -> dict[str, object]:
         found: dict[str, object] = {"number": self.number, "names": list(self.names), "verdict": self.verdict.word}
@@ -196,6 +205,16 @@ def report(text: str, profile_names: Sequence[str] | None = None, is_known: Call
     calls = tuple(filter(None, (named_call(line, pointer) for line in own[1:])))
     return Report(tuple(own), _verdict(own) if own else None, Fault.read(own[0]) if own else None, calls,
                   tuple(skipped), tuple(architectures))
+
+
+def compared(filters: Sequence[bytes], profile: bytes, tables: Tables, words: Sequence[str],
+             limit: str | None) -> Report:
+    """scf's report on filters compared with a profile by these options. Raises Refusal if it has no verdict."""
+    done = client.compare(words, bundles.of_comparison(filters, profile, tables), limit)
+    found = report(done.text)
+    if found.verdict is None:
+        raise Refusal(found.lines[0] if found.lines else "", done.status)
+    return found
 
 
 @dataclass(frozen=True)

@@ -2,24 +2,25 @@
 and the threads that have it."""
 from __future__ import annotations
 
+import json
 from collections.abc import Iterator, Sequence
 
-from . import client, compare, newer, output, program, runtimes, verdicts
+from . import client, compare, engines, filters, newer, output, profiles, program, runtimes, stack_comparison, verdicts
 from .compare import Comparison
 from .filters import Filter
 from .processes import Inspection, Stack, threads_text
 from .runtimes import AppliedProfile
+from .stack_comparison import StackComparison
 from .tables import Table
-from .values import dataclass, field, replace
+from .values import Any, dataclass, field, replace
 from .verdicts import Report
-
-TYPE_CHECKING = False
-if TYPE_CHECKING:
-    from .saved_filters import SavedRequest
-    from .stack_comparison import StackComparison
 
 # The sources of faults that no stack causes.
 OF_ALL = ("profile", "table", "number", "command", "input")
+
+
+class ContainerError(Exception):
+    """Why it is unknown whether a container is confined."""
 
 
 @dataclass
@@ -76,12 +77,12 @@ class Request:
         stub = self.applied.stub if self.applied is not None else {}
         scope = self.scope or comparison.scope
         status, report, has_stub = newer.compared_with_stub(comparison, scope, stub)
-        return Block(stack, status, newer.expecting_stub(comparison, stub), report, stub if has_stub else {}, scope)
+        return Block(stack, status, replace(comparison, stub=stub), report, stub if has_stub else {}, scope)
 
-    def comparison(self, filters: Sequence[Filter], relation: str | None = None) -> Comparison:
+    def comparison(self, stack: Sequence[Filter], relation: str | None = None) -> Comparison:
         """The comparison of filters with the profile."""
         origins = self.applied.origins if self.applied is not None else None
-        return Comparison(filters, self.profile, self.table, self.limit, relation or self.relation, origins,
+        return Comparison(stack, self.profile, self.table, self.limit, relation or self.relation, origins,
                           is_native=self.scope == verdicts.NATIVE)
 
     def notes(self, block: Block) -> Iterator[str]:
@@ -96,18 +97,85 @@ class Request:
         return {**own, "stub": block.stub} if block.stub else own
 
 
-def _block(stack: Stack, request: Request | SavedRequest) -> Block:
-    # strict mode allows four syscalls, which no profile can express
-    nothing = program.UNKNOWN if stack.is_strict else program.NEGATIVE
-    return request.judge(stack) if stack.filters else Block(stack, nothing)
+def seccomp_in(value: Any, name: str) -> dict[str, Any] | None:
+    """What a configuration with this name says about seccomp, as a config.json with nothing else in it, or None if it
+    says nothing. Runtimes read only `linux.seccomp`, whatever else is in it."""
+    linux = member(value, "linux", name)
+    seccomp = None if linux is None else member(linux, "seccomp", name)
+    return None if seccomp is None else {"linux": {"seccomp": seccomp}}
+
+
+def member(value: Any, wanted: str, path: str) -> Any:
+    """A member of an object in a configuration; refused if a runtime in Go also reads another one as it."""
+    if not isinstance(value, dict):
+        raise ContainerError(f"'{path}' isn't a container's configuration")
+    others = [it for it in value if it != wanted and profiles.folded(it) == wanted]
+    if others:
+        raise ContainerError(f"'{path}' has a member '{others[0]}', which runc reads as {wanted} and crun doesn't")
+    return value.get(wanted)
+
+
+def request_of(config: dict[str, Any], runtime: str | None, keeps_first: bool, table: Table, limit: str | None,
+               relation: str, scope: str | None = None) -> Request:
+    """The question about a container with this configuration, as its runtime applies it; over all architectures that
+    its profile names unless a scope is given."""
+    try:
+        if runtime is not None:
+            return Request.of_runtime(runtimes.applied(config, runtime), table, limit, scope, relation)
+        text = json.dumps(config)
+        if keeps_first:
+            profile, _ = engines.resolve(config, engines.Setting((), (0, 0), False), lambda _: None, True)
+            text = engines.printed(profile)
+        return Request(text.encode(), table, limit, scope, relation)
+    except RecursionError as error:
+        raise ContainerError("the container's configuration: the profile is nested too deep") from error
+    except engines.Refused as why:
+        raise ContainerError(f"the container's configuration: {why}") from why
+
+
+def read_saved(folder: str) -> list[Filter]:
+    """The filters that were saved in a folder, oldest first."""
+    names = filters.saved_in(folder)
+    if not names:
+        raise program.ToolError(f"the folder '{output.escaped(folder)}' has no *.bpf: `scf filters-of PID FOLDER` "
+                                "writes those of a process")
+    return filters.read_stack(names)
+
+
+@dataclass(frozen=True)
+class SavedRequest:
+    """Saved filters, and how each stack is compared with them, as `verify.Request` does with a profile."""
+
+    saved: Sequence[Filter]
+    table: Table
+    limit: str | None
+    scope: str | None
+    relation: str
+    remarks: Sequence[str] = ()
+
+    def judge(self, stack: Stack) -> Block:
+        comparison = StackComparison(stack.named, self.saved, self.table, self.limit, self.relation)
+        scope = self.scope or verdicts.ALL
+        status, report = comparison.run(scope)
+        return Block(stack, status, comparison, report, scope=scope)
+
+    def notes(self, block: Block) -> Iterator[str]:
+        """What is added to scf's lines."""
+        return stack_comparison.added(block.comparison, block.report, block.scope)
+
+    def as_json(self, block: Block) -> dict[str, object]:
+        return stack_comparison.as_json(block.comparison, block.report, block.scope, block.status)
 
 
 def blocks(found: Inspection, request: Request | SavedRequest) -> list[Block]:
     """A block for each distinct stack, the worst first; a fault of all stacks is reported once."""
     made: list[Block] = []
     for stack in found.stacks:
-        if not stack.filters or not any(block.is_of_all for block in made):
-            made.append(_block(stack, request))
+        if not stack.filters:
+            # strict mode allows four syscalls, which no profile can express
+            made.append(Block(stack, program.UNKNOWN if stack.is_strict else program.NEGATIVE))
+        elif not any(block.is_of_all for block in made):
+            made.append(request.judge(stack))
     return sorted(made, key=lambda it: client.rank(it.status))
 
 
@@ -115,14 +183,11 @@ def worst(made: Sequence[Block]) -> int:
     return made[0].status
 
 
-def _called(process: int, found: Inspection) -> str:
-    return f"process {process} ({output.escaped(found.names[process])})"
-
-
 def of_threads(stack: Stack, found: Inspection) -> Iterator[str]:
     """Which threads have a stack: a line for each process."""
     for process, threads in stack.threads.items():
-        who, count = _called(process, found), sum(len(it.threads.get(process, ())) for it in found.stacks)
+        who = f"process {process} ({output.escaped(found.names[process])})"
+        count = sum(len(it.threads.get(process, ())) for it in found.stacks)
         if len(threads) < count:
             line = f"{threads_text(threads)} of {who} {'have' if len(threads) > 1 else 'has'} {stack.description}"
         else:
@@ -137,15 +202,15 @@ def lines(made: Sequence[Block], found: Inspection, request: Request | SavedRequ
         Iterator[str]:
     """The text output: scf's lines for each block, with --verbose also the skipped names, and then added lines,
     marked by `# `."""
-    is_told = False
+    is_printed = False
     for at, block in enumerate(made):
         if at:
             yield ""
         report = block.report
         if report is not None:
-            if is_told:
+            if is_printed:
                 report = replace(report, skipped=(), architectures=())
-            is_told = is_told or report.verdict is not None
+            is_printed = is_printed or report.verdict is not None
             yield from report.printed if is_verbose else report.brief
             yield from output.notes(request.notes(replace(block, report=report)))
         yield from output.notes(of_threads(block.stack, found))
@@ -156,9 +221,7 @@ def _block_json(block: Block, found: Inspection, request: Request | SavedRequest
     own: dict[str, object] = {"status": block.status, "verdict": block.verdict}
     if block.report is not None:
         own = request.as_json(block)
-    return {**own, "filters": [len(data) // 8 for data in block.stack.filters],
-            "processes": [{"process": process, "name": output.escaped(found.names[process]), "threads": threads}
-                          for process, threads in block.stack.threads.items()]}
+    return {**own, **block.stack.as_json(found.names)}
 
 
 def as_json(made: Sequence[Block], found: Inspection, request: Request | SavedRequest, container: str | None) -> \

@@ -11,10 +11,8 @@ import time
 from collections.abc import Callable, Sequence
 
 from . import processes, program
+from .child import PR_SET_PDEATHSIG
 from .values import Any
-
-# linux/prctl.h
-PR_SET_PDEATHSIG = 1
 
 
 def _is_ready(file: int, until: float) -> bool:

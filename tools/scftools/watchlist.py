@@ -1,5 +1,6 @@
 """Syscalls that `lint` looks for in what a profile allows: those that make a sandbox useless (tables/dangerous.calls),
-those that need another one, as sleeps need restart_syscall, and those that libc replaces only if they are ENOSYS.
+those that need another one, as sleeps need restart_syscall, those that libc replaces only if they are ENOSYS, and those
+that do what a denied one does, whose denial is void.
 
 For each architecture scf compares the profile's filter with a profile that delegates these syscalls, with the arguments
 that are meant, and allows all else: what is more permissive than that is allowed.
@@ -7,13 +8,12 @@ that are meant, and allows all else: what is more permissive than that is allowe
 from __future__ import annotations
 
 import functools
-import os
-from collections.abc import Callable, Iterator, Mapping, Sequence
+from collections.abc import Callable, Collection, Iterator, Mapping, Sequence
 
 from . import program
-from .answers import Answer
+from .answers import ALLOW, ENOSYS, Answer
 from .calls import Call
-from .entries import ALLOWING, Condition, Entry, Reading
+from .entries import Condition, Entry, Reading
 from .findings import Finding, Owners, by_owners, listed
 from .reasons import Reason
 from .tables import Tables
@@ -21,9 +21,8 @@ from .trials import Trial
 from .values import Pattern, dataclass
 from .verdicts import NamedCall
 
-FILE = os.path.join(program.TOP, "tables", "dangerous.calls")
 LINE = Pattern(r"(\w+) (?:\[(\d) has (0x[0-9a-f]+)\] )?(\S.*)")
-DELEGATES, ALLOWS = ("SCMP_ACT_TRACE", 1), ("SCMP_ACT_ALLOW", 0)
+DELEGATES = Answer("TRACE", 1)
 
 
 def _has(index: int, mask: int, value: int) -> Condition:
@@ -62,7 +61,15 @@ NEEDED = (
 # What libc calls instead of newer syscalls if they fail with ENOSYS, and not with any other errno (glibc's
 # __clone_internal and faccessat); with arguments of a thread and of a fork, by linux/sched.h.
 FALLBACKS = (("clone3", "clone", (0x3D0F00, 0x1200011)), ("faccessat2", "faccessat", (0,)))
-ENOSYS = 38
+# Each syscall with those that do all of it by other arguments, as their manual pages say.
+SIBLINGS = {
+    "open": "openat openat2", "creat": "open openat openat2", "mkdir": "mkdirat", "mknod": "mknodat", "link": "linkat",
+    "symlink": "symlinkat", "unlink": "unlinkat", "rmdir": "unlinkat", "rename": "renameat renameat2",
+    "renameat": "renameat2", "chmod": "fchmodat fchmodat2", "chown": "fchownat", "lchown": "fchownat",
+    "utime": "utimes futimesat utimensat", "utimes": "utimensat", "execve": "execveat", "fork": "clone clone3",
+    "vfork": "clone clone3", "accept": "accept4", "setuid": "setresuid", "setgid": "setresgid",
+    "setreuid": "setresuid", "setregid": "setresgid", "settimeofday": "clock_settime", "adjtimex": "clock_adjtime",
+    "init_module": "finit_module", "tkill": "tgkill", "setrlimit": "prlimit64"}
 # How a syscall is allowed.
 ALWAYS, SOMETIMES = "always", "sometimes"
 
@@ -79,13 +86,12 @@ class Dangerous:
 def dangerous() -> dict[str, Dangerous]:
     """The syscalls that make a sandbox useless, from the list."""
     found: dict[str, Dangerous] = {}
-    with open(FILE, encoding="ascii") as file:
-        for line in file:
-            parts = LINE.fullmatch(line.strip())
-            if parts and not line.startswith("#"):
-                bits = int(parts[3], 16) if parts[3] else None
-                conditions = () if bits is None else (_has(int(parts[2]), bits, bits),)
-                found[parts[1]] = Dangerous(parts[4], conditions)
+    for line in program.lines_of("dangerous.calls"):
+        parts = LINE.fullmatch(line.strip())
+        if parts:
+            bits = int(parts[3], 16) if parts[3] else None
+            conditions = () if bits is None else (_has(int(parts[2]), bits, bits),)
+            found[parts[1]] = Dangerous(parts[4], conditions)
     return found
 
 
@@ -110,7 +116,7 @@ class Watch:
         """The syscalls of the list that fail a relation to a profile of some entries that else allows all, or are
         undecided, by number."""
         calls = "".join(f"{name} {number}\n" for name, number in self.numbers.items()).encode()
-        report = self.trial.report([self.data], self.trial.profile_of(ALLOWS, beside), calls, "--calls", relation)
+        report = self.trial.report([self.data], self.trial.profile_of(ALLOW, beside), calls, "--calls", relation)
         return {it.number: it.on(self.trial.architecture) for it in report.calls}
 
     @property
@@ -168,8 +174,8 @@ class Watch:
         if not self.is_read:
             return True
         answer = self.reading.answer(newer, {})
-        return answer[0] not in ALLOWING and answer != ("SCMP_ACT_ERRNO", ENOSYS) and \
-            any(self.reading.allows(older, {0: it}) for it in first_arguments)
+        instead = any(self.reading.allows(older, {0: it}) for it in first_arguments)
+        return not answer.allows and answer != ENOSYS and instead
 
     def keeps_from(self, newer: str, older: str, first_arguments: Sequence[int]) -> \
             tuple[Answer, str, int | None] | None:
@@ -180,9 +186,27 @@ class Watch:
             return None
         answer, where, entry = self.answer(self.reading.call(numbers[0]))
         instead = [self.answer(self.reading.call(numbers[1], it))[0] for it in first_arguments]
-        is_kept = answer and answer.denies and (answer.action, answer.data) != ("ERRNO", ENOSYS) and \
-            any(it and it.allows for it in instead)
+        is_kept = answer and answer.denies and answer != ENOSYS and any(it and it.allows for it in instead)
         return (answer, where, entry) if is_kept else None
+
+    def _may_be(self, name: str, is_allowed: bool) -> bool:
+        """Whether a syscall may be allowed, or denied, as the entries are read, which have no conditions for it."""
+        number = self.reading.table.number_of(name)
+        return number is not None and (not self.is_read or self.reading.allows(number, {}) == is_allowed)
+
+    def void(self, name: str, conditional: Collection[str]) -> tuple[int, Answer, tuple[str, ...]] | None:
+        """The entry that denies a syscall, its answer, and what is allowed instead; None if nothing is. Names for which
+        an entry has conditions are left out."""
+        others = [it for it in SIBLINGS[name].split() if it not in conditional and self._may_be(it, True)]
+        if not others or name in conditional or not self._may_be(name, False):
+            return None
+        call = self.reading.call
+        denied = self.ask(call(self.reading.table.number_of(name) or 0))
+        if denied.entry is None or denied.answer in (None, ENOSYS) or not denied.answer.denies:
+            return None
+        asked = {it: self.ask(call(self.reading.table.number_of(it) or 0)).answer for it in others}
+        allowed = tuple(it for it, answer in asked.items() if answer is not None and answer.allows)
+        return (denied.entry, denied.answer, allowed) if allowed else None
 
 
 def _allowed(name: str, danger: Dangerous, watch: Watch, owners: Owners) -> tuple[bool, Finding]:
@@ -224,8 +248,8 @@ def of_needed(judged: Tables, watches: Mapping[str, Watch]) -> Iterator[tuple[bo
     """A finding if a syscall isn't always allowed, but others that need it are; and whether that is decided."""
     for one in NEEDED:
         less = {name: watch.lacks(one) for name, watch in watches.items() if one.name in watch.numbers}
-        is_told = {name: None if it is None else it.verdict.call is not None for name, it in less.items()}
-        yield from (_lacking(one, watches[owners.first], owners) for _, owners in by_owners(is_told, judged))
+        is_decided = {name: None if it is None else it.verdict.call is not None for name, it in less.items()}
+        yield from (_lacking(one, watches[owners.first], owners) for _, owners in by_owners(is_decided, judged))
 
 
 def of_fallbacks(judged: Tables, watches: Mapping[str, Watch]) -> Iterator[Finding]:
@@ -236,5 +260,20 @@ def of_fallbacks(judged: Tables, watches: Mapping[str, Watch]) -> Iterator[Findi
         for (answer, where, entry), owners in by_owners(kept, judged):
             yield Finding("no-fallback", f"{owners.named(newer, numbers[owners.first])} is answered {where} {answer}, "
                           f"and {older} is allowed: libc calls {older} instead only after ENOSYS, which is errno "
-                          f"{ENOSYS}{owners.also}",
+                          f"{ENOSYS.data}{owners.also}",
                           {"name": newer, "instead": older, "entry": entry, **owners.as_json()})
+
+
+def of_siblings(judged: Tables, watches: Mapping[str, Watch], found: Sequence[Entry],
+                is_read: bool) -> Iterator[Finding]:
+    """Denials by an entry that another syscall makes void. One with ENOSYS isn't meant to keep a program from anything,
+    but to lead it to the other one; entries with conditions are left out."""
+    conditional = {name for it in found if it.conditions for name in it.names}
+    # if the entries are the profile's, only one that denies can be what denies
+    denying = (it for it in found if not is_read or not it.answer.allows)
+    for name in dict.fromkeys(name for it in denying for name in it.names if name in SIBLINGS):
+        void = {one: watches[one].void(name, conditional) for one in judged.numbers_of(name)}
+        for (entry, answer, others), on in by_owners(void, judged):
+            yield Finding("sibling-allowed", f"{name} is denied{on.where} by entry {entry} ({answer}), and "
+                          f"{listed(others, 'and')}, which can do the same, {'is' if len(others) == 1 else 'are'} "
+                          "allowed", {"entry": entry, "name": name, "allowed": list(others), **on.as_json()})

@@ -16,6 +16,34 @@ sys.modules.setdefault("gettext", types.SimpleNamespace(  # type: ignore
 import argparse  # noqa: E402 pylint: disable=wrong-import-position
 
 
+ARCH_HELP = ("the architecture of the syscalls{}, and of the table if none is given: x86-64, i386, x32, aarch64 or arm "
+             "[default: this machine's{}]")
+# The options and arguments that several tools take.
+SHARED: dict[str, dict[str, Any]] = {
+    "--arch": {"metavar": "ARCH", "help": ARCH_HELP.format("", "")},
+    "--caps": {"metavar": "LIST",
+               "help": "PROFILE is an engine's own: resolve it, as resolve-profile does, for a container with these "
+                       "capabilities, such as docker, podman, none or CAP_KILL,SYS_ADMIN"},
+    "--force": {"action": "store_true",
+                "help": "also stop threads that wait for a seccomp supervisor, which then gets their syscalls a "
+                        "second time"},
+    "--html": {"metavar": "FILE", "help": "also write a page of HTML"},
+    "--json": {"action": "store_true", "help": "print one JSON object instead of lines"},
+    "--keep-first": {"action": "store_true",
+                     "help": "of two answers to a syscall, both without conditions, keep the first, as libseccomp "
+                             "does"},
+    "--limit": {"metavar": "N", "help": client.LIMIT_HELP},
+    "--native": {"action": "store_true", "help": "x86-64 alone, whatever architectures the profile names"},
+    "--table": {"metavar": "FILE", "help": "the syscall table; - is standard input [default: tables/x86_64.table]"},
+    "--verbose": {"action": "store_true",
+                  "help": "list the names in the profile that were skipped, not only their count"},
+    "filter": {"metavar": "FILTER", "help": "a raw filter; - is standard input"},
+    "filters": {"metavar": "FILTER", "nargs": "+", "help": "a raw filter, oldest first; - is standard input"},
+    "pid": {"metavar": "PID", "help": "a process, or a thread of it"},
+    "profile": {"metavar": "PROFILE", "help": "a resolved profile, or a config.json; - is standard input"},
+}
+
+
 class Version(argparse.Action):
     """`--version`: the version is scf's."""
 
@@ -24,13 +52,6 @@ class Version(argparse.Action):
 
     def __call__(self, parser: argparse.ArgumentParser, *_: Any) -> None:
         program.finish(client.print_version())
-
-
-class Formatter(argparse.HelpFormatter):
-    """Help of a fixed width, so that no tool asks the terminal for it at the start."""
-
-    def __init__(self, prog: str):
-        super().__init__(prog, width=100)
 
 
 class Parser(argparse.ArgumentParser):
@@ -44,8 +65,10 @@ class Parser(argparse.ArgumentParser):
         # (a percent sign would be argparse's)
         usage = re.sub(r"(?m)^    (?:scf )?[\w/-]+", lambda _: f"    {name}", usage)
         usage = re.sub("(?m)^   ", " " * len("usage:"), usage)
+        # (with a fixed width no tool asks the terminal for it at the start)
         super().__init__(prog=name, usage=usage.strip().replace("%", "%%"), description=summary,
-                         epilog=" ".join([needs, *statuses]), allow_abbrev=False, formatter_class=Formatter)
+                         epilog=" ".join([needs, *statuses]), allow_abbrev=False,
+                         formatter_class=lambda prog: argparse.HelpFormatter(prog, width=100))
         self.examples = re.findall(r"(?m)^    (.*)$", examples)
         self.add_argument("--version", action=Version)
         self.add_argument("--color", choices=("auto", "always", "never"), default="auto",
@@ -76,38 +99,10 @@ class Parser(argparse.ArgumentParser):
         output.put(self.format_help())
         output.put("".join(["\nexamples:\n", *(f"  {it}\n" for it in self.examples)] if self.examples else []))
 
-    def profile(self) -> None:
-        """Adds PROFILE."""
-        self.add_argument("profile", metavar="PROFILE",
-                          help="a resolved profile, or a config.json; - is standard input")
-
-    def filters(self) -> None:
-        """Adds the FILTERs of a stack."""
-        self.add_argument("filters", metavar="FILTER", nargs="+",
-                          help="a raw filter, oldest first; - is standard input")
-
-    def json(self) -> None:
-        """Adds `--json`."""
-        self.add_argument("--json", action="store_true", help="print one JSON object instead of lines")
-
-    def table(self, dash: str = "; - is standard input") -> None:
-        """Adds `--table`."""
-        self.add_argument("--table", metavar="FILE", help=f"the syscall table{dash} [default: tables/x86_64.table]")
-
-    def arch(self, where: str = "", default: str = "") -> None:
-        """Adds `--arch`."""
-        self.add_argument("--arch", metavar="ARCH",
-                          help=f"the architecture of the syscalls{where}, and of the table if none is given: x86-64, "
-                               f"i386, x32, aarch64 or arm [default: this machine's{default}]")
-
-    def limit(self) -> None:
-        """Adds `--limit`."""
-        self.add_argument("--limit", metavar="N", help=client.LIMIT_HELP)
-
-    def verbose(self) -> None:
-        """Adds `--verbose`."""
-        self.add_argument("--verbose", action="store_true",
-                          help="list the names in the profile that were skipped, not only their count")
+    def add(self, *names: str, **changed: Any) -> None:
+        """Adds options and arguments of SHARED, on request with another text of help."""
+        for name in names:
+            self.add_argument(name, **{**SHARED[name], **changed})
 
     def scope(self, native: str, of_all: str = "") -> None:
         """Adds `--native` and `--calls`, on request `--all`, which exclude each other."""
@@ -117,11 +112,6 @@ class Parser(argparse.ArgumentParser):
             group.add_argument("--all", dest="scope", action="store_const", const=verdicts.ALL, help=of_all)
         group.add_argument("--calls", dest="scope", action="store_const", const=verdicts.CALLS,
                            help="each syscall that a table names by itself, and no other")
-
-    def native(self) -> None:
-        """Adds `--native` alone."""
-        self.add_argument("--native", action="store_true",
-                          help="x86-64 alone, whatever architectures the profile names")
 
     def relation(self, with_disposition: bool = False, other: str = "the profile") -> None:
         """Adds `--no-more` and `--no-less`, on request `--disposition`, which exclude each other."""

@@ -1,7 +1,6 @@
 """What the tests share: running a tool, made filters, profiles and tables, and which options this scf has."""
 import functools
-import importlib.machinery
-import importlib.util
+import importlib
 import json
 import os
 import resource
@@ -34,14 +33,14 @@ def for_developers(name):
     return os.path.join(TOP, "dev", name)
 
 
+def source_of(name):
+    """The module of a tool, whose docstring is the tool's manual."""
+    return os.path.join(TOP, "tools", "scftools", f"tool_{name.replace('-', '_')}.py")
+
+
 def module(name):
     """A tool, imported."""
-    loader = importlib.machinery.SourceFileLoader(name.replace("-", "_"), tool(name))
-    found = importlib.util.module_from_spec(importlib.util.spec_from_loader(loader.name, loader))
-    # (its dataclasses look for their module there)
-    sys.modules[loader.name] = found
-    loader.exec_module(found)
-    return found
+    return importlib.import_module(f"scftools.tool_{name.replace('-', '_')}")
 
 
 def insn(code, k, jt=0, jf=0):
@@ -62,6 +61,11 @@ def jge(k, jt, jf):
 
 def ret(k):
     return insn(0x06, k)
+
+
+# Leaves 0 in A: three times the low word of the first argument, less that word three times. A bit of it is known only
+# where that bit of the word and all lower ones are, so answers behind a test of it take more splits than the default.
+UNKNOWN_ZERO = load(16) + insn(0x07, 0) + insn(0x24, 3) + insn(0x1C, 0) * 3
 
 
 def filter_of(allowed, default=EPERM, foreign=KILL_PROCESS):

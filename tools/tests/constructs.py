@@ -7,7 +7,8 @@ Each pair has one to three calls, one of which the profile allows by a condition
 In one half of the pairs the filter does what the profile says, in the other half one of its constants is changed. A
 second machine runs the filter on calls whose words are the constants of both and their like, and a small reading of the
 condition says what the profile answers; so it is known of a pair where they differ. For each construct it is printed
-how many pairs of each kind scf leaves undecided. A wrong verdict ends it with status 1.
+how many pairs of each kind scf leaves undecided, the most time of a processor that a pair takes, and the most memory
+(some 20 MB are those of Python before it runs the program). A wrong verdict ends it with status 1.
 """
 import argparse
 import json
@@ -16,6 +17,7 @@ import random
 import re
 import subprocess
 import sys
+import tempfile
 from dataclasses import dataclass, field
 
 from common import ALLOW, EPERM, KILL_PROCESS, SCF, TOP, X86_64, insn, part
@@ -25,9 +27,11 @@ from stand_in import StandIn
 PROGRAM = os.path.join(TOP, "crates", "scf", "out", "scf")
 LONG, WORD = (1 << 64) - 1, (1 << 32) - 1
 X32 = 0x40000000
-LD, LDX, TAX, TXA, NEG, ST, STX, RET = 0x20, 0x01, 0x07, 0x87, 0x84, 0x02, 0x03, 0x06
+LD, LDX, TAX, TXA, NEG, ST, STX, RET, RET_A = 0x20, 0x01, 0x07, 0x87, 0x84, 0x02, 0x03, 0x06, 0x16
+# Loads of a constant, and of scratch words to A and to X.
+LD_K, LD_M, LDX_M = 0x00, 0x60, 0x61
 ADD, SUB, MUL, DIV, OR, AND, LSH, RSH, XOR = 0x04, 0x14, 0x24, 0x34, 0x44, 0x54, 0x64, 0x74, 0xA4
-JEQ, JGT, JGE, JSET = 0x15, 0x25, 0x35, 0x45
+JA, JEQ, JGT, JGE, JSET = 0x05, 0x15, 0x25, 0x35, 0x45
 # The other operand is X.
 X = 0x08
 NUMBER, ARCHITECTURE, ARGUMENTS = 0, 4, 16
@@ -36,8 +40,8 @@ NUMBER, ARCHITECTURE, ARGUMENTS = 0, 4, 16
 @dataclass
 class Asked:
     """A condition on an argument as a profile has it, and instructions that test it: each is a code and a constant, a
-    test has the labels that it goes to, too. They end at `yes` and `no`; the argument's words stand at `low` and four
-    bytes further on."""
+    test has the labels that it goes to, too, and a jump has a label alone. They end at `yes` and `no`, or return; the
+    argument's words stand at `low` and four bytes further on."""
 
     op: str
     value: int
@@ -91,6 +95,20 @@ def value_in(dice, mask):
     return dice.getrandbits(32) & mask
 
 
+def of_any_length(dice):
+    """A number from 1 on, of any count of bits."""
+    return dice.randrange(1, 1 << dice.randrange(1, 33))
+
+
+def odd(dice):
+    return dice.choice((3, 5, 7, 0x10001, WORD, of_any_length(dice) | 1))
+
+
+def is_zero(dice):
+    """One of the tests whether what is computed is 0."""
+    return dice.choice((is_equal(0), (JSET, WORD, "no", "yes"), (JGT, 0, "no", "yes"), (JGE, 1, "no", "yes")))
+
+
 # Plain tests and copies
 
 def by_mask(dice, low):
@@ -108,7 +126,7 @@ def by_mask_in_x(dice, low):
 def by_word_in_x(dice, low):
     mask = some_mask(dice)
     value = value_in(dice, mask)
-    return masked(mask, value, low, (TAX, 0), (0x00, mask), (AND | X, 0), is_equal(value))
+    return masked(mask, value, low, (TAX, 0), (LD_K, mask), (AND | X, 0), is_equal(value))
 
 
 def by_bits(dice, low):
@@ -118,7 +136,7 @@ def by_bits(dice, low):
 
 def by_copies(dice, low):
     value = dice.getrandbits(32)
-    return equal(value, low, (ST, 3), (0x00, 7), (0x60, 3), (TAX, 0), (0x00, 0), (TXA, 0), is_equal(value))
+    return equal(value, low, (ST, 3), (LD_K, 7), (LD_M, 3), (TAX, 0), (LD_K, 0), (TXA, 0), is_equal(value))
 
 
 def by_order_in_x(dice, low):
@@ -241,12 +259,12 @@ def by_order_of_complement(dice, low):
 
 def by_difference(dice, low):
     value, by = dice.getrandbits(32), dice.getrandbits(32)
-    return equal(value, low, (TAX, 0), (0x00, by), (SUB | X, 0), is_equal(by - value))
+    return equal(value, low, (TAX, 0), (LD_K, by), (SUB | X, 0), is_equal(by - value))
 
 
 def by_order_of_difference(dice, low):
     value = dice.randrange(1, 1 << 32)
-    return least(value, low, (TAX, 0), (0x00, value - 1), (SUB | X, 0), (JGE, value, "yes", "no"))
+    return least(value, low, (TAX, 0), (LD_K, value - 1), (SUB | X, 0), (JGE, value, "yes", "no"))
 
 
 def by_order_of_high_complement(dice, low):
@@ -308,24 +326,341 @@ def by_joined_words_under_masks(dice, low):
                                              [(JGE, 1, "no", "yes")]))])
 
 
-# What stands for each construct, and whether scf decides all such pairs.
+# Orders of a word under any mask
+
+def top_of(dice, mask):
+    """Some of the highest bits of a mask."""
+    bits = [bit for bit in range(31, -1, -1) if mask >> bit & 1]
+    return sum(1 << bit for bit in bits[:dice.randint(1, len(bits))])
+
+
+def at_least(dice, less, value, yes, no):
+    """An order that parts `value` and what is more from `less` and what is less; nothing lies between."""
+    number = dice.randint(less + 1, value)
+    return dice.choice(((JGE, number, yes, no), (JGT, number - 1, yes, no)))
+
+
+def by_order_under_mask(dice, low):
+    """At least the value of a mask's highest bits: all of these are set."""
+    mask = some_mask(dice)
+    top = top_of(dice, mask)
+    return masked(top, top, low, (AND, mask), at_least(dice, top & top - 1 | mask & ~top, top, "yes", "no"))
+
+
+def by_order_below_under_mask(dice, low):
+    """Less than the lowest of a mask's highest bits: none of these is set."""
+    mask = some_mask(dice)
+    top = top_of(dice, mask)
+    return masked(top, 0, low, (AND, mask), at_least(dice, mask & ~top, top & -top, "no", "yes"))
+
+
+def by_orders_under_mask(dice, low):
+    """Between the values that have a mask's highest bits in common."""
+    mask = some_mask(dice)
+    top = top_of(dice, mask)
+    value = value_in(dice, top)
+    return masked(top, value, low, (AND, mask), (JGE, value, "then", "no"), "then",
+                  (JGT, value | mask & ~top, "no", "yes"))
+
+
+def by_order_behind_high_bits(dice, low):
+    """A mask with a gap, once its high bits are tested."""
+    by = dice.randrange(2, 31)
+    high, mask = WORD >> by << by, dice.getrandbits(by) or 1
+    value, top = value_in(dice, high), top_of(dice, mask)
+    return masked(high | top, value | top, low, (AND, high), (JEQ, value, "then", "no"), "then", (LD, low),
+                  (AND, high | mask), at_least(dice, value | top & top - 1 | mask & ~top, value | top, "yes", "no"))
+
+
+def by_order_of_low_bits(dice, low):
+    """An order of the high bits, and where they are equal, of the low ones."""
+    by, value = dice.randrange(1, 32), dice.getrandbits(32)
+    rest = (1 << by) - 1
+    return least(value, low, (RSH, by), (JGT, value >> by, "yes", "then"), "then", (JEQ, value >> by, "more", "no"),
+                 "more", (LD, low), (AND, rest), (JGE, value & rest, "yes", "no"))
+
+
+# Products and quotients by constants
+
+def by_odd_product(dice, low):
+    """An odd factor has an inverse modulo 2^32."""
+    factor, value = odd(dice), dice.getrandbits(32)
+    return equal(value, low, (MUL, factor), is_equal(value * factor))
+
+
+def by_odd_product_under_mask(dice, low):
+    factor, mask = odd(dice), WORD >> dice.randrange(1, 32)
+    value = value_in(dice, mask)
+    return masked(mask, value, low, (MUL, factor), (AND, mask), is_equal(value * factor & mask))
+
+
+def by_any_product(dice, low):
+    """A factor of 2^n drops the highest n bits."""
+    factor = of_any_length(dice)
+    mask = WORD // (factor & -factor)
+    value = value_in(dice, mask)
+    return masked(mask, value, low, (MUL, factor), is_equal(value * factor))
+
+
+def by_order_of_product(dice, low):
+    """The word is known to be small."""
+    factor = dice.randrange(2, 1 << dice.randrange(2, 31))
+    bound = dice.randint(1, WORD // factor)
+    value = dice.randrange(bound)
+    if dice.random() < 0.5:
+        return most(value, low, (JGE, bound, "no", "then"), "then", (MUL, factor),
+                    (JGT, factor * value + dice.randrange(factor), "no", "yes"))
+    return least(value, low, (JGE, bound, "yes", "then"), "then", (MUL, factor),
+                 (JGE, max(factor * value - dice.randrange(factor), 0), "yes", "no"))
+
+
+def by_order_of_quotient(dice, low):
+    divisor = of_any_length(dice)
+    value = dice.randint(0, WORD // divisor)
+    if dice.random() < 0.5:
+        return most(min(value * divisor + divisor - 1, WORD), low, (DIV, divisor), (JGT, value, "no", "yes"))
+    return least(value * divisor, low, (DIV, divisor), (JGE, value, "yes", "no"))
+
+
+def by_least_or_greatest_quotient(dice, low):
+    divisor = of_any_length(dice)
+    if dice.random() < 0.5:
+        return most(divisor - 1, low, (DIV, divisor), is_equal(0))
+    return least(WORD // divisor * divisor, low, (DIV, divisor), is_equal(WORD // divisor))
+
+
+def by_quotient_and_remainder(dice, low):
+    value, divisor = dice.getrandbits(32), of_any_length(dice)
+    return equal(value, low, (DIV, divisor), (JEQ, value // divisor, "then", "no"), "then", (MUL, divisor), (TAX, 0),
+                 (LD, low), (SUB | X, 0), is_equal(value % divisor))
+
+
+def by_square(dice, low):
+    """Of a word of 16 bits."""
+    value = dice.getrandbits(16)
+    return most(value, low, (JGT, 0xFFFF, "no", "then"), "then", (TAX, 0), (MUL | X, 0),
+                (JGT, value * value + dice.randint(0, 2 * value), "no", "yes"))
+
+
+# Two words, of which the high one is tested to be a constant
+
+def of_words(value, low, *code):
+    """A number of 64 bits; the high word is tested, and in X."""
+    return Asked("SCMP_CMP_EQ", value, code=[(LD, low + 4), (JEQ, value >> 32, "next", "no"), "next", (TAX, 0),
+                                             (LD, low), *code])
+
+
+def least_of_words(value, low, *code):
+    return Asked("SCMP_CMP_GE", value, code=[(LD, low + 4), (JGT, value >> 32, "yes", "next"), "next",
+                                             (JEQ, value >> 32, "then", "no"), "then", (TAX, 0), (LD, low), *code])
+
+
+def by_product_of_words(dice, low):
+    high, value = odd(dice), dice.getrandbits(32)
+    return of_words(high << 32 | value, low, (MUL | X, 0), is_equal(value * high))
+
+
+def by_quotient_of_words(dice, low):
+    high = of_any_length(dice)
+    value = dice.randint(0, WORD // high)
+    return least_of_words(high << 32 | value * high, low, (DIV | X, 0), (JGE, value, "yes", "no"))
+
+
+def by_shift_by_word(dice, low):
+    by = dice.randrange(1, 31)
+    code, mask = dice.choice(((LSH, WORD >> by), (RSH, WORD >> by << by)))
+    value = value_in(dice, mask)
+    return Asked("SCMP_CMP_MASKED_EQ", WORD << 32 | mask, by << 32 | value,
+                 [(LD, low + 4), (JEQ, by, "next", "no"), "next", (TAX, 0), (LD, low), (code | X, 0),
+                  is_equal(value << by if code == LSH else value >> by)])
+
+
+def by_sum_of_words(dice, low):
+    high, value = dice.getrandbits(32), dice.getrandbits(32)
+    return of_words(high << 32 | value, low, *dice.choice((
+        [(ADD | X, 0), is_equal(value + high)], [(SUB | X, 0), is_equal(value - high)],
+        [(XOR | X, 0), is_equal(value ^ high)], [(ADD | X, 0), (SUB | X, 0), is_equal(value)],
+        [(TAX, 0), (LD, low + 4), (SUB | X, 0), is_equal(high - value)],
+        [(ADD | X, 0), (ADD | X, 0), is_equal(value + 2 * high)])))
+
+
+def by_order_of_sum_of_words(dice, low):
+    high = of_any_length(dice)
+    return least_of_words(high << 32 | high, low, *dice.choice((
+        [(SUB | X, 0), (JGT, WORD - high, "no", "yes")], [(JGE | X, 0, "yes", "no")],
+        [(NEG, 0), (ADD | X, 0), (JEQ, 0, "yes", "more"), "more", (JGT, high, "yes", "no")])))
+
+
+# Sums of a word's parts
+
+def by_sum_of_parts(dice, low):
+    mask, value = some_mask(dice), dice.getrandbits(32)
+    return equal(value, low, (AND, mask), (TAX, 0), (LD, low), (AND, ~mask & WORD), (ADD | X, 0), is_equal(value))
+
+
+def by_sum_with_itself(dice, low):
+    value = dice.getrandbits(32)
+    if dice.random() < 0.5:
+        return masked(WORD >> 1, value & WORD >> 1, low, (TAX, 0), (ADD | X, 0), is_equal(2 * value))
+    return equal(value, low, (TAX, 0), (ADD | X, 0), (ADD | X, 0), is_equal(3 * value))
+
+
+def by_word_less_part(dice, low):
+    """Of a part of few bits, whose values scf tries one by one."""
+    mask = of_any_length(dice) & 0xFF << dice.randrange(25) or 1
+    value = value_in(dice, ~mask & WORD)
+    return masked(~mask & WORD, value, low, (AND, mask), (TAX, 0), (LD, low), (SUB | X, 0), is_equal(value))
+
+
+# Words joined under wide masks
+
+def wide_mask(dice):
+    return dice.choice((WORD, WORD - 1, 0xFFFF00FF, dice.getrandbits(32) | dice.getrandbits(32) | 1, some_mask(dice)))
+
+
+def by_three_parts_joined(dice, low):
+    masks, value = [wide_mask(dice) for _ in range(3)], dice.getrandbits(64)
+    high, rest = value >> 32, value & WORD
+    return Asked("SCMP_CMP_MASKED_EQ", masks[0] << 32 | masks[1] | masks[2],
+                 (high & masks[0]) << 32 | rest & (masks[1] | masks[2]),
+                 [(LD, low + 4), (AND, masks[0]), (XOR, high & masks[0]), (ST, 0),
+                  (LD, low), (AND, masks[1]), (XOR, rest & masks[1]), (ST, 1),
+                  (LD, low), (AND, masks[2]), (XOR, rest & masks[2]), (LDX_M, 1), (OR | X, 0), (LDX_M, 0), (OR | X, 0),
+                  is_zero(dice)])
+
+
+def by_and_of_words(dice, low):
+    """All bits of a mask in each word."""
+    high, mask = wide_mask(dice), wide_mask(dice)
+    return Asked("SCMP_CMP_MASKED_EQ", high << 32 | mask, high << 32 | mask,
+                 [(LD, low + 4), (OR, ~high & WORD), (TAX, 0), (LD, low), (OR, ~mask & WORD), (AND | X, 0),
+                  *dice.choice(([is_equal(WORD)], [(XOR, WORD), is_zero(dice)], [(JGE, WORD, "yes", "no")]))])
+
+
+def by_words_side_by_side(dice, low):
+    """Masks that have no bit in common."""
+    mask = dice.randrange(1, WORD)
+    high, value = wide_mask(dice) & ~mask, dice.getrandbits(32)
+    return Asked("SCMP_CMP_MASKED_EQ", high << 32 | mask, (value & high) << 32 | value & mask,
+                 [(LD, low + 4), (AND, high), (TAX, 0), (LD, low), (AND, mask),
+                  (dice.choice((OR, XOR, ADD)) | X, 0), is_equal(value & (high | mask))])
+
+
+def by_shifted_words_joined(dice, low):
+    by, value = dice.randrange(1, 32), dice.getrandbits(32)
+    mask = (1 << by) - 1
+    return Asked("SCMP_CMP_MASKED_EQ", (WORD >> by) << 32 | mask, (value >> by) << 32 | value & mask,
+                 [(LD, low + 4), (LSH, by), (TAX, 0), (LD, low), (AND, mask), (dice.choice((OR, XOR)) | X, 0),
+                  is_equal(value)])
+
+
+def by_some_bit_of_both(dice, low):
+    masks = [wide_mask(dice) for _ in range(3)]
+    return Asked("SCMP_CMP_MASKED_EQ", (masks[0] & masks[2]) << 32 | masks[1] & masks[2], 0,
+                 [(LD, low + 4), (AND, masks[0]), (TAX, 0), (LD, low), (AND, masks[1]), (OR | X, 0),
+                  (JSET, masks[2], "no", "yes")])
+
+
+# Scratch words that are stored on both ways of a branch
+
+def stored(test, if_so, otherwise):
+    """M[2], stored in one way if a test's label is `set`, and else in another, and loaded where they join."""
+    return [test, "set", *if_so, (ST, 2), (JA, "join"), "clear", *otherwise, (ST, 2), "join", (LD_M, 2)]
+
+
+def by_cleared_bit(dice, low):
+    bit, value = 1 << dice.randrange(32), dice.getrandbits(32)
+    rest = WORD ^ bit
+    return masked(rest, value & rest, low, *stored((JSET, bit, "set", "clear"), [(SUB, bit)], []),
+                  is_equal(value & rest))
+
+
+def by_changed_way(dice, low):
+    """Where a bit is set, other bits are flipped."""
+    bit, value = 1 << dice.randrange(32), dice.getrandbits(32)
+    flips = value_in(dice, WORD ^ bit)
+    return equal(value, low, *stored((JSET, bit, "set", "clear"), [(XOR, flips)], []),
+                 is_equal(value ^ flips if value & bit else value))
+
+
+def by_saturation(dice, low):
+    bound = dice.getrandbits(32)
+    if dice.random() < 0.5:
+        value = dice.randint(0, bound)
+        return least(value, low, *stored((JGE, bound, "set", "clear"), [(LD_K, bound)], []), (JGE, value, "yes", "no"))
+    value = dice.randint(bound, WORD)
+    return most(value, low, *stored((JGE, bound, "clear", "set"), [(LD_K, bound)], []), (JGT, value, "no", "yes"))
+
+
+def by_flags(dice, low):
+    """A flag for each half of a word."""
+    value = dice.getrandbits(32)
+    return equal(value, low, (RSH, 16), *stored((JEQ, value >> 16, "set", "clear"), [(LD_K, 1)], [(LD_K, 0)]), (ST, 3),
+                 (LD, low), (AND, 0xFFFF), (JEQ, value & 0xFFFF, "also", "not"), "also", (LDX, 1), (JA, "both"),
+                 "not", (LDX, 0), "both", (LD_M, 3),
+                 *dice.choice(([(ADD | X, 0), is_equal(2)], [(AND | X, 0), is_equal(1)], [(MUL | X, 0), is_equal(1)])))
+
+
+# Answers that are computed
+
+def returned(dice):
+    """The answer, of a bit that is set if the condition holds."""
+    return dice.choice(([(MUL, ALLOW - EPERM), (ADD, EPERM), (RET_A, 0)],
+                        [(NEG, 0), (AND, ALLOW ^ EPERM), (XOR, EPERM), (RET_A, 0)]))
+
+
+def by_returned_bit(dice, low):
+    bit = dice.randrange(32)
+    return masked(1 << bit, 1 << bit, low, (RSH, bit), (AND, 1), *returned(dice))
+
+
+def by_returned_quotient(dice, low):
+    divisor = dice.randrange((1 << 31) + 1, 1 << 32)
+    return least(divisor, low, (DIV, divisor), *returned(dice))
+
+
+def by_returned_scratch_word(dice, low):
+    value = dice.getrandbits(32)
+    return equal(value, low, *stored((JEQ, value, "set", "clear"), [(LD_K, ALLOW)], [(LD_K, EPERM)]), (RET_A, 0))
+
+
+def by_returned_equality(dice, low):
+    """A number OR its negation has its highest bit set if it isn't 0."""
+    value = dice.getrandbits(32)
+    return equal(value, low, (XOR, value), (TAX, 0), (NEG, 0), (OR | X, 0), (RSH, 31), (XOR, 1), *returned(dice))
+
+
+# What stands for each construct.
 CONSTRUCTS = {
-    "a mask": (by_mask, True), "a mask in X": (by_mask_in_x, True), "the word in X": (by_word_in_x, True),
-    "some bit of a mask": (by_bits, True), "copies through M[] and X": (by_copies, True),
-    "an order against X": (by_order_in_x, True),
-    "or": (by_or, True), "xor under a mask": (by_xor_and_mask, True), "xor": (by_xor, True),
-    "a right shift": (by_right_shift, True), "a division by a power of two": (by_division, True),
-    "a left shift": (by_left_shift, True), "a product by a power of two": (by_product, True),
-    "two halves": (by_halves, True), "no high bits": (by_high_bits, True), "an identity": (by_identity, True),
-    "an order of high bits": (by_order_of_high_bits, True), "an offset": (by_offset, True),
-    "a negation": (by_negation, True), "a difference": (by_difference, True),
-    "an offset under a mask": (by_offset_under_mask, True), "an order of an offset": (by_order_of_offset, True),
-    "an order of a negation": (by_order_of_negation, True), "an order of a difference": (by_order_of_difference, True),
-    "an order of a complement": (by_order_of_complement, True),
-    "an order of a high complement": (by_order_of_high_complement, True),
-    "masks joined": (by_joined_masks, True), "two halves joined": (by_joined_halves, True),
-    "both words joined": (by_joined_words, True), "no bit of both words": (by_no_bit_of_both, True),
-    "both words joined under masks": (by_joined_words_under_masks, False),
+    "a mask": by_mask, "a mask in X": by_mask_in_x, "the word in X": by_word_in_x, "some bit of a mask": by_bits,
+    "copies through M[] and X": by_copies, "an order against X": by_order_in_x, "or": by_or,
+    "xor under a mask": by_xor_and_mask, "xor": by_xor, "a right shift": by_right_shift,
+    "a division by a power of two": by_division, "a left shift": by_left_shift,
+    "a product by a power of two": by_product, "two halves": by_halves, "no high bits": by_high_bits,
+    "an identity": by_identity, "an order of high bits": by_order_of_high_bits, "an offset": by_offset,
+    "a negation": by_negation, "a difference": by_difference, "an offset under a mask": by_offset_under_mask,
+    "an order of an offset": by_order_of_offset, "an order of a negation": by_order_of_negation,
+    "an order of a difference": by_order_of_difference, "an order of a complement": by_order_of_complement,
+    "an order of a high complement": by_order_of_high_complement, "masks joined": by_joined_masks,
+    "two halves joined": by_joined_halves, "both words joined": by_joined_words,
+    "no bit of both words": by_no_bit_of_both, "both words joined under masks": by_joined_words_under_masks,
+    "an order under a mask": by_order_under_mask, "an order below under a mask": by_order_below_under_mask,
+    "two orders under a mask": by_orders_under_mask, "an order behind high bits": by_order_behind_high_bits,
+    "an order of low bits": by_order_of_low_bits, "a product by an odd number": by_odd_product,
+    "an odd product under a mask": by_odd_product_under_mask, "a product by any number": by_any_product,
+    "an order of a product": by_order_of_product, "an order of a quotient": by_order_of_quotient,
+    "the first or last quotient": by_least_or_greatest_quotient, "quotient and remainder": by_quotient_and_remainder,
+    "an order of a square": by_square, "a product of words": by_product_of_words,
+    "a quotient of words": by_quotient_of_words, "a shift by a word": by_shift_by_word,
+    "a sum of words": by_sum_of_words, "an order of a sum of words": by_order_of_sum_of_words,
+    "a sum of parts": by_sum_of_parts, "a sum of a word with itself": by_sum_with_itself,
+    "a word less a part of it": by_word_less_part, "three parts joined": by_three_parts_joined,
+    "and of words under masks": by_and_of_words, "words side by side": by_words_side_by_side,
+    "words shifted and joined": by_shifted_words_joined, "some bit of both words": by_some_bit_of_both,
+    "a bit cleared on one way": by_cleared_bit, "bits flipped on one way": by_changed_way,
+    "a bound on one way": by_saturation, "flags of both ways": by_flags, "a bit returned": by_returned_bit,
+    "a quotient returned": by_returned_quotient, "a scratch word returned": by_returned_scratch_word,
+    "an equality returned": by_returned_equality,
 }
 
 
@@ -344,9 +679,8 @@ class Pair:
         return json.dumps({"defaultAction": "SCMP_ACT_ERRNO", "syscalls": entries}).encode()
 
     def bundle(self):
-        data = b"".join(insn(code, k, jt, jf) for code, jt, jf, k in self.program)
         table = "".join(f"c{at} {number}\n" for at, number in enumerate(self.numbers)).encode()
-        return part("filter", data) + part("profile", self.profile()) + part("table", table)
+        return part("filter", packed(self.program)) + part("profile", self.profile()) + part("table", table)
 
     def wanted(self, number, argument):
         if number >= X32:
@@ -392,6 +726,10 @@ def corners(pair, dice):
     return [h << 32 | low for low in sorted(lows) for h in sorted(highs)]
 
 
+def packed(program):
+    return b"".join(insn(code, k, jt, jf) for code, jt, jf, k in program)
+
+
 def placed(code):
     """Instructions with labels, placed: each is a code, two distances and a constant."""
     at, places = 0, {}
@@ -404,7 +742,7 @@ def placed(code):
     for it in code:
         if not isinstance(it, str):
             jt, jf = (places[label] - len(made) - 1 for label in it[2:]) if len(it) == 4 else (0, 0)
-            made.append((it[0], jt, jf, it[1]))
+            made.append((it[0], jt, jf, places[it[1]] - len(made) - 1 if it[0] == JA else it[1]))
     return made
 
 
@@ -421,25 +759,24 @@ def pair_of(dice, construct):
 
 
 def changed(dice, pair):
-    """The pair with a constant of the filter's part behind the tests of the number changed, which is still accepted.
-    The construct stays: factors, divisors, the masks and flips of orders, and, where there are others, the number that
-    what is joined is tested for aren't changed."""
-    first = 4 + len(pair.numbers)
-    kept = {LD, RET, NEG, TAX, TXA, ST, MUL, DIV}
-    if any(code in (JGT, JGE) for code, *_ in pair.program[first:]):
-        kept |= {AND, XOR}
-    places = [at for at, (code, *_) in enumerate(pair.program)
+    """The pair with a constant of the filter's part behind the tests of the number changed."""
+    return Pair(with_changed_constant(dice, pair.program, 4 + len(pair.numbers)), pair.numbers, pair.asked, pair.index)
+
+
+def with_changed_constant(dice, program, first):
+    """The program with a constant of an instruction from `first` on changed, which is still accepted."""
+    kept = {LD, RET, RET_A, NEG, TAX, TXA, ST, LD_M, LDX_M, JA}
+    places = [at for at, (code, *_) in enumerate(program)
               if at >= first and code not in kept and not (code & 7 in (4, 5) and code & X)]
-    places = [at for at in places if pair.program[at - 1][0] != OR | X] or places
     while True:
-        program, at = list(pair.program), dice.choice(places)
-        code, jt, jf, k = pair.program[at]
+        made, at = list(program), dice.choice(places)
+        code, jt, jf, k = program[at]
         new = dice.choice((k ^ 1 << dice.randrange(32), (k + 1) & WORD, (k - 1) & WORD, dice.getrandbits(32)))
         if code in (LSH, RSH):
             new %= 32
-        program[at] = code, jt, jf, new
-        if new != k and StandIn().fault(program) is None:
-            return Pair(program, pair.numbers, pair.asked, pair.index)
+        made[at] = code, jt, jf, new
+        if new != k and StandIn().fault(made) is None:
+            return made
 
 
 def built():
@@ -450,10 +787,21 @@ class Wrong(Exception):
     """scf said what isn't so."""
 
 
-def verdict(pair, found):
-    """What scf says of a pair; it must not be wrong."""
-    done = subprocess.run([PROGRAM, "compare", "--native"], input=pair.bundle(), stdout=subprocess.PIPE, check=False)
-    lines = done.stdout.decode().split("\n")
+def compared(option, data):
+    """What scf prints of a bundle, the seconds of a processor that it takes, and its most memory in megabytes."""
+    with tempfile.TemporaryFile() as given:
+        given.write(data)
+        given.seek(0)
+        with subprocess.Popen([PROGRAM, "compare", option], stdin=given, stdout=subprocess.PIPE) as child:
+            out = child.stdout.read().decode()
+            _, status, used = os.wait4(child.pid, 0)
+            child.returncode = os.waitstatus_to_exitcode(status)
+    return out, used.ru_utime + used.ru_stime, used.ru_maxrss / 1024
+
+
+def verdict(pair, found, printed):
+    """The verdict that scf printed of a pair; it must not be wrong."""
+    lines = printed.split("\n")
     word = lines[0].split()[0]
     if word == "same" and found:
         raise Wrong(f"same, but call {found} is answered differently: {pair}")
@@ -465,9 +813,31 @@ def verdict(pair, found):
     return word
 
 
+@dataclass
+class Measured:
+    """Of equal pairs and of those that differ, how many there are and how many scf leaves undecided; the most seconds
+    and megabytes that a pair takes."""
+
+    equal: list = field(default_factory=lambda: [0, 0])
+    differ: list = field(default_factory=lambda: [0, 0])
+    seconds: float = 0
+    memory: float = 0
+
+    def count(self, found, word, seconds, memory):
+        """Counts a pair, by a call that is answered differently, if one was found, and by what scf says of the pair."""
+        count = self.differ if found or word == "differs" else self.equal
+        count[0] += 1
+        count[1] += word not in ("same", "differs")
+        self.seconds, self.memory = max(self.seconds, seconds), max(self.memory, memory)
+
+    def __str__(self):
+        counts = (f"{name} {left}/{count} undecided" for name, (count, left) in (("equal", self.equal),
+                                                                                 ("differ", self.differ)))
+        return "   ".join((*counts, f"{self.seconds:6.3f} s", f"{self.memory:5.1f} MB"))
+
+
 def measured(construct, dice, pairs):
-    """Of equal pairs and of those that differ, how many there are and how many scf leaves open."""
-    counts = {"equal": [0, 0], "differ": [0, 0]}
+    of_all = Measured()
     for at in range(pairs):
         pair = pair_of(dice, construct)
         if pair.found(dice):
@@ -475,11 +845,9 @@ def measured(construct, dice, pairs):
         if at % 2:
             pair = changed(dice, pair)
         found = pair.found(dice)
-        word = verdict(pair, found)
-        count = counts["differ" if found or word == "differs" else "equal"]
-        count[0] += 1
-        count[1] += word not in ("same", "differs")
-    return counts
+        printed, seconds, memory = compared("--native", pair.bundle())
+        of_all.count(found, verdict(pair, found, printed), seconds, memory)
+    return of_all
 
 
 def main():
@@ -488,13 +856,12 @@ def main():
     parser.add_argument("--seed", type=int, default=1)
     words = parser.parse_args()
     built()
-    for name, (construct, _) in CONSTRUCTS.items():
+    for name, construct in CONSTRUCTS.items():
         try:
-            counts = measured(construct, random.Random(f"{words.seed} {name}"), words.pairs)
+            print(f"{name:30} {measured(construct, random.Random(f'{words.seed} {name}'), words.pairs)}", flush=True)
         except Wrong as wrong:
             print(f"{name}: {wrong}")
             return 1
-        print(f"{name:30}", *(f"{kind} {count[1]}/{count[0]} undecided" for kind, count in counts.items()))
     return 0
 
 

@@ -5,9 +5,9 @@ import re
 from common import X86_64, part
 from on_parts import X32, OnProgram, a_profile, a_table, bundle, ran
 
-# What is wanted of a call or a scope: that both sides answer alike, or differently, by any answers; that they answer
-# alike or differently, which needn't be decided; else both answers, or the place where runs are undecided.
-SAME, DIFFERS, ALIKE, APART = "same", "differs", "alike", "apart"
+# What is wanted of a call or a scope: that both sides answer alike, or differently, by any answers; else both answers,
+# or the index of the answer where runs are undecided.
+SAME, DIFFERS = "same", "differs"
 RELATIONS = {"same": ([], "differs"), "no more": (["--no-more"], "more"), "no less": (["--no-less"], "less")}
 # A call that is shown, and the line of one that a table names.
 SHOWN = re.compile(r"(differs|more|less)\ncall nr (\d+) arch (0x[0-9a-f]+) ip (0x[0-9a-f]+) args((?: 0x[0-9a-f]+){6})\n"
@@ -57,7 +57,7 @@ class OnStacks(OnProgram):
         self.are_answers(number, arch, pointer, arguments, answers)
 
     def are_wanted(self, answers, wanted):
-        if wanted in (DIFFERS, APART):
+        if wanted == DIFFERS:
             self.assertNotEqual(answers[0], answers[1])
         else:
             self.assertEqual(tuple(answers), wanted)
@@ -65,14 +65,13 @@ class OnStacks(OnProgram):
     def says_of_number(self, lines, number, wanted, word):
         """What the lines of calls say of a number: the verdict and the arguments of a call that is shown."""
         own = [line for line in lines if line.split()[0] == str(number)]
-        if wanted == SAME or wanted == ALIKE and not own:
+        if wanted == SAME:
             self.assertEqual(own, [])
             return SAME, None
         self.assertEqual(len(own), 1)
         verdict = own[0].split(" ", 2)[2]
         if isinstance(wanted, int):
             self.assertEqual(verdict, f"undecided at {wanted}")
-        if verdict.startswith("undecided at ") and wanted in (ALIKE, APART) or isinstance(wanted, int):
             return verdict, None
         shown = LINE.fullmatch(own[0])
         self.assertTrue(shown, own)

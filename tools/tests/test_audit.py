@@ -9,7 +9,7 @@ import unittest
 from common import ALLOW, EPERM, TOP, Case, filter_of, profile_of, ret, tool
 from confined import processes
 from own_machine import OwnMachine, Systemd
-from scftools import audit, audit_output, container_files, machine, membership, output, tables
+from scftools import audit, audit_output, container_files, machine, output, tables
 
 # What is configured for containers, and the same with one call more.
 STATED = {"defaultAction": "SCMP_ACT_ALLOW", "architectures": ["SCMP_ARCH_X86_64"],
@@ -422,7 +422,7 @@ class Belonging(Case):
                                ("/", None), ("/box/ssh.service", None), ("/../ssh.service", None),
                                ("/system.slice/a\nb.service", None)):
             for hierarchy in ("", "name=systemd"):
-                found = membership.unit_of(process(groups={hierarchy: path.encode()}))
+                found = container_files.unit_of(process(groups={hierarchy: path.encode()}))
                 self.assertEqual(found, expected, path)
 
     def test_containers_that_only_a_name_tells(self):
@@ -434,11 +434,11 @@ class Belonging(Case):
                                    ("/system.slice/runc-box.scope", "runc", "box"),
                                    ("/lxc.payload.box/init.scope", "LXC", "box"),
                                    ("/machine.slice/machine-box.scope/payload", "systemd-nspawn", "box")):
-            found = membership.named_container(process(groups={"": path.encode()}))
+            found = container_files.named_container(process(groups={"": path.encode()}))
             self.assertEqual((found.engine, found.identifier), (engine, name), path)
         for path in ("/system.slice/x.service", f"/machine.slice/libpod-conmon-{IDENTIFIER}.scope",
                      f"/system.slice/crio-conmon-{IDENTIFIER}.scope"):
-            self.assertIsNone(membership.named_container(process(groups={"": path.encode()})), path)
+            self.assertIsNone(container_files.named_container(process(groups={"": path.encode()})), path)
 
 
 class Files(unittest.TestCase):
@@ -526,7 +526,7 @@ class Output(Case):
     def test_changes(self):
         before = {("container", "gone"): ("container gone", "weaker"),
                   ("container", "ab" * 32): ("container x", "as configured")}
-        found = [audit_output.change_told(it) for it in audit_output.changes(before, self.audit)]
+        found = [audit_output.change_text(it) for it in audit_output.changes(before, self.audit)]
         self.assertEqual(found, ["1970-01-01T00:00:00Z not known: container a\"} 1\\x0ab\\ (podman, i\\x1b[0m, "
                                  "abababababab) (was as configured)",
                                  "1970-01-01T00:00:00Z gone: container gone (was weaker)"])

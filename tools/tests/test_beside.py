@@ -56,8 +56,8 @@ def drawn(dice):
         made.append(dice.choice((
             load(dice.choice((0, 0, 4, 16, 20, 24))), jeq(value, *near), jge(value, *near), insn(0x25, value, *near),
             insn(0x45, dice.choice((1, 2, 6)), *near), insn(0x54, dice.choice((2, 6, 0xFF))),
-            # what no comparison follows: products of the accumulator with itself
-            dice.choice((insn(0x54, 0xFF), insn(0x07, 0) + insn(0x2C, 0))))))
+            # what only splits decide: products of the accumulator with itself, and sums of it with an argument
+            dice.choice((insn(0x54, 0xFF), insn(0x07, 0) + insn(0x2C, 0))), insn(0x07, 0) + load(24) + insn(0x0C, 0))))
     ends = [dice.choice((ALLOW, ALLOW, EPERM, EPERM, ENOSYS, LOG, TRACE, KILL_PROCESS)) for _ in range(4)]
     return b"".join(made) + b"".join(map(ret, ends))
 
@@ -77,13 +77,23 @@ class Drawn(Case):
     COUNT = 1000
 
     def judge(self, left, right, scope, relation):
-        """scf's verdict, once the other machine agrees with it."""
+        """scf's verdicts without splits, and with those of the default, once the other machine agrees with both."""
+        related = RELATIONS[relation][2]
+        at_corners = [all(related(*(decided(side, call) for side in (left, right)))
+                          for call in CORNERS if SCOPES[scope](call))]
+        without, found = (self.verdict(left, right, scope, relation, at_corners, words) for words in (
+            ["--splits", "0"], []))
+        # no verdict changes, but that an undecided pair may be decided
+        self.assertIn(without, ("undecided", found))
+        return without, found
+
+    def verdict(self, left, right, scope, relation, at_corners, words):
+        """The word of a verdict that agrees with the other machine."""
         holds, fails, related = RELATIONS[relation]
         data = b"".join([*(part("filter", it) for it in left), *(part("beside", it) for it in right)])
-        status, out, err = self.run_words([SCF, "compare", "--beside", *f"{scope} {relation}".split()], data)
+        status, out, err = self.run_words([SCF, "compare", "--beside", *f"{scope} {relation}".split(), *words], data)
         lines, both = out.split("\n"), [left, right]
         self.assertEqual(err, "")
-        at_corners = [all(related(*(decided(side, call) for side in both)) for call in CORNERS if SCOPES[scope](call))]
         if status == 0:
             self.assertEqual((lines, at_corners), ([holds, ""], [True]))
         elif status == 1:
@@ -106,8 +116,11 @@ class Drawn(Case):
             if any(StandIn().fault(unpacked(it)) for it in left + right):
                 continue
             found.append(self.judge(left, right, dice.choice(list(SCOPES)), dice.choice(list(RELATIONS))))
+        without, by_splits = zip(*found)
         for word in ("same", "differs", "no more", "more", "no less", "less", "same disposition", "undecided"):
-            self.assertGreater(found.count(word), 5, word)
+            self.assertGreater(without.count(word), 5, word)
+        # those of the default decide most of these
+        self.assertLess(2 * by_splits.count("undecided"), without.count("undecided"))
 
 
 def unpacked(data):

@@ -9,7 +9,7 @@ import shutil
 import subprocess
 import sys
 
-from common import ALLOW, SCF, TABLE, TOP, Case, filter_of, for_developers, jeq, part, profile_of, ret
+from common import ALLOW, SCF, TABLE, TOP, Case, filter_of, for_developers, jeq, part, profile_of, ret, source_of
 from confined import OLDEST, Confined, here
 
 sys.path.append(os.path.join(TOP, "tools"))
@@ -35,7 +35,7 @@ COMMANDS = re.findall(r"(?m)^  ([a-z-]+) +(\S.*)$", LIST)
 
 def examples_of(name):
     """The examples in a tool's docstring."""
-    return re.findall(r"(?m)^    (scf .*)$", text_of("tools", name).partition("\nExamples:\n")[2].partition('"""')[0])
+    return re.findall(r"(?m)^    (scf .*)$", text_of(source_of(name)).partition("\nExamples:\n")[2].partition('"""')[0])
 
 
 class Dispatch(Case):

@@ -5,8 +5,8 @@ import re
 import shutil
 import unittest
 
-from common import (ALLOW, EPERM, I386, KILL_PROCESS, KILL_THREAD, SCF, TABLE, X86_64, Case, filter_of, insn, jeq, jge,
-                    load, needs, part, profile_of, ret, tool)
+from common import (ALLOW, EPERM, I386, KILL_PROCESS, KILL_THREAD, SCF, TABLE, UNKNOWN_ZERO, X86_64, Case, filter_of,
+                    insn, jeq, jge, load, needs, part, profile_of, ret, tool)
 from scftools import tables
 
 READ, WRITE, EXIT_GROUP = 0, 1, 231
@@ -168,13 +168,21 @@ class Compare(Case):
         self.assertTrue(out.startswith("fault number limit\n# The option's text isn't a number"), out)
 
     def test_undecided(self):
-        # A is the number times the number, which isn't followed where the number isn't known
+        native = load(4) + jeq(X86_64, 1, 0) + ret(KILL_PROCESS) + load(0) + jge(0x40000000, 0, 1) + ret(KILL_PROCESS)
+        unknown = native + UNKNOWN_ZERO + jeq(0, 1, 0) + ret(EPERM) + ret(ALLOW)
+        profile = self.file("p", b'{"defaultAction":"SCMP_ACT_ALLOW"}')
+        status, out, _ = self.run_tool("compare", self.file("unknown.bpf", unknown), profile, "--limit=100000")
+        self.assertEqual(status, 4)
+        self.assertRegex(out, r"^undecided at [0-9]+\n# Runs of a filter end at this instruction")
+
+    def test_a_computation_that_is_decided(self):
+        """A is the number times the number. Four words have the square 49, of which 7 alone is below 0x40000000."""
         native = load(4) + jeq(X86_64, 1, 0) + ret(KILL_PROCESS) + load(0) + jge(0x40000000, 0, 1) + ret(KILL_PROCESS)
         square = native + insn(0x07, 0) + insn(0x2C, 0) + jeq(49, 0, 1) + ret(EPERM) + ret(ALLOW)
         status, out, _ = self.run_tool("compare", self.file("square.bpf", square),
-                                       self.file("p", b'{"defaultAction":"SCMP_ACT_ALLOW"}'), "--limit=100000")
-        self.assertEqual(status, 4)
-        self.assertRegex(out, r"^undecided at [0-9]+\n# Runs of a filter end at this instruction")
+                                       self.file("p", b'{"defaultAction":"SCMP_ACT_ALLOW"}'))
+        self.assertEqual((status, out.split("\n")[0]), (1, "differs"))
+        self.assertRegex(out.split("\n")[1], r"\Acall nr 7 arch 0xc000003e ")
 
     def test_skipped_names_and_other_architectures(self):
         profile = profile_of("read", "gone", "write").replace(b"{",

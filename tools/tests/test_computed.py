@@ -1,5 +1,5 @@
 """Filters that compute from a word before they test it, against profiles: which of them scf finds to be the same, and
-what it says of stacks with one whose answer is computed from two words and so unknown."""
+what it says of stacks with one whose answer is computed from two words."""
 import json
 
 from common import SCF, Case, part
@@ -116,10 +116,18 @@ READS = [
     ("jeq #0, 1, 0; ret #0x50001; ld #0; ret a", "differs"),
     ("jeq #0, 0, 2; ld #0x7fff0000; ret a; ret #0x50001", "same"),
 ]
-# Behind the gate, which has six instructions: allow each call, but by what is computed from two words, which isn't
-# known; and each call but `write`, whose answer is ERRNO 1 by such a computation.
-UNKNOWN = behind_gate("ld [16]; tax; ld [24]; add x; mul #0; add #0x7fff0000; ret a")
-UNKNOWN_WRITE = behind_gate("jeq #1, 1, 0; ret #0x7fff0000; ld [16]; tax; ld [24]; add x; mul #0; add #0x50001; ret a")
+# Behind the gate, which has six instructions: allow each call, and each call but `write`, whose answer is ERRNO 1. The
+# answer is computed from two words. All bits of a product with 0 are known.
+ZERO = "ld [16]; tax; ld [24]; add x; mul #0;"
+KNOWN = behind_gate(f"{ZERO} add #0x7fff0000; ret a")
+KNOWN_WRITE = behind_gate(f"jeq #1, 1, 0; ret #0x7fff0000; {ZERO} add #0x50001; ret a")
+# The same answers. The sum of two words less each of them is 0 as well, but its bits are known only where those of
+# both words are: that takes 2^64 splits.
+DIFFERENCE = "ld [24]; st M[0]; ld [16]; tax; ld M[0]; add x; sub x; ldx M[0]; sub x;"
+UNKNOWN = behind_gate(f"{DIFFERENCE} add #0x7fff0000; ret a")
+UNKNOWN_WRITE = behind_gate(f"jeq #1, 1, 0; ret #0x7fff0000; {DIFFERENCE} add #0x50001; ret a")
+# No split, and the splits of the default.
+SPLITS = (["--splits", "0"], [])
 
 
 def profile_of(name, *conditions):
@@ -154,16 +162,22 @@ class Computed(Case):
 
 class Unknown(OnProgram):
     def test_the_filter_whose_answer_is_unknown(self):
-        """Its place is named, wherever it stands in the stack."""
-        for stack in ([UNKNOWN], [ALLOW, UNKNOWN], [UNKNOWN, ALLOW], [ALLOW, UNKNOWN, ALLOW]):
-            self.prints(["compare", "--native", "--limit", str(MOST)], bundle([*stack, ALL, NO_TABLE]),
-                        "undecided at 12\n", 4)
+        """The index of its answer is printed, wherever it stands in the stack."""
+        for splits in SPLITS:
+            words = ["compare", "--native", "--limit", str(MOST), *splits]
+            for stack in ([UNKNOWN], [ALLOW, UNKNOWN], [UNKNOWN, ALLOW], [ALLOW, UNKNOWN, ALLOW]):
+                self.prints(words, bundle([*stack, ALL, NO_TABLE]), "undecided at 16\n", 4)
+            for stack in ([KNOWN], [ALLOW, KNOWN], [KNOWN, ALLOW], [ALLOW, KNOWN, ALLOW]):
+                self.prints(words, bundle([*stack, ALL, NO_TABLE]), "same\n")
 
     def test_a_difference_behind_an_unknown_answer(self):
         """It is shown: the profile refuses `read`, too."""
         rest = [a_profile(ALL_BUT_TWO), a_table(READ_WRITE_TABLE)]
-        number, _, _, ours, _ = self.shown(["compare", "--limit", str(MOST)], bundle([UNKNOWN_WRITE, *rest]))
-        self.assertEqual((number, ours), (0, MADE))
-        both = bundle([behind_gate(WITHOUT_READ[1]), UNKNOWN_WRITE, *rest])
-        self.prints(["compare", "--limit", str(MOST)], both, "undecided at 14\n", 4)
-        self.prints(["compare", "--limit", "0"], both, "unfinished\n", 4)
+        for splits in SPLITS:
+            words = ["compare", "--limit", str(MOST), *splits]
+            for write, text, status in ((UNKNOWN_WRITE, "undecided at 18\n", 4), (KNOWN_WRITE, "same\n", 0)):
+                number, _, _, ours, _ = self.shown(words, bundle([write, *rest]))
+                self.assertEqual((number, ours), (0, MADE))
+                both = bundle([behind_gate(WITHOUT_READ[1]), write, *rest])
+                self.prints(words, both, text, status)
+                self.prints(["compare", "--limit", "0", *splits], both, "unfinished\n", 4)

@@ -12,16 +12,17 @@ class Constructs(unittest.TestCase):
     def setUpClass(cls):
         constructs.built()
 
-    def test_what_is_always_decided(self):
-        """No pair of these constructs is left undecided, and no verdict of any pair is wrong."""
-        for name, (construct, decided) in constructs.CONSTRUCTS.items():
+    def test_all_are_decided(self):
+        """No pair is left undecided, no verdict is wrong, and none takes more than a second or 64 megabytes."""
+        for name, construct in constructs.CONSTRUCTS.items():
             with self.subTest(name):
-                counts = constructs.measured(construct, random.Random(f"{SEED} {name}"), PAIRS)
-                self.assertEqual(sum(count for count, _ in counts.values()), PAIRS)
-                self.assertGreaterEqual(counts["equal"][0], PAIRS // 2)
-                self.assertGreater(counts["differ"][0], 0)
-                if decided:
-                    self.assertEqual([left for _, left in counts.values()], [0, 0])
+                found = constructs.measured(construct, random.Random(f"{SEED} {name}"), PAIRS)
+                self.assertEqual(found.equal[0] + found.differ[0], PAIRS)
+                self.assertGreaterEqual(found.equal[0], PAIRS // 2)
+                self.assertGreater(found.differ[0], 0)
+                self.assertEqual((found.equal[1], found.differ[1]), (0, 0))
+                self.assertLess(found.seconds, 1)
+                self.assertLess(found.memory, 64)
 
     def test_a_wrong_verdict_is_seen(self):
         """The judge finds each change of a plain test, and a verdict that it contradicts is wrong."""
@@ -32,6 +33,9 @@ class Constructs(unittest.TestCase):
             changed = constructs.changed(dice, pair)
             found = changed.found(dice)
             if found:
-                self.assertEqual(constructs.verdict(changed, found), "differs")
+                printed = constructs.compared("--native", changed.bundle())[0]
+                self.assertEqual(constructs.verdict(changed, found, printed), "differs")
                 with self.assertRaises(constructs.Wrong):
-                    constructs.verdict(pair, found)
+                    constructs.verdict(pair, None, printed)
+                with self.assertRaises(constructs.Wrong):
+                    constructs.verdict(changed, found, "same\n")

@@ -51,8 +51,8 @@ class Groups(Case):
             path, expected = path.replace("ID", IDENTIFIER), (expected or path).replace("ID", IDENTIFIER)
             with self.subTest(path):
                 found = self.group_of(path)
-                self.assertEqual((found.path.decode(), found.is_told), (expected, NAMES[path.replace(IDENTIFIER, "ID")]
-                                                                        is not None))
+                self.assertEqual((found.path.decode(), found.is_of_container),
+                                 (expected, NAMES[path.replace(IDENTIFIER, "ID")] is not None))
 
     def test_mounts(self):
         """A runtime mounts the container's own group; what isn't above the process says nothing."""
@@ -60,7 +60,7 @@ class Groups(Case):
                                       ("/box", ["/box"], "/box"), ("/box/inner", ["/bo", "/", "/../x"], None),
                                       (f"/box/docker/{IDENTIFIER}/a", ["/box"], "/box")):
             found = self.group_of(path, [root.encode() for root in roots])
-            self.assertEqual((found.path.decode(), found.is_told), (expected or path, expected is not None))
+            self.assertEqual((found.path.decode(), found.is_of_container), (expected or path, expected is not None))
 
     def test_mounts_of_a_process(self):
         text = (b"78 77 0:45 / /sys/fs/cgroup rw - tmpfs tmpfs rw\n79 78 0:29 /a\\040b\\134 /sys/fs/cgroup/cpu ro shared:1 "

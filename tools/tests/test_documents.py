@@ -8,12 +8,16 @@ import subprocess
 import unittest
 
 from common import (ALLOW, PATIENCE, SCF, TABLE, TOP, Case, filter_of, for_developers, insn, jeq, load, part, profile_of,
-                    ret)
+                    ret, source_of)
+from test_texts import CODES
 
 PROGRAM = os.path.join(TOP, "crates", "scf", "out", "scf")
 # The tools that have a page of their own; plain-profile is an old name.
 TOOLS = sorted(it for it in os.listdir(os.path.join(TOP, "tools"))
                if os.path.isfile(os.path.join(TOP, "tools", it)) and it != "plain-profile")
+
+# Commands that no tool has.
+OF_PROGRAM = ("asm", "dis")
 
 # Which enum of the program is printed for which sources; for some, only these of its kinds.
 SOURCES = {
@@ -391,7 +395,7 @@ class Manual(Case):
                 self.assertIn(f"--{option}", text)
         for option in ("--native", "--calls", "--no-more", "--no-less", "--path"):
             self.assertIn(option, text)
-        for name in TOOLS:
+        for name in (*TOOLS, *OF_PROGRAM):
             self.assertRegex(text, rf"(?m)^\.BR scf-{name} \(1\)", name)
         for status in (0, 1, 2, 3, 4, 125):
             self.assertRegex(text, rf"(?m)^\.B {status}$", status)
@@ -419,7 +423,7 @@ class Manual(Case):
 
 
 class ManualOfTools(Case):
-    """The pages that dev/manual makes of the tools' docstrings and help."""
+    """The pages that dev/manual makes of the tools' docstrings and help, and those of the commands that no tool has."""
 
     def setUp(self):
         super().setUp()
@@ -437,7 +441,7 @@ class ManualOfTools(Case):
     def test_lists_and_statuses_are_in_the_pages(self):
         for name, item, printed in (("lint", r"(?m)^    (\S+)", r"\.TP\n\.B (\S+)\n"),
                                     ("needs", r"(?m)^    - (\S+)", r"\.IP \\\(bu 2\n(\S+)")):
-            with open(os.path.join(TOP, "tools", name), encoding="utf-8") as file:
+            with open(source_of(name), encoding="utf-8") as file:
                 items = re.findall(item, file.read().split("\n\n", 2)[2].partition("\nExamples:\n")[0])
             with open(os.path.join(self.folder, f"scf-{name}.1"), encoding="utf-8") as file:
                 description, _, rest = file.read().replace("\\-", "-").partition(".SH OPTIONS")
@@ -445,9 +449,33 @@ class ManualOfTools(Case):
             self.assertEqual(re.findall(printed, description), items, name)
             self.assertRegex(rest, r"(?m)^\.SH EXIT STATUS\n\.PP\n(Exit status: |The exit status is )", name)
 
+    def page(self, name):
+        with open(os.path.join(self.folder, f"scf-{name}.1"), encoding="utf-8") as file:
+            return file.read().replace("\\-", "-").replace("\\e", "\\")
+
+    def test_the_examples_of_the_commands_that_no_tool_has(self):
+        os.symlink(SCF, os.path.join(self.folder, "scf"))
+        for name in ("filter", "old"):
+            self.file(f"{name}.bpf", filter_of([0]))
+        self.file("filter.s", "ld [0]\njeq #41, no, yes\nno: ret #0x50001\nyes: ret #0x7fff0000 // read\n")
+        env = {**os.environ, "PATH": f"{self.folder}:{os.environ['PATH']}"}
+        for name in OF_PROGRAM:
+            examples = self.page(name).partition(".SH EXAMPLES\n.nf\n")[2].partition("\n.fi")[0].split("\n")
+            self.assertEqual(len(examples), 2, name)
+            for line in examples:
+                status, _, err = self.run_words(["sh", "-c", line], env=env)
+                self.assertEqual((status, err), (0, ""), line)
+        with open(os.path.join(self.folder, "again.bpf"), "rb") as file:
+            self.assertEqual(file.read(), filter_of([0]))
+
+    def test_the_page_of_the_assembler_has_each_of_its_mnemonics(self):
+        page = self.page("asm")
+        for _, _, _, _, line in CODES:
+            self.assertRegex(page, rf"\b{line.split()[0]}\b")
+
     @unittest.skipUnless(shutil.which("groff"), "there is no groff here")
     def test_they_are_shown_without_a_warning(self):
-        for name in TOOLS:
+        for name in (*TOOLS, *OF_PROGRAM):
             done = subprocess.run(["groff", "-man", "-ww", "-Kutf8", "-Tutf8", f"{self.folder}/scf-{name}.1"],
                                   stdout=subprocess.PIPE, stderr=subprocess.PIPE, check=False)
             self.assertEqual((done.returncode, done.stderr.decode()), (0, ""), name)

@@ -9,6 +9,8 @@ from common import TOP, Case, filter_of, profile_of
 
 TOOLS = sorted(name for name in os.listdir(os.path.join(TOP, "tools"))
                if os.path.isfile(os.path.join(TOP, "tools", name)))
+# Commands that no tool has.
+OF_PROGRAM = ("asm", "dis")
 MODULES = sorted(name for name in os.listdir(os.path.join(TOP, "tools", "scftools")) if name.endswith(".py"))
 TABLES = os.listdir(os.path.join(TOP, "tables"))
 
@@ -36,7 +38,7 @@ class Install(Case):
                        *(f"lib/scf/tools/scftools/{name}" for name in MODULES),
                        *(f"lib/scf/tables/{name}" for name in TABLES), "lib/scf/docs/FAULTS.md",
                        "share/doc/scf/LICENSE", "share/man/man1/scf.1",
-                       *(f"share/man/man1/scf-{name}.1" for name in TOOLS)])
+                       *(f"share/man/man1/scf-{name}.1" for name in (*TOOLS, *OF_PROGRAM))])
 
     def run_installed(self, *words, given=b""):
         env = {**os.environ, "PATH": f"{self.prefix}/bin:{os.environ['PATH']}"}
@@ -79,7 +81,7 @@ class Install(Case):
     @unittest.skipUnless(shutil.which("man"), "there is no man here")
     def test_man_finds_the_pages(self):
         self.make("install")
-        for name in ("scf", *(f"scf-{it}" for it in TOOLS)):
+        for name in ("scf", *(f"scf-{it}" for it in (*TOOLS, *OF_PROGRAM))):
             done = subprocess.run(["man", "-M", os.path.join(self.prefix, "share", "man"), "-w", name],
                                   stdout=subprocess.PIPE, stderr=subprocess.PIPE, check=False)
             self.assertEqual(done.returncode, 0, done.stderr)

@@ -13,7 +13,7 @@ from test_output import HOSTILE
 sys.path.append(os.path.join(TOP, "tools"))
 
 import kernel_profiles  # noqa: E402
-from scftools import actions, arguments, client, siblings, tables, watchlist  # noqa: E402
+from scftools import client, constants, oddities, tables, watchlist  # noqa: E402
 
 ALLOW, ERRNO, TOP_OF = "SCMP_ACT_ALLOW", "SCMP_ACT_ERRNO", (1 << 64) - 1
 NATIVE, I386, X32, AARCH64, ARM = (f"SCMP_ARCH_{it}" for it in ("X86_64", "X86", "X32", "AARCH64", "ARM"))
@@ -302,7 +302,7 @@ class Dangerous(Linted):
     def test_the_list(self):
         listed, table = watchlist.dangerous(), tables.read(TABLE)
         self.assertEqual(list(listed), sorted(listed))
-        with open(watchlist.FILE, encoding="ascii") as file:
+        with open(os.path.join(TOP, "tables", "dangerous.calls"), encoding="ascii") as file:
             self.assertEqual(len(listed), sum(not line.startswith("#") for line in file))
         for name, danger in listed.items():
             self.assertIsNotNone(table.number_of(name), name)
@@ -572,7 +572,7 @@ class Errnos(Running):
     def test_which_are_odd(self):
         with open("/usr/include/asm-generic/errno.h", encoding="ascii") as file:
             last = max(map(int, re.findall(r"#define\s+E\w+\s+([0-9]+)", file.read())))
-        self.assertEqual(last, actions.LAST_ERRNO)
+        self.assertEqual(last, oddities.LAST_ERRNO)
         self.assertEqual(self.odd(0, 1, 38, last, last + 1, 511, 512, 516, 4094, 4095, 4096, 65535),
                          list(zip((0, *range(4, 12)), (0, last + 1, 511, 512, 516, 4094, 4095, 4096, 65535))))
         self.assertEqual(self.odd(defaultErrnoRet=0), [(None, 0)])
@@ -695,8 +695,8 @@ class Arguments(Linted):
              "cat sys_enter_*/format", self.folder], stdout=subprocess.PIPE, stderr=subprocess.DEVNULL, check=False)
         if done.returncode:
             self.skipTest("this kernel has no tracepoints of syscalls")
-        listed, whole = arguments.read(), {"unsigned long", "long", "size_t", "loff_t", "off_t", "u64", "__u64",
-                                           "aio_context_t"}
+        listed, whole = constants.kinds(), {"unsigned long", "long", "size_t", "loff_t", "off_t", "u64", "__u64",
+                                            "aio_context_t"}
         # the kernel's function has another name
         called = {"newstat": "stat", "newlstat": "lstat", "newfstat": "fstat", "newuname": "uname",
                   "sendfile64": "sendfile", "umount": "umount2"}
@@ -715,7 +715,7 @@ class Arguments(Linted):
 
     def test_each_name_once(self):
         table = tables.read(TABLE)
-        with open(arguments.FILE, encoding="ascii") as file:
+        with open(os.path.join(TOP, "tables", "x86_64.arguments"), encoding="ascii") as file:
             names = [name for line in file if not line.startswith("#") for name in line.split()[1:]]
         self.assertEqual(len(names), len(set(names)))
         self.assertEqual([name for name in names if table.number_of(name) is None], [])
@@ -776,7 +776,7 @@ class Siblings(Linted):
 
     def test_the_list(self):
         table = tables.read(TABLE)
-        for name, others in siblings.SIBLINGS.items():
+        for name, others in watchlist.SIBLINGS.items():
             for one in (name, *others.split()):
                 self.assertIsNotNone(table.number_of(one), one)
 
@@ -1125,7 +1125,7 @@ class Several(Linted):
         null = entry("openat", args=[(1, "MASKED_EQ", WIDE - 1, 0)])
         for architectures, is_found in ((ENGINES, True), ([I386], False)):
             self.assertEqual(len(self.found(profile(null, architectures=architectures), kinds=kinds)), is_found)
-        for oci, names in arguments.UNLIKE.items():
+        for oci, names in constants.OTHER_KINDS.items():
             for name in names:
                 self.assertIsNotNone(tables.read(TABLE).number_of(name), name)
                 self.assertTrue(oci != I386 or tables.of_architecture(oci).number_of(name), name)

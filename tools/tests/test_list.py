@@ -7,7 +7,7 @@ import subprocess
 import unittest
 
 from common import ALLOW, EPERM, I386, KILL_PROCESS, SCF, X86_64, Case, filter_of, insn, jeq, jge, load, ret
-from scftools import flow_graph, listing, paths, tables
+from scftools import flow_graph, listing, tables
 from scftools.calls import Call
 from stand_in import StandIn
 
@@ -230,7 +230,7 @@ class Graph(Case):
             graph = flow_graph.Graph(data)
             for number, first in itertools.product(range(12), (0, 1, 3, 2**32 + 3)):
                 call = Call(number, arguments=(first, *[0] * 5))
-                places = paths.of(data, call.words()).places
+                places = listing.path_of(data, call.words()).indexes
                 way = flow_graph.Drawing(graph, [""] * (len(data) // 8), tables.read(None), places).way
                 self.assertEqual(way[0], graph.behind_jumps(0))
                 self.assertEqual(way[-1], graph.behind_jumps(places[-1]))

@@ -14,11 +14,13 @@ sys.path.append(os.path.join(TOP, "tools"))
 from scftools import client, values  # noqa: E402
 
 FOLDER = os.path.join(TOP, "tools", "scftools")
-# What is dear to import and rarely needed: each is imported where it is.
+# What is dear to import and rarely needed, and those of our modules that only some runs of a tool need: each is imported
+# where it is needed.
 # (what takes long is never imported at the start of a tool: Python's dataclasses import inspect)
 DEAR = {"dataclasses", "inspect", "typing"}
-LATE = {"ctypes", "difflib", "hashlib", "importlib", "json", "pickle", "resource", "shlex", "signal", "subprocess",
-        "syslog", "tempfile", "threading"}
+LATE = {"ctypes", "difflib", "glob", "hashlib", "importlib", "json", "pickle", "resource", "shlex", "signal",
+        "subprocess", "syslog", "tempfile", "threading",
+        "audit_page", "cores", "pages", "processes", "ptrace", "row_conditions", "stack_comparison"}
 
 
 def modules():

@@ -15,7 +15,7 @@ from confined import Confined, FakeKernel, here, let_on, status_of
 from test_filters_of import MOUNT, UMOUNT2, refuses, refusing
 
 sys.path.insert(0, os.path.join(TOP, "tools"))
-from scftools import hold, hooks, processes, program, tables  # noqa: E402 pylint: disable=wrong-import-position
+from scftools import hold, hooks, processes, program, tables, verify  # noqa: E402 pylint: disable=wrong-import-position
 
 NO_MEMBER = object()
 
@@ -299,7 +299,7 @@ class OfProcesses(Hook):
         """Of a process it can't be known whether it is the container's, too."""
         child = self.child([refusing(MOUNT)])
         process = hooks.Process(hooks.container_of(self.state(child.pid, self.bundle(refuses("mount")))))
-        asked = hooks.request_of(hooks.configured(process.container), None, False, tables.read(None), None, "same")
+        asked = verify.request_of(hooks.configured(process.container), None, False, tables.read(None), None, "same")
         for told, expected in ((None, (0, "same")), ("others are there", (4, None))):
             finding = hooks.finding_of(process.look(), asked, hooks.Members(list, others_note=lambda it=told: it))
             self.assertEqual((finding.status, finding.verdict), expected)
@@ -573,7 +573,7 @@ class Inside(Hook):
         """It is said, and isn't taken for a process that is confined."""
         for error, says in ((MemoryError(), "out of memory"),
                             (OSError(5, "failed"), "the container can't be inspected: failed"),
-                            (program.ToolError("no scf", program.NOT_BUILT), "no scf"), (hooks.HookError("no"), "no"),
+                            (program.ToolError("no scf", program.NOT_BUILT), "no scf"), (hooks.ContainerError("no"), "no"),
                             (hold.Waiting("it waits"), "it waits (--force stops it)"),
                             (processes.Unreadable("it can't"), "it can't"),
                             (processes.Interrupted(15), "the check was ended by SIGTERM")):

@@ -15,7 +15,7 @@ from unittest import mock
 from common import ALLOW, PATIENCE, Case, comes, ret
 from confined import NEWEST, OLDEST, OTHER, Confined, FakeKernel, here, processes, ptrace, status_of
 from scftools import child as children
-from scftools import containers, hold
+from scftools import hold
 
 SEIZE, INTERRUPT, DETACH, GET = (ptrace.PTRACE_SEIZE, ptrace.PTRACE_INTERRUPT, ptrace.PTRACE_DETACH,
                                  ptrace.PTRACE_SECCOMP_GET_FILTER)

@@ -6,8 +6,8 @@ import re
 import subprocess
 import sys
 
-from common import (ALLOW, EPERM, I386, KILL_PROCESS, SCF, TABLE, TOP, X86_64, Case, filter_of, insn, jeq, jge, load,
-                    part, profile_of, ret, tool)
+from common import (ALLOW, EPERM, I386, KILL_PROCESS, SCF, TABLE, TOP, UNKNOWN_ZERO, X86_64, Case, filter_of, insn, jeq,
+                    jge, load, part, profile_of, ret, tool)
 
 sys.path.append(os.path.join(TOP, "tools"))
 
@@ -16,7 +16,9 @@ from scftools import tables  # noqa: E402
 TOOLS = ("ask", "bundle", "check", "compare", "compare-profiles", "compile", "decide", "explain", "lint", "list",
          "needs", "run", "surface", "why")
 NATIVE = load(4) + jeq(X86_64, 1, 0) + ret(KILL_PROCESS) + load(0) + jge(0x40000000, 0, 1) + ret(KILL_PROCESS)
-# A is the number times the number, which isn't followed where the number isn't known.
+# Allows each call, but behind a test that scf leaves undecided.
+UNKNOWN = NATIVE + UNKNOWN_ZERO + jeq(0, 1, 0) + ret(EPERM) + ret(ALLOW)
+# A is the number times the number, of which single bits are known. The one number whose square is 49 fails.
 SQUARE = NATIVE + insn(0x07, 0) + insn(0x2C, 0) + jeq(49, 0, 1) + ret(EPERM) + ret(ALLOW)
 LOST = "# the profile's default allows syscalls: the rules for these names are lost\n"
 
@@ -222,17 +224,22 @@ class WhichFilter(Case):
             self.assertTrue(out.endswith(f"# the filter is {long[7]}\n"), out)
 
     def test_an_undecided_place(self):
-        square = self.file("square.bpf", SQUARE)
-        place = self.run_tool("compare", "--limit=100000", square, self.profile)[1].split("\n")[0].split(" ")[-1]
-        status, out, _ = self.run_tool("compare", "--limit=100000", self.allow, square, self.allow, self.profile)
+        unknown, square = self.file("unknown.bpf", UNKNOWN), self.file("square.bpf", SQUARE)
+        place = self.run_tool("compare", "--limit=100000", unknown, self.profile)[1].split("\n")[0].split(" ")[-1]
+        # that of ERRNO 1, which no call gets
+        self.assertEqual(int(place), len(UNKNOWN) // 8 - 2)
+        status, out, _ = self.run_tool("compare", "--limit=100000", self.allow, unknown, self.allow, self.profile)
         self.assertEqual((status, out.split(" ")[0]), (4, "undecided"))
-        self.assertTrue(out.endswith(f"# alone, {square} is undecided at {place}\n"), out)
-        twice = self.file("twice.bpf", SQUARE)
-        out = self.run_tool("compare", "--limit=100000", square, twice, self.profile)[1]
-        self.assertTrue(out.endswith(f"# alone, {square} is undecided at {place}\n"
+        self.assertTrue(out.endswith(f"# alone, {unknown} is undecided at {place}\n"), out)
+        twice = self.file("twice.bpf", UNKNOWN)
+        out = self.run_tool("compare", "--limit=100000", unknown, twice, self.profile)[1]
+        self.assertTrue(out.endswith(f"# alone, {unknown} is undecided at {place}\n"
                                      f"# alone, {twice} is undecided at {place}\n"), out)
-        found = json.loads(self.run_tool("compare", "--json", "--limit=100000", self.allow, square, self.profile)[1])
-        self.assertEqual(found["files"], [square])
+        found = json.loads(self.run_tool("compare", "--json", "--limit=100000", self.allow, unknown, self.profile)[1])
+        self.assertEqual(found["files"], [unknown])
+        status, out, _ = self.run_tool("compare", self.allow, square, self.allow, self.profile)
+        self.assertEqual((status, out.split(" arch ")[0]), (1, "differs\ncall nr 7"))
+        self.assertNotIn("# alone, ", out)
 
 
 class Names(Case):
@@ -365,7 +372,7 @@ class Objects(Case):
         self.assertEqual({key: jump["fault"][key] for key in ("source", "kind", "numbers")},
                          {"source": "filter", "kind": "Jump", "numbers": {"at": 0}})
         self.assertTrue(jump["fault"]["sentences"][0].startswith("This jump leaves the filter"))
-        undecided = found("--limit=100000", self.file("square.bpf", SQUARE),
+        undecided = found("--limit=100000", self.file("unknown.bpf", UNKNOWN),
                           self.file("q.json", b'{"defaultAction":"SCMP_ACT_ALLOW"}'))
         self.assertEqual((undecided["verdict"], undecided["status"]), ("undecided", 4))
         self.assertIsInstance(undecided["at"], int)
@@ -428,6 +435,10 @@ class Programs(Case):
             done = self.run_tool(name, given, env={**os.environ, "PYTHONPATH": self.folder, "PYTHONSTARTUP":
                                                    f"{self.folder}/os.py", "PYTHONHOME": self.folder})
             self.assertEqual((done[0], done[2]), (0, ""), name)
+            # nor beside a link to the tool
+            link = os.path.join(self.folder, name)
+            os.symlink(tool(name), link)
+            self.assertEqual(self.run_words([link, given], cwd="/")[::2], (0, ""), name)
 
     def test_what_is_imported_at_start(self):
         """No module that only some runs need."""
@@ -437,10 +448,10 @@ class Programs(Case):
         done = self.run_words([sys.executable, "-IS", "-c", script, os.path.join(TOP, "tools")])
         self.assertEqual(done, (0, "\n", ""))
 
-    def test_each_module_has_a_line_in_the_package(self):
+    def test_each_module_says_in_its_first_line_what_it_has(self):
         folder = os.path.join(TOP, "tools", "scftools")
-        with open(os.path.join(folder, "__init__.py"), encoding="utf-8") as file:
-            text = file.read()
         for name in os.listdir(folder):
-            if name.endswith(".py") and name != "__init__.py":
-                self.assertRegex(text, rf"(?m)^    {name[:-3]} +\w", name)
+            if name.endswith(".py"):
+                with open(os.path.join(folder, name), encoding="utf-8") as file:
+                    first = next(line for line in file if not line.startswith("#!"))
+                self.assertRegex(first, r'^"""\w.{20}', name)

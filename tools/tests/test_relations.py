@@ -324,15 +324,15 @@ class Foreign(Case):
             given.append([load(0) + jeq(43, 0, 1) + ret(LOG) + ret(EPERM), kind.alone])
         given += [[filter_of([READ], foreign=answer)] for answer in EACH]
         for filters in given:
-            for kind, found in zip(other_abis.KINDS, other_abis.let_through(filters)):
-                self.assertIsInstance(found, other_abis.Proved)
+            for kind, found in zip(other_abis.KINDS, other_abis.known_of(filters)):
+                self.assertTrue(found.is_proved)
                 through = [call for call in CORNERS if self.is_of(kind, call)
                            and degree(word(StandIn().decide(filters, call)))]
-                self.assertEqual(found.lets_none_through, not through, (kind.name, filters))
+                self.assertEqual(found.are_denied, not through, (kind.name, filters))
                 if through:
-                    self.assertTrue(self.is_of(kind, found.call), found)
-                    answered = StandIn().decide(filters, found.call)
-                    self.assertEqual(found.answer, answers.Answer.read(answered))
+                    (call, answer), = found.not_denied
+                    self.assertTrue(self.is_of(kind, call), found)
+                    self.assertEqual(answer, answers.Answer.read(StandIn().decide(filters, call)))
 
     def is_of(self, kind, call):
         if call.architecture == X86_64:
@@ -340,26 +340,45 @@ class Foreign(Case):
         return kind.name == "i386" and call.architecture == I386 and call.number < 2 * X32
 
     def test_told(self):
-        told = [one.describe() for one in other_abis.let_through([ret(TRACE)])]
+        told = [one.describe() for one in other_abis.known_of([ret(TRACE)])]
         self.assertEqual(told, ["i386: not every syscall is denied, such as restart_syscall (0): TRACE 0",
                                 "x32: not every syscall is denied, such as read (0x40000000 + 0): TRACE 0"])
 
     def test_undecided_and_unfinished(self):
         """Some calls are tried, and it is said that it wasn't decided."""
-        squares = load(4) + jeq(X86_64, 1, 0) + load(0) + insn(0x07, 0) + insn(0x2C, 0) + jeq(9, 0, 1) + ret(LOG) + \
-            ret(EPERM)
-        found = other_abis.let_through([squares])
+        # an odd factor and a word XOR its own upper half each map the words one to one, so number 3 alone is logged; no
+        # bit of the result is known before 17 bits of the number are
+        factor = 0x9E3779B1
+        product = 3 * factor & 0xFFFFFFFF
+        mixed = load(4) + jeq(X86_64, 1, 0) + load(0) + insn(0x24, factor) + insn(0x07, 0) + insn(0x74, 16) + \
+            insn(0xAC, 0) + jeq(product ^ product >> 16, 0, 1) + ret(LOG) + ret(EPERM)
+        self.assertEqual({number for number in range(1000) if StandIn().decide([mixed], calls.Call(number, I386))
+                          != "ERRNO 1"}, {3})
+        found = other_abis.known_of([mixed])
         self.assertEqual(found[0].describe(), "i386: undecided whether any syscall is allowed; of 12 tried, 1 is, "
                                           "such as read (3): LOG")
         self.assertEqual(found[0].as_json(), {
             "kind": "i386", "is_decided": False, "tried": 12,
             "let_through": [{"name": "read", "number": 3, "answer": {"action": "LOG", "data": 0}}]})
-        self.assertEqual([one.describe() for one in other_abis.let_through([filter_of([READ])], "0")], [
+        self.assertEqual([one.describe() for one in other_abis.known_of([filter_of([READ])], "0")], [
             f"{kind}: undecided whether any syscall is allowed; of {count} tried, none is"
             for kind, count in (("i386", 12), ("x32", 11))])
 
+    def test_a_computation_that_is_decided(self):
+        """The number times the number is known from its lowest bit on."""
+        squares = load(4) + jeq(X86_64, 1, 0) + load(0) + insn(0x07, 0) + insn(0x2C, 0) + jeq(9, 0, 1) + ret(LOG) + \
+            ret(EPERM)
+        found = other_abis.known_of([squares])
+        self.assertEqual([it.is_proved for it in found], [True, True])
+        (call, answer), = found[0].not_denied
+        self.assertTrue(self.is_of(found[0].kind, call), found)
+        self.assertEqual((call.number ** 2 & 0xFFFFFFFF, str(answer)), (9, "LOG"))
+        # x86-64 and x32 share an architecture, whose own number is squared there
+        self.assertNotEqual(X86_64 ** 2 & 0xFFFFFFFF, 9)
+        self.assertTrue(found[1].are_denied, found)
+
     def test_refused_filters(self):
-        self.assertEqual(other_abis.let_through([b""]), [])
+        self.assertEqual(other_abis.known_of([b""]), [])
 
 
 class VerifyProcess(Confined):

@@ -14,7 +14,7 @@ from test_profile_of import (AARCH64, ARM, FILES, HOLDS, NATIVE, OWN, TRAP, X32_
 
 sys.path.append(os.path.join(TOP, "tools"))
 
-from scftools import answers, arguments, row_conditions, tables  # noqa: E402
+from scftools import answers, constants, row_conditions, tables  # noqa: E402
 from scftools.calls import Call  # noqa: E402
 
 EINVAL = 0x00050000 | 22
@@ -175,7 +175,7 @@ class Names(Case):
 
     def test_each_line(self):
         """Syscalls of the table, and no more arguments than they have."""
-        table, kinds = tables.read(None), arguments.read()
+        table, kinds = tables.read(None), constants.kinds()
         for syscall, names in row_conditions.argument_names().items():
             self.assertIsNotNone(table.number_of(syscall), syscall)
             self.assertLessEqual(len(names), len(kinds[syscall]), syscall)

@@ -3,7 +3,7 @@ relations. No comparison has more steps than its effort, and a call that is show
 from on_parts import (ALLOW, ALLOW_ALL, ARCH_GATE, CLONE, CLONE_BY_AND, CLONE_TABLE, DEFAULT_ALLOW, NATIVE, ONE_CALL,
                       READ_TABLE, READ_WRITE_TABLE, WITHOUT_WRITE, X32, a_filter, a_profile, a_table, assembled,
                       behind_gate, bundle, ran)
-from on_stacks import ALIKE, APART, DIFFERS, RELATIONS, SAME, OnStacks, naming
+from on_stacks import DIFFERS, RELATIONS, SAME, OnStacks, naming
 from worked import (ALL_BUT_TWO, EXTREMES, FAILS, KILLS, MADE, SOCKET_NOT_40, SOCKET_TABLE, WITHOUT_READ, effort,
                     printed)
 
@@ -24,13 +24,13 @@ NUMBERS = (
     # Two filters.
     ([WITHOUT_READ, WITHOUT_WRITE], READ_WRITE_TABLE, ALL_BUT_TWO, {0: SAME, 1: SAME, 2: SAME}),
     ([WITHOUT_READ, ALLOW], READ_WRITE_TABLE, ALL_BUT_TWO, {0: SAME, 1: (MADE, FAILS), 2: SAME}),
-    # A product of an argument that is even, whatever the argument is.
-    ([EVEN], "", DEFAULT_ALLOW, {0: SAME, 1: 5, 2: SAME}),
+    # A product of an argument that is even, whatever the argument is: it takes a split on the argument's lowest bit.
+    ([EVEN], "", DEFAULT_ALLOW, {0: SAME, 1: SAME, 2: SAME}),
     # Sums of the number, and some of its bits.
     ([a_filter("ld [0]; add #1; jeq #2, 0, 1; ret #0x50001; ret #0x7fff0000")], "", DEFAULT_ALLOW,
-     {0: ALIKE, 1: APART, 2: ALIKE}),
+     {0: SAME, 1: (FAILS, MADE), 2: SAME}),
     ([a_filter("ld [0]; and #0xff; jeq #1, 0, 1; ret #0x50001; ret #0x7fff0000")], "", DEFAULT_ALLOW,
-     {1: APART, 256: ALIKE, 257: APART, 258: ALIKE}),
+     {1: (FAILS, MADE), 256: SAME, 257: (FAILS, MADE), 258: SAME}),
 )
 LOGGED_READ = a_filter("ld [0]; jeq #0, 0, 1; ret #0x7ffc0000; ret #0x7fff0000")
 GATED = [behind_gate(f"ld [0]; jeq #{number}, 0, 1; ret #0x50001; ret #0x7fff0000") for number in (0, 1)]
@@ -108,16 +108,27 @@ class Numbers(OnStacks):
     def test_numbers(self):
         for filters, table, profile, wanted in NUMBERS:
             with self.subTest(filters=filters, profile=profile):
-                data = [assembled(text) for _, text in filters]
-                names = naming(table, wanted)
-                limit = str(effort(data, profile, table))
-                out, status = self.compared(data, profile, names, "--calls", "--limit", limit)
-                first, *lines = out.splitlines()
-                found = [self.says_of_number(lines, number, of, "differs")[0] for number, of in wanted.items()]
-                apart = [verdict for verdict in found if verdict != SAME]
-                self.assertEqual(len(lines), len(apart))
-                joint = "differs" if "differs" in apart else (apart or [SAME])[0]
-                self.assertEqual((first, status), (joint, {SAME: 0, "differs": 1}.get(joint, 4)))
+                self.says_of_numbers(filters, table, profile, wanted)
+
+    def test_splits(self):
+        """The one that takes a split is undecided without it, and the others aren't."""
+        for filters, table, profile, wanted in NUMBERS:
+            with self.subTest(filters=filters, profile=profile):
+                alone = {**wanted, 1: 5} if filters == [EVEN] else wanted
+                self.says_of_numbers(filters, table, profile, alone, "--splits", "0")
+                self.says_of_numbers(filters, table, profile, wanted, "--splits", "1")
+
+    def says_of_numbers(self, filters, table, profile, wanted, *words):
+        """What is printed with no more steps than the effort: the joint verdict, and a line for some numbers."""
+        data = [assembled(text) for _, text in filters]
+        limit = str(effort(data, profile, table))
+        out, status = self.compared(data, profile, naming(table, wanted), "--calls", "--limit", limit, *words)
+        first, *lines = out.splitlines()
+        found = [self.says_of_number(lines, number, of, "differs")[0] for number, of in wanted.items()]
+        apart = [verdict for verdict in found if verdict != SAME]
+        self.assertEqual(len(lines), len(apart))
+        joint = "differs" if "differs" in apart else (apart or [SAME])[0]
+        self.assertEqual((first, status), (joint, {SAME: 0, "differs": 1}.get(joint, 4)))
 
     def test_no_steps(self):
         for filters, table, profile, wanted in NUMBERS:

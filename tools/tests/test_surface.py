@@ -15,16 +15,16 @@ import sys
 import termios
 import unittest
 
-from common import (ALLOW, EPERM, I386, KILL_PROCESS, KILL_THREAD, SCF, TABLE, TOP, X86_64, Case, filter_of, insn, jeq,
-                    jge, load, ret, tool)
+from common import (ALLOW, EPERM, I386, KILL_PROCESS, KILL_THREAD, SCF, TABLE, TOP, UNKNOWN_ZERO, X86_64, Case,
+                    filter_of, insn, jeq, jge, load, ret, tool)
 from confined import NEWEST, OLDEST, Confined, here
 from stand_in import StandIn
 from test_why import random_filter
 
 sys.path.append(os.path.join(TOP, "tools"))
 
-from scftools import (answers, architectures, beside, client, groups, processes, questions, stack_surfaces,  # noqa: E402
-                      surface_output, surfaces, tables, unnamed)
+from scftools import (answers, architectures, client, processes, questions, stack_surfaces,  # noqa: E402
+                      surface_output, surfaces, tables)
 from scftools.calls import Call  # noqa: E402
 
 READ, WRITE, GETPID, SOCKET, EXIT_GROUP = 0, 1, 39, 41, 231
@@ -59,10 +59,17 @@ def by_argument(value, answer, other):
 
 
 BY_POINTER = load(8) + jeq(0x1234, 0, 1) + ret(ALLOW) + ret(EPERM)
-# The number times the number, which isn't followed where the number isn't known; and an argument, which never is.
+# The number times the number, of which 7 alone has the square 49 below 0x40000000; and of `socket` an argument times
+# that argument.
 SQUARE = gate(insn(0x07, 0) + insn(0x2C, 0) + jeq(49, 0, 1) + ret(EPERM) + ret(ALLOW))
 BY_SQUARE = of_number(SOCKET, load(16) + insn(0x07, 0) + insn(0x2C, 0) + jeq(9, 0, 1) + ret(ALLOW) + ret(EPERM), ALLOW)
-M, D, F, R = surfaces.MADE, surfaces.DEPENDS, surfaces.REFERRED, surfaces.REFUSED
+# What scf leaves undecided: whether every call is denied, which is so; and of `socket` whether it is always allowed,
+# which is so.
+UNKNOWN = gate(UNKNOWN_ZERO + jeq(0, 0, 1) + ret(EPERM) + ret(ALLOW))
+BY_UNKNOWN = of_number(SOCKET, UNKNOWN_ZERO + jeq(0, 0, 1) + ret(ALLOW) + ret(EPERM), ALLOW)
+# A table without a gap whose numbers are compared one by one, each with all splits of the default.
+FEW = b"read 0\nwrite 1\nopen 2\n"
+M, D, F, R = surfaces.ALLOWED, surfaces.DEPENDS, surfaces.DELEGATED, surfaces.DENIED
 # Filters, oldest first, with what people expect of read, write, getpid, socket and exit_group.
 KNOWN = {
     "all is made": ([ret(ALLOW)], [M] * 5),
@@ -161,7 +168,7 @@ class Rows(Case):
                 surface = known(name)
                 self.assertEqual([row.number for row in surface.rows], NUMBERS)
                 self.assertEqual([row.said for row in surface.rows], expected)
-                self.assertTrue(surface.is_told)
+                self.assertTrue(surface.is_decided)
                 for row, fates in zip(surface.rows, by_hand):
                     self.is_shown(filters, row, fates)
 
@@ -194,9 +201,9 @@ class Rows(Case):
     def test_a_pointer_that_cannot_be_shown(self):
         """The line says that there is one."""
         asker = questions.Asker(KNOWN["by the instruction pointer"][0])
-        line = next(it for it in asker.of_named(questions.IS_REFUSED, OWN).calls if it.number == WRITE)
+        line = next(it for it in asker.of_named(questions.IS_DENIED, OWN).calls if it.number == WRITE)
         unable = type("Unable", (questions.Asker,), {"of_numbers": lambda *_: None})(asker.filters)
-        shown = surfaces._shown(unable, questions.IS_REFUSED, line)
+        shown = surfaces._shown(unable, questions.IS_DENIED, line)
         self.assertEqual((shown.is_whole, shown.describe()), (False, "at some ip args 0x0 0x0 0x0 0x0 0x0 0x0 ALLOW"))
 
     def test_random_filters(self):
@@ -223,14 +230,26 @@ class Rows(Case):
 
     def test_undecided_and_unfinished(self):
         """It is said so, with the calls that were found, and nothing is guessed."""
-        self.assertEqual({row.said for row in of([SQUARE]).rows}, {"undecided"})
-        surface = of([BY_SQUARE])
+        self.assertEqual({row.said for row in of([UNKNOWN], table=FEW).rows}, {"undecided"})
+        surface = of([BY_UNKNOWN])
         self.assertEqual([row.said for row in surface.rows], [M, M, M, "undecided", M])
-        self.assertFalse(surface.is_told)
+        self.assertFalse(surface.is_decided)
         self.assertEqual((surface.rows[3].never, set(surface.rows[3].shown) - {M, R}), ([], set()))
         surface = of([filter_of([READ])], "0")
         self.assertEqual([row.said for row in surface.rows], ["unfinished"] * 5)
         self.assertEqual(surface.unnamed.describe(), f"{OTHERS} are undecided")
+
+    def test_computations_that_are_decided(self):
+        """Of a number that is known, and of an argument, whose low word 3 alone is allowed among those below 1000."""
+        self.assertEqual([row.said for row in of([SQUARE]).rows], [M] * 5)
+        self.assertEqual([row.said for row in of([SQUARE], table=b"six 6\nseven 7\neight 8\n").rows], [M, R, M])
+        surface = of([BY_SQUARE])
+        self.assertEqual([row.said for row in surface.rows], [M, M, M, D, M])
+        self.assertEqual([number for number in range(1000)
+                          if fate_by_hand([BY_SQUARE], Call(SOCKET, X86_64, 0, (number, 0, 0, 0, 0, 0))) == M], [3])
+        self.assertEqual(sorted(surface.rows[3].shown), sorted([M, R]))
+        for said, shown in surface.rows[3].shown.items():
+            self.assertEqual(fate_by_hand([BY_SQUARE], shown.call), said)
 
     def test_a_number_with_two_names_and_one_with_zeros(self):
         self.assertEqual(of([ret(ALLOW)]).rows[0].names, ["read", "too"])
@@ -285,26 +304,25 @@ class Unnamed(unittest.TestCase):
                          f"1 of {OTHERS} {SOME} 401: ALLOW")
 
     def test_what_could_not_be_told(self):
-        """A filter that isn't followed; more ranges than are looked at; of the longest filter everything is known."""
-        found = of([SQUARE]).unnamed
-        self.assertGreater(found.untold, 0)
-        self.assertLessEqual(found.let_through + found.untold, OTHERS)
+        """A filter that isn't decided; more ranges than are looked at; of the longest filter everything is known."""
+        found = of([UNKNOWN], table=FEW).unnamed
+        self.assertEqual((found.not_denied, found.undecided), (0, X32 - 3))
         self.assertRegex(found.describe(), r"[0-9]+ are undecided\Z")
         self.assertEqual(self.describe(allowing(range(300, 1300, 2))), f"500 of {OTHERS} {SOME} 300: ALLOW")
         # before, between and behind these 300 numbers are 302 ranges, those between of two numbers
         found = of([allowing(range(300, 1500, 4), more=jge(X32 // 2, 0, 1) + ret(ALLOW))]).unnamed
-        self.assertEqual((found.let_through, found.untold), (300 + X32 // 2, 2 * (302 - unnamed.MOST)))
+        self.assertEqual((found.not_denied, found.undecided), (300 + X32 // 2, 2 * (302 - questions.MOST)))
         self.assertEqual(found.describe(), f"at least {300 + X32 // 2} of {OTHERS} {SOME} 300: ALLOW; "
-                                           f"{found.untold} are undecided")
+                                           f"{found.undecided} are undecided")
         long = gate(jeq(400, 0, 1) + ret(ALLOW) + jeq(0, 0, 0) * 4087 + ret(EPERM))
         self.assertEqual(StandIn().check(long), "accepted 4096")
         self.assertEqual(self.describe(long), f"1 of {OTHERS} {SOME} 400: ALLOW")
 
     def test_gaps(self):
-        self.assertEqual(list(unnamed.gaps(tables.Table(OWN))), [(2, 39), (40, 41), (42, 231), (232, X32)])
+        self.assertEqual(list(questions.gaps(tables.Table(OWN))), [(2, 39), (40, 41), (42, 231), (232, X32)])
         last = tables.Table(b"a 0\nz 1073741823\n")
-        self.assertEqual(list(unnamed.gaps(last)), [(1, X32 - 1)])
-        self.assertEqual(list(unnamed.gaps(tables.Table(b""))), [(0, X32)])
+        self.assertEqual(list(questions.gaps(last)), [(1, X32 - 1)])
+        self.assertEqual(list(questions.gaps(tables.Table(b""))), [(0, X32)])
 
 
 class Program(Case):
@@ -459,8 +477,10 @@ class Program(Case):
                                                                                                    "x")[1][1:]]))
         status, lines = self.said([good], "--limit", "0")
         self.assertEqual((status, lines[0]), (4, "allowed 0, depends 0, denied 0, unfinished 5"))
-        status, lines = self.said([BY_SQUARE])
+        status, lines = self.said([BY_UNKNOWN])
         self.assertEqual((status, lines[0]), (4, "allowed 4, depends 0, denied 0, undecided 1"))
+        status, lines = self.said([BY_SQUARE])
+        self.assertEqual((status, lines[0]), (0, "allowed 4, depends 1, denied 0"))
         self.assertEqual(self.run_tool("surface", "none"), (2, "", "surface: there is no file 'none'\n"))
         status, _, err = self.closed_output("surface", self.file("f", good))
         self.assertEqual((status, err.split("\n")[0]), (3, "surface: the output failed: No space left on device"))
@@ -559,7 +579,7 @@ class Beside(Case):
     """Two surfaces beside each other."""
 
     def pairs(self, one, other):
-        found = beside.of_surfaces(known(one), known(other))
+        found = stack_surfaces.of_surfaces(known(one), known(other))
         return found.status, [(pair.number, pair.one.said, pair.other.said) for pair in found.pairs], found
 
     def test_each_two(self):
@@ -570,7 +590,7 @@ class Beside(Case):
                 expected = [row for row in zip(NUMBERS, KNOWN[one][1], KNOWN[other][1])
                             if answers_by_hand(KNOWN[one][0], row[0]) != answers_by_hand(KNOWN[other][0], row[0])]
                 self.assertEqual(told, expected)
-                self.assertTrue(all(pair.is_told for pair in found.pairs))
+                self.assertTrue(all(pair.is_decided for pair in found.pairs))
                 if told:
                     self.assertEqual(status, 1)
 
@@ -581,7 +601,7 @@ class Beside(Case):
                 ("a condition", by_argument(41, EPERM, ALLOW), ("ERRNO 1", "ALLOW")),
                 ("an errno", by_argument(40, 0x50026, ALLOW), ("ERRNO 1", "ERRNO 38")),
                 ("a logged syscall", by_argument(40, EPERM, LOG), ("ALLOW", "LOG"))):
-            found = beside.of_surfaces(of(plain), of([of_number(SOCKET, other, ALLOW)]))
+            found = stack_surfaces.of_surfaces(of(plain), of([of_number(SOCKET, other, ALLOW)]))
             (pair,) = found.pairs
             self.assertEqual((found.status, pair.number, pair.one.said, pair.other.said), (1, SOCKET, D, D), name)
             verdict = pair.line.verdict
@@ -590,27 +610,32 @@ class Beside(Case):
 
     def test_syscalls_that_depend_and_are_the_same(self):
         other = [gate(jeq(SOCKET, 0, 6) + by_argument(40, EPERM, ALLOW) + ret(EPERM))]
-        found = beside.of_surfaces(known("by an argument"), of(other))
+        found = stack_surfaces.of_surfaces(known("by an argument"), of(other))
         self.assertEqual((found.status, found.pairs), (0, ()))
 
     def test_the_same_filters(self):
         for name in ("by an argument", "a stack"):
             self.assertEqual(self.pairs(name, name)[:2], (0, []))
-        found = beside.of_surfaces(of([SQUARE]), of([SQUARE]))
-        self.assertEqual((found.status, [pair.number for pair in found.pairs]), (4, NUMBERS))
+        found = stack_surfaces.of_surfaces(*(of([UNKNOWN], table=FEW) for _ in range(2)))
+        self.assertEqual((found.status, [pair.number for pair in found.pairs]), (4, [0, 1, 2]))
+        self.assertEqual(stack_surfaces.of_surfaces(of([SQUARE]), of([SQUARE])).pairs, ())
+        found = stack_surfaces.of_surfaces(of([BY_SQUARE]), of([BY_SQUARE]))
+        self.assertEqual((found.status, found.pairs), (0, ()))
 
     def test_what_could_not_be_told(self):
-        found = beside.of_surfaces(of([BY_SQUARE]), of([ret(ALLOW)]))
+        found = stack_surfaces.of_surfaces(of([BY_UNKNOWN]), of([ret(ALLOW)]))
         self.assertEqual([(pair.number, pair.one.said, pair.other.said) for pair in found.pairs],
                          [(SOCKET, "undecided", M)])
-        found = beside.of_surfaces(of([gate(ret(ALLOW))], "0"), of([gate(ret(EPERM))], "0"))
+        found = stack_surfaces.of_surfaces(of([BY_SQUARE]), of([ret(ALLOW)]))
+        self.assertEqual([(pair.number, pair.one.said, pair.other.said) for pair in found.pairs], [(SOCKET, D, M)])
+        found = stack_surfaces.of_surfaces(of([gate(ret(ALLOW))], "0"), of([gate(ret(EPERM))], "0"))
         self.assertEqual((found.status, [pair.number for pair in found.pairs]), (4, NUMBERS))
 
     def test_foreign_calls_and_numbers_without_a_name(self):
         inner = jeq(READ, 0, 1) + ret(ALLOW) + ret(EPERM)
-        found = beside.of_surfaces(of([gate(inner)]), of([gate(inner, ALLOW)]))
+        found = stack_surfaces.of_surfaces(of([gate(inner)]), of([gate(inner, ALLOW)]))
         self.assertEqual((found.status, found.pairs, found.foreign_differ, found.unnamed_differ), (1, (), True, False))
-        found = beside.of_surfaces(of([filter_of([READ])]), of([filter_of([READ, 400])]))
+        found = stack_surfaces.of_surfaces(of([filter_of([READ])]), of([filter_of([READ, 400])]))
         self.assertEqual((found.status, found.pairs, found.foreign_differ, found.unnamed_differ), (1, (), False, True))
 
     def test_lines_and_json(self):
@@ -687,7 +712,7 @@ class Process(Confined):
 
     def test_strict_mode_and_no_filter(self):
         """Without a filter there is nothing to compare; the threads are told."""
-        asked = stack_surfaces.Asked(tables.Table(OWN), None, [])
+        asked = stack_surfaces.Settings(tables.Table(OWN), None, [])
         for is_strict, status, says in ((True, 4, "has no filter, but seccomp's strict mode"),
                                         (False, 1, "has no filter: it isn't confined, and every syscall is allowed")):
             found = processes.Inspection([processes.Stack((), is_strict, {7: [7]})], {7: b"x"}, {})
@@ -713,12 +738,12 @@ class Groups(unittest.TestCase):
     """tables/calls.groups."""
 
     def test_each_name_of_the_table_once_and_no_other(self):
-        with open(groups.FILE, encoding="ascii") as file:
+        with open(os.path.join(TOP, "tables", "calls.groups"), encoding="ascii") as file:
             lines = [line.split() for line in file if line.strip() and not line.startswith("#")]
         names = [name for line in lines for name in line[1:]]
         self.assertEqual(sorted(names), sorted(tables.Table(contents(TABLE)).names()))
         self.assertEqual(len(set(names)), len(names))
-        self.assertEqual(groups.Groups().order, [*dict.fromkeys(line[0] for line in lines), "other"])
+        self.assertEqual(surface_output.Groups().order, [*dict.fromkeys(line[0] for line in lines), "other"])
         self.assertTrue(all(len(" ".join(line)) <= 120 for line in lines))
 
     @unittest.skipUnless(shutil.which("systemd-analyze"), "there is no systemd-analyze here")
@@ -729,7 +754,7 @@ class Groups(unittest.TestCase):
         sets = {name: set(rest.split()) for name, rest in re.findall(r"(?m)^(@\S+)\n((?:    .*\n)*)", printed)}
         self.assertGreater(len(sets), 20)
         now, looked_at = None, 0
-        with open(groups.FILE, encoding="ascii") as file:
+        with open(os.path.join(TOP, "tables", "calls.groups"), encoding="ascii") as file:
             for line in file:
                 if line.startswith("#"):
                     now = line.split()[-1] if line.startswith("# @") else None

@@ -1,6 +1,4 @@
 """What `compare` and `compile` say of filters, profiles and tables: verdicts, differences by relations, refusals."""
-import re
-
 from common import X86_64
 from on_parts import (ALL, ALLOW, ARCH_GATE, CLONE, CLONE_BY_AND, CLONE_BY_FEWER_BITS, CLONE_BY_JSET, CLONE_TABLE,
                       NATIVE, NO_TABLE, READ_TABLE, OnProgram, a_filter, a_profile, a_table, behind_gate, bundle, ran)
@@ -157,13 +155,18 @@ class Verdicts(OnProgram):
         self.prints(["compare"], bundle([NATIVE, profile, a_table(READ_TABLE)]), text)
 
     def test_undecided(self):
-        """A filter that multiplies an argument needn't be decided. Where it isn't, a place of the filter is named."""
+        """A filter that multiplies an argument is decided by splits. Without them the index of an answer is printed."""
         mixes = behind_gate("""ld [16]; mul #0x9e3779b1; xor #0x12345678; mul #0x85ebca6b
             jeq #0xdeadbeef, 0, 1; ret #0; ret #0x7fff0000""")
-        out, status = ran(["compare"], bundle([mixes, ALL, NO_TABLE]))
-        place = re.fullmatch(rb"undecided at (\d+)\n", out)
-        self.assertTrue(place and status == 4, (out, status))
-        self.assertLess(int(place[1]), 13)
+        both = bundle([mixes, ALL, NO_TABLE])
+        # the answer that isn't the profile's stands behind the gate's six instructions and five others
+        self.prints(["compare", "--splits", "0"], both, "undecided at 11\n", 4)
+        # an odd factor has an inverse modulo 2^32, so one word alone gives the value
+        inverse = [pow(factor, -1, 1 << 32) for factor in (0x9E3779B1, 0x85EBCA6B)]
+        word = (0xDEADBEEF * inverse[1] & 0xFFFFFFFF ^ 0x12345678) * inverse[0] & 0xFFFFFFFF
+        number, arch, first, *answers = self.shown(["compare"], both)
+        self.assertEqual((arch, first & 0xFFFFFFFF, *answers), (X86_64, word, "KILL_THREAD 0", "ALLOW 0"))
+        self.assertLess(number, 0x40000000)
 
 
 class Relations(OnProgram):

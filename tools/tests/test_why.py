@@ -16,7 +16,7 @@ from stand_in import StandIn
 sys.path.append(os.path.join(TOP, "tools"))
 
 import kernel_profiles  # noqa: E402
-from scftools import paths, reasons, tables  # noqa: E402
+from scftools import listing, reasons, tables  # noqa: E402
 from scftools.calls import Call  # noqa: E402
 
 X32, WORD = 0x40000000, (1 << 32) - 1
@@ -70,9 +70,9 @@ class Path(Case):
 
     def holds(self, data, call):
         machine = StandIn()
-        path, expected = paths.of(data, call.words()), machine.path(data, call)
+        path, expected = listing.path_of(data, call.words()), machine.path(data, call)
         self.assertEqual(path.status, 0)
-        self.assertEqual((list(path.places), path.decision.steps), (expected, len(expected)))
+        self.assertEqual((list(path.indexes), path.decision.steps), (expected, len(expected)))
         self.assertEqual(path.decision.line, f"{machine.run(data, call)} steps {len(expected)}")
         return expected
 
@@ -98,11 +98,11 @@ class Path(Case):
         self.assertEqual(self.holds(load(0) + jeq(9, 0, 0) * 4094 + ret(ALLOW), call), list(range(4096)))
         jumps = load(0) + jeq(7, 1, 0) * 4093 + ret(EPERM) + ret(ALLOW)
         self.assertEqual(self.holds(jumps, call), [0, *range(1, 4096, 2)])
-        self.assertEqual(paths.of(jumps, call.words()).describe()[:12], "0 1 3 5 7 9 ")
+        self.assertEqual(listing.path_of(jumps, call.words()).describe()[:12], "0 1 3 5 7 9 ")
 
     def test_a_fault_has_no_path(self):
-        path = paths.of(jeq(0, 9, 0) + ret(ALLOW), Call(0).words())
-        self.assertEqual((path.status, path.places, path.decision.fault.kind), (1, (), "Jump"))
+        path = listing.path_of(jeq(0, 9, 0) + ret(ALLOW), Call(0).words())
+        self.assertEqual((path.status, path.indexes, path.decision.fault.kind), (1, (), "Jump"))
 
     def test_without_the_flag_nothing_changes(self):
         data = filter_of([0, 1])
@@ -354,7 +354,7 @@ class Behind(Case):
                 + insn(0x00, 5) + jeq(5, 0, 2) + insn(0x87, 0) + insn(0x25, 9, 0, 0) + ret(0x7FFC0000))
         self.assertEqual(StandIn().check(data), "accepted 17")
         call = Call(41, arguments=(16, 0x37 << 32, 0, 0, 0, 0))
-        found = paths.last_tests(data, paths.of(data, call.words()), call, tables.read(None))
+        found = listing.last_tests(data, listing.path_of(data, call.words()), call, tables.read(None))
         self.assertEqual((found[0], [re.sub(r"^ *([0-9]+)  .*?// ", r"\1 ", line) for line in found[1]]), (0, [
             "1 x86-64: to 3, else 2; loaded 0xc000003e, went to 3", "4 x32: to 5, else 6; loaded 0x29, went to 6",
             "6 socket: to 7, else 16; loaded 0x29, went to 7", "8 to 9, else 16; loaded 0x10, went to 9",
@@ -363,8 +363,8 @@ class Behind(Case):
         random_of = random.Random(9)
         for count in (30, 200, 900):
             data, call = random_filter(random_of, count), random_call(random_of)
-            path, expected = paths.of(data, call.words()), StandIn().path(data, call)
-            before, lines = paths.last_tests(data, path, call, tables.read(None))
+            path, expected = listing.path_of(data, call.words()), StandIn().path(data, call)
+            before, lines = listing.last_tests(data, path, call, tables.read(None))
             tests = [at for at in expected if data[8 * at] & 7 in (5, 6) and data[8 * at] != 5]
             self.assertEqual([int(line.split()[0]) for line in lines], tests[-12:])
             self.assertEqual(before, max(len(tests) - 12, 0))

@@ -49,6 +49,8 @@ WORDS = (
      "Options:\n"
      "      --limit <NUMBER>        The most steps of a comparison [default: 1000000]\n"
      "      --total-limit <NUMBER>  With --calls, the most steps of all its comparisons together [default: 10000000]\n"
+     "      --splits <NUMBER>       The most splits of a comparison that tests leave undecided; 2^64-1 for no limit "
+     "[default: 10000]\n"
      "      --nr-from <NUMBER>      Only calls of x86-64, or of each of --architectures, with at least this number; "
      "not with --calls\n"
      "      --nr-to <NUMBER>        Only calls of x86-64, or of each of --architectures, with at most this number; not "

@@ -1,0 +1,235 @@
+"""Pages of HTML: of a comparison, with the call that shows a difference in C, and of what stacks of filters allow.
+
+A page stands alone: it has no scripts, and a Content-Security-Policy that allows none, nor anything from elsewhere. All
+text is escaped here; what is made of other pieces is a `Markup`.
+"""
+from __future__ import annotations
+
+import base64
+import hashlib
+import html
+import time
+from collections.abc import Iterable, Iterator, Sequence
+
+from . import client, output, surface_output, surfaces, watchlist
+from .calls import Call
+from .compare import Comparison
+from .stack_surfaces import Block
+from .surface_output import Groups
+from .surfaces import ALLOWED, DELEGATED, DENIED, DEPENDS, Surface, word_of
+from .tables import Table
+from .values import dataclass
+from .verdicts import Report
+
+OF_COMPARISON = ("The first lines are scf's: the verdict is proved for all syscalls that are compared. The others "
+                 "explain it.")
+# How a cell of the matrix says what holds for all syscalls of a group.
+ALL_DENIED, SOME, ALL_ALLOWED = "all denied", "some", "all allowed"
+OF_SURFACES = ("What is allowed, delegated or denied is proved for all x86-64 syscalls and arguments by scf, which "
+               "also gives the examples.")
+STYLE = """
+:root { color-scheme: light dark; --text: #1c1c1c; --page: #fdfdfc; --faint: #5c5c5c; --line: #cfcfca; --band: #f1f1ee;
+  --bad: #a3140f; --warn: #7a4b00; --good: #1b5e2b; --link: #0b4f9e; }
+@media (prefers-color-scheme: dark) {
+  :root { --text: #e6e6e3; --page: #161716; --faint: #a5a5a0; --line: #3d3f3d; --band: #212321; --bad: #ff8f86;
+    --warn: #f0bd6a; --good: #86d594; --link: #8abcff; } }
+* { box-sizing: border-box; }
+body { margin: 0 auto; max-width: 90rem; padding: 1rem; font: 1rem/1.45 system-ui, sans-serif; color: var(--text);
+  background: var(--page); overflow-wrap: break-word; }
+.long, h1, h3, .rows { overflow-wrap: anywhere; } .rows { table-layout: fixed; } .rows ul { padding-left: 1rem; }
+h1 { font-size: 1.5rem; margin: 0 0 .5rem; } h2 { font-size: 1.2rem; margin: 2rem 0 .5rem; }
+h3 { font-size: 1rem; margin: 1rem 0 .25rem; }
+p, ul, dl { margin: .4rem 0; } ul { padding-left: 1.2rem; } dt { color: var(--faint); } dd { margin: 0 0 .3rem 0; }
+a { color: var(--link); } small, .faint { color: var(--faint); }
+code, pre { font: .875rem/1.4 ui-monospace, monospace; }
+pre { overflow-x: auto; background: var(--band); padding: .6rem; border-radius: .3rem; margin: .4rem 0;
+  overflow-wrap: normal; }
+table { border-collapse: collapse; width: 100%; } th, td { text-align: left; vertical-align: top;
+  padding: .35rem .6rem; border-bottom: 1px solid var(--line); } thead th { background: var(--band); }
+.scroll { overflow-x: auto; } .scroll td, .scroll th { white-space: nowrap; overflow-wrap: normal; line-height: 1.5rem;
+  padding: .375rem .625rem; }
+table.scroll { border-collapse: separate; border-spacing: 0; }
+.scroll td:first-child, .scroll th:first-child { position: sticky; left: 0; max-width: 9rem; white-space: normal; }
+.scroll td:first-child { background: var(--page); }
+.bad { color: var(--bad); font-weight: 600; } .warn { color: var(--warn); font-weight: 600; }
+.good { color: var(--good); font-weight: 600; }
+details { margin: .25rem 0; } summary { cursor: pointer; }
+@media (min-width: 60rem) {
+  .rows th:nth-child(4) { width: 22%; } .rows th:nth-child(n+6) { width: 8.5rem; } }
+@media (max-width: 60rem) {
+  .rows thead { display: none; } .rows, .rows tbody { display: block; }
+  .rows tr, .rows td { display: block; border: 0; padding: .1rem 0; }
+  .rows tr { border-bottom: 1px solid var(--line); padding: .6rem 0; }
+  .rows td:empty { display: none; }
+  .rows td[data-label]::before { content: attr(data-label) ": "; color: var(--faint); } }
+"""
+
+
+class Markup(str):
+    """Text that is HTML already."""
+
+
+def escaped(text: object) -> Markup:
+    """Text as HTML, in which control characters are shown as their bytes; what is HTML already stays."""
+    return text if isinstance(text, Markup) else Markup(html.escape(output.escaped(str(text))))
+
+
+def joined(pieces: Iterable[object], between: str = "") -> Markup:
+    return Markup(between.join(escaped(it) for it in pieces))
+
+
+def tag(name: str, *pieces: object, **attributes: object) -> Markup:
+    """An element. An attribute is written `class_` for `class`, and `data_label` for `data-label`; None is left out."""
+    shown = "".join(f' {it.rstrip("_").replace("_", "-")}="{escaped(value)}"' for it, value in attributes.items()
+                    if value is not None)
+    return Markup(f"<{name}{shown}>{joined(pieces)}</{name}>")
+
+
+def listed(items: Iterable[object]) -> Markup:
+    """A list of items; nothing without any."""
+    found = [tag("li", it) for it in items]
+    return tag("ul", *found) if found else Markup("")
+
+
+def table(head: Iterable[object], rows: Iterable[Iterable[object]], kind: str) -> Markup:
+    """A table. If its kind is `rows`, they become blocks with labels on a narrow screen; if it is `scroll`, it
+    scrolls."""
+    names = list(head)
+    body = [tag("tr", *(tag("td", cell, data_label=name if kind == "rows" else None)
+                        for name, cell in zip(names, row))) for row in rows]
+    made = tag("table", tag("thead", tag("tr", *(tag("th", it, scope="col") for it in names))), tag("tbody", *body),
+               class_=kind)
+    return tag("div", made, class_="scroll") if kind == "scroll" else made
+
+
+def preformatted(lines: Iterable[object]) -> Markup:
+    """Lines as they are."""
+    return tag("pre", joined(lines, "\n"))
+
+
+def document(title: str, *pieces: object) -> str:
+    """The whole page."""
+    digest = base64.b64encode(hashlib.sha256(STYLE.encode()).digest()).decode()
+    policy = f"default-src 'none'; style-src 'sha256-{digest}'; base-uri 'none'; form-action 'none'"
+    return ("<!DOCTYPE html>\n<html lang=\"en\">\n<head>\n<meta charset=\"utf-8\">\n"
+            f"<meta http-equiv=\"Content-Security-Policy\" content=\"{escaped(policy)}\">\n"
+            "<meta name=\"viewport\" content=\"width=device-width, initial-scale=1\">\n"
+            f"<title>{escaped(title)}</title>\n<style>{STYLE}</style>\n</head>\n<body>\n"
+            + "\n".join(escaped(it) for it in pieces) + "\n</body>\n</html>\n")
+
+
+def _made_by() -> Markup:
+    """When a page is made, and by which scf."""
+    at, version = time.strftime("%Y-%m-%dT%H:%M:%SZ", time.gmtime()), client.run(["--version"]).text.strip()
+    return tag("p", f"{at} · {version}")
+
+
+def c_call(call: Call, table: Table) -> str:
+    """A syscall as a statement in C; one of another ABI as a comment, since only assembly makes it."""
+    names = table.names_of(call.number) if call.is_native else []
+    arguments = ", ".join(f"{it:#x}" for it in call.arguments)
+    if not call.is_native:
+        return f"/* {call.describe(table)}, with {arguments} */"
+    return f"syscall({f'SYS_{names[0]}' if names else call.number}, {arguments});"
+
+
+def of_comparison(comparison: Comparison, report: Report, added: Sequence[str], command: str) -> str:
+    """The page of a comparison, with the lines that `scf compare` adds, and the command that made it."""
+    verdict = report.verdict
+    word = verdict.word if verdict is not None else report.lines[0] if report.lines else "nothing"
+    colour = "good" if verdict is not None and verdict.holds else "bad"
+    shown = [preformatted([c_call(verdict.call, comparison.table)])] if verdict is not None and verdict.call else []
+    return document(f"comparison: {word}", tag("h1", tag("span", word, class_=colour)), _made_by(),
+                    listed(f"{it.name}: {it.count} instructions" for it in comparison.filters), *shown,
+                    preformatted([*report.brief, *(f"# {it}" for it in added)]), tag("p", "To repeat it:"),
+                    preformatted([command]), tag("p", OF_COMPARISON, class_="faint"))
+
+
+@dataclass(frozen=True)
+class Named:
+    """What a stack allows, None if scf refuses it, with what the page calls it."""
+
+    name: str
+    surface: Surface | None
+    description: str
+    digest: str | None = None
+
+    @property
+    def anchor(self) -> str:
+        return self.name.replace(" ", "-")
+
+
+def _cell(rows: list[surfaces.Row]) -> str:
+    said = {it.said for it in rows}
+    if said == {DENIED}:
+        return ALL_DENIED
+    if said == {ALLOWED}:
+        return ALL_ALLOWED
+    counts = [sum(1 for it in rows if it.said == one) for one in (ALLOWED, DEPENDS, DELEGATED)]
+    shown = [f"{count} {word_of(one)}" for count, one in zip(counts, (ALLOWED, DEPENDS, DELEGATED)) if count]
+    unknown = len(rows) - sum(counts) - sum(1 for it in rows if it.said == DENIED)
+    return f"{SOME}: {', '.join(shown + [f'{unknown} not known'] * bool(unknown)) or 'denied'} of {len(rows)}"
+
+
+def _group_calls(rows: list[surfaces.Row]) -> Markup:
+    """The syscalls of a group with what decides."""
+    return listed(joined([tag("code", " or ".join(it.names)), f" {word_of(it.said)}",
+                          *(f"; {detail}" for detail in surface_output.details(it))]) for it in rows)
+
+
+def stack(one: Named, groups: Groups) -> Iterator[Markup]:
+    """All syscalls of a stack, group by group."""
+    yield tag("h3", f"{one.name}: ", one.description, id=one.anchor)
+    if one.digest is not None:
+        yield tag("p", "SHA-256 ", tag("code", one.digest, class_="long"))
+    if one.surface is None:
+        yield tag("p", "scf refuses this stack.")
+        return
+    yield listed(surface_output.of_whole(one.surface))
+    for group, rows in surface_output.grouped(one.surface.rows, groups):
+        yield tag("details", tag("summary", f"{group}: {_cell(rows)}"),
+                  tag("div", _group_calls(rows), id=f"{one.anchor}-{group}"))
+
+
+def matrix(found: Sequence[Named], groups: Groups) -> Iterator[Markup]:
+    """Groups of syscalls by stacks."""
+    yield tag("h2", "Groups of syscalls by stack")
+    by_stack = [dict(surface_output.grouped(it.surface.rows, groups)) if it.surface is not None else {} for it in found]
+    head = ["group", *(tag("a", it.name, href=f"#{it.anchor}") for it in found)]
+    lines = [[group, *(tag("a", _cell(rows[group]), href=f"#{one.anchor}-{group}") if group in rows else "refused"
+                       for one, rows in zip(found, by_stack))]
+             for group in groups.order if any(group in rows for rows in by_stack)]
+    yield table(head, lines, "scroll")
+
+
+def dangerous(found: Sequence[Named], table_of: Table) -> Iterator[Markup]:
+    """The dangerous syscalls by stacks."""
+    yield tag("h2", "Dangerous syscalls by stack")
+    said = [{name: row for row in it.surface.rows for name in row.names} if it.surface is not None else {}
+            for it in found]
+    lines: list[list[object]] = []
+    for name, danger in watchlist.dangerous().items():
+        if table_of.number_of(name) is None:
+            continue
+        only = "".join(f" if argument {it.index} has {it.value:#x}" for it in danger.conditions)
+        lines.append([joined([tag("code", name), only]),
+                      *(tag("span", word_of(rows[name].said), class_="good" if rows[name].said == DENIED else "warn")
+                        if name in rows else "not known" for rows in said), danger.reason])
+    yield table(["syscall", *(it.name for it in found), "why"], lines, "scroll")
+
+
+def of_blocks(blocks: Sequence[Block]) -> Iterator[Named]:
+    """The stacks of `scf surface`, and those that they are compared with."""
+    for at, block in enumerate(block for block in blocks if block.filters):
+        told = ", ".join(it.name for it in block.filters)
+        yield Named(f"stack {at}", block.surface, told)
+        if block.beside is not None:
+            yield Named(f"beside {at}", block.beside.other, "the filters beside it")
+
+
+def of_surfaces(blocks: Sequence[Block], table_of: Table) -> str:
+    """The page of blocks."""
+    groups, found = Groups(), list(of_blocks(blocks))
+    return document("What these filters allow", tag("h1", "What these filters allow"), _made_by(),
+                    tag("p", OF_SURFACES, class_="faint"), *matrix(found, groups), *dangerous(found, table_of),
+                    tag("h2", "Stacks"), *(piece for it in found for piece in stack(it, groups)))

@@ -1,0 +1,38 @@
+"""Says what a profile answers to syscalls, and why: runs `scf ask`, and shows the entry that decides.
+
+    scf ask [--nr NUMBER|NAME] .. [--calls-from FILE] [--arch ARCH] [--ip N] [--a0 N] ..
+            [--a5 N] [--native] [--table FILE] [--caps LIST] [--json] PROFILE
+
+PROFILE is a resolved OCI seccomp profile, a whole config.json that holds one, or a SeccompProfile of Kubernetes, as
+JSON or YAML, whose spec is one: a file, a pipe, or `-` for standard input. With --caps it is an engine's own, which is
+resolved as by `scf resolve-profile --keep-first`. All tools that take profiles take them so. Syscalls are given as to
+`scf decide`. For each of them scf's line comes first: the answer, and `entry N`,
+`default` or `foreign`. The lines after it are marked by `# `: the syscall, what the answer does, the entry as JSON on
+one line (N is its index in `syscalls`, from 0 on; at most 400 characters are shown), and which of its conditions the
+syscall meets, with the values of its arguments. Syscalls of each architecture that the profile names are answered, as
+far as scf has a table of it; with --native x86-64's alone. For another one that the profile names the answer is
+`undetermined`. With --json one object is printed instead.
+
+The exit status is the worst of all syscalls: 0 success, 1 the profile or the table is refused, 2 usage error, 3 an
+input or the output failed, 4 undetermined; 125 scf can't be run.
+
+Examples:
+
+    scf ask --nr openat profile.json
+    scf ask --nr socket --a0 40 --json profile.json
+"""
+from . import decisions, profile_inputs, tables, words
+
+
+def main():
+    parser = words.Parser(__doc__)
+    decisions.add_options(parser)
+    parser.add("--native", "--caps", "profile")
+    options = parser.parse_args()
+    parser.one_standard_input([options.profile, options.table, options.calls_from])
+    table = tables.read(options.table)
+    calls = decisions.queries(options, table)
+    profile = profile_inputs.read(options.profile, options.caps)
+    judged = tables.of_profile(profile.data, table, options.native)
+    return decisions.print_replies(
+        calls, lambda call: decisions.of_profile(profile.data, call, judged, profile.origins), table, options.json)

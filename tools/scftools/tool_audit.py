@@ -1,0 +1,149 @@
+"""Says of each container, systemd unit and other confined program of this machine whether it is confined as configured.
+
+    scf audit [--expect FILE] [--baseline no-more:FILE] [--allow-unconfined] [--force]
+              [--runtime-root FOLDER] [--json | --json-lines] [--prometheus FILE] [--html FILE]
+              [--since FILE] [--watch SECONDS] [--native] [--limit N] [--table FILE]
+
+All processes are read in one pass. Those with a filter are stopped for a moment, one after another, and their filters
+are compared with what is configured, each distinct stack with each distinct profile once. A container's profile is that
+of its config.json, as its runtime applies it; a unit's is what `scf unit-profile` prints. --expect takes one profile
+for all instead. Nothing is configured for other programs, of which there is a row for each executable with a filter.
+
+Each row has a verdict. `unconfined though configured`: some thread has no filter. `unconfined by configuration`: so it
+is configured. `weaker`: some syscall is more permissive than configured, and one is shown. `not known`: and why.
+`otherwise`: nothing is more or less permissive, but some answers differ, such as the errno. `stricter`: nothing is more
+permissive. `as configured`: every syscall gets the profile's answer, of each architecture that the profile names and
+scf has a table of, or with --native of x86-64 alone; a line says which weren't compared. The unconfined stand first.
+With --baseline a row is also weaker if it allows more than the profile FILE, and always if it allows an i386 or x32
+syscall and the profile doesn't name its architecture.
+
+Containers are known by the files of runc, crun, containerd, Docker, podman and CRI-O. --runtime-root is a folder that
+was given to a runtime as --root, may have wildcards, and may be given several times. A line says what wasn't looked at.
+
+--json prints one object, and --json-lines an object for each row and a last one for the whole. --prometheus writes
+metrics for the textfile collector of node_exporter, and --html a page without scripts, which also shows what each
+distinct stack allows, and with --since what changed since an object that --json printed. Both replace FILE at once.
+--watch audits again and again, and
+after the first time prints a line for each change.
+
+Exit status: 0 nothing is weaker than configured or unconfined; 1 something is, with --allow-unconfined unless it is so
+by configuration; 2 usage error; 3 an input or the output failed; 4 something isn't known or wasn't looked at.
+
+Examples:
+
+    scf audit
+    scf audit --json
+"""
+import json
+import sys
+import time
+
+from . import audit, audit_output, inputs, output, processes, profile_inputs, program, tables, verdicts, words
+
+BASELINE = "no-more:"
+
+
+def read_words():
+    parser = words.Parser(__doc__, processes.NEEDS)
+    parser.add_argument("--expect", metavar="FILE", help="a resolved profile or a config.json that all should have")
+    parser.add_argument("--baseline", metavar="no-more:FILE", help="a resolved profile that no row may exceed")
+    parser.add_argument("--allow-unconfined", action="store_true",
+                        help="what is unconfined by configuration doesn't count for the status")
+    parser.add("--force")
+    parser.add_argument("--runtime-root", metavar="FOLDER", action="append", default=[],
+                        help="where a runtime keeps its containers, as given to its own --root")
+    form = parser.add_mutually_exclusive_group()
+    form.add_argument("--json", action="store_true", help="print one JSON object instead of lines")
+    form.add_argument("--json-lines", action="store_true", help="print an object for each row, and one for the whole")
+    parser.add_argument("--prometheus", metavar="FILE", help="write metrics in Prometheus's text format")
+    parser.add_argument("--html", metavar="FILE", help="write a page of HTML")
+    parser.add_argument("--since", metavar="FILE", help="for --html: an object that --json printed earlier")
+    parser.add_argument("--watch", metavar="SECONDS", type=float, help="again and again, with this pause")
+    parser.add("--native", "--limit", "--table")
+    given = parser.parse_args()
+    if given.baseline is not None and not given.baseline.startswith(BASELINE):
+        parser.error(f"--baseline takes {BASELINE}FILE")
+    if given.watch is not None and not 0.1 <= given.watch <= 86400:
+        parser.error("--watch takes 0.1 to 86400 seconds")
+    if given.since is not None and given.html is None:
+        parser.error("--since needs --html")
+    given.baseline = None if given.baseline is None else given.baseline[len(BASELINE):]
+    parser.one_standard_input([given.expect, given.baseline, given.since, given.table])
+    return given
+
+
+def options_of(given):
+    def profile(name):
+        return None if name is None else (name, profile_inputs.read(name, is_runtimes=True).data)
+
+    return audit.Options(tables.read(given.table), given.limit, profile(given.expect), profile(given.baseline),
+                         given.force, given.allow_unconfined, tuple(given.runtime_root),
+                         verdicts.NATIVE if given.native else None)
+
+
+def earlier(name):
+    """The rows of an object that --json printed earlier."""
+    if name is None:
+        return None
+    try:
+        return audit_output.rows_in(json.loads(inputs.read_whole(name, "bundle")))
+    except (ValueError, RecursionError) as why:
+        raise program.ToolError(f"'{name}' isn't an object that --json printed", program.IO_ERROR) from why
+
+
+def write(found, given, options, since):
+    """Writes the files that are asked for."""
+    if given.prometheus is not None:
+        output.replace_file(given.prometheus, audit_output.metrics(found))
+    if given.html is not None:
+        from . import audit_page  # pylint: disable=import-outside-toplevel
+
+        output.replace_file(given.html, audit_page.page(found, options.table, options.limit, since))
+
+
+def show(found, given, table):
+    """Prints an audit."""
+    if given.json:
+        output.put_json(audit_output.as_json(found, table))
+    elif given.json_lines:
+        for value in audit_output.json_lines(found, table):
+            output.put_json(value)
+    else:
+        output.put_lines(audit_output.lines(found, table))
+
+
+def show_changes(before, found, given, table):
+    """Prints what changed since an earlier audit; with --json the whole again."""
+    if given.json:
+        show(found, given, table)
+    for change in () if given.json else audit_output.changes(before, found):
+        if given.json_lines:
+            output.put_json(change)
+        else:
+            output.put_line(audit_output.change_text(change))
+
+
+def progress(count):
+    """Shows on a terminal how many comparisons were made; None clears the line."""
+    if sys.stderr is not None and sys.stderr.isatty():
+        print("\r\033[K" + (f"compared: {count}" if count is not None else ""), end="", file=sys.stderr, flush=True)
+
+
+def main():
+    given = read_words()
+    options, since, before = options_of(given), earlier(given.since), None
+    options.check()
+    judge = audit.Judge(options.table, options.limit, progress)
+    while True:
+        found = processes.read_or_end(lambda: audit.of_machine(options, judge), is_json=given.json)
+        progress(None)
+        write(found, given, options, since)
+        if before is None:
+            show(found, given, options.table)
+        else:
+            show_changes(before, found, given, options.table)
+        output.flush()
+        if given.watch is None:
+            return found.status
+        before = audit_output.known_rows(found)
+        time.sleep(given.watch)

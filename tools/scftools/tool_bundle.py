@@ -1,0 +1,57 @@
+"""Prints a bundle: several files as one, which is how scf reads them, since it opens none itself.
+
+    scf bundle KIND FILE [KIND FILE ..]
+
+KIND is filter, profile or table, or for scf's `--architectures` table-x86, table-x32, table-aarch64 or table-arm; FILE
+is a file or a pipe, by whatever name (/dev/stdin is standard input, `-` a file of that name). Each part is a header,
+`KIND COUNT` and a newline, and then the COUNT bytes of its file. The parts stand in the order of the arguments.
+
+Exit status: 0 success, 2 usage error or a file that can't be read (nothing is printed), 3 the output failed.
+
+Examples:
+
+    scf bundle filter filter.bpf profile profile.json table x86_64.table | scf compare
+    scf bundle filter old.bpf filter new.bpf | scf decide --nr 257
+"""
+import os
+import sys
+
+from . import bundles, client, inputs, output, program
+
+USAGE = """usage: {} KIND FILE [KIND FILE ..]
+KIND is filter, profile or table, or for another architecture than x86-64 table-x86, table-x32, table-aarch64
+or table-arm; FILE a file or a pipe. Prints the parts, each after a header `KIND COUNT`.
+"""
+
+
+def parts_of(words):
+    """The kinds and bytes of the parts, each file read once, so that a pipe has a length."""
+    length = 0
+    for kind, name in zip(words[::2], words[1::2]):
+        data = inputs.read_whole(os.path.join(".", name) if name == "-" else name, kind)
+        length += len(data)
+        if length > bundles.LIMIT:
+            raise program.ToolError(f"the files have more than {bundles.LIMIT} bytes together, the most that scf reads")
+        yield kind, data
+
+
+def refuse(text):
+    raise program.ToolError(f"{text}; see --help")
+
+
+def main():
+    words = sys.argv[1:]
+    if words[:1] in (["--help"], ["-h"]):
+        output.put(USAGE.format(output.escaped(program.name())))
+        return program.SUCCESS
+    if words == ["--version"]:
+        return client.print_version()
+    if not words:
+        refuse("no KIND and no FILE given")
+    if len(words) % 2:
+        refuse("a KIND without a FILE")
+    for kind in words[::2]:
+        if kind not in bundles.KINDS:
+            refuse(f"'{kind}' isn't a KIND (filter, profile, table, table-x86 ..)")
+    output.put(bundles.bundle(list(parts_of(words))))
+    return program.SUCCESS

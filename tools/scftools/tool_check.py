@@ -1,0 +1,37 @@
+"""Says whether the kernel accepts filters: runs `scf check` on each, and says what a fault means.
+
+    scf check FILTER..
+
+Each FILTER may be a file or a pipe, and one of them `-` for standard input. Its contents say whether it is a raw filter
+or text: hexadecimal (as xxd, `xxd -p` and `hexdump -C` print it), a C array (`{ 0x20, 0, 0, 4 },`, BPF_STMT and
+BPF_JUMP, or bytes), decimals of `tcpdump -ddd`, or scf's assembler text. Which text a filter was read from is said on
+standard error; what is known to be no filter is refused. All tools that take filters take them so.
+
+For each of them scf's line comes first; the lines after it are marked by `# `: the file, if there are several, and what
+a fault is and what to do about it.
+
+The exit status is the worst of all filters: 0 accepted, 1 refused, 2 usage error, 3 an input or the output failed; 125
+scf can't be run.
+
+Examples:
+
+    scf check filter.bpf
+    scf check *.bpf
+"""
+from . import client, explanation, filters, output, words
+
+
+def main():
+    parser = words.Parser(__doc__)
+    parser.add_argument("filters", metavar="FILTER", nargs="+", help="a raw filter; - is standard input")
+    options = parser.parse_args()
+    parser.one_standard_input(options.filters)
+    statuses = []
+    for name in options.filters:
+        done = client.run(["check"], filters.read(name).data)
+        statuses.append(done.status)
+        output.put_line(done.line)
+        if len(options.filters) > 1:
+            output.put_line(f"# {name}")
+        output.put_lines(output.notes(explanation.of_line(done.line)))
+    return client.worst(statuses)

@@ -1,0 +1,34 @@
+"""Compares two filters: whether both answer every syscall alike, and if not, which differ.
+
+    scf diff [--native|--calls] [--no-more|--no-less|--disposition] [--limit N] [--table FILE]
+             [--json] OLD NEW
+
+It is `scf compare OLD --beside NEW`, which also takes several filters on each side. Each is a raw filter, or a text
+as `scf check` takes it, and one of them may be `-` for standard input. Every possible record is compared: the verdict
+is scf's, and holds for all of them. If they differ, the lines marked by `# ` show a syscall, both answers, the last
+tests on the path of each, and the syscalls in the table that differ. The order of the arguments counts with --no-more,
+which asks whether OLD is nowhere more permissive than NEW, and --no-less, which asks whether it is nowhere stricter.
+
+The exit status is that of `scf compare`: 0 same, no more or no less, 1 differs, more, less or refused, 2 usage error, 3
+an input or the output failed, 4 undecided or unfinished; 125 scf can't be run.
+
+Examples:
+
+    scf diff old.bpf new.bpf
+    scf diff --no-less old.bpf new.bpf
+"""
+from . import compare, filters, stack_comparison, tables, words
+
+
+def main():
+    parser = words.Parser(__doc__)
+    parser.scope("only x86-64 syscalls")
+    parser.relation(with_disposition=True, other="NEW")
+    parser.add("--limit", "--table", "--json")
+    parser.add_argument("old", metavar="OLD", help="a raw filter; - is standard input")
+    parser.add_argument("new", metavar="NEW", help="another one")
+    options = parser.parse_args()
+    parser.one_standard_input([options.old, options.new, options.table])
+    comparison = stack_comparison.StackComparison([filters.read(options.old)], [filters.read(options.new)],
+                                                  tables.read(options.table), options.limit, options.relation)
+    return stack_comparison.tell(comparison, options.scope or compare.ALL, options.json)

@@ -1,0 +1,59 @@
+"""Lists a filter with the indexes of its instructions, the targets of its jumps, and names of syscalls.
+
+    scf list [--dot] [--nr NUMBER|NAME] [--arch ARCH] [--ip N] [--a0 N] .. [--a5 N]
+             [--table FILE] FILTER
+
+FILTER is a filter as `scf check` takes it, accepted or not: a file, a pipe, or `-` for standard input. Each line has
+the index of an instruction, from 0 on, the instruction as `scf dis` prints it, and after `//` what it means: the
+targets of a jump, the field that a load reads, the name of an answer, the syscall's name at a test of the number, and
+the architecture at a test of that. A test counts as one of the number if A holds the number on every path to it.
+Syscalls have the names of the architecture that the paths to the test have found, as in `exit of i386`; if they have
+found two or three, the names of each; if they have found none, those of x86-64 and x32.
+
+If a syscall is given, the instructions that run on it (`scf run --path`) are marked by `>`, and the syscall and its
+answer follow the listing in lines marked by `# `; a filter that can't be run is refused.
+
+--dot prints the control flow as a graph for graphviz, as in `scf list --dot FILTER | dot -Tsvg >filter.svg`: tests of
+one word after another are one node, with the ranges of values that lead to each target, and all returns of an answer
+are one. If a syscall is given, its path is red.
+
+The exit status is that of `scf dis`: 0 success, 2 usage error, 3 the input or the output failed; if a syscall is given,
+that of `scf run`, which is 1 for a filter that isn't accepted.
+
+Examples:
+
+    scf list filter.bpf
+    scf list --nr openat filter.bpf
+"""
+from . import (client, decisions, explanation, filters, flow_graph, listing, output, program, tables, words)
+
+
+def main():
+    parser = words.Parser(__doc__)
+    parser.add_argument("--nr", metavar="NUMBER|NAME",
+                        help="mark the instructions that run on this syscall, by number or by name [default: 0]")
+    decisions.add_numbers(parser)
+    parser.add_argument("--dot", action="store_true", help="print the control flow as a graph for graphviz")
+    parser.add("--table", "filter")
+    options = parser.parse_args()
+    parser.one_standard_input([options.filter, options.table])
+    table = tables.read(options.table)
+    call, data = decisions.one_query(options, table), filters.read(options.filter).data
+    done = client.run(["dis"], data)
+    if done.status != program.SUCCESS:
+        output.put_explained(done.lines[:1], explanation.of_line(done.line))
+        return done.status
+    lines, path = list(listing.listing_lines(data, done.lines, table)), None
+    if call is not None:
+        path = listing.path_of(data, call.words())
+        if path.decision.answer is None:
+            output.put_explained([path.decision.line], explanation.of_line(path.decision.line))
+            return path.status
+    if options.dot:
+        output.put(flow_graph.Drawing(flow_graph.Graph(data), lines, table, path.indexes if path else ()).text())
+    elif path is None:
+        output.put_lines(lines)
+    else:
+        output.put_lines(listing.mark_lines(lines, path.indexes))
+        output.put_lines(output.notes(explanation.of_answer(call.call, path.decision.answer, table)))
+    return path.status if path else done.status

@@ -1,0 +1,81 @@
+"""Prints the profile of filters: what they answer to syscalls, as an OCI seccomp profile.
+
+    scf profile-of [--arch ARCH|--runtime RUNTIME] [--no-more|--no-less] [--limit N]
+                   [--table FILE] FILTER.. >PROFILE
+
+The FILTERs form one stack, oldest first; `scf filters-of` takes them from a process. Before a profile is printed, scf
+proves that it answers every syscall of each architecture that it lists as the filters do; `scf compare FILTER..
+PROFILE` says `same` of it again:
+
+    scf compile profile.json >filter.bpf
+    scf profile-of filter.bpf >again.json
+
+A profile has an entry for each answer and the syscalls that always get it, and entries with conditions on arguments.
+Ranges and bits that no operator compares as a whole are several entries, each with a mask. Numbers that the table
+doesn't name get the default action.
+
+The profile is for this machine's own architecture, such as x86-64. It also lists each other one, of i386, x32, aarch64
+and arm, for which scf proves the same, with entries for names that x86-64 lacks; but none whose syscalls the filters
+all kill. Standard error names those that it lists, and others of which the filters allow some syscall. With --arch the
+profile is for one architecture alone; conditions of i386, x32 and arm are on the lower half of an argument:
+
+    scf profile-of --arch i386 filter.bpf
+
+Some filters answer as no profile can: by the instruction pointer, by two arguments that they compare with each other,
+or with data that a profile has no place for, as chromium's TRAP. Then the output is two profiles, and not JSON as a
+whole: the nearest that is nowhere stricter than the filters, and the nearest that is nowhere more permissive; or one
+that is both. This is proved. Lines marked by `# ` say which syscalls get another answer, and why, with an example where
+the profile is more permissive or stricter. With --no-less only the first profile is printed, with --no-more the second:
+
+    scf profile-of --no-more filter.bpf >stricter.json
+
+With --runtime the profile is one that this runtime loads: it is compared as the runtime reads it, and runc's ENOSYS for
+numbers above all that a profile names, which no profile says, is expected of the filters.
+
+Exit status: 0 the profile is proved; 1 a filter or the table is refused; 2 usage error; 3 an input or the output
+failed; 4 there are only profiles on both sides, or scf can't decide.
+
+Examples:
+
+    scf profile-of filter.bpf
+    scf profile-of --no-more old.bpf new.bpf >stricter.json
+"""
+from . import architectures, engines, explanation, filters, output, profile_of, program, runtimes, tables, words
+from .client import Refusal
+from .verdicts import NO_LESS, NO_MORE, SAME
+
+
+def read_words():
+    parser = words.Parser(__doc__)
+    parser.add_argument("--runtime", choices=tuple(runtimes.RUNTIMES),
+                        help="print a profile for this container runtime; docker stands for runc, podman for crun")
+    side = parser.add_mutually_exclusive_group()
+    side.add_argument("--no-more", dest="relation", action="store_const", const=NO_MORE, default=SAME,
+                      help="print the nearest profile that is nowhere more permissive than the filters")
+    side.add_argument("--no-less", dest="relation", action="store_const", const=NO_LESS, default=SAME,
+                      help="print the nearest profile that is nowhere stricter than the filters")
+    parser.add("--arch", "--limit", "--table", "filters")
+    options = parser.parse_args()
+    if options.runtime is not None and options.arch is not None:
+        parser.error("give either --arch or --runtime, which confines this machine's syscalls whatever a profile lists")
+    parser.one_standard_input([*options.filters, options.table])
+    return options
+
+
+def main():
+    options = read_words()
+    one = architectures.judged_in(options.arch)
+    others = [it for it in architectures.JUDGED if it != one.oci] if options.arch is None else []
+    request = profile_of.Request(filters.read_stack(options.filters), tables.read(options.table, one), options.limit,
+                                 one, options.runtime, others)
+    try:
+        result = profile_of.of_request(request, options.relation)
+    except Refusal as why:
+        program.say(why.line, *explanation.of_line(why.line))
+        return why.status
+    except engines.Refused as why:
+        raise program.ToolError(str(why), program.NEGATIVE) from why
+    output.put(result.text)
+    output.flush()
+    program.say(*result.remarks)
+    return result.status

@@ -1,0 +1,31 @@
+"""Runs a filter on syscalls with `scf run`, and says what the answers mean.
+
+    scf run [--nr NUMBER|NAME] .. [--calls-from FILE] [--arch ARCH] [--ip N] [--a0 N] ..
+            [--a5 N] [--table FILE] [--path] [--json] FILTER
+
+This is `scf decide` for one filter, whose line also says how many instructions ran; with --path scf's next line has
+their indexes.
+
+The exit status is the worst of all syscalls: 0 success, 1 the filter is refused, 2 usage error, 3 an input or the
+output failed; 125 scf can't be run.
+
+Examples:
+
+    scf run --nr write filter.bpf
+    scf run --path --nr 41 --a0 0x28 filter.bpf
+"""
+from . import decisions, filters, tables, words
+
+
+def main():
+    parser = words.Parser(__doc__)
+    decisions.add_options(parser)
+    parser.add_argument("--path", action="store_true", help="also print the indexes of the instructions that ran")
+    parser.add("filter")
+    options = parser.parse_args()
+    parser.one_standard_input([options.filter, options.table, options.calls_from])
+    table = tables.read(options.table)
+    calls = decisions.queries(options, table)
+    one = filters.read(options.filter)
+    return decisions.print_replies(calls, lambda call: decisions.of_run(one, call, table, options.path), table,
+                                   options.json)

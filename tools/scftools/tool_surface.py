@@ -1,0 +1,89 @@
+"""Says for each syscall whether filters allow, delegate or deny it, or on what that depends.
+
+    scf surface [--arch ARCH] [--conditions] [--limit N] [--table FILE] [--json]
+                [--html FILE] FILTER.. [--beside OTHER..]
+    scf surface [--arch ARCH] [--conditions] [--limit N] [--table FILE] [--json]
+                [--html FILE] [--force] --pid PID [--beside OTHER..]
+
+The FILTERs form one stack, oldest first; with --pid it is that of a running process, as the kernel keeps it, and each
+distinct stack of its threads has a block of its own. Each syscall in the table is always allowed, always denied, always
+delegated (to a supervisor or tracer), or it depends on the arguments; then an example of each is shown. The first line
+counts them. The next lines say whether any syscall of another ABI is allowed, with the same counts of an ABI of which
+one is, and how many numbers that the table doesn't name are allowed. With --arch all this is said of i386, x32, aarch64
+or arm. Then come the syscalls by purpose (tables/calls.groups), on a terminal as a table, otherwise a line each: the
+group, the disposition, the number, the names, and an answer. --beside shows the syscalls that differ under another
+stack of filters; it stands last. --html writes the same as a page without scripts, which replaces FILE at once.
+
+With --conditions a syscall with several answers has them all instead of examples, with the conditions on its arguments:
+
+    socket denied (EINVAL) where domain == AF_NETLINK and protocol == NETLINK_AUDIT, else allowed
+
+Arguments have the names of their manual page, or are a0 to a5; they are compared as whole registers, those of i386, x32
+and arm as lower halves. Such a line is printed only if comparisons of scf prove it. If no profile gives an answer, as
+TRAP with data, the dispositions alone are told; where no profile says the conditions, there are examples.
+
+Each disposition is proved: by comparisons of scf with profiles that deny, allow or delegate everything, which also give
+the examples. If a filter looks at the instruction pointer, `scf decide` confirms these; after `at some ip` the pointer
+isn't known. If scf can't decide, the line says `undecided` or `unfinished`, with the examples that were found; for
+other ABIs some syscalls are then tried. KILL_PROCESS, KILL_THREAD, TRAP and ERRNO deny a syscall, USER_NOTIF and TRACE
+delegate it, LOG and ALLOW allow it.
+
+Exit status: 0 everything is decided; 1 a filter or the table is refused, a thread has no filter, or with --beside they
+differ; 2 usage error; 3 an input or the output failed; 4 something is undecided.
+
+Examples:
+
+    scf surface filter.bpf
+    scf surface old.bpf --beside new.bpf
+"""
+from . import architectures, client, filters, output, processes, stack_surfaces, surface_output, tables, words
+
+
+def read_words():
+    parser = words.Parser(__doc__, f"With --pid: {processes.NEEDS}")
+    parser.add("--arch", "--limit", "--table", "--json", "--html")
+    parser.add_argument("--conditions", action="store_true",
+                        help="say which arguments get which answer, instead of examples")
+    parser.add_argument("--pid", metavar="PID", help="the filters of a process instead of files")
+    parser.add("--force")
+    parser.add_argument("--beside", metavar="OTHER", nargs="+", default=[],
+                        help="other filters, oldest first: show the syscalls that differ; stands last")
+    parser.add_argument("filters", metavar="FILTER", nargs="*", help="a raw filter, oldest first; - is standard input")
+    options = parser.parse_args()
+    if options.pid is None and not options.filters:
+        parser.error("give a FILTER or --pid")
+    if options.pid is not None and options.filters:
+        parser.error("give either FILTERs or --pid")
+    if options.beside and options.arch is not None:
+        parser.error("give either --arch or --beside, which compares the syscalls of all architectures")
+    if options.force and options.pid is None:
+        parser.error("--force needs --pid")
+    options.pid = None if options.pid is None else processes.number_in(options.pid, parser)
+    parser.one_standard_input([*options.filters, *options.beside, options.table])
+    return options
+
+
+def looked_at(options):
+    """The stacks of a process's threads."""
+    kernel = processes.Kernel()
+    return processes.read_or_end(lambda: processes.look_at_process(
+        kernel, processes.process_of(kernel, options.pid), is_forced=options.force), True, options.json)
+
+
+def main():
+    options = read_words()
+    stack = filters.read_stack(options.filters)
+    one = architectures.judged_in(options.arch)
+    beside = filters.read_stack(options.beside)
+    settings = stack_surfaces.Settings(tables.read(options.table, one), options.limit, beside, one, options.conditions)
+    found = None if options.pid is None else looked_at(options)
+    blocks = [stack_surfaces.of_stack(stack, settings)] if found is None else stack_surfaces.of_process(found, settings)
+    if options.html is not None:
+        from . import pages  # pylint: disable=import-outside-toplevel
+
+        output.replace_file(options.html, pages.of_surfaces(blocks, settings.table))
+    if options.json:
+        output.put_json(stack_surfaces.as_json(blocks, found))
+    else:
+        output.put_lines(stack_surfaces.lines(blocks, found, surface_output.width_of_terminal()))
+    return client.worst(block.status for block in blocks)

@@ -1,0 +1,171 @@
+"""Says why a syscall was denied, delegated or logged: by which entry of a profile, and which tests of a filter.
+
+    scf why [--native] [--limit N] [--table FILE] [--caps LIST] [--json] LINE|-
+            [PROFILE|FILTER ..]
+    scf why .. --pid PID [PROFILE|FILTER ..]
+    scf why .. --core FILE [PROFILE|FILTER ..]
+
+LINE is what was logged when it happened, and `-` is standard input, with any number of lines:
+
+    - an audit record of seccomp, in the kernel's log (dmesg), in journald's, in auditd's or as ausearch prints it;
+    - the end of what strace wrote: the syscall that failed, or that and SIGSYS.
+
+--pid takes the records of a process from this machine's kernel log; while it runs, and no file is given, also its
+filters. --core takes a core that SIGSYS left, which has the arguments; `-` is standard input.
+
+PROFILE is a resolved OCI seccomp profile, or another one as `scf ask` takes it, whose entries have with --caps the
+numbers that they have in the resolved one; the FILTERs are the raw filters of the process, oldest first, as `scf
+filters-of` takes them. One profile and any number of filters may be given, in any order; each may be a pipe. For each
+syscall there are lines marked by `# `: the process, the syscall, the action, and what isn't known of them; scf's answer
+for the profile (`scf ask`) with the entry, and that for the filters (`scf decide`) with the last tests on the path; and
+whether either answers so. If not, another filter of the process gave the answer, since the strictest of all counts, or
+it isn't under this profile. At the end stand changes of the profile that allow the syscall: with the arguments that are
+known, but for addresses, and with all that the entry denies. scf has proved of each that no other answer to an x86-64
+syscall changes. With --native the profile is judged for x86-64 alone, otherwise for each architecture that it names.
+
+A record doesn't have the arguments. If the profile or the filters test them, scf compares over all of their values, and
+a call that is answered as the record says is shown as an example. Nor does it have the data of an action: an errno
+isn't known from it. The kernel logs KILL_THREAD, KILL_PROCESS, LOG and actions without a name; another action only if
+the filter was loaded with SECCOMP_FILTER_FLAG_LOG (`flags` of a profile); and each only if it is in
+/proc/sys/kernel/seccomp/actions_logged. The number -1 is what a tracer sets to skip a syscall.
+
+    scf why "$(dmesg | grep type=1326 | tail -n 1)" profile.json
+    ulimit -c unlimited; ./program; scf why --core core profile.json
+
+Exit status: 0 each syscall is answered so; 1 one isn't, or an input is refused; 2 usage error; 3 an input or the output
+failed, or a record has a value that no kernel writes; 4 it isn't known, or there is no such syscall; 125 scf can't be
+run.
+
+Examples:
+
+    scf why "$(dmesg | grep type=1326 | tail -n 1)" profile.json
+    scf why - profile.json filter.bpf <log
+"""
+import os
+import re
+
+from . import (audit_records, causes, events, filters, inputs, output, profile_inputs, program, strace, tables, trials,
+               words)
+
+# By how many seconds the clock may differ between a record and the start of a process.
+TOLERANCE = 2.0
+
+
+def read_words():
+    parser = words.Parser(__doc__)
+    group = parser.add_mutually_exclusive_group()
+    group.add_argument("--pid", metavar="PID", help="take the records of this process from the kernel's log")
+    group.add_argument("--core", metavar="FILE", help="take the syscall from a core; - is standard input")
+    parser.add("--limit", "--native", "--table", "--caps", "--json")
+    parser.add_argument("words", metavar="LINE|PROFILE|FILTER", nargs="*",
+                        help="without --pid and --core first what was logged, or - for standard input; then a profile "
+                             "and the filters of the process, oldest first")
+    options = parser.parse_args()
+    options.line = None
+    if options.pid is None and options.core is None:
+        if not options.words:
+            parser.error("LINE is missing: what was logged, or - for standard input")
+        options.line, *options.words = options.words
+        if os.path.exists(options.line) and options.line != "-" and "=" not in options.line:
+            parser.error(f"'{options.line}' is a file: hand it over as standard input: - <'{options.line}'")
+    if options.pid is not None:
+        from . import processes  # pylint: disable=import-outside-toplevel
+
+        options.pid = processes.number_in(options.pid, parser)
+    parser.one_standard_input([options.line, options.core, options.table, *options.words])
+    return options
+
+
+def read_files(names, trial, caps, is_native):
+    """The profile and the filters among some files, told apart by their first bytes: a profile is an object."""
+    profile, found = None, []
+    for name in names:
+        data = inputs.read(name, "profile")
+        if not profile_inputs.looks_like_profile(data):
+            found.append(filters.filter_in(name, data))
+        elif profile is not None:
+            raise program.ToolError(f"'{name}' is a second profile: give one, and filters")
+        else:
+            profile = profile_inputs.profile_in(data, name, caps).data
+    return causes.Inputs(trial, profile, found, is_native)
+
+
+def is_of(line, process):
+    found = audit_records.WHO.search(line)
+    return found is not None and found[1] == str(process)
+
+
+def records_of(process, table):
+    """The records of a process in the kernel's log."""
+    return events.read((line for line in audit_records.kernel_lines() if is_of(line, process)), table)
+
+
+def started(process):
+    """When a process began, in seconds since 1970; None if it has ended."""
+    from . import ptrace  # pylint: disable=import-outside-toplevel
+
+    ticks, boot = ptrace.ticks_at_start(process), re.search(rb"(?m)^btime ([0-9]+)$", ptrace.contents("/proc/stat"))
+    return None if ticks is None or boot is None else int(boot[1]) + ticks / os.sysconf("SC_CLK_TCK")
+
+
+def lacking(process):
+    """The lines for a process without a record."""
+    logged = audit_records.actions_logged()
+    return [f"the kernel's log has no record of process {process}",
+            "the kernel logs ERRNO, TRAP, TRACE and USER_NOTIF only if the filter was loaded with "
+            "SECCOMP_FILTER_FLAG_LOG",
+            "the kernel doesn't say which actions it logs" if logged is None else
+            f"of all actions this kernel logs {logged or 'none'} ({audit_records.ACTIONS_LOGGED})",
+            "auditd takes the records where it runs: ausearch -m SECCOMP -p PID --raw prints them"]
+
+
+def filters_of(process, found):
+    """The filters of a process, if it runs, and is the one of the records: it didn't begin after them."""
+    begun = started(process)
+    times = [event.time for event, _ in found.events.values() if event.time is not None]
+    if begun is None or not times or min(times) < begun - TOLERANCE:
+        return []
+    from . import processes  # pylint: disable=import-outside-toplevel
+
+    stacks = processes.read_or_end(lambda: processes.look_at_process(processes.Kernel(), process)).stacks
+    if len(stacks) > 1:
+        raise program.ToolError(f"the threads of process {process} have different filters: `scf filters-of` takes "
+                              "those of each", program.UNKNOWN)
+    return stacks[0].named
+
+
+def of_process(options, files, table):
+    """The records of a process, and files; without any the filters that it has, if it runs."""
+    found = records_of(options.pid, table)
+    if not options.words:
+        files = causes.Inputs(files.trial, None, filters_of(options.pid, found))
+    return found, files
+
+
+def read(options, files, table):
+    """The events of what is given, and what is given beside them."""
+    if options.core is not None:
+        from . import cores  # pylint: disable=import-outside-toplevel
+
+        found = events.EventLog()
+        found.add(cores.read(options.core))
+        return found, files
+    if options.pid is not None:
+        return of_process(options, files, table)
+    lines = strace.lines("-") if options.line == "-" else options.line.split("\n")
+    return events.read(lines, table), files
+
+
+def main():
+    options = read_words()
+    table = tables.read(options.table)
+    files = read_files(options.words, trials.Trial(table, options.limit), options.caps, options.native)
+    found, files = read(options, files, table)
+    report = causes.Report(found, [causes.of(event, count, files) for event, count in found.events.values()])
+    if options.pid is not None:
+        report.lacking = lacking(options.pid)
+    if options.json:
+        output.put_json(causes.report_as_json(report))
+    else:
+        output.put_lines(causes.report_lines(report))
+    return report.status
