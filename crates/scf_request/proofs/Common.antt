@@ -28,8 +28,8 @@ pub use Rattle.scf_insn.specs.declared.architecture.Architecture.{Architecture}
 pub use Rattle.scf_insn.specs.declared.architecture.Architecture.TheVariants.{X8664, X86, X32, Aarch64, Arm}
 pub use Rattle.scf_insn.specs.declared.number.NumeralFault.{NumeralFault}
 pub use Rattle.scf_profile.proofs.Common.{All-contains, All-more, IfOk-weaker, err_from_is_err_and, false≢true, filter_map-append, map-append, option_map_or, nat_tests}
-pub use Rattle.scf_request.specs.Bundle.{AreNoParts, HasHeader, IsBundlePart, IsHeader, IsPartFault, SpellsParts, architecture_of, content_of, held_by, is_of, kind_word, profile_kinds, tables_held_by}
-pub use Rattle.scf_request.specs.Options.{NumberOption, choice_in, first_wrong, given_of, is_given, number_by, number_in, one_of}
+pub use Rattle.scf_request.specs.Bundle.{AreNoParts, HasHeader, IsBundlePart, IsHeader, IsPartFault, SpellsParts, architecture_of, content_of, contents_of, is_of, kind_word, profile_kinds, contents_of_tables}
+pub use Rattle.scf_request.specs.Options.{NumberOption, choice_in, first_wrong, chosen_of, is_given, number_by, number_in, one_of}
 pub use Rattle.scf_request.specs.Requests.{Command as Asked, command_word}
 pub use Rattle.scf_request.specs.Requests.Command.{Ask, Asm, Check, Compare, Compile, Decide, Dis, Run}
 pub use Rattle.scf_request.specs.CommandLine.{option_rule, scf, scf_shape, shape_for, shape_with}

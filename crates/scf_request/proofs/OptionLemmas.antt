@@ -1,5 +1,5 @@
 -- Options among the matches of a command line, and among its rules.
-use Rattle.scf_request.proofs.Common.{codes, false, Bool, filter_map, ◌≡◌, ◌||◌, ◌-◌, ◌^◌, ◌<◌, ◌+◌, ℕ, Bor, List, [], ◌∷◌, ◌++◌, Option, Some, None, true, false, append-nil, length, take, drop, get_or, map, refl, sym, ap, ◌∙◌, drop_more, map-append, map_more, map_push, take-append-drop, if◌then◌else◌, is_some, option_to_list, filter_map-append, App, Row, first_value, with_rule, rows_of, Found, first_value-rows, Kept, NumberOption, choice_in, first_wrong, given_of, is_given, number_by, number_in, one_of, option_rule, shape_with, flags_in, option_of, options_kept}
+use Rattle.scf_request.proofs.Common.{codes, false, Bool, filter_map, ◌≡◌, ◌||◌, ◌-◌, ◌^◌, ◌<◌, ◌+◌, ℕ, Bor, List, [], ◌∷◌, ◌++◌, Option, Some, None, true, false, append-nil, length, take, drop, get_or, map, refl, sym, ap, ◌∙◌, drop_more, map-append, map_more, map_push, take-append-drop, if◌then◌else◌, is_some, option_to_list, filter_map-append, App, Row, first_value, with_rule, rows_of, Found, first_value-rows, Kept, NumberOption, choice_in, first_wrong, chosen_of, is_given, number_by, number_in, one_of, option_rule, shape_with, flags_in, option_of, options_kept}
 use Rattle.clap.specs.Words.{Rule, first_of}
 use Rattle.scf_request.specs.declared.request.Limits.{Limits}
 use Rattle.scf_request.specs.Options.{SelectsCalls, comparison_options, has_range, numbers_of_limits, numbers_of_range, range_options, scope_flags, word_option}
@@ -97,42 +97,42 @@ if_given rows flag = if is_given rows flag.0 then Some flag.1 else None
 -- one more flag of a group
 pub given_more : {A : Type 0} (rows : List Row) (group : List (Bor (List ℕ) × A)) (i : ℕ) (d : Bor (List ℕ) × A)
     → i < length group
-    → given_of rows (flags_in (take (i + 1) group))
-    ≡ given_of rows (flags_in (take i group)) ++ given_of rows (flags_in (get_or group i d ∷ []))
+    → chosen_of rows (flags_in (take (i + 1) group))
+    ≡ chosen_of rows (flags_in (take i group)) ++ chosen_of rows (flags_in (get_or group i d ∷ []))
 given_more {A} rows group i d lt =
-    ap (λ (flags : List (List ℕ × A)). given_of rows flags) (map_more (λ flag. (flag.0.now, flag.1)) group i d lt)
+    ap (λ (flags : List (List ℕ × A)). chosen_of rows flags) (map_more (λ flag. (flag.0.now, flag.1)) group i d lt)
     ∙ filter_map-append (if_given rows) (flags_in (take i group)) (flags_in (get_or group i d ∷ []))
 
 -- a flag that isn't given
 pub given_as_before : {A : Type 0} (rows : List Row) (group : List (Bor (List ℕ) × A)) (i : ℕ) (d : Bor (List ℕ) × A)
-    (found : Option A) → i < length group → given_of rows (flags_in (take i group)) ≡ option_to_list found
+    (found : Option A) → i < length group → chosen_of rows (flags_in (take i group)) ≡ option_to_list found
     → is_given rows (get_or group i d).0.now ≡ false
-    → given_of rows (flags_in (take (i + 1) group)) ≡ option_to_list found
+    → chosen_of rows (flags_in (take (i + 1) group)) ≡ option_to_list found
 given_as_before rows group i d found lt before here =
     given_more rows group i d lt ∙ rw (before, here) (append-nil (option_to_list found))
 
 -- the first that is
 pub given_first : {A : Type 0} (rows : List Row) (group : List (Bor (List ℕ) × A)) (i : ℕ) (d : Bor (List ℕ) × A)
-    (found : Option A) → i < length group → given_of rows (flags_in (take i group)) ≡ option_to_list found
+    (found : Option A) → i < length group → chosen_of rows (flags_in (take i group)) ≡ option_to_list found
     → is_some found ≡ false → is_given rows (get_or group i d).0.now ≡ true
-    → given_of rows (flags_in (take (i + 1) group)) ≡ (get_or group i d).1 ∷ []
+    → chosen_of rows (flags_in (take (i + 1) group)) ≡ (get_or group i d).1 ∷ []
 given_first rows group i d None lt before none here = given_more rows group i d lt ∙ rw (before, here) refl
 given_first rows group i d (Some one) lt before none here = absurd (cc)
 
 -- another one
 pub given_twice : {A : Type 0} (rows : List Row) (group : List (Bor (List ℕ) × A)) (i : ℕ) (d : Bor (List ℕ) × A)
     (found : Option A) (without : A) → i < length group
-    → given_of rows (flags_in (take i group)) ≡ option_to_list found → is_some found ≡ true
+    → chosen_of rows (flags_in (take i group)) ≡ option_to_list found → is_some found ≡ true
     → is_given rows (get_or group i d).0.now ≡ true → choice_in rows (without, flags_in group) ≡ None
 given_twice rows group i d None without lt before some here = absurd (cc)
 given_twice {A} rows group i d (Some one) without lt before some here =
-    let behind = given_of rows (flags_in (drop (i + 1) group)) in
+    let behind = chosen_of rows (flags_in (drop (i + 1) group)) in
     let whole : flags_in group ≡ flags_in (take i group) ++ flags_in (drop i group) =
     ap flags_in (sym (take-append-drop i group))
     ∙ map-append (λ flag. (flag.0.now, flag.1)) (take i group) (drop i group)
     in
-    let given : given_of rows (flags_in group) ≡ one ∷ (get_or group i d).1 ∷ behind =
-    ap (λ (flags : List (List ℕ × A)). given_of rows flags) whole
+    let given : chosen_of rows (flags_in group) ≡ one ∷ (get_or group i d).1 ∷ behind =
+    ap (λ (flags : List (List ℕ × A)). chosen_of rows flags) whole
     ∙ filter_map-append (if_given rows) (flags_in (take i group)) (flags_in (drop i group))
     ∙ rw (before, drop_more group i d lt, here) refl in
     ap (one_of without) given

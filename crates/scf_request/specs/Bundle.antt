@@ -103,8 +103,8 @@ is_of (TableOf architecture) (TableOf other) = is_named (row_of architecture).na
 is_of kind other = false
 
 -- what the parts of a kind hold, in their order
-abbrev pub held_by : PartKind → List ℕ → List Part → List (List ℕ)
-held_by kind bytes parts = filter_map
+abbrev pub contents_of : PartKind → List ℕ → List Part → List (List ℕ)
+contents_of kind bytes parts = filter_map
     (λ part. if is_of kind part.kind then Some (content_of bytes part) else None) parts
 
 -- the architecture of a kind, where it is one of a table of several
@@ -113,26 +113,26 @@ architecture_of (TableOf architecture) = Some architecture
 architecture_of kind = None
 
 -- what the tables of several architectures hold, each with its architecture, in their order
-abbrev pub tables_held_by : List ℕ → List Part → List (Architecture × List ℕ)
-tables_held_by bytes parts = filter_map
+abbrev pub contents_of_tables : List ℕ → List Part → List (Architecture × List ℕ)
+contents_of_tables bytes parts = filter_map
     (λ part. option_map (λ architecture. (architecture, content_of bytes part)) (architecture_of part.kind)) parts
 
 -- Bytes are a bundle whose parts hold these filters, these profiles and these tables, those of each kind in order.
 pub record IsBundle (bytes : List ℕ) (filters profiles tables : List (List ℕ)) : Type 0 where
   pub parts : List Part
   pub spelled : SpellsBundle bytes parts
-  pub filters_held : filters ≡ held_by Filter bytes parts
-  pub profiles_held : profiles ≡ held_by Profile bytes parts
-  pub tables_held : tables ≡ held_by Table bytes parts
+  pub filters_held : filters ≡ contents_of Filter bytes parts
+  pub profiles_held : profiles ≡ contents_of Profile bytes parts
+  pub tables_held : tables ≡ contents_of Table bytes parts
 
 -- Bytes are a bundle for a comparison over these calls, whose parts hold these filters, these beside them and these
 -- tables, those of each kind in order.
 pub record IsBesideBundle (over : Scopes) (bytes : List ℕ) (filters beside tables : List (List ℕ)) : Type 0 where
   pub parts : List Part
   pub spelled : SpellsParts (beside_kinds over) 0 bytes parts
-  pub filters_held : filters ≡ held_by Filter bytes parts
-  pub beside_held : beside ≡ held_by Beside bytes parts
-  pub tables_held : tables ≡ held_by Table bytes parts
+  pub filters_held : filters ≡ contents_of Filter bytes parts
+  pub beside_held : beside ≡ contents_of Beside bytes parts
+  pub tables_held : tables ≡ contents_of Table bytes parts
 
 -- Bytes are a bundle for several architectures, whose parts hold these filters, these profiles and these tables, each
 -- with its architecture, those of each kind in order.
@@ -140,6 +140,6 @@ pub record IsArchitecturesBundle (bytes : List ℕ) (filters profiles : List (Li
     (tables : List (Architecture × List ℕ)) : Type 0 where
   pub parts : List Part
   pub spelled : SpellsParts architecture_kinds 0 bytes parts
-  pub filters_held : filters ≡ held_by Filter bytes parts
-  pub profiles_held : profiles ≡ held_by Profile bytes parts
-  pub tables_held : tables ≡ tables_held_by bytes parts
+  pub filters_held : filters ≡ contents_of Filter bytes parts
+  pub profiles_held : profiles ≡ contents_of Profile bytes parts
+  pub tables_held : tables ≡ contents_of_tables bytes parts

@@ -91,8 +91,8 @@ is_given rows name = option_map_or (λ text. bytes_eq text (codes "true")) (firs
 -- ---- flags of which at most one may be given
 
 -- what the flags of a group stand for that are given
-abbrev pub given_of : {A : Type 0} → List Row → List (List ℕ × A) → List A
-given_of rows group = filter_map (λ flag. if is_given rows flag.0 then Some flag.1 else None) group
+abbrev pub chosen_of : {A : Type 0} → List Row → List (List ℕ × A) → List A
+chosen_of rows group = filter_map (λ flag. if is_given rows flag.0 then Some flag.1 else None) group
 
 -- the one of them, where none is more than one of them, and what stands without any
 abbrev pub one_of : {A : Type 0} → A → List A → Option A
@@ -102,7 +102,7 @@ one_of without (one ∷ other ∷ more) = None
 
 -- what a group comes to, of what stands without a flag and of its flags: None where more than one of them is given
 abbrev pub choice_in : {A : Type 0} → List Row → A × List (List ℕ × A) → Option A
-choice_in rows group = one_of group.0 (given_of rows group.1)
+choice_in rows group = one_of group.0 (chosen_of rows group.1)
 
 -- the flag of native calls
 abbrev pub native_flag : List ℕ

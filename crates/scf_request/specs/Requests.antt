@@ -32,20 +32,20 @@ abbrev pub options_of : Command → List NumberOption
 options_of command = (words_of_command command).1
 
 -- the command of a request, and the numbers of its options
-abbrev pub asked_by : Request → Command × List ℕ
-asked_by (requests.Ask call) = (Ask, numbers_of_record call)
-asked_by (requests.AskArchitectures call) = (Ask, numbers_of_record call)
-asked_by requests.Assemble = (Asm, [])
-asked_by requests.Check = (Check, [])
-asked_by (requests.Compare comparison) = (Compare, numbers_of_comparison comparison)
-asked_by (requests.CompareBeside comparison) = (Compare, numbers_of_comparison comparison)
-asked_by (requests.CompareArchitectures comparison) = (Compare, numbers_of_comparison comparison)
-asked_by requests.Compile = (Compile, [])
-asked_by requests.CompileArchitectures = (Compile, [])
-asked_by (requests.Decide call) = (Decide, numbers_of_record call)
-asked_by requests.List = (Dis, [])
-asked_by (requests.Run call) = (Run, numbers_of_record call)
-asked_by (requests.Trace call) = (Run, numbers_of_record call)
+abbrev pub command_and_numbers : Request → Command × List ℕ
+command_and_numbers (requests.Ask call) = (Ask, numbers_of_record call)
+command_and_numbers (requests.AskArchitectures call) = (Ask, numbers_of_record call)
+command_and_numbers requests.Assemble = (Asm, [])
+command_and_numbers requests.Check = (Check, [])
+command_and_numbers (requests.Compare comparison) = (Compare, numbers_of_comparison comparison)
+command_and_numbers (requests.CompareBeside comparison) = (Compare, numbers_of_comparison comparison)
+command_and_numbers (requests.CompareArchitectures comparison) = (Compare, numbers_of_comparison comparison)
+command_and_numbers requests.Compile = (Compile, [])
+command_and_numbers requests.CompileArchitectures = (Compile, [])
+command_and_numbers (requests.Decide call) = (Decide, numbers_of_record call)
+command_and_numbers requests.List = (Dis, [])
+command_and_numbers (requests.Run call) = (Run, numbers_of_record call)
+command_and_numbers (requests.Trace call) = (Run, numbers_of_record call)
 
 -- the flags of a request are given, and no other
 abbrev pub HasFlags : List Row → Request → Type 0
@@ -67,8 +67,8 @@ HasFlags rows request = Unit {0}
 -- A word and the values of options spell a request: they name its command, spell its numbers and give its flags.
 pub record IsRequest (asked : Option (List ℕ × List Row)) (request : Request) : Type 0 where
   pub rows : List Row
-  pub command : asked ≡ Some (command_word (asked_by request).0, rows)
-  pub numbers : map Some (asked_by request).1 ≡ map (number_in rows) (options_of (asked_by request).0)
+  pub command : asked ≡ Some (command_word (command_and_numbers request).0, rows)
+  pub numbers : map Some (command_and_numbers request).1 ≡ map (number_in rows) (options_of (command_and_numbers request).0)
   pub flags : HasFlags rows request
 
 -- What a command's word and the values of its options ask for, or why they don't: the first option of the command

@@ -124,10 +124,10 @@ fn count_in(kind: PartKind, line: &[u8]) -> Option<usize>
 }
 
 /// The kind, one of these, and the length in a header, without its line end.
-fn said_in(kinds: &[PartKind], line: &[u8]) -> Option<(PartKind, usize)>
+fn kind_and_count(kinds: &[PartKind], line: &[u8]) -> Option<(PartKind, usize)>
     ensures { MatchOption result
         ((kind : PartKind) (n : ℕ) → Contains kinds.now kind → IsHeader (line.now ++ codes "\n") kind n → ⊥)
-        (λ said. Contains kinds.now said.0 × IsHeader (line.now ++ codes "\n") said.0 said.1) }
+        (λ header. Contains kinds.now header.0 × IsHeader (line.now ++ codes "\n") header.0 header.1) }
 {
     for kind in kinds {
         if let Some(count) = count_in(*kind, line) {
@@ -160,7 +160,7 @@ fn header_of(kinds: &[PartKind], bytes: &[u8]) -> Option<Header>
         → Contains kinds.now kind → HasHeader bytes.now kind count → ⊥) }
 {
     let end = line_len(bytes)?;
-    let (kind, count) = said_in(kinds, &bytes[..end])?;
+    let (kind, count) = kind_and_count(kinds, &bytes[..end])?;
     Some(Header {
         kind,
         count,

@@ -123,8 +123,8 @@ fn define_compare<'a>(alloc: Global) -> Result<Command<'a>, AllocError>
     let native = "Only calls of x86-64 with numbers below 0x40000000";
     let calls =
         "Each named call by itself, and a line for each that isn't the same; not with --native";
-    let no_more = "Whether no call is let through further than by the profile";
-    let no_less = "Whether each call is let through as far as by the profile; not with --no-more";
+    let no_more = "Whether the filters are nowhere more permissive than the profile";
+    let no_less = "Whether they are nowhere less permissive; not with --no-more";
     let disposition =
         "Whether both deny, delegate and allow alike; not with --no-more or --no-less";
     let beside = "With parts `beside`, other filters, in place of a profile";

@@ -7,7 +7,7 @@ use Rattle.scf_request.specs.declared.bundle.Part.{Part}
 use Rattle.scf_request.specs.declared.bundle.PartKind.{PartKind}
 use Rattle.scf_request.specs.declared.bundle.PartKind.TheVariants.{TableOf}
 use Rattle.scf_request.specs.declared.contents.Contents.{Contents}
-use Rattle.scf_request.specs.Bundle.{SpellsParts, held_by, is_of, tables_held_by}
+use Rattle.scf_request.specs.Bundle.{SpellsParts, contents_of, is_of, contents_of_tables}
 use Rattle.scf_request.specs.Contents.{of_architectures, of_kind}
 
 -- one more of this kind, and of the other kinds none
@@ -32,5 +32,5 @@ AddsPart added bytes old (Err fault) new = fault ≡ Memory
 pub record HoldParts (kinds : List PartKind) (bytes : List ℕ) (contents : Contents) : Type 0 where
   pub parts : List Part
   pub spelled : SpellsParts kinds 0 bytes parts
-  pub held : (kind : PartKind) → of_kind kind contents ≡ held_by kind bytes parts
-  pub tables : of_architectures contents ≡ tables_held_by bytes parts
+  pub held : (kind : PartKind) → of_kind kind contents ≡ contents_of kind bytes parts
+  pub tables : of_architectures contents ≡ contents_of_tables bytes parts

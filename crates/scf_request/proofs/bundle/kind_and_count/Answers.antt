@@ -1,5 +1,5 @@
 use Rattle.scf_request.proofs.Common.{ℕ, List, ◌++◌, All-contains, All-more, codes, take_all, PartKind, IsHeader}
-use Rattle.scf_request.proofs.bundle.said_in.Goals as goal
+use Rattle.scf_request.proofs.bundle.kind_and_count.Goals as goal
 
 -- no header of a kind stands on the line
 abbrev IsOther : List ℕ → PartKind → Type 0
