@@ -7,6 +7,5 @@ pub mod IntervalLaws
 pub mod LeastNumber
 pub mod LowestBit
 pub mod MaskLaws
-pub mod SetLaws
 pub mod StoreLaws
 pub mod TrailLaws

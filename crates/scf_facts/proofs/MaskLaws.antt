@@ -1,5 +1,5 @@
 -- Laws of numbers under masks.
-use Rattle.scf_facts.proofs.Common.{◌≡◌, ◌≢◌, ◌⊎◌, inl, inr, ℕ, ◌+◌, ◌*◌, ◌<◌, ◌^◌, ◌↔◌, refl, sym, ap, ◌∙◌, arith, bit_and, bit_or, bit_xor, count_ones, Bool, true, false, IsTrue, bit_at, IsPowerOfTwo, is_power_of_two, SomeLack, cases_eq, eqb-true, eqb-false, and_zero_r, and_comm, or_disjoint, pow_pos, xor_lt, power_from_one_bit, one_bit_of_power, bit_at_and, bit_at_or, bit_at_xor, bit_at-lt, bit_at-zero, and_pow, same_from_bits}
+use Rattle.scf_facts.proofs.Common.{◌≡◌, ◌≢◌, ◌⊎◌, inl, inr, ℕ, ◌+◌, ◌<◌, ◌^◌, ◌↔◌, refl, sym, ap, ◌∙◌, arith, bit_and, bit_or, bit_xor, count_ones, Bool, true, false, IsTrue, bit_at, IsPowerOfTwo, is_power_of_two, SomeLack, cases_eq, eqb-true, eqb-false, and_comm, or_disjoint, pow_pos, xor_lt, power_from_one_bit, one_bit_of_power, bit_at_and, bit_at_or, bit_at_xor, bit_at-lt, bit_at-zero, and_pow, same_from_bits}
 
 -- what is said of each bit of a number that is made of others
 pub ruleset each_bit = (bit_at_and, bit_at_or, bit_at_xor, bit_at-lt, bit_at-zero)
@@ -27,10 +27,6 @@ and_twice x m = same_from_bits _ _ (λ i. grind (arith, each_bit))
 -- what has a value under a mask has its part under a part of the mask
 pub part_of : (x k a m v : ℕ) → bit_and k m ≡ m → bit_and a m ≡ v → bit_and x k ≡ a → bit_and x m ≡ v
 part_of x k a m v part same e = same_from_bits _ _ (λ i. grind (arith, each_bit))
-
--- where no bit is left, every number has them
-pub none_left : (x m v : ℕ) → m ≡ 0 → bit_and v m ≡ v → bit_and x m ≡ v
-none_left x m v none within = rw none (and_zero_r x ∙ sym (and_zero_r v) ∙ rw none at within)
 
 -- a mask without the bits of another one
 abbrev pub beyond : ℕ → ℕ → ℕ

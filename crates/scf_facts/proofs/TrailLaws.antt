@@ -1,6 +1,6 @@
 -- What was known at a level, as more is learned and marks are opened and closed.
 use Rattle.scf_facts.proofs.Common.{◌≡◌, ℕ, ◌≤◌, ◌<◌, ◌↔◌, List, [], ◌∷◌, ◌++◌, length, take, drop, refl, sym, ◌∙◌, ap, arith, length-append, ◌-◌, slice_set, slice_index, slice_index_or, list_all, set-set, set-get_or, get_or-set_same, get_or_default, get_or_past, drop-append-le, length-set, length-take-le, take-append-drop, drop_all, Change, count_at, AreRising, facts_before, known_before, restored, known_at, Covers, Intervals, Interval, NumberFacts, AllowsWords, is_exact_set, no_facts}
-use Rattle.scf_facts.proofs.CountLaws.{count_opened, count_closed, count_within, count_newest, rising_closed}
+use Rattle.scf_facts.proofs.CountLaws.{count_opened, count_closed, count_within, count_newest, rising_closed, rising_more, rising_pushed}
 
 -- the same facts allow the same lists, and are as exact
 abbrev pub IsSameKnown : List NumberFacts → List NumberFacts → Type 0
@@ -75,12 +75,15 @@ module _ (known : List NumberFacts) (trail : List Change) (marks : List ℕ) whe
     known_covered rest last count e past newest covered sixteen =
         let n = count_at marks (length trail) index in
         let early : n ≤ length rest =
-        omega (arith, rising index (length marks - 1), get_or_default marks (length marks - 1) (length trail) 0) in
+        let newer = rising.ordered index (length marks - 1) in
+        omega (arith, newer, get_or_default marks (length marks - 1) (length trail) 0) in
         sym (taken_before known trail rest last n e early)
         ∙ ap (λ (k : List NumberFacts). restored k (drop n rest)) (sym (covered known sixteen))
         ∙ taken_before (known_before change known) trail rest last n e early
 
-pub ruleset opened_laws = (known_past, known_opened)
+pub ruleset opened_laws = (rising_pushed, known_past, known_opened)
+
+pub ruleset noted_laws = (rising_more, known_pushed, known_covered)
 
 -- so a change of a word that is noted leaves them
 pub noted : (sets : List NumberFacts) (change : Change) (old new : NumberFacts)

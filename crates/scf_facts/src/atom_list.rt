@@ -46,20 +46,20 @@ impl WordFacts for AtomList {
         })
     }
 
-    #[tactic(auto, using(crate::proofs::AtomLaws::learned_pushed))]
+    #[tactic(auto, using(crate::proofs::AtomLaws::learned_pushed, crate::proofs::CountLaws::rising_more))]
     fn learn(&mut self, atom: Atom, holds: bool) -> Result<(), Memory> {
         self.learned.push(Learned { atom, holds })?;
         Ok(())
     }
 
-    #[tactic(auto, using(crate::proofs::AtomLaws::learned_now, crate::proofs::AtomLaws::learned_opened))]
+    #[tactic(auto, using(crate::proofs::AtomLaws::opened_laws))]
     fn mark(&mut self) -> Result<(), Memory> {
         let count = self.learned.len();
         self.marks.push(count)?;
         Ok(())
     }
 
-    #[tactic(auto, using(crate::proofs::AtomLaws::learned_closed))]
+    #[tactic(auto, using(crate::proofs::AtomLaws::learned_closed, crate::proofs::CountLaws::rising_cut))]
     fn undo(&mut self) {
         if let Some(count) = self.marks.pop() {
             self.learned.truncate(count);
@@ -70,6 +70,7 @@ impl WordFacts for AtomList {
         self.marks.len()
     }
 
+    #[tactic(auto, using(crate::proofs::AtomLaws::holds_now))]
     fn tell(&self, atom: Atom) -> Tell {
         if let Atom::Eq { mask: 0, value, .. } = atom {
             return Tell::of(value == 0);
@@ -83,6 +84,7 @@ impl WordFacts for AtomList {
         Tell::Maybe
     }
 
+    #[tactic(auto, using(crate::proofs::AtomLaws::holds_now))]
     fn known_bits(&self, word: u8) -> Bits {
         for known in &self.learned {
             match known.fixes() {

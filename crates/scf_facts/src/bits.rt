@@ -139,12 +139,4 @@ impl Bits {
             value: self.value & mask,
         })
     }
-
-    /// Whether the mask has exactly one bit.
-    #[tactic(auto, using(crate::proofs::MaskLaws::is_one))]
-    pub(crate) fn is_single(self) -> bool
-        ensures { IsTrue result ↔ IsPowerOfTwo self.mask }
-    {
-        self.mask.is_power_of_two()
-    }
 }

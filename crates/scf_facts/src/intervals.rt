@@ -76,6 +76,7 @@ impl Intervals {
     }
 
     /// The intervals' parts within a range.
+    #[tactic(auto, using(crate::proofs::IntervalLaws::cut_within))]
     pub(crate) fn within(&self, alloc: Global, range: Interval) -> Result<Intervals, Memory>
         ensures { IfOk result (λ parts. ArePartsOf (LiesIn range) self.now parts) }
     {
@@ -85,6 +86,7 @@ impl Intervals {
     }
 
     /// The intervals' parts outside a range.
+    #[tactic(auto, using(crate::proofs::IntervalLaws::cut_outside))]
     pub(crate) fn outside(&self, alloc: Global, range: Interval) -> Result<Intervals, Memory>
         requires { range.low ≤ range.high }
         ensures { IfOk result (λ parts. ArePartsOf (LiesOutside range) self.now parts) }

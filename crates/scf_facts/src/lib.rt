@@ -4,7 +4,6 @@
 mod atom;
 mod atom_list;
 mod bits;
-mod by_word;
 mod free_number;
 mod high_mask;
 mod interval;

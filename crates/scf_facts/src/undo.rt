@@ -71,12 +71,13 @@ pub(crate) fn make_room(trail: &mut Vec<Change>, marks: &[usize]) -> Result<(), 
 }
 
 /// Appends a change to the trail, if a mark is open and the last change behind it doesn't cover this one.
+#[tactic(auto, using(crate::proofs::TrailLaws::noted_laws))]
 pub(crate) fn note(trail: &mut Vec<Change>, marks: &[usize], change: Change) -> Result<(), Memory>
     requires { AreRising marks.now (length trail.old.items) }
     ensures room { (0 < length marks.now → vec_len trail.old < vec_capacity trail.old) → IsOk result }
     ensures rising { AreRising marks.now (length trail.new.items) }
-    ensures marked { OnOk result ((known : List NumberFacts) → length known ≡ 16 → (index : ℕ) → index < length marks.now
-        → known_at known trail.new.items marks.now index
+    ensures marked { OnOk result ((known : List NumberFacts) → length known ≡ 16
+        → (index : ℕ) → index < length marks.now → known_at known trail.new.items marks.now index
         ≡ known_at (known_before change known) trail.old.items marks.now index) }
 {
     if let Some(newest) = marks.last() {

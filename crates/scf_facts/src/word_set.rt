@@ -1,6 +1,6 @@
 //! What is known of one word.
 
-ghost use Rattle.std.specs.Prelude.{◌≡◌, ◌↔◌, ◌⊎◌, ◌<◌, ◌≤◌, ◌^◌, ℕ, All, IsTrue, true, false, bit_and, bit_or};
+ghost use Rattle.std.specs.Prelude.{◌≡◌, ◌↔◌, ◌⊎◌, ◌<◌, ◌^◌, ℕ, All, IsTrue, true, false, bit_and, bit_or};
 ghost use Rattle.std.specs.Prelude.{IsSome, IfSome, IfNone, IfOk, OnOk, OnErr};
 ghost use Rattle.std.specs.Int.{IsPowerOfTwo};
 ghost use Rattle.scf_facts.specs.Atoms.{answer_at};
@@ -73,8 +73,14 @@ impl WordSet {
             → IsTrue (is_exact_set self.old) → IsTrue (is_exact_set self.new)) }
     {
         match Query::of(atom) {
-            Query::Within { range, answer } if answer == holds => self.keep_range(alloc, range),
-            Query::Within { range, .. } => self.drop_range(alloc, range),
+            Query::Within { range, answer } if answer == holds => {
+                let kept = self.intervals.within(alloc, range)?;
+                Ok(self.replace_intervals(kept))
+            }
+            Query::Within { range, .. } => {
+                let kept = self.intervals.outside(alloc, range)?;
+                Ok(self.replace_intervals(kept))
+            }
             Query::Masked(bits) if holds => Ok(self.keep_bits(alloc, bits)),
             Query::Masked(bits) => self.drop_bits(alloc, bits),
         }
@@ -94,38 +100,12 @@ impl WordSet {
         }
     }
 
-    /// Keeps the values within a range.
-    fn keep_range(&mut self, alloc: Global, range: Interval) -> Result<SavedValue, Memory>
-        ensures kept { OnOk result ((x : ℕ) → AllowsNumber self.new x ↔ (AllowsNumber self.old x × LiesIn range x)) }
-        ensures before { IfOk result (λ former. facts_before former self.new ≡ self.old) }
-        ensures refused { OnErr result (self.new ≡ self.old) }
-        ensures refuted { self.new.refuted ≡ self.old.refuted }
-    {
-        let kept = self.intervals.within(alloc, range)?;
-        Ok(SavedValue::Intervals(mem::replace(&mut self.intervals, kept)))
-    }
-
-    /// Keeps the values outside a range.
-    fn drop_range(&mut self, alloc: Global, range: Interval) -> Result<SavedValue, Memory>
-        requires { range.low ≤ range.high }
-        ensures kept { OnOk result ((x : ℕ)
-            → AllowsNumber self.new x ↔ (AllowsNumber self.old x × LiesOutside range x)) }
-        ensures before { IfOk result (λ former. facts_before former self.new ≡ self.old) }
-        ensures refused { OnErr result (self.new ≡ self.old) }
-        ensures refuted { self.new.refuted ≡ self.old.refuted }
-    {
-        let kept = self.intervals.outside(alloc, range)?;
-        Ok(SavedValue::Intervals(mem::replace(&mut self.intervals, kept)))
-    }
-
-    /// Keeps no value.
-    fn keep_none(&mut self, alloc: Global) -> SavedValue
-        ensures kept { (x : ℕ) → AllowsNumber self.new x → ⊥ }
+    /// Replaces the intervals, and returns those before.
+    fn replace_intervals(&mut self, intervals: Intervals) -> SavedValue
+        ensures intervals { self.new ≡ record self.old { intervals = intervals } }
         ensures before { facts_before result self.new ≡ self.old }
-        ensures refuted { self.new.refuted ≡ self.old.refuted }
     {
-        let former = mem::replace(&mut self.intervals, Intervals::none(alloc));
-        SavedValue::Intervals(former)
+        SavedValue::Intervals(mem::replace(&mut self.intervals, intervals))
     }
 
     /// Keeps the values with the bits.
@@ -136,11 +116,12 @@ impl WordSet {
     {
         match self.known.join(bits) {
             Some(known) => SavedValue::Known(mem::replace(&mut self.known, known)),
-            None => self.keep_none(alloc),
+            None => self.replace_intervals(Intervals::none(alloc)),
         }
     }
 
     /// Keeps the values without the bits.
+    #[tactic(auto, using(crate::proofs::MaskLaws::is_one))]
     fn drop_bits(&mut self, alloc: Global, bits: Bits) -> Result<SavedValue, Memory>
         ensures kept { OnOk result ((x : ℕ) → AllowsNumber self.new x ↔ (AllowsNumber self.old x × LacksBits bits x)) }
         ensures before { IfOk result (λ former. facts_before former self.new ≡ self.old) }
@@ -152,9 +133,9 @@ impl WordSet {
         };
         let open = bits.beyond(self.known);
         if open.mask == 0 {
-            return Ok(self.keep_none(alloc));
+            return Ok(self.replace_intervals(Intervals::none(alloc)));
         }
-        if open.is_single() {
+        if open.mask.is_power_of_two() {
             return Ok(self.keep_bits(alloc, open.flipped()));
         }
         self.refuted.push(bits)?;

@@ -1,14 +1,14 @@
 //! A store that keeps a set of values for each word.
 
-ghost use Rattle.std.specs.Prelude.{◌≡◌, length, true};
+ghost use Rattle.std.specs.Prelude.{◌≡◌, ◌<◌, ℕ, List, IsTrue, length, true, false};
 ghost use Rattle.std.specs.List.{list_all};
+ghost use Rattle.scf_facts.specs.Atoms.{atom_answer, word_of};
 ghost use Rattle.scf_facts.specs.internal.Counts.{AreRising};
 ghost use Rattle.scf_facts.specs.internal.Trail.{known_at};
 ghost use Rattle.scf_facts.specs.internal.WordSets.{AllowsWords, is_exact_set};
 
 use crate::atom::{Atom, Tell};
 use crate::bits::Bits;
-use crate::by_word::{has_empty_word, known_bits_by_word, pick_by_word, tell_by_word};
 use crate::trail::Change;
 use crate::undo::{make_room, note, restore};
 use crate::word_facts::WordFacts;
@@ -61,7 +61,7 @@ impl WordFacts for WordSets {
         })
     }
 
-    #[tactic(auto, using(crate::proofs::TrailLaws::known_now))]
+    #[tactic(auto, using(crate::proofs::TrailLaws::known_now, crate::proofs::StoreLaws::exact_set))]
     fn learn(&mut self, atom: Atom, holds: bool) -> Result<(), Memory> {
         let word = atom.word();
         make_room(&mut self.trail, &self.marks)?;
@@ -92,18 +92,39 @@ impl WordFacts for WordSets {
         tell_by_word(&self.sets, atom)
     }
 
-    #[tactic(auto, using(crate::proofs::TrailLaws::known_now))]
+    #[tactic(auto, using(crate::proofs::TrailLaws::known_now, crate::proofs::StoreLaws::each_word))]
     fn known_bits(&self, word: u8) -> Bits {
-        known_bits_by_word(&self.sets, word)
+        self.sets[word as usize].known_bits()
     }
 
     #[tactic(auto, using(crate::proofs::TrailLaws::known_now))]
     fn is_empty(&self) -> bool {
-        has_empty_word(&self.sets)
+        self.sets.iter().any(|set| set.is_empty())
     }
 
-    #[tactic(auto, using(crate::proofs::TrailLaws::known_now))]
+    #[tactic(auto, using(crate::proofs::TrailLaws::known_now, crate::proofs::StoreLaws::word_laws))]
     fn pick(&self) -> Option<[u32; 16]> {
-        pick_by_word(&self.sets)
+        let mut words = [0; 16];
+        for (index, set) in self.sets.iter().enumerate() {
+            words[index] = set.pick()?;
+        }
+        Some(words)
     }
+}
+
+/// The atom's answer for every allowed list, if the values of its word show it.
+#[tactic(auto, using(crate::proofs::StoreLaws::each_word))]
+fn tell_by_word(sets: &[WordSet], atom: Atom) -> Tell
+    requires sixteen { length sets.now ≡ 16 }
+    requires word { word_of atom < 16 }
+    ensures always { result ≡ Tell.Always
+        → (words : List ℕ) → AllowsWords sets.now words → atom_answer atom words ≡ true }
+    ensures never { result ≡ Tell.Never
+        → (words : List ℕ) → AllowsWords sets.now words → atom_answer atom words ≡ false }
+    ensures both { result ≡ Tell.Maybe
+        → IsTrue (list_all is_exact_set sets.now) → (some : List ℕ) → AllowsWords sets.now some
+        → ((words : List ℕ) × AllowsWords sets.now words × (atom_answer atom words ≡ true))
+        × ((words : List ℕ) × AllowsWords sets.now words × (atom_answer atom words ≡ false)) }
+{
+    sets[atom.word() as usize].tell(atom)
 }

@@ -6,5 +6,5 @@ abbrev pub count_at : List ℕ → ℕ → ℕ → ℕ
 count_at marks now level = slice_index_or marks level now
 
 -- no level has a smaller count than one before it
-abbrev pub AreRising : List ℕ → ℕ → Type 0
-AreRising marks now = (earlier later : ℕ) → earlier ≤ later → count_at marks now earlier ≤ count_at marks now later
+pub record AreRising (marks : List ℕ) (now : ℕ) : Type 0 where
+  pub ordered : (earlier later : ℕ) → earlier ≤ later → count_at marks now earlier ≤ count_at marks now later

@@ -1,19 +1,12 @@
-use Rattle.scf_facts.proofs.Common.{rules, ◌≡◌, ◌++◌, LiesOutside, ArePartsOf}
+use Rattle.scf_facts.proofs.Common.{rules, ◌≡◌, ◌++◌}
 use Rattle.scf_facts.proofs.IntervalLaws.{cut_outside, parts_beside}
 use Rattle.scf_facts.proofs.intervals.Intervals.outside.Goals as goal
 
-parts : (c : goal.In_ok-extend_from_slice-3)
-    → ArePartsOf (LiesOutside c.args.range) c.args.self.now c.extend_from_slice-3.new.self.items
-parts c =
+pub returns : goal.returns
+returns c =
     let split = c.split_by-split.result in
     let parted = c.split_by-split.ensures in
     let items : c.extend_from_slice-3.new.self.items ≡ (split.below.now ++ parts_beside c.args.range split.touched.now)
     ++ split.above.now = search rules in
     rw (← c.as_slice-intervals.ensures.same, items) (cut_outside c.args.range _ _ _ _ parted.whole
     c.as_slice-intervals.ensures.apart parted.below parted.above c.requires)
-
-pub invariant_of-result : goal.invariant_of-result
-invariant_of-result c = (parts c).0
-
-pub returns : goal.returns
-returns c = parts c.before

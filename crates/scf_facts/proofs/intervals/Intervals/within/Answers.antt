@@ -6,6 +6,3 @@ returns c =
     let split = c.split_by-split.ensures in
     rw (← c.as_slice.ensures.same, c.in_ok-parts.ensures)
     (cut_within c.args.range _ _ _ _ split.whole c.as_slice.ensures.apart split.below split.above)
-
-pub invariant_of-result : goal.invariant_of-result
-invariant_of-result c = (returns c).0

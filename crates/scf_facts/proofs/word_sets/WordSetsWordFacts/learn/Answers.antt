@@ -1,5 +1,5 @@
-use Rattle.scf_facts.proofs.Common.{◌≡◌, ◌<◌, arith, length, refl, set-get_or, answer_at, Change}
-use Rattle.scf_facts.proofs.StoreLaws.{allows_set, exact_set}
+use Rattle.scf_facts.proofs.Common.{◌≡◌, ◌<◌, arith, length, answer_at, Change}
+use Rattle.scf_facts.proofs.StoreLaws.{allows_set}
 use Rattle.scf_facts.proofs.TrailLaws.{known_now, noted}
 use Rattle.scf_facts.proofs.word_sets.WordSetsWordFacts.learn.Goals as goal
 
@@ -23,16 +23,3 @@ returns-clause-law_learn c = λ words.
     simp known_now (rw (← c.word-word.ensures) (allows_set facts.sets.items c.word-word.result
     c.index_mut.result.now within c.index_mut.ensures.value c.learn.new.self
     (λ x. answer_at c.args.atom x ≡ c.args.holds) c.in_ok-former.ensures.learned words))
-
-pub returns-clause-exact : goal.returns-clause-exact
-returns-clause-exact c = λ keeps.
-    let facts = c.args.self.now in
-    let within : c.word-word.result < length facts.sets.items =
-    omega (arith, c.word-word.ensures, c.requires.word, facts.sixteen) in
-    simp known_now (exact_set facts.sets.items c.word-word.result c.index_mut.result.now within
-    c.index_mut.ensures.value c.learn.new.self (c.in_ok-former.ensures.exact keeps))
-
-pub returns-in_err-former-clause-at_marks : goal.returns-in_err-former-clause-at_marks
-returns-in_err-former-clause-at_marks c = λ index _.
-    rw (c.make_room.ensures.items, c.in_err-former.ensures.refused, c.index_mut.ensures.value, set-get_or)
-    (λ words. (λ h. h, λ h. h), refl)

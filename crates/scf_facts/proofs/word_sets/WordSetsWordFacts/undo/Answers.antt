@@ -4,8 +4,8 @@ use Rattle.scf_facts.proofs.TrailLaws.{same_known, known_closed}
 use Rattle.scf_facts.proofs.word_sets.WordSetsWordFacts.undo.Goals as goal
 
 pub invariant_of-self-clause-rising : goal.invariant_of-self-clause-rising
-invariant_of-self-clause-rising c = rw c.restore.ensures.trail
-    (rising_cut c.args.self.now.trail.items _ _ c.in-Some.count c.in-Some.ensures.items c.args.self.now.rising)
+invariant_of-self-clause-rising c =
+    rising_cut _ _ _ _ c.in-Some.count c.restore.ensures.trail c.in-Some.ensures.items c.args.self.now.rising
 
 pub returns-in-Some-clause-law_undo : goal.returns-in-Some-clause-law_undo
 returns-in-Some-clause-law_undo c = λ index lt.

@@ -1,11 +1,13 @@
 use Rattle.scf_facts.proofs.Common.{true_from_ne_false, ◌<◌, ◌^◌, ℕ, rules, tests, arith, IsTrue, NumberFacts, AllowsNumber, is_exact_set, cases_from_any, YieldsList-from_slice}
 use Rattle.scf_facts.proofs.StoreLaws.{some_allowed}
-use Rattle.scf_facts.proofs.by_word.has_empty_word.Goals as goal
+use Rattle.scf_facts.proofs.TrailLaws.{known_now}
+use Rattle.scf_facts.proofs.word_sets.WordSetsWordFacts.is_empty.Goals as goal
 
 pub returns-clause-seen : goal.returns-clause-seen
-returns-clause-seen c = λ exact none.
+returns-clause-seen c = simp known_now (λ exact none.
+    let facts = c.args.self.now in
     let each = cases_from_any _ _ _ (λ (_ : NumberFacts). ℕ)
     (λ set. IsTrue (is_exact_set set) → (x : ℕ) × (x < 2 ^ 32) × AllowsNumber set x) c.any.ensures.ran
-    (YieldsList-from_slice c.args.sets.now cc) (λ _ _ _. 0) (λ x q k. search (rules, tests)) in
+    (YieldsList-from_slice facts.sets.items cc) (λ _ _ _. 0) (λ x q k. search (rules, tests)) in
     true_from_ne_false _
-    (λ no. some_allowed c.args.sets.now c.requires (λ k d lt. (rw no at each) k d (omega arith) lt) exact none)
+    (λ no. some_allowed facts.sets.items facts.sixteen (λ k d lt. (rw no at each) k d (omega arith) lt) exact none))
