@@ -70,7 +70,6 @@ impl WordFacts for AtomList {
         self.marks.len()
     }
 
-    #[tactic(auto, using(crate::proofs::AtomLaws::holds_now))]
     fn tell(&self, atom: Atom) -> Tell {
         if let Atom::Eq { mask: 0, value, .. } = atom {
             return Tell::of(value == 0);
@@ -84,7 +83,6 @@ impl WordFacts for AtomList {
         Tell::Maybe
     }
 
-    #[tactic(auto, using(crate::proofs::AtomLaws::holds_now))]
     fn known_bits(&self, word: u8) -> Bits {
         for known in &self.learned {
             match known.fixes() {

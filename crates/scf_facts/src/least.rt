@@ -22,14 +22,17 @@ fn highest_bit(n: u32) -> Option<u32>
     Some(31 - n.leading_zeros())
 }
 
-/// The next multiple of `1 << index`: the least value past all those that share the bits of `x` from `index` on.
-fn past(x: u32, index: u32) -> u64
-    requires { index < 32 }
-    ensures above { x < result }
-    ensures same { (y : ℕ) → x ≤ y → y < result → y / 2 ^ index ≡ x / 2 ^ index }
+/// The least value past all those that share with `x` the highest bit that it has wrong and those above. None if `x` has
+/// the bits.
+#[tactic(auto, using(crate::proofs::LeastNumber::mismatch))]
+fn past(x: u32, bits: Bits) -> Option<u64>
+    ensures right { IfNone result (HasBits bits x) }
+    ensures above { IfSome result (λ next. x < next) }
+    ensures none { IfSome result (λ next. (y : ℕ) → x ≤ y → y < next → LacksBits bits y) }
 {
+    let index = highest_bit((x & bits.mask) ^ bits.value)?;
     let power = 1u64 << index;
-    (u64::from(x) / power + 1) * power
+    Some((u64::from(x) / power + 1) * power)
 }
 
 /// The least value with the bits that is at least a bound.
@@ -39,12 +42,8 @@ fn least_from(low: u32, bits: Bits) -> Option<u32>
     ensures none { IfNone result ((y : ℕ) → low ≤ y → y < 2 ^ 32 → LacksBits bits y) }
 {
     let mut x = low;
-    while let Some(index) = highest_bit((x & bits.mask) ^ bits.value) {
-        let next = past(x, index);
-        if next > u64::from(u32::MAX) {
-            return None;
-        }
-        x = next as u32;
+    while let Some(next) = past(x, bits) {
+        x = u32::try_from(next).ok()?;
     }
     Some(x)
 }

@@ -8,8 +8,6 @@ use crate::intervals::Intervals;
 /// What was known of a word before a change.
 #[derive(Drop)]
 pub(crate) enum SavedValue {
-    /// The same as now.
-    Same,
     /// These intervals.
     Intervals(Intervals),
     /// These known bits.

@@ -59,22 +59,11 @@ fn is_covered(trail: &[Change], count: usize, change: &Change) -> bool
     }
 }
 
-/// Reserves room for one change, if a mark is open.
-pub(crate) fn make_room(trail: &mut Vec<Change>, marks: &[usize]) -> Result<(), Memory>
-    ensures items { trail.new.items ≡ trail.old.items }
-    ensures room { OnOk result (0 < length marks.now → vec_len trail.new < vec_capacity trail.new) }
-{
-    if !marks.is_empty() {
-        trail.reserve(1)?;
-    }
-    Ok(())
-}
-
 /// Appends a change to the trail, if a mark is open and the last change behind it doesn't cover this one.
 #[tactic(auto, using(crate::proofs::TrailLaws::noted_laws))]
 pub(crate) fn note(trail: &mut Vec<Change>, marks: &[usize], change: Change) -> Result<(), Memory>
     requires { AreRising marks.now (length trail.old.items) }
-    ensures room { (0 < length marks.now → vec_len trail.old < vec_capacity trail.old) → IsOk result }
+    ensures room { vec_len trail.old < vec_capacity trail.old → IsOk result }
     ensures rising { AreRising marks.now (length trail.new.items) }
     ensures marked { OnOk result ((known : List NumberFacts) → length known ≡ 16
         → (index : ℕ) → index < length marks.now → known_at known trail.new.items marks.now index

@@ -91,7 +91,6 @@ impl WordSet {
         ensures { self.new ≡ facts_before former self.old }
     {
         match former {
-            SavedValue::Same => {}
             SavedValue::Intervals(intervals) => self.intervals = intervals,
             SavedValue::Known(known) => self.known = known,
             SavedValue::Unrefuted => {
@@ -129,7 +128,7 @@ impl WordSet {
         ensures refuted { (bits.mask ≡ 0) ⊎ IsPowerOfTwo bits.mask → self.new.refuted ≡ self.old.refuted }
     {
         let Some(_) = self.known.join(bits) else {
-            return Ok(SavedValue::Same);
+            return Ok(SavedValue::Known(self.known));
         };
         let open = bits.beyond(self.known);
         if open.mask == 0 {

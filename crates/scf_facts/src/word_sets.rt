@@ -10,7 +10,7 @@ ghost use Rattle.scf_facts.specs.internal.WordSets.{AllowsWords, is_exact_set};
 use crate::atom::{Atom, Tell};
 use crate::bits::Bits;
 use crate::trail::Change;
-use crate::undo::{make_room, note, restore};
+use crate::undo::{note, restore};
 use crate::word_facts::WordFacts;
 use crate::word_set::WordSet;
 use scf_insn::Memory;
@@ -64,10 +64,9 @@ impl WordFacts for WordSets {
     #[tactic(auto, using(crate::proofs::TrailLaws::known_now, crate::proofs::StoreLaws::exact_set))]
     fn learn(&mut self, atom: Atom, holds: bool) -> Result<(), Memory> {
         let word = atom.word();
-        make_room(&mut self.trail, &self.marks)?;
+        self.trail.reserve(1)?;
         let former = self.sets[word as usize].learn(self.alloc, atom, holds)?;
-        let change = Change { word, former };
-        note(&mut self.trail, &self.marks, change)?;
+        note(&mut self.trail, &self.marks, Change { word, former })?;
         Ok(())
     }
 

@@ -2,13 +2,12 @@
 use Rattle.std.specs.Prelude.{◌≡◌, ◌-◌, ℕ, List, [], ◌∷◌, length, take, drop, slice_set, slice_index_or}
 use Rattle.scf_facts.specs.declared.trail.Change.{Change}
 use Rattle.scf_facts.specs.declared.trail.SavedValue.{SavedValue}
-use Rattle.scf_facts.specs.declared.trail.SavedValue.TheVariants.{Same, Intervals, Known, Unrefuted}
+use Rattle.scf_facts.specs.declared.trail.SavedValue.TheVariants.{Intervals, Known, Unrefuted}
 use Rattle.scf_facts.specs.internal.Counts.{count_at}
 use Rattle.scf_facts.specs.internal.WordSets.{NumberFacts, no_facts}
 
 -- what was known of a word before a change of its facts
 abbrev pub facts_before : SavedValue → NumberFacts → NumberFacts
-facts_before Same facts = facts
 facts_before (Intervals intervals) facts = record facts { intervals = intervals }
 facts_before (Known known) facts = record facts { known = known }
 facts_before Unrefuted facts = record facts { refuted = take (length facts.refuted - 1) facts.refuted }

@@ -7,9 +7,6 @@ returns-in_default-free_number-clause-found t c = λ x e.
     let both = (c.in-Some.ensures.both x).0 has in
     (inside, both.0, both.1, free)
 
-pub returns-in_default-free_number-clause-nothing : goal.returns-in_default-free_number-clause-nothing
-returns-in_default-free_number-clause-nothing t c = λ e. absurd (c.in_default-free_number.not-Nothing e)
-
 pub returns-in-Nothing-clause-found : goal.returns-in-Nothing-clause-found
 returns-in-Nothing-clause-found t c = λ x e.
     let (inside, has, more, free) = c.free_number-in-Nothing.ensures.found x e in

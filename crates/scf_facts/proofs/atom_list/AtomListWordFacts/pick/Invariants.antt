@@ -3,7 +3,6 @@ use Rattle.scf_facts.proofs.atom_list.AtomListWordFacts.pick.Given as goal
 
 abbrev pub invariant-loop-known : goal.invariant-loop-known
 invariant-loop-known l = record {
-  same : l.known-items ≡ l.self.learned.items;
   count : length l.words ≡ 16;
   each : All (λ word. word < 2 ^ 32) l.words;
 }

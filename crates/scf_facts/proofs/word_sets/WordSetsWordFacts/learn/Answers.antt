@@ -12,7 +12,7 @@ returns-clause-at_marks c =
       about_word = omega (arith, c.word-word.ensures, c.requires.word);
     } in
     noted facts.sets.items change c.index_mut.result.now c.learn.new.self facts.trail.items _ _
-    facts.marks.items _ c.deref-2.ensures.value c.make_room.ensures.items c.in_ok-note.ensures.marked facts.sixteen
+    facts.marks.items _ c.deref.ensures.value c.reserve.ensures.items c.in_ok-note.ensures.marked facts.sixteen
     c.index_mut.ensures.value c.in_ok-former.ensures.before
 
 pub returns-clause-law_learn : goal.returns-clause-law_learn
