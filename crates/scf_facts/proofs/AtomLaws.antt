@@ -1,23 +1,21 @@
 -- What is learned at a level, as more is learned and marks are opened and closed.
-use Rattle.scf_facts.proofs.Common.{◌≡◌, ℕ, ◌≤◌, ◌<◌, ◌↔◌, List, [], ◌∷◌, ◌++◌, length, take, get_or, refl, sym, ◌∙◌, ap, subst, arith, length-append, Some, take-append-le, take-take, length-take-le, take_all, get_or_past, get_or_default, All-push, All-pop, Learned, count_at, AreRising, IsWords, Holds, AllowsByLearned, learned_at}
-use Rattle.scf_facts.proofs.CountLaws.{count_opened, count_closed, count_within, count_newest, rising_closed, rising_pushed}
+use Rattle.scf_facts.proofs.Common.{◌≡◌, ℕ, ◌≤◌, ◌<◌, ◌↔◌, List, [], ◌∷◌, ◌++◌, length, take, get_or, refl, sym, ◌∙◌, ap, subst, arith, length-append, Some, take-append-le, take-take, length-take-le, take_all, get_or_past, get_or_default, All-push, All-pop, Learned, count_at, AreRising, Holds, AllowsByLearned, learned_at}
+use Rattle.scf_facts.proofs.CountLaws.{count_opened, count_closed, count_within, count_newest, rising_closed, rising_more, rising_pushed}
 
 -- past the last mark all is learned
 pub learned_now : (learned : List Learned) (marks : List ℕ) (level : ℕ)
     → length marks ≤ level → learned_at learned marks level ≡ learned
 learned_now learned marks level past = take_all _ learned (omega (arith, get_or_past marks level (length learned) past))
 
--- what was learned holds of the words that are allowed now
-pub holds_now : (learned items : List Learned) (marks : List ℕ) (k : ℕ) (known : Learned) → items ≡ learned
-    → known ≡ get_or items k known → k < length items → (words : List ℕ)
-    → AllowsByLearned learned marks (length marks) words → IsWords words × Holds known words
-holds_now learned items marks k known same read lt words h =
-    let now = rw (learned_now learned marks (length marks) (omega arith)) at h in
-    (now.0, subst (λ k. Holds k words) (sym (rw same at read)) (now.1 k known (rw same at lt)))
+-- what was learned holds of the words that are allowed
+pub holds : (learned items : List Learned) (k : ℕ) (known : Learned) (words : List ℕ) → AllowsByLearned learned words
+    → items ≡ learned → known ≡ get_or items k known → k < length items → Holds known words
+holds learned items k known words h same read lt =
+    subst (λ k. Holds k words) (sym (rw same at read)) (h.all k known (rw same at lt))
 
-pub allows_pushed : (learned : List Learned) (x : Learned) (marks : List ℕ) (words : List ℕ)
-    → AllowsByLearned (learned ++ x ∷ []) marks (length marks) words
-    ↔ (AllowsByLearned learned marks (length marks) words × Holds x words)
+pub allows_pushed : (learned : List Learned) (x : Learned) (marks words : List ℕ)
+    → AllowsByLearned (learned_at (learned ++ x ∷ []) marks (length marks)) words
+    ↔ (AllowsByLearned (learned_at learned marks (length marks)) words × Holds x words)
 allows_pushed learned x marks words =
     let P : Learned → Type 0 = λ known. Holds known words in
     rw (
@@ -51,3 +49,7 @@ learned_closed learned cut marks rest count index e same rising lt =
     ∙ ap (λ n. take n learned) (count_closed rest count (length learned) index le))
 
 pub ruleset opened_laws = (learned_now, learned_opened, rising_pushed)
+
+pub ruleset pushed_laws = (learned_pushed, rising_more)
+
+pub ruleset told_laws = (learned_now, holds)

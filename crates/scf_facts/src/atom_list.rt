@@ -3,7 +3,7 @@
 ghost use Rattle.std.specs.Prelude.{◌≡◌, ◌↔◌, ℕ, List, IfOk, IsOk, IsTrue, false, length};
 ghost use Rattle.scf_insn.specs.Words.{IsWords};
 ghost use Rattle.scf_facts.specs.internal.Counts.{AreRising};
-ghost use Rattle.scf_facts.specs.internal.Learned.{AllHold, AllowsByLearned};
+ghost use Rattle.scf_facts.specs.internal.Learned.{AllHold, AllowsByLearned, learned_at};
 
 use crate::atom::{Atom, Tell};
 use crate::bits::Bits;
@@ -27,7 +27,7 @@ pub struct AtomList {
 impl WordFacts for AtomList {
     ghost level = { λ facts. length facts.marks.items };
 
-    ghost allows = { λ facts. AllowsByLearned facts.learned.items facts.marks.items };
+    ghost allows = { λ facts level. AllowsByLearned (learned_at facts.learned.items facts.marks.items level) };
 
     ghost is_exact = { λ _ _. false };
 
@@ -46,7 +46,7 @@ impl WordFacts for AtomList {
         })
     }
 
-    #[tactic(auto, using(crate::proofs::AtomLaws::learned_pushed, crate::proofs::CountLaws::rising_more))]
+    #[tactic(auto, using(crate::proofs::AtomLaws::pushed_laws))]
     fn learn(&mut self, atom: Atom, holds: bool) -> Result<(), Memory> {
         self.learned.push(Learned { atom, holds })?;
         Ok(())
@@ -70,6 +70,7 @@ impl WordFacts for AtomList {
         self.marks.len()
     }
 
+    #[tactic(auto, using(crate::proofs::AtomLaws::told_laws))]
     fn tell(&self, atom: Atom) -> Tell {
         if let Atom::Eq { mask: 0, value, .. } = atom {
             return Tell::of(value == 0);
@@ -83,6 +84,7 @@ impl WordFacts for AtomList {
         Tell::Maybe
     }
 
+    #[tactic(auto, using(crate::proofs::AtomLaws::told_laws))]
     fn known_bits(&self, word: u8) -> Bits {
         for known in &self.learned {
             match known.fixes() {
@@ -97,6 +99,7 @@ impl WordFacts for AtomList {
         false
     }
 
+    #[tactic(auto, using(crate::proofs::AtomLaws::learned_now))]
     fn pick(&self) -> Option<[u32; 16]> {
         let mut words = [0; 16];
         for known in &self.learned {

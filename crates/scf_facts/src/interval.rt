@@ -3,7 +3,7 @@
 ghost use Rattle.std.specs.Prelude.{◌≡◌};
 ghost use Rattle.scf_facts.specs.internal.Intervals.{part_within, part_below, part_above};
 
-/// The values `first..=last`.
+/// The values `low..=high`.
 #[derive(Clone, Copy)]
 pub(crate) struct Interval {
     pub(crate) low: u32,

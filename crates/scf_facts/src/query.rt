@@ -11,7 +11,7 @@ use crate::interval::Interval;
 /// An atom's question about the value of its word.
 #[derive(Clone, Copy)]
 pub(crate) enum Query {
-    /// Is the value in `first..=last`? It is exactly if the atom has the answer `answer`.
+    /// Is the value in `range`? It is exactly if the atom has the answer `answer`.
     Within { range: Interval, answer: bool },
     /// Does the value have these bits?
     Masked(Bits),
@@ -36,7 +36,7 @@ impl Query {
         }
     }
 
-    /// Whether the value is in `first..=last`, which is so exactly if the atom has the answer `answer`.
+    /// Whether the value is in `low..=high`, which is so exactly if the atom has the answer `answer`.
     fn within(low: u32, high: u32, answer: bool) -> Query
         ensures { result ≡ Query.Within (record { low = low; high = high }) answer }
     {

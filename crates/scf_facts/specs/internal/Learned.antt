@@ -17,6 +17,7 @@ AllHold learned words = All (λ known. Holds known words) learned
 abbrev pub learned_at : List Learned → List ℕ → ℕ → List Learned
 learned_at learned marks level = take (count_at marks (length learned) level) learned
 
--- the lists of words that agree with what had been learned at a level
-abbrev pub AllowsByLearned : List Learned → List ℕ → ℕ → List ℕ → Type 0
-AllowsByLearned learned marks level words = IsWords words × AllHold (learned_at learned marks level) words
+-- the lists of words that agree with what was learned
+pub record AllowsByLearned (learned : List Learned) (words : List ℕ) : Type 0 where
+  pub sixteen : IsWords words
+  pub all : AllHold learned words
