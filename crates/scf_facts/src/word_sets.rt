@@ -87,6 +87,7 @@ impl WordFacts for WordSets {
         self.marks.len()
     }
 
+    #[tactic(auto, using(crate::proofs::TrailLaws::known_now))]
     fn tell(&self, atom: Atom) -> Tell {
         tell_by_word(&self.sets, atom)
     }
