@@ -1,6 +1,6 @@
 -- What is learned at a level, as more is learned and marks are opened and closed.
 use Rattle.scf_facts.proofs.Common.{◌≡◌, ℕ, ◌≤◌, ◌<◌, ◌↔◌, List, [], ◌∷◌, ◌++◌, length, take, get_or, refl, sym, ◌∙◌, ap, subst, arith, length-append, Some, take-append-le, take-take, length-take-le, take_all, get_or_past, get_or_default, All-push, All-pop, Learned, count_at, AreRising, Holds, AllowsByLearned, learned_at}
-use Rattle.scf_facts.proofs.CountLaws.{count_opened, count_closed, count_within, count_newest, rising_closed, rising_more, rising_pushed}
+use Rattle.scf_facts.proofs.CountLaws.{count_opened, count_closed, count_within, count_newest, rising_closed, rising_pushed}
 
 -- past the last mark all is learned
 pub learned_now : (learned : List Learned) (marks : List ℕ) (level : ℕ)
@@ -49,7 +49,3 @@ learned_closed learned cut marks rest count index e same rising lt =
     ∙ ap (λ n. take n learned) (count_closed rest count (length learned) index le))
 
 pub ruleset opened_laws = (learned_now, learned_opened, rising_pushed)
-
-pub ruleset pushed_laws = (learned_pushed, rising_more)
-
-pub ruleset told_laws = (learned_now, holds)

@@ -46,7 +46,7 @@ impl WordFacts for AtomList {
         })
     }
 
-    #[tactic(auto, using(crate::proofs::AtomLaws::pushed_laws))]
+    #[tactic(auto, using(crate::proofs::AtomLaws::learned_pushed, crate::proofs::CountLaws::rising_more))]
     fn learn(&mut self, atom: Atom, holds: bool) -> Result<(), Memory> {
         self.learned.push(Learned { atom, holds })?;
         Ok(())
@@ -70,7 +70,7 @@ impl WordFacts for AtomList {
         self.marks.len()
     }
 
-    #[tactic(auto, using(crate::proofs::AtomLaws::told_laws))]
+    #[tactic(auto, using(crate::proofs::AtomLaws::learned_now, crate::proofs::AtomLaws::holds))]
     fn tell(&self, atom: Atom) -> Tell {
         if let Atom::Eq { mask: 0, value, .. } = atom {
             return Tell::of(value == 0);
@@ -84,7 +84,7 @@ impl WordFacts for AtomList {
         Tell::Maybe
     }
 
-    #[tactic(auto, using(crate::proofs::AtomLaws::told_laws))]
+    #[tactic(auto, using(crate::proofs::AtomLaws::learned_now, crate::proofs::AtomLaws::holds))]
     fn known_bits(&self, word: u8) -> Bits {
         for known in &self.learned {
             match known.fixes() {

@@ -22,8 +22,7 @@ fn highest_bit(n: u32) -> Option<u32>
     Some(31 - n.leading_zeros())
 }
 
-/// The least value past all those that share with `x` the highest bit that it has wrong and those above. None if `x` has
-/// the bits.
+/// The least value past all those that share with `x` its highest wrong bit and those above. None if `x` has the bits.
 #[tactic(auto, using(crate::proofs::LeastNumber::mismatch))]
 fn past(x: u32, bits: Bits) -> Option<u64>
     ensures right { IfNone result (HasBits bits x) }

@@ -63,7 +63,7 @@ fn is_covered(trail: &[Change], count: usize, change: &Change) -> bool
 #[tactic(auto, using(crate::proofs::TrailLaws::noted_laws))]
 pub(crate) fn note(trail: &mut Vec<Change>, marks: &[usize], change: Change) -> Result<(), Memory>
     requires { AreRising marks.now (length trail.old.items) }
-    ensures room { vec_len trail.old < vec_capacity trail.old → IsOk result }
+    ensures room { (0 < length marks.now → vec_len trail.old < vec_capacity trail.old) → IsOk result }
     ensures rising { AreRising marks.now (length trail.new.items) }
     ensures marked { OnOk result ((known : List NumberFacts) → length known ≡ 16
         → (index : ℕ) → index < length marks.now → known_at known trail.new.items marks.now index
