@@ -1,4 +1,3 @@
 mod ComparisonLemmas
-mod ReadingLemmas
 mod StackLemmas
 mod TableLemmas

@@ -13,8 +13,7 @@ use Rattle.scf_tool.specs.Commands.{NoReadFailed, known_text}
 use Rattle.scf_tool.specs.Reports.{beside_word, finding_text, report_text}
 use Rattle.scf_tool.specs.VerifyingArchitectures.{AreProfilesRefused, VerifiesArchitectures}
 use Rattle.scf_tool.specs.VerifyingBeside.{AreVerifiedBeside, IsRefusedPair, IsTableFault, VerifiesBeside}
-use Rattle.scf_tool.specs.VerifyingCalls.{AreVerifiedCalls}
-use Rattle.scf_tool.specs.VerifyingStacks.{IsRefusedBehind, IsRefusedStack, IsVerifiedBy}
+use Rattle.scf_tool.specs.VerifyingStacks.{AreVerifiedCalls, IsRefusedBehind, IsRefusedStack, IsVerifiedBy}
 use Rattle.scf_tool.specs.declared.call_verification.CallFinding.{CallFinding}
 use Rattle.scf_tool.specs.declared.call_verification.CallsOutcome.{CallsOutcome}
 use Rattle.scf_tool.specs.declared.verification.Outcome.{Outcome}
@@ -60,9 +59,11 @@ call_comparison_of call = record { nr = call.number; reserved = 0; comparison = 
 abbrev pub IsCompared : RightKind → List Bytes → RightSide → Asked → ℕ → Finding → List ℕ → Type 0
 IsCompared Profile filters right asked limit finding text = (outcome : Outcome)
     × IsVerifiedBy asked.relation (known filters) (Some right.table.now) (Some right.profile.now)
-    asked.scope (limit_of_steps limit) outcome × (finding ≡ finding_of outcome.verdict) × (text ≡ report_text asked.relation outcome)
+    asked.scope (limit_of_steps limit) outcome
+    × (finding ≡ finding_of outcome.verdict) × (text ≡ report_text asked.relation outcome)
 IsCompared Filters filters right asked limit finding text =
-    VerifiesBeside asked.relation (known filters) (known right.filters.now) asked.scope (limit_of_steps limit) (Ok finding)
+    VerifiesBeside asked.relation (known filters) (known right.filters.now) asked.scope (limit_of_steps limit)
+    (Ok finding)
     × (text ≡ finding_text asked.relation beside_word finding)
 
 -- Why they aren't compared: for the first fault of an input, or out of memory, which may come at any time. It isn't

@@ -14,7 +14,7 @@ ghost use Rattle.scf_c.specs.Faults.{IsRefusal, no_fault};
 ghost use Rattle.scf_c.specs.HandingOut.{IsHandedOut, IsNothingHandedOut};
 ghost use Rattle.scf_c.specs.Statuses.{ok, wrong_argument};
 
-use crate::comparison::{Compared, comparison_of, finding_of, no_comparison};
+use crate::comparison::{Compared, comparison_of, no_comparison};
 use crate::fault::{no_fault, refuse};
 use crate::layout::{Bytes, Comparison, Fault, Table};
 use crate::memory::{Reader, hand_out};
@@ -24,7 +24,7 @@ use crate::status::{OK, WRONG_ARGUMENT};
 use crate::tables::{relation_under, table_readers_of};
 use scf_compare::Limit;
 use scf_profile::Relation;
-use scf_tool::{report_by, verify_architectures};
+use scf_tool::{finding_of, report_by, verify_architectures};
 use std::alloc::Global;
 
 /// Compares filters with a profile for each architecture that has a table.

@@ -1,7 +1,6 @@
 //! Comparisons of filters with a profile or with other filters.
 
 ghost use Rattle.std.specs.Prelude.{◌≡◌, ◌≢◌, ℕ, List, IfErr, IfOk};
-ghost use Rattle.scf_compare.specs.Verdicts.{finding_of};
 ghost use Rattle.scf_compare.specs.declared.finding.Finding.{Finding};
 ghost use Rattle.scf_c.specs.Comparisons.{
   IsComparisonRefused,
@@ -24,8 +23,8 @@ use crate::question::{Asked, RightKind, asked_of};
 use crate::refusal::Refusal;
 use crate::right_side::readers_of;
 use crate::status::{OK, WRONG_ARGUMENT};
-use scf_compare::{Finding, Limit, Verdict, Which};
-use scf_tool::{report_beside, report_by, verify_beside, verify_by};
+use scf_compare::{Finding, Limit, Which};
+use scf_tool::{finding_of, report_beside, report_by, verify_beside, verify_by};
 use std::alloc::Global;
 
 /// What a comparison comes to, and the lines that the program prints of it.
@@ -33,29 +32,6 @@ use std::alloc::Global;
 pub(crate) struct Compared {
     pub finding: Finding,
     pub text: Vec<u8>,
-}
-
-/// The finding that a verdict is.
-pub(crate) fn finding_of(verdict: &Verdict) -> Finding
-    ensures { result ≡ finding_of verdict.now }
-{
-    match verdict {
-        Verdict::Same { steps } => Finding::Holds { steps: *steps },
-        Verdict::Differs {
-            call,
-            filter,
-            profile,
-        } => Finding::Fails {
-            call: *call,
-            left: *filter,
-            right: *profile,
-        },
-        Verdict::Undecided { at } => Finding::Undecided {
-            side: Which::Left,
-            at: *at,
-        },
-        Verdict::Unfinished => Finding::Unfinished,
-    }
 }
 
 /// Compares filters with the profile of a right side.

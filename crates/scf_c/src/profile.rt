@@ -18,13 +18,13 @@ ghost use Rattle.scf_c.specs.Statuses.{ok};
 
 use crate::fault::{no_fault, refuse};
 use crate::layout::{Call, Fault, ProfileReason};
-use crate::memory::{encoding_of, hand_out};
+use crate::memory::hand_out;
 use crate::refusal::Refusal;
 use crate::status::OK;
 use scf_compile::{CompileFault, compile};
 use scf_machine::Program;
 use scf_profile::{CallTable, Loaded, Reason, load};
-use scf_tool::VerifyFault;
+use scf_tool::{VerifyFault, encoding_of};
 use std::alloc::Global;
 
 /// What a profile and a table state.

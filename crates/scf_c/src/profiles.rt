@@ -26,7 +26,7 @@ ghost use Rattle.scf_c.specs.Statuses.{ok, wrong_argument};
 
 use crate::fault::{no_fault, refuse};
 use crate::layout::{Call, Fault, ProfileReason, Table};
-use crate::memory::{encoding_of, hand_out};
+use crate::memory::hand_out;
 use crate::profile::{no_reason, numbered};
 use crate::refusal::Refusal;
 use crate::status::{OK, WRONG_ARGUMENT};
@@ -37,7 +37,7 @@ use scf_machine::Program;
 use scf_profile::{
     ArchitectureTable, CallTable, LoadFault, LoadedProfiles, TableFault, load_profiles,
 };
-use scf_tool::VerifyFault;
+use scf_tool::{VerifyFault, encoding_of};
 use std::alloc::Global;
 
 /// The tables with these texts, each with its architecture.

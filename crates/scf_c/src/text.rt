@@ -13,11 +13,12 @@ ghost use Rattle.scf_c.specs.Statuses.{ok};
 
 use crate::fault::{no_fault, refuse};
 use crate::layout::Fault;
-use crate::memory::{Buffer, Reader, encoding_of, hand_out};
+use crate::memory::{Reader, hand_out};
 use crate::refusal::Refusal;
 use crate::status::OK;
-use scf_insn::{Insn, Memory, ReadFault, read_program};
-use scf_text::{TextFault, assemble, disassemble};
+use scf_insn::{ReadFault, read_program};
+use scf_text::{TextFault, assemble};
+use scf_tool::{encoding_of, listing_of};
 use std::alloc::Global;
 
 /// The bytes of the instructions that a text spells.
@@ -58,17 +59,6 @@ pub extern "C" fn scf_assemble(
             OK
         }
         Err(why) => refuse(why, fault),
-    }
-}
-
-/// The listing of instructions.
-fn listing_of(alloc: Global, insns: &[Insn]) -> Result<Vec<u8>, Memory>
-    ensures { IfOk result (λ text. text.items ≡ text_of insns.now) }
-{
-    let mut text = Buffer::new(alloc);
-    match disassemble(insns, &mut text) {
-        Ok(()) => Ok(text.into_bytes()),
-        Err(_) => Err(Memory),
     }
 }
 

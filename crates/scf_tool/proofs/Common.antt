@@ -1,5 +1,5 @@
 -- The names that proofs of this crate cite, passed on from one place. Declares nothing.
-pub use Rattle.std.proofs.Common.{Bool, Contains, Err, IfErr, IfSome, List, None, Ok, Option, Result, Some, String, [], add-one, ap, append-nil, append_assoc, arith, codes, drop, false, find, get_or, if◌then◌else◌, inl, inr, length, length-append, length-drop, map, not, refl, set, string_bytes, subst, suc, sym, take, true, zero, ℕ, ◌++◌, ◌+◌, ◌<◌, ◌∙◌, ◌∷◌, ◌≡◌, ◌≢◌, ◌≤◌, ◌⊎◌}
+pub use Rattle.std.proofs.Common.{Bool, Contains, Err, IfErr, IfSome, List, None, Ok, Option, Result, Some, String, [], add-one, ap, append-nil, append_assoc, arith, codes, drop, false, find, get_or, inl, inr, length, length-drop, map, not, refl, set, string_bytes, subst, suc, sym, take, true, zero, ℕ, ◌++◌, ◌+◌, ◌<◌, ◌∙◌, ◌∷◌, ◌≡◌, ◌≢◌, ◌≤◌, ◌⊎◌}
 pub use Rattle.clap.specs.Words.{IsAmong, Row, Text, fault_of}
 pub use Rattle.clap.specs.declared.error.kind.ErrorKind.{ErrorKind}
 pub use Rattle.clap.specs.declared.error.kind.ErrorKind.TheVariants.{OutOfMemory}
@@ -15,20 +15,19 @@ pub use Rattle.scf_compare.specs.declared.finding.Finding.{Finding}
 pub use Rattle.scf_compile.proofs.Common.{drop_more, take_more}
 pub use Rattle.scf_facts.proofs.Common.{take-append-drop}
 pub use Rattle.scf_insn.proofs.Common.{TakesAll, max_filter_len, max_insns_per_path, program_bytes}
-pub use Rattle.scf_insn.proofs.Written.{fails_then, takes_then}
+pub use Rattle.scf_insn.proofs.Written.{fails_then}
 pub use Rattle.scf_compare.specs.declared.verdict.Verdict.{Verdict}
 pub use Rattle.scf_compare.specs.declared.verdict.Verdict.TheVariants.{Same, Differs, Undecided, Unfinished}
-pub use Rattle.scf_insn.specs.Words.{IsRecord}
 pub use Rattle.scf_insn.specs.declared.insn.Insn.{Insn}
 pub use Rattle.scf_machine.specs.Precedence.{StackAnswers}
 pub use Rattle.scf_machine.proofs.Common.{IsPush, cost_of}
-pub use Rattle.scf_profile.proofs.Common.{Answering, IfOk-weaker, Names, Refuses, err_from_is_err_and, map-append, option_map_or, texts_at}
+pub use Rattle.scf_profile.proofs.Common.{Answering, IfOk-weaker, Names, Refuses, err_from_is_err_and, map-append, texts_at}
 pub use Rattle.scf_profile.specs.declared.load_fault.LoadFault.{LoadFault}
-pub use Rattle.scf_text.proofs.Common.{each_fails, fails_first, flat_map, flat_map-append, writes_then}
-pub use Rattle.scf_tool.specs.CallReports.{joint_of, named_line}
+pub use Rattle.scf_text.proofs.Common.{each_fails, fails_first, flat_map, writes_then}
+pub use Rattle.scf_tool.specs.CallReports.{named_line}
 pub use Rattle.scf_tool.specs.Commands.{NoReadFailed, ReadsInput}
 pub use Rattle.scf_tool.specs.Faults.{number_words}
-pub use Rattle.scf_tool.specs.FilterStacks.{HasNoStack, HasStack, HaveEnded, HaveStopped, IsNotPushed}
+pub use Rattle.scf_tool.specs.FilterStacks.{HasNoStack, HasStack, HaveStopped, IsNotPushed}
 pub use Rattle.scf_tool.specs.Reports.{argument_text, name_line}
 pub use Rattle.scf_request.specs.Requests.{AsksFor}
 pub use Rattle.scf_request.specs.CommandLine.{scf}
@@ -46,6 +45,7 @@ pub use Rattle.scf_tool.specs.declared.reply.Reply.TheVariants.{CommandLine}
 pub use Rattle.scf_tool.specs.declared.verify_fault.VerifyFault.{VerifyFault}
 pub use Rattle.scf_tool.specs.declared.verify_fault.VerifyFault.TheVariants.{FilterRead}
 pub use Rattle.scf_request.specs.Contents.{rest_of}
+pub use Rattle.scf_tool.specs.internal.Gathering.{buffered}
 pub use Rattle.scf_tool.specs.internal.Fields.{field_text, numbers_of_field}
 pub use Rattle.scf_tool.specs.internal.Explaining.{Explains}
 pub use Rattle.scf_tool.specs.internal.Pieces.{fragment_text}

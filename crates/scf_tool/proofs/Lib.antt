@@ -6,5 +6,5 @@ mod FaultLemmas
 mod OneArchitecture
 mod PartyLemmas
 pub mod StackLemmas
-mod TableLemmas
+pub mod TableLemmas
 pub mod WritingLemmas

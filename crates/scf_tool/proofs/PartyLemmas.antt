@@ -1,18 +1,9 @@
 -- The parties of a comparison.
-use Rattle.scf_tool.proofs.Common.{inr, refl, sym, subst, ◌≡◌, ◌≤◌, length, Some, None, Ok, Err, Result, IfSome, IfErr, LoadFault, VerifyFault, ℕ, List, Option, Insn, Answering, Names, Inputs, AreComparedParties, IsRefusedStack, AreInputs, LeftOut, left_out_of}
+use Rattle.scf_tool.proofs.Common.{refl, sym, subst, ◌≡◌, ◌≤◌, length, Some, None, Ok, Err, Result, IfSome, IfErr, LoadFault, VerifyFault, ℕ, List, Option, Insn, Answering, Names, Inputs, AreComparedParties, AreInputs, left_out_of}
 use Rattle.scf_tool.specs.declared.verify_fault.VerifyFault.TheVariants.{Memory}
 
 module _ (filters : List (Option (List ℕ))) (table profile : Option (List ℕ)) where
-  -- once they are read, only memory can be refused
-  pub parties_are_read : (inputs : Inputs) → AreInputs filters table profile inputs
-      → IsRefusedStack filters table profile Memory
-  parties_are_read inputs read = inr (
-    inputs.stack,
-    read.has_stack,
-    inr (inputs.names, read.is_table, inr (inputs.loaded, read.is_loaded, refl)),
-  )
-
-  -- and what holds of them is said of their bytes
+  -- what holds of them is said of their bytes
   pub parties_are_compared : (inputs : Inputs) (holds : List (List Insn) → Names → Answering → Type 0)
       → AreInputs filters table profile inputs → holds inputs.stack inputs.names inputs.loaded.profile
       → AreComparedParties filters table profile (left_out_of inputs.loaded) holds
@@ -26,15 +17,6 @@ module _ (filters : List (Option (List ℕ))) (table profile : Option (List ℕ)
     is_left_out = refl;
     compared = compared;
   }
-
-  -- and once they are compared, too
-  pub parties_were_read : (left_out : LeftOut) (holds : List (List Insn) → Names → Answering → Type 0)
-      → AreComparedParties filters table profile left_out holds → IsRefusedStack filters table profile Memory
-  parties_were_read left_out holds compared = inr (
-    compared.stack,
-    compared.has_stack,
-    inr (compared.names, compared.is_table, inr (compared.loaded, compared.is_loaded, refl)),
-  )
 
 -- a text that a limit lets through, and why it is refused
 pub refused_text : (refuses : List ℕ → LoadFault → Type 0) (bytes : Option (List ℕ)) (text : List ℕ) (fault : LoadFault)

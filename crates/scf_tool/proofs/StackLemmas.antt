@@ -1,10 +1,8 @@
 -- Readers of filters, one after another.
-use Rattle.scf_tool.proofs.Common.{◌≡◌, ℕ, ◌+◌, ◌<◌, ◌≤◌, List, [], ◌∷◌, ◌++◌, length, take, drop, set, get_or, map, Option, Some, Ok, Err, refl, sym, ap, ◌∙◌, ◌≢◌, arith, add-one, length-drop, drop_more, take_more, take_more_set, set_split, drop-set-lt, take-append-drop, map-append, sum_by_push, AllZip, Insn, max_insns_per_path, IsPush, cost_of, PartReader, HasEnded, IsAcceptedFilter, LeavesFilterReader, HasStack, HasNoStack, IsNotPushed, HaveEnded, HaveStopped, LeavesFilterReaders, LeavesProfileReader, LeavesTableReader, NoReadFailed, VerifyFault, FilterRead, rest_of}
+use Rattle.scf_tool.proofs.Common.{◌≡◌, ℕ, ◌+◌, ◌<◌, ◌≤◌, List, [], ◌∷◌, ◌++◌, length, take, drop, set, get_or, map, Option, Some, Ok, Err, refl, sym, ap, ◌∙◌, arith, add-one, length-drop, drop_more, take_more, take_more_set, set_split, drop-set-lt, take-append-drop, map-append, sum_by_push, AllZip, Insn, max_insns_per_path, IsPush, cost_of, PartReader, HasEnded, IsAcceptedFilter, HasStack, HasNoStack, IsNotPushed, HaveStopped, LeavesFilterReaders, LeavesProfileReader, LeavesTableReader, NoReadFailed, VerifyFault, FilterRead, rest_of}
 use Rattle.scf_tool.specs.VerifyingBeside.{IsTableFault}
 use Rattle.scf_tool.proofs.Common.{inl, inr}
-use Rattle.scf_tool.specs.declared.verify_fault.VerifyFault.TheVariants.{Memory, ProfileRead, TableRead}
-use Rattle.scf_insn.specs.declared.encoding.ReadFault.TheVariants as reads
-use Rattle.scf_insn.specs.declared.input.InputFault.TheVariants as inputs
+use Rattle.scf_tool.specs.declared.verify_fault.VerifyFault.TheVariants.{ProfileRead, TableRead}
 use Rattle.scf_request.specs.declared.contents.TableReader.{TableReader}
 use Rattle.scf_tool.specs.FilterStacks.{HaveStoppedBy}
 use Rattle.scf_tool.specs.VerifyingArchitectures.{LeavesTableReaders}
@@ -22,6 +20,11 @@ pub record SameFrom {R : Type 0} (i : ℕ) (olds news : List R) (old : R) : Type
   pub within : i < length news
   pub here : old ≡ get_or news i old
   pub same : drop i news ≡ drop i olds
+
+-- an element that a loop over them has come to
+pub same_from : {R : Type 0} (i : ℕ) (olds news : List R) (item : R) → i < length news → item ≡ get_or news i item
+    → drop i news ≡ drop i olds → SameFrom i olds news (get_or news i item)
+same_from i olds news item lt is same = record { within = lt; here = ap (λ d. get_or news i d) is; same = same }
 
 module _ {R : Type 0} (i : ℕ) (olds news : List R) (old : R) (from : SameFrom i olds news old) where
   within_olds : i < length olds
@@ -122,116 +125,69 @@ no_stack remaining failures i olds news old stack fault from upto refused = reco
   why = refused;
 }
 
--- and its reader is the last that was asked
-pub filters_stop : {R : Type 0} (remaining : R → Option (List ℕ)) (failures : R → ℕ) (i : ℕ) (olds news : List R)
-    (old new : R) (stack : List (List Insn)) (fault : VerifyFault) → SameFrom i olds news old
-    → IsStackUpTo remaining failures i olds news stack
-    → LeavesFilterReader {T = List Insn} remaining failures old (Err fault) new
-    → HaveStopped remaining failures fault olds (set news i new)
-filters_stop remaining failures i olds news old new stack fault from upto left =
-    readers_stop remaining HasStack (HasEnded remaining failures)
-    (λ old new. LeavesFilterReader {T = List Insn} remaining failures old (Err fault) new) i olds news old new stack
-    from upto left
-
 -- the readers of parts tell what the parts hold
 pub told_of_parts : (readers : List PartReader) → map (λ reader. Some (rest_of reader)) readers
     ≡ map Some (map rest_of readers)
 told_of_parts [] = refl
 told_of_parts (reader ∷ readers) = ap (λ input. Some (rest_of reader) ∷ input) (told_of_parts readers)
 
--- a reader that never fails isn't why there is no stack
-pub never_fails : {R : Type 0} (remaining : R → Option (List ℕ)) (fault : VerifyFault) (olds news : List R)
-    → HaveStopped remaining (λ _. 0) fault olds news → fault ≢ FilterRead reads.Read
-never_fails remaining fault olds news h = grind arith
+-- ---- readers that never fail
 
--- ---- readers of parts, which never fail
+abbrev pub part_bytes : PartReader → Option (List ℕ)
+part_bytes reader = Some (rest_of reader)
 
-abbrev input : PartReader → Option (List ℕ)
-input reader = Some (rest_of reader)
+module _ {R : Type 0} (remaining : R → Option (List ℕ)) where
+  abbrev none : R → ℕ
+  none reader = 0
 
-abbrev none : PartReader → ℕ
-none reader = 0
+  -- no read of one is why nothing is compared
+  pub reads_well : (T : Type 0) (fault : VerifyFault) (olds news : List R) (table table_new profile profile_new : R)
+      → LeavesFilterReaders {T = T} remaining none olds (Err fault) news
+      → LeavesTableReader {T = T} remaining none table (Err fault) table_new
+      → LeavesProfileReader {T = T} remaining none profile (Err fault) profile_new → NoReadFailed fault
+  reads_well T (FilterRead fault) olds news table table_new profile profile_new of_filters of_table of_profile =
+      λ is. absurd (omega (arith, of_filters.left.0 is))
+  reads_well T (TableRead fault) olds news table table_new profile profile_new of_filters of_table of_profile =
+      λ is. absurd (omega (arith, of_table.0 is))
+  reads_well T (ProfileRead fault) olds news table table_new profile profile_new of_filters of_table of_profile =
+      λ is. absurd (omega (arith, of_profile.0 is))
+  reads_well T fault olds news table table_new profile profile_new of_filters of_table of_profile = tt
 
--- no read of one is why nothing is compared, where none of a table is
-pub all_read_well : (T : Type 0) (fault : VerifyFault) (olds news : List PartReader) (profile profile_new : PartReader)
-    → LeavesFilterReaders {T = T} input none olds (Err fault) news → fault ≢ TableRead inputs.Read
-    → LeavesProfileReader {T = T} input none profile (Err fault) profile_new → NoReadFailed fault
-all_read_well T (FilterRead fault) olds news profile profile_new of_filters of_table of_profile = record {
-  of_filter = never_fails input (FilterRead fault) olds news of_filters;
-  of_table = of_table;
-  of_profile = λ is. cc;
-}
-all_read_well T (ProfileRead fault) olds news profile profile_new of_filters of_table of_profile = record {
-  of_filter = λ is. cc;
-  of_table = of_table;
-  of_profile = λ is. absurd (omega (arith, of_profile.0 (cc)));
-}
-all_read_well T fault olds news profile profile_new of_filters of_table of_profile =
-    record { of_filter = λ is. cc; of_table = of_table; of_profile = λ is. cc }
+  -- nor where there are tables of several architectures
+  pub read_well_each : (T : Type 0) (fault : VerifyFault) (olds news : List R) (tables tables_new : List (TableReader R))
+      (profile profile_new : R) → LeavesFilterReaders {T = T} remaining none olds (Err fault) news
+      → LeavesTableReaders {T = T} remaining none tables (Err fault) tables_new
+      → LeavesProfileReader {T = T} remaining none profile (Err fault) profile_new → NoReadFailed fault
+  read_well_each T (FilterRead fault) olds news tables tables_new profile profile_new of_filters of_tables of_profile =
+      λ is. absurd (omega (arith, of_filters.left.0 is))
+  read_well_each T (TableRead fault) olds news tables tables_new profile profile_new of_filters of_tables of_profile =
+      λ is. absurd (omega (arith, of_tables.left.1.0 is))
+  read_well_each T (ProfileRead fault) olds news tables tables_new profile profile_new of_filters of_tables of_profile =
+      λ is. absurd (omega (arith, of_profile.0 is))
+  read_well_each T fault olds news tables tables_new profile profile_new of_filters of_tables of_profile = tt
 
-table_reads : (T : Type 0) (fault : VerifyFault) (table table_new : PartReader)
-    → LeavesTableReader {T = T} input none table (Err fault) table_new → fault ≢ TableRead inputs.Read
-table_reads T (TableRead fault) table table_new left = λ is. absurd (omega (arith, left.0 (cc)))
-table_reads T fault table table_new left = λ is. cc
+  -- nor why there is no stack
+  pub stack_reads_well : (T : Type 0) (texts : List (Option (List ℕ))) (fault : VerifyFault) (olds news : List R)
+      → HasNoStack texts fault → LeavesFilterReaders {T = T} remaining none olds (Err fault) news → NoReadFailed fault
+  stack_reads_well T texts (FilterRead fault) olds news refused left = λ is. absurd (omega (arith, left.left.0 is))
+  stack_reads_well T texts (TableRead fault) olds news refused left = absurd refused.why
+  stack_reads_well T texts (ProfileRead fault) olds news refused left = absurd refused.why
+  stack_reads_well T texts fault olds news refused left = tt
 
-pub reads_well : (T : Type 0) (fault : VerifyFault) (olds news : List PartReader)
-    (table table_new profile profile_new : PartReader)
-    → LeavesFilterReaders {T = T} input none olds (Err fault) news
-    → LeavesTableReader {T = T} input none table (Err fault) table_new
-    → LeavesProfileReader {T = T} input none profile (Err fault) profile_new → NoReadFailed fault
-reads_well T fault olds news table table_new profile profile_new of_filters of_table of_profile =
-    all_read_well T fault olds news profile profile_new of_filters (table_reads T fault table table_new of_table)
-    of_profile
+  pub stopped_reads_well : (texts : List (Option (List ℕ))) (fault : VerifyFault) (olds news : List R)
+      → HasNoStack texts fault → HaveStopped remaining none fault olds news → NoReadFailed fault
+  stopped_reads_well texts (FilterRead fault) olds news refused left = λ is. absurd (omega (arith, left.left.0 is))
+  stopped_reads_well texts (TableRead fault) olds news refused left = absurd refused.why
+  stopped_reads_well texts (ProfileRead fault) olds news refused left = absurd refused.why
+  stopped_reads_well texts fault olds news refused left = tt
 
--- nor where there are tables of several architectures
-tables_read : (T : Type 0) (fault : VerifyFault) (olds news : List (TableReader PartReader))
-    → LeavesTableReaders {T = T} input none olds (Err fault) news → fault ≢ TableRead inputs.Read
-tables_read T (TableRead fault) olds news left = λ is. absurd (omega (arith, left.left.1.0 (cc)))
-tables_read T fault olds news left = λ is. cc
-
-pub read_well_each : (T : Type 0) (fault : VerifyFault) (olds news : List PartReader)
-    (tables tables_new : List (TableReader PartReader)) (profile profile_new : PartReader)
-    → LeavesFilterReaders {T = T} input none olds (Err fault) news
-    → LeavesTableReaders {T = T} input none tables (Err fault) tables_new
-    → LeavesProfileReader {T = T} input none profile (Err fault) profile_new → NoReadFailed fault
-read_well_each T fault olds news tables tables_new profile profile_new of_filters of_tables of_profile =
-    all_read_well T fault olds news profile profile_new of_filters (tables_read T fault tables tables_new of_tables)
-    of_profile
-
-pub memory_is_no_read : NoReadFailed Memory
-memory_is_no_read = record { of_filter = λ is. cc; of_table = λ is. cc; of_profile = λ is. cc }
-
--- nor why there is no stack
-pub stack_reads_well : (T : Type 0) (texts : List (Option (List ℕ))) (fault : VerifyFault) (olds news : List PartReader)
-    → HasNoStack texts fault → LeavesFilterReaders {T = T} input none olds (Err fault) news → NoReadFailed fault
-stack_reads_well T texts (FilterRead fault) olds news refused left = record {
-  of_filter = never_fails input (FilterRead fault) olds news left;
-  of_table = λ is. cc;
-  of_profile = λ is. cc;
-}
-stack_reads_well T texts (TableRead fault) olds news refused left = absurd refused.why
-stack_reads_well T texts (ProfileRead fault) olds news refused left = absurd refused.why
-stack_reads_well T texts fault olds news refused left =
-    record { of_filter = λ is. cc; of_table = λ is. cc; of_profile = λ is. cc }
-
-pub stopped_reads_well : (texts : List (Option (List ℕ))) (fault : VerifyFault) (olds news : List PartReader)
-    → HasNoStack texts fault → HaveStopped input none fault olds news → NoReadFailed fault
-stopped_reads_well texts (TableRead fault) olds news refused left = absurd refused.why
-stopped_reads_well texts (ProfileRead fault) olds news refused left = absurd refused.why
-stopped_reads_well texts fault olds news refused left =
-    record { of_filter = never_fails input fault olds news left; of_table = λ is. cc; of_profile = λ is. cc }
-
--- nor why a table isn't read
-pub table_reads_well : (T : Type 0) (fault : VerifyFault) (bytes : Option (List ℕ)) (table table_new : PartReader)
-    → IsTableFault bytes fault → LeavesTableReader {T = T} input none table (Err fault) table_new → NoReadFailed fault
-table_reads_well T (FilterRead fault) bytes table table_new (inl refused) left = absurd refused
-table_reads_well T (FilterRead fault) bytes table table_new (inr refused) left = absurd (cc (refused.2))
-table_reads_well T (TableRead fault) bytes table table_new refused left = record {
-  of_filter = λ is. cc;
-  of_table = λ is. absurd (omega (arith, left.0 (cc)));
-  of_profile = λ is. cc;
-}
-table_reads_well T (ProfileRead fault) bytes table table_new (inl refused) left = absurd refused
-table_reads_well T (ProfileRead fault) bytes table table_new (inr refused) left = absurd (cc (refused.2))
-table_reads_well T fault bytes table table_new refused left =
-    record { of_filter = λ is. cc; of_table = λ is. cc; of_profile = λ is. cc }
+  -- nor why a table isn't read
+  pub table_reads_well : (T : Type 0) (fault : VerifyFault) (bytes : Option (List ℕ)) (table table_new : R)
+      → IsTableFault bytes fault → LeavesTableReader {T = T} remaining none table (Err fault) table_new
+      → NoReadFailed fault
+  table_reads_well T (FilterRead fault) bytes table table_new (inl refused) left = absurd refused
+  table_reads_well T (FilterRead fault) bytes table table_new (inr refused) left = absurd (cc (refused.2))
+  table_reads_well T (TableRead fault) bytes table table_new refused left = λ is. absurd (omega (arith, left.0 is))
+  table_reads_well T (ProfileRead fault) bytes table table_new (inl refused) left = absurd refused
+  table_reads_well T (ProfileRead fault) bytes table table_new (inr refused) left = absurd (cc (refused.2))
+  table_reads_well T fault bytes table table_new refused left = tt

@@ -30,7 +30,6 @@ use Rattle.scf_profile.specs.StatedProfile.{Tables}
 use Rattle.scf_profile.specs.Table.{Names, table_of}
 use Rattle.scf_compile.specs.declared.fault.CompileFault.TheVariants as compiles
 use Rattle.scf_compile.specs.SizeBound.{size_bound_of, size_bound_of_each}
-use Rattle.scf_tool.specs.Comparisons.{limit_of}
 use Rattle.scf_tool.specs.declared.fault.Fault.{Fault}
 use Rattle.scf_tool.specs.declared.fault.Fault.TheVariants as faults
 use Rattle.scf_profile.specs.declared.relation.Relation.{Relation}
@@ -43,7 +42,6 @@ use Rattle.scf_request.specs.declared.request.Request.TheVariants as requests
 use Rattle.scf_request.specs.declared.request.Scopes.{Scopes}
 use Rattle.scf_request.specs.declared.request.Scopes.TheVariants.{AtOnce, EachCall}
 use Rattle.scf_tool.specs.declared.verify_fault.BesideFault.{BesideFault}
-use Rattle.scf_tool.specs.declared.verify_fault.BesideFault.TheVariants as besides
 use Rattle.scf_tool.specs.declared.verify_fault.VerifyFault.{VerifyFault}
 use Rattle.scf_tool.specs.declared.verify_fault.VerifyFault.TheVariants as verifies
 use Rattle.scf_compare.specs.declared.finding.Finding.{Finding}
@@ -62,9 +60,8 @@ use Rattle.scf_tool.specs.FilterStacks.{HasStack, HasNoStack}
 use Rattle.scf_tool.specs.Reports.{beside_word, finding_status, finding_text, report_text, verdict_status}
 use Rattle.scf_tool.specs.Verifying.{IsAcceptedFilter, IsNoFilter, ReadsFilter, ReadsUnder}
 use Rattle.scf_tool.specs.VerifyingArchitectures.{AreProfilesRefused, AreVerified, AreVerifiedCallsOf}
-use Rattle.scf_tool.specs.VerifyingBeside.{AreVerifiedBeside, IsRefusedPair, IsTableFault, VerifiesBeside}
-use Rattle.scf_tool.specs.VerifyingCalls.{AreVerifiedCalls}
-use Rattle.scf_tool.specs.VerifyingStacks.{IsRefusedBehind, IsRefusedStack, IsVerifiedBy}
+use Rattle.scf_tool.specs.VerifyingBeside.{AreVerifiedBeside, IsRefusedPair, IsTableFault, VerifiesBeside, fault_of_either}
+use Rattle.scf_tool.specs.VerifyingStacks.{AreVerifiedCalls, IsRefusedBehind, IsRefusedStack, IsVerifiedBy}
 
 -- ---- standard input
 
@@ -137,10 +134,11 @@ Assembles input ending = ⊥
 -- ---- a stack of filters
 
 -- No read of a filter, a table or a profile failed: they are parts of a bundle that was read before.
-pub record NoReadFailed (fault : VerifyFault) : Type 0 where
-  pub of_filter : fault ≢ verifies.FilterRead reads.Read
-  pub of_table : fault ≢ verifies.TableRead inputs.Read
-  pub of_profile : fault ≢ verifies.ProfileRead inputs.Read
+abbrev pub NoReadFailed : VerifyFault → Type 0
+NoReadFailed (verifies.FilterRead fault) = fault ≢ reads.Read
+NoReadFailed (verifies.TableRead fault) = fault ≢ inputs.Read
+NoReadFailed (verifies.ProfileRead fault) = fault ≢ inputs.Read
+NoReadFailed fault = Unit {0}
 
 -- `decide`: the answer to the call of the stack that the filters are
 abbrev pub DecidesCall : CallRecord → List (List ℕ) → Result Reply Fault → Type 0
@@ -248,10 +246,8 @@ AreNotCompared EachCall filters beside tables fault = (table : List ℕ) × (tab
 -- call of a table, and its status, where None is that the relation holds of all calls.
 abbrev pub ComparesStacks : Scopes → Relation → Limits → List (List ℕ) → List (List ℕ) → List (List ℕ)
     → Result Reply Fault → Type 0
-ComparesStacks over relation limits filters beside tables (Err (faults.Verify fault)) =
-    NoReadFailed fault × AreNotCompared over filters beside tables (besides.Verify fault)
-ComparesStacks over relation limits filters beside tables (Err (faults.Beside fault)) =
-    NoReadFailed fault × AreNotCompared over filters beside tables (besides.Beside fault)
+ComparesStacks over relation limits filters beside tables (Err (faults.Stacks fault)) =
+    NoReadFailed (fault_of_either fault) × AreNotCompared over filters beside tables fault
 ComparesStacks (AtOnce scope) relation limits filters beside tables (Ok (Compared text status)) = (finding : Finding)
     × VerifiesBeside relation (map Some filters) (map Some beside) scope (limit_of limits) (Ok finding)
     × (text.items ≡ finding_text relation beside_word finding) × (status ≡ finding_status finding)
@@ -283,32 +279,34 @@ abbrev pub IsFilterCount : Bool → ℕ → Type 0
 IsFilterCount true count = 1 ≤ count
 IsFilterCount false count = count ≡ 0
 
-abbrev pub IsAtLeastOne : ℕ → Type 0
-IsAtLeastOne count = 1 ≤ count
+-- one table, or one or more, by whether there has to be just one
+abbrev pub IsTableCount : Bool → ℕ → Type 0
+IsTableCount true count = count ≡ 1
+IsTableCount false count = 1 ≤ count
 
 -- these filters, one profile, and so many tables, at most one of each architecture
-pub record AreTaken (has_filters : Bool) (IsTableCount : ℕ → Type 0) (filters profiles : List (List ℕ))
+pub record AreTaken (has_filters only_one : Bool) (filters profiles : List (List ℕ))
     (tables : List (Architecture × List ℕ)) : Type 0 where
   pub filter_count : IsFilterCount has_filters (length filters)
   pub one_profile : length profiles ≡ 1
-  pub table_count : IsTableCount (length tables)
+  pub table_count : IsTableCount only_one (length tables)
   pub each_once : All (λ architecture. length (texts_for architecture tables) ≤ 1) architectures
 
-abbrev pub HoldsOtherParts : Bool → (ℕ → Type 0) → Option (List ℕ) → Type 0
-HoldsOtherParts has_filters IsTableCount input =
+abbrev pub HoldsOtherParts : Bool → Bool → Option (List ℕ) → Type 0
+HoldsOtherParts has_filters only_one input =
     (filters profiles : List (List ℕ)) × (tables : List (Architecture × List ℕ))
     × HoldsArchitectures input filters profiles tables
-    × (AreTaken has_filters IsTableCount filters profiles tables → ⊥)
+    × (AreTaken has_filters only_one filters profiles tables → ⊥)
 
 -- A command takes filters, or none, a profile and so many tables of several architectures.
-abbrev pub EndsOnArchitectures : Bool → (ℕ → Type 0) → Option (List ℕ)
+abbrev pub EndsOnArchitectures : Bool → Bool → Option (List ℕ)
     → (List (List ℕ) → List ℕ → List (Architecture × List ℕ) → Result Reply Fault → Type 0)
     → Result Reply Fault → Type 0
-EndsOnArchitectures has_filters IsTableCount input holds =
-    EndsOnParts architecture_kinds input (HoldsOtherParts has_filters IsTableCount input)
+EndsOnArchitectures has_filters only_one input holds =
+    EndsOnParts architecture_kinds input (HoldsOtherParts has_filters only_one input)
     (λ ending. (filters : List (List ℕ)) × (profile : List ℕ) × (tables : List (Architecture × List ℕ))
     × HoldsArchitectures input filters (profile ∷ []) tables
-    × AreTaken has_filters IsTableCount filters (profile ∷ []) tables
+    × AreTaken has_filters only_one filters (profile ∷ []) tables
     × holds filters profile tables ending)
 
 -- the text of a table, which its reader tells
@@ -331,14 +329,14 @@ ComparesProfiles EachCall relation limits filters profile tables (Ok reply) = (o
     × IsCallsReport relation outcome reply
 ComparesProfiles over relation limits filters profile tables ending = ⊥
 
--- one table or more are compared; call by call, one
-abbrev pub IsComparedCount : Scopes → ℕ → Type 0
-IsComparedCount (AtOnce scope) count = IsAtLeastOne count
-IsComparedCount EachCall count = count ≡ 1
+-- whether single calls are compared, for which there is one table
+abbrev pub is_call_by_call : Scopes → Bool
+is_call_by_call (AtOnce scope) = false
+is_call_by_call EachCall = true
 
 -- `compare --architectures`: the report of the comparison
 abbrev pub ComparesArchitectures : Comparison → Option (List ℕ) → Result Reply Fault → Type 0
-ComparesArchitectures comparison input = EndsOnArchitectures true (IsComparedCount comparison.scopes) input
+ComparesArchitectures comparison input = EndsOnArchitectures true (is_call_by_call comparison.scopes) input
     (ComparesProfiles comparison.scopes comparison.relation comparison.limits)
 
 -- a call table of an architecture, however long its text is
@@ -362,24 +360,23 @@ CantLoadEach profile texts fault = ⊥
 
 -- `compile --architectures`: the bytes of an accepted filter that answers every call record as the profiles of all
 -- architectures that have a table do
-abbrev pub CompilesEach : List (List ℕ) → List ℕ → List (Architecture × List ℕ) → Result Reply Fault → Type 0
-CompilesEach filters profile texts (Ok (Bytes bytes)) = (loaded : LoadedProfiles) × AreStated profile texts loaded
+abbrev pub CompilesEach : List ℕ → List (Architecture × List ℕ) → Result Reply Fault → Type 0
+CompilesEach profile texts (Ok (Bytes bytes)) = (loaded : LoadedProfiles) × AreStated profile texts loaded
     × (insns : List Insn) × IsAcceptedFilter (Some bytes.items) insns
     × SameAnswersAsEach (RunAnswers insns) loaded.profiles
-CompilesEach filters profile texts (Err (faults.Verify fault)) = CantLoadEach profile texts fault
-CompilesEach filters profile texts (Err (faults.Compile fault)) = (loaded : LoadedProfiles)
+CompilesEach profile texts (Err (faults.Verify fault)) = CantLoadEach profile texts fault
+CompilesEach profile texts (Err (faults.Compile fault)) = (loaded : LoadedProfiles)
     × AreStated profile texts loaded
     × (fault ≡ compiles.TooLarge → bpf_maxinsns < size_bound_of_each loaded.profiles)
-CompilesEach filters profile texts ending = ⊥
+CompilesEach profile texts ending = ⊥
 
 -- `ask --architectures`: the answer of the profile of the call's architecture, and why
-abbrev pub GivesReasonAmong : CallRecord → List (List ℕ) → List ℕ → List (Architecture × List ℕ) → Result Reply Fault
-    → Type 0
-GivesReasonAmong call filters profile texts (Ok (Asked answer reason)) = (loaded : LoadedProfiles)
+abbrev pub GivesReasonAmong : CallRecord → List ℕ → List (Architecture × List ℕ) → Result Reply Fault → Type 0
+GivesReasonAmong call profile texts (Ok (Asked answer reason)) = (loaded : LoadedProfiles)
     × AreStated profile texts loaded × ProfilesAnswer loaded.profiles call answer.0
     × IsReasonAmong loaded.profiles call reason
-GivesReasonAmong call filters profile texts (Err (faults.Verify fault)) = CantLoadEach profile texts fault
-GivesReasonAmong call filters profile texts ending = ⊥
+GivesReasonAmong call profile texts (Err (faults.Verify fault)) = CantLoadEach profile texts fault
+GivesReasonAmong call profile texts ending = ⊥
 
 -- ---- all commands
 
@@ -387,13 +384,13 @@ GivesReasonAmong call filters profile texts ending = ⊥
 abbrev pub IsTrueReply : Request → Option (List ℕ) → Result Reply Fault → Type 0
 IsTrueReply (requests.Ask call) input = EndsOnProfile input (GivesReason call)
 IsTrueReply (requests.AskArchitectures call) input =
-    EndsOnArchitectures false IsAtLeastOne input (GivesReasonAmong call)
+    EndsOnArchitectures false false input (λ filters. GivesReasonAmong call)
 IsTrueReply requests.Assemble input = Assembles input
 IsTrueReply (requests.Compare comparison) input = Compares comparison input
 IsTrueReply (requests.CompareBeside comparison) input = ComparesBeside comparison input
 IsTrueReply (requests.CompareArchitectures comparison) input = ComparesArchitectures comparison input
 IsTrueReply requests.Compile input = EndsOnProfile input Compiles
-IsTrueReply requests.CompileArchitectures input = EndsOnArchitectures false IsAtLeastOne input CompilesEach
+IsTrueReply requests.CompileArchitectures input = EndsOnArchitectures false false input (λ filters. CompilesEach)
 IsTrueReply (requests.Decide call) input = EndsOnFilters input (DecidesCall call)
 IsTrueReply requests.List input = Lists input
 IsTrueReply request input = EndsOnFilter request input

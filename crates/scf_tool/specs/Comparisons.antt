@@ -32,9 +32,11 @@ pub record IsFound (relation : Relation) (left right : Behavior) (scope : Scope)
   pub holds : IsTrueFinding (compared_in relation scope left right) finding
   pub within : IsFindingWithin limit.steps (left.size * right.size) finding
   pub decided : left.is_plain → right.is_plain
-      → IsFindingDecided (AllRelated (compared_in relation scope left right)) limit.steps (left.size * right.size) finding
+      → IsFindingDecided (AllRelated (compared_in relation scope left right)) limit.steps (left.size * right.size)
+      finding
   pub settled : limit.splits ≡ NoLimit
-      → IsFindingDecided (AllRelated (compared_in relation scope left right)) limit.steps (left.size * right.size) finding
+      → IsFindingDecided (AllRelated (compared_in relation scope left right)) limit.steps (left.size * right.size)
+      finding
 
 -- A call of a table is named by its number and its names. The finding on it is one on the two sides over the records of
 -- a scope, within a limit and in no more steps than are left for all calls. Those that it takes are subtracted.

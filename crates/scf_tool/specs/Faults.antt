@@ -129,9 +129,10 @@ verify_kind (verifies.ProfileRead fault) = (codes "profile", input_kind fault)
 verify_kind (verifies.Profile fault) = (codes "profile", load_kind fault)
 verify_kind verifies.Memory = (codes "compare", (Failed, codes "Memory", []))
 
--- a fault of the filters beside others
-abbrev pub beside_kind : VerifyFault → List ℕ × Kind
-beside_kind fault = (codes "beside", (verify_kind fault).1)
+-- a fault of two stacks: those of the filters beside others are told apart
+abbrev pub beside_kind : BesideFault → List ℕ × Kind
+beside_kind (besides.Verify fault) = verify_kind fault
+beside_kind (besides.Beside fault) = (codes "beside", (verify_kind fault).1)
 
 -- the name of an option stands in place of a kind
 abbrev pub request_kind : RequestFault → List ℕ × Kind
@@ -148,12 +149,7 @@ kind_of_fault faults.Parts = (codes "bundle", (Failed, codes "Parts", []))
 kind_of_fault (faults.Text fault) = (codes "text", text_kind fault)
 kind_of_fault (faults.Compile fault) = (codes "compile", compile_kind fault)
 kind_of_fault (faults.Verify fault) = verify_kind fault
-kind_of_fault (faults.Beside fault) = beside_kind fault
-
--- the fault of a comparison of two stacks
-abbrev pub fault_of_beside : BesideFault → Fault
-fault_of_beside (besides.Verify fault) = faults.Verify fault
-fault_of_beside (besides.Beside fault) = faults.Beside fault
+kind_of_fault (faults.Stacks fault) = beside_kind fault
 
 -- a number behind its name
 abbrev pub number_words : List ℕ × ℕ → List ℕ

@@ -14,7 +14,6 @@ pub mod Statuses
 pub mod Verifying
 pub mod VerifyingArchitectures
 pub mod VerifyingBeside
-pub mod VerifyingCalls
 pub mod VerifyingFilters
 pub mod VerifyingStacks
 pub mod internal

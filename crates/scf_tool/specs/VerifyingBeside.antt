@@ -29,6 +29,11 @@ pub record AreStacks (filters beside : List (Option (List ℕ))) (left right : L
 abbrev pub IsTableFault : Option (List ℕ) → VerifyFault → Type 0
 IsTableFault table fault = IsNoTable table fault ⊎ ((names : Names) × IsTable table names × (fault ≡ Memory))
 
+-- what is wrong with the inputs of either stack
+abbrev pub fault_of_either : BesideFault → VerifyFault
+fault_of_either (Verify fault) = fault
+fault_of_either (Beside fault) = fault
+
 -- Why nothing is compared: the first filters are no stack; they are, and those beside them are none; or both are, and
 -- this is why.
 abbrev pub IsRefusedPair : List (Option (List ℕ)) → List (Option (List ℕ)) → (VerifyFault → Type 0) → BesideFault

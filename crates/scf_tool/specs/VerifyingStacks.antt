@@ -1,6 +1,7 @@
 -- What is known of a stack of filters, a call table and a profile once they are read and compared. The bytes of each
 -- reader count where the reader tells them.
 use Rattle.std.specs.Prelude.{◌≡◌, ◌⊎◌, ℕ, List, All, Option, Result, Ok, Err}
+use Rattle.scf_insn.specs.declared.architecture.Architecture.TheVariants.{X8664}
 use Rattle.scf_insn.specs.declared.insn.Insn.{Insn}
 use Rattle.scf_machine.specs.Plain.{IsPlainProgram}
 use Rattle.scf_machine.specs.Precedence.{StackAnswers}
@@ -16,6 +17,10 @@ use Rattle.scf_profile.specs.Scope.{RelatedAnswersIn}
 use Rattle.scf_compare.specs.declared.budget.Limit.{Limit}
 use Rattle.scf_compare.specs.declared.budget.Splits.TheVariants.{NoLimit}
 use Rattle.scf_compare.specs.Verdicts.{IsTrueOfStackBy, IsWithin, IsDecided}
+use Rattle.scf_compare.specs.Sides.{profile_behavior, stack_behavior}
+use Rattle.scf_request.specs.declared.request.Limits.{Limits}
+use Rattle.scf_tool.specs.Comparisons.{AreFoundOfTable}
+use Rattle.scf_tool.specs.declared.call_verification.CallsOutcome.{CallsOutcome}
 use Rattle.scf_tool.specs.declared.left_out.LeftOut.{LeftOut}
 use Rattle.scf_tool.specs.declared.verification.Outcome.{Outcome}
 use Rattle.scf_tool.specs.declared.verify_fault.VerifyFault.{VerifyFault}
@@ -57,8 +62,8 @@ pub record AreComparedParties (filters : List (Option (List ℕ))) (table profil
   pub compared : holds stack names loaded.profile
 
 -- They are compared by a relation, and the verdict is one on that stack and that profile.
-abbrev pub IsVerifiedBy : Relation → List (Option (List ℕ)) → Option (List ℕ) → Option (List ℕ) → Scope → Limit → Outcome
-    → Type 0
+abbrev pub IsVerifiedBy : Relation → List (Option (List ℕ)) → Option (List ℕ) → Option (List ℕ) → Scope → Limit
+    → Outcome → Type 0
 IsVerifiedBy relation filters table profile scope limit outcome =
     AreComparedParties filters table profile (outcome_left_out outcome)
     (λ stack names p. IsComparison relation stack p scope limit outcome.verdict)
@@ -78,6 +83,26 @@ abbrev pub VerifiesBy : Relation → List (Option (List ℕ)) → Option (List �
 VerifiesBy relation filters table profile scope limit (Ok outcome) =
     IsVerifiedBy relation filters table profile scope limit outcome
 VerifiesBy relation filters table profile scope limit (Err fault) = IsRefusedStack filters table profile fault
+
+-- ---- the comparison call by call
+
+-- They are compared by a relation, call by call of the table, in these limits.
+abbrev pub AreVerifiedCalls : Relation → List (Option (List ℕ)) → Option (List ℕ) → Option (List ℕ) → Limits
+    → CallsOutcome → Type 0
+AreVerifiedCalls relation filters table profile limits outcome =
+    AreComparedParties filters table profile outcome.left_out
+    (λ stack names p.
+    AreFoundOfTable relation X8664 (stack_behavior stack) (profile_behavior p) names limits outcome.calls.items)
+
+-- What the comparison of a stack with a profile call by call and by a relation, from the bytes of their readers,
+-- answers. The faults are those of the comparison of a stack.
+abbrev pub VerifiesCalls : Relation → List (Option (List ℕ)) → Option (List ℕ) → Option (List ℕ) → Limits
+    → Result CallsOutcome VerifyFault → Type 0
+VerifiesCalls relation filters table profile limits (Ok outcome) =
+    AreVerifiedCalls relation filters table profile limits outcome
+VerifiesCalls relation filters table profile limits (Err fault) = IsRefusedStack filters table profile fault
+
+-- ---- the readers
 
 -- How the filters' readers are left. They are read first, each after those before it.
 abbrev pub LeavesFilterReaders : {R T : Type 0} → (R → Option (List ℕ)) → (R → ℕ)

@@ -1,10 +1,15 @@
 //! A writer into memory.
 
 ghost use Rattle.std.specs.Prelude.{◌≡◌, [], IfOk};
+ghost use Rattle.std.specs.List.{flat_map};
 ghost use Rattle.scf_insn.specs.Insn.{program_bytes};
-ghost use Rattle.scf_tool.specs.internal.Gathering.{buffered};
+ghost use Rattle.scf_text.specs.Listing.{text_of};
+ghost use Rattle.scf_tool.specs.internal.Gathering.{Adds, buffered};
+ghost use Rattle.scf_tool.specs.internal.Pieces.{fragment_text};
 
+use crate::fragments::{Fragment, write_fragments};
 use scf_insn::{Failed, Insn, Memory, Sink, write_program};
+use scf_text::disassemble;
 use std::alloc::{AllocError, Global};
 
 /// A writer that keeps what is written. A write fails if an allocation fails.
@@ -33,6 +38,16 @@ impl Buffer {
             bytes: Vec::with_capacity(alloc, room)?,
             failures: 0,
         })
+    }
+
+    /// Adds fragments to what was written. An error is an allocation failure.
+    pub(crate) fn add(&mut self, pieces: &[Fragment<'_>]) -> Result<(), Memory>
+        ensures { Adds self.old (flat_map fragment_text pieces.now) result self.new }
+    {
+        match write_fragments(self, pieces) {
+            Ok(()) => Ok(()),
+            Err(_) => Err(Memory),
+        }
     }
 
     /// The bytes written.
@@ -69,12 +84,23 @@ impl Sink for Buffer {
 }
 
 /// The bytes of instructions.
-pub(crate) fn encoding_of(alloc: Global, insns: &[Insn]) -> Result<Vec<u8>, Memory>
+pub fn encoding_of(alloc: Global, insns: &[Insn]) -> Result<Vec<u8>, Memory>
     ensures { IfOk result (λ bytes. bytes.items ≡ program_bytes insns.now) }
 {
     let mut bytes = Buffer::new(alloc);
     match write_program(insns, &mut bytes) {
         Ok(()) => Ok(bytes.into_bytes()),
+        Err(_) => Err(Memory),
+    }
+}
+
+/// The listing of instructions.
+pub fn listing_of(alloc: Global, insns: &[Insn]) -> Result<Vec<u8>, Memory>
+    ensures { IfOk result (λ text. text.items ≡ text_of insns.now) }
+{
+    let mut text = Buffer::new(alloc);
+    match disassemble(insns, &mut text) {
+        Ok(()) => Ok(text.into_bytes()),
         Err(_) => Err(Memory),
     }
 }

@@ -1,12 +1,9 @@
 //! The report of a comparison syscall by syscall.
-#![tactic(auto, using(crate::proofs::WritingLemmas::one_after_another))]
 
 ghost use Rattle.std.specs.Prelude.{◌≡◌, ◌++◌, codes, find, map, not, string_bytes, IfOk};
 ghost use Rattle.std.specs.Fmt.{decimal};
 ghost use Rattle.std.specs.List.{flat_map, join_by};
-ghost use Rattle.scf_insn.specs.Streams.{Writes};
-ghost use Rattle.scf_tool.specs.Lines.{answer_text};
-ghost use Rattle.scf_tool.specs.Reports.{answer_line, argument_text, beside_word, said_of};
+ghost use Rattle.scf_tool.specs.Reports.{beside_word};
 ghost use Rattle.scf_tool.specs.CallReports.{
   calls_text,
   findings_text,
@@ -17,20 +14,20 @@ ghost use Rattle.scf_tool.specs.CallReports.{
   joint_text,
   named_line,
 };
+ghost use Rattle.scf_tool.specs.internal.Gathering.{Adds};
 
 use crate::buffer::Buffer;
 use crate::call_verification::{CallFinding, CallsOutcome};
 use crate::fragments::Fragment::{Decimal, Text};
-use crate::fragments::write_fragments;
-use crate::lines::write_answer;
+use crate::lines::add_answer;
 use crate::reporting::{
-    BESIDE_WORD, PROFILE_WORD, failing, holding, write_answer_line, write_arguments, write_finding,
-    write_left_out, write_word,
+    BESIDE_WORD, PROFILE_WORD, add_answer_line, add_arguments, add_finding, add_left_out, add_word,
+    failing, holding,
 };
 use scf_compare::Finding;
-use scf_insn::{Answer, CallRecord, Memory, Sink, WriteFault, write_whole};
+use scf_insn::{Answer, CallRecord, Memory};
 use scf_profile::{Relation, Texts};
-use std::alloc::Global;
+use std::alloc::{AllocError, Global};
 
 fn fails(finding: &Finding) -> bool
     ensures { result ≡ is_failure finding.now }
@@ -67,151 +64,123 @@ pub(crate) fn joint_finding(calls: &[CallFinding]) -> Option<Finding>
     first_failure(calls).or(first_other(calls))
 }
 
-fn write_joint<S: Sink>(
-    sink: &mut S,
+fn add_joint(
+    text: &mut Buffer,
     relation: Relation,
     right_word: &str,
     joint: Option<Finding>,
-) -> Result<(), WriteFault>
-    ensures { Writes S.contents S.failures sink.old (joint_text relation right_word.now joint) result sink.new }
+) -> Result<(), Memory>
+    ensures { Adds text.old (joint_text relation right_word.now joint) result text.new }
 {
     match joint {
-        None => write_word(sink, holding(relation)),
-        Some(Finding::Fails { .. }) => write_word(sink, failing(relation)),
-        Some(finding) => write_finding(sink, relation, right_word, &finding),
+        None => add_word(text, holding(relation)),
+        Some(Finding::Fails { .. }) => add_word(text, failing(relation)),
+        Some(finding) => add_finding(text, relation, right_word, &finding),
     }
 }
 
-/// Writes texts, each behind a comma.
-fn write_others<S: Sink>(sink: &mut S, texts: &[String]) -> Result<(), WriteFault>
-    ensures { Writes S.contents S.failures sink.old
-        (flat_map (λ text. codes "," ++ string_bytes text) texts.now) result sink.new }
+/// The names of a syscall, with commas between.
+fn joined(alloc: Global, names: &Texts) -> Result<String, AllocError>
+    ensures { IfOk result (λ text. string_bytes text ≡ join_by (λ name. name) (codes ",") names.now) }
 {
-    for text in texts {
-        write_fragments(sink, &[Text(","), Text(text.as_str())])?;
-    }
+    names.as_slice().join(alloc, ",")
+}
+
+/// Adds the number and the names of a syscall.
+fn add_front(alloc: Global, text: &mut Buffer, call: &CallFinding) -> Result<(), Memory>
+    ensures { Adds text.old
+        ((decimal call.now.number ++ codes " ")
+        ++ (join_by (λ name. name) (codes ",") call.now.names ++ codes " ")) result text.new }
+{
+    let names = joined(alloc, &call.names)?;
+    let number = u64::from(call.number);
+    text.add(&[Decimal(number), Text(" "), Text(names.as_str()), Text(" ")])?;
     Ok(())
 }
 
-/// Writes the names of a syscall, with commas between.
-fn write_call_names<S: Sink>(sink: &mut S, names: &Texts) -> Result<(), WriteFault>
-    ensures { Writes S.contents S.failures sink.old
-        (join_by (λ name. name) (codes ",") names.now) result sink.new }
-{
-    match names.as_slice().split_first() {
-        Some((first, others)) => {
-            write_whole(sink, first.as_bytes())?;
-            write_others(sink, others)
-        }
-        None => Ok(()),
-    }
-}
-
-/// Writes the number and the names of a syscall.
-fn write_front<S: Sink>(sink: &mut S, call: &CallFinding) -> Result<(), WriteFault>
-    ensures { Writes S.contents S.failures sink.old
-        ((decimal call.now.number ++ codes " ")
-        ++ (join_by (λ name. name) (codes ",") call.now.names ++ codes " ")) result sink.new }
-{
-    write_fragments(sink, &[Decimal(u64::from(call.number)), Text(" ")])?;
-    write_call_names(sink, &call.names)?;
-    write_whole(sink, b" ")
-}
-
-/// Writes the rest of the line of a syscall for which the relation doesn't hold.
-fn write_difference_found<S: Sink>(
-    sink: &mut S,
+/// Adds the rest of the line of a syscall for which the relation doesn't hold.
+fn add_difference_found(
+    text: &mut Buffer,
     relation: Relation,
     right_word: &str,
     call: &CallRecord,
     left: Answer,
     right: Answer,
-) -> Result<(), WriteFault>
-    ensures { Writes S.contents S.failures sink.old
-        (found_text relation right_word.now (Finding.Fails call.now left right)) result sink.new }
+) -> Result<(), Memory>
+    ensures { Adds text.old
+        (found_text relation right_word.now (Finding.Fails call.now left right)) result text.new }
 {
-    write_fragments(sink, &[Text(failing(relation)), Text(" args")])?;
-    write_arguments(sink, &call.args)?;
-    write_whole(sink, b" filter ")?;
-    write_answer(sink, left)?;
-    write_whole(sink, b" ")?;
-    write_answer_line(sink, right_word, right)
+    text.add(&[Text(failing(relation)), Text(" args")])?;
+    add_arguments(text, &call.args)?;
+    text.add(&[Text(" filter ")])?;
+    add_answer(text, left)?;
+    text.add(&[Text(" ")])?;
+    add_answer_line(text, right_word, right)?;
+    Ok(())
 }
 
-fn write_found<S: Sink>(
-    sink: &mut S,
+fn add_found(
+    text: &mut Buffer,
     relation: Relation,
     right_word: &str,
     finding: &Finding,
-) -> Result<(), WriteFault>
-    ensures { Writes S.contents S.failures sink.old (found_text relation right_word.now finding.now) result sink.new }
+) -> Result<(), Memory>
+    ensures { Adds text.old (found_text relation right_word.now finding.now) result text.new }
 {
     match finding {
-        Finding::Fails { call, left, right } => write_difference_found(
-            sink, relation, right_word, call, *left, *right,
+        Finding::Fails { call, left, right } => add_difference_found(
+            text, relation, right_word, call, *left, *right,
         ),
-        _ => write_finding(sink, relation, right_word, finding),
+        _ => add_finding(text, relation, right_word, finding),
     }
 }
 
-/// Writes the line of a syscall for which the relation doesn't hold; nothing if it holds.
-fn write_named<S: Sink>(
-    sink: &mut S,
+/// Adds the line of a syscall for which the relation doesn't hold; nothing if it holds.
+fn add_named(
+    alloc: Global,
+    text: &mut Buffer,
     relation: Relation,
     right_word: &str,
     call: &CallFinding,
-) -> Result<(), WriteFault>
-    ensures { Writes S.contents S.failures sink.old (named_line relation right_word.now call.now) result sink.new }
+) -> Result<(), Memory>
+    ensures { Adds text.old (named_line relation right_word.now call.now) result text.new }
 {
     if holds(&call.finding) {
         return Ok(());
     }
-    write_front(sink, call)?;
-    write_found(sink, relation, right_word, &call.finding)
+    add_front(alloc, text, call)?;
+    add_found(text, relation, right_word, &call.finding)?;
+    Ok(())
 }
 
-fn write_calls<S: Sink>(
-    sink: &mut S,
+fn add_calls(
+    alloc: Global,
+    text: &mut Buffer,
     relation: Relation,
     right_word: &str,
     calls: &[CallFinding],
-) -> Result<(), WriteFault>
-    ensures { Writes S.contents S.failures sink.old
-        (flat_map (named_line relation right_word.now) calls.now) result sink.new }
+) -> Result<(), Memory>
+    ensures { Adds text.old (flat_map (named_line relation right_word.now) calls.now) result text.new }
 {
     for call in calls {
-        write_named(sink, relation, right_word, call)?;
+        add_named(alloc, text, relation, right_word, call)?;
     }
     Ok(())
 }
 
-/// Writes the joint finding, and the line of each syscall for which the relation doesn't hold.
-fn write_findings<S: Sink>(
-    sink: &mut S,
+/// Adds the joint finding, and the line of each syscall for which the relation doesn't hold.
+fn add_findings(
+    alloc: Global,
+    text: &mut Buffer,
     relation: Relation,
     right_word: &str,
     calls: &[CallFinding],
-) -> Result<(), WriteFault>
-    ensures { Writes S.contents S.failures sink.old
-        (findings_text relation right_word.now calls.now) result sink.new }
+) -> Result<(), Memory>
+    ensures { Adds text.old (findings_text relation right_word.now calls.now) result text.new }
 {
-    write_joint(sink, relation, right_word, joint_finding(calls))?;
-    write_calls(sink, relation, right_word, calls)
-}
-
-fn write_calls_outcome<S: Sink>(
-    sink: &mut S,
-    relation: Relation,
-    outcome: &CallsOutcome,
-) -> Result<(), WriteFault>
-    ensures { Writes S.contents S.failures sink.old (calls_text relation outcome.now) result sink.new }
-{
-    write_findings(sink, relation, PROFILE_WORD, &outcome.calls)?;
-    write_left_out(
-        sink,
-        &outcome.left_out.skipped,
-        &outcome.left_out.other_architectures,
-    )
+    add_joint(text, relation, right_word, joint_finding(calls))?;
+    add_calls(alloc, text, relation, right_word, calls)?;
+    Ok(())
 }
 
 /// The report of an outcome by a relation: the joint finding, then a line for each syscall for which the relation
@@ -226,11 +195,11 @@ pub fn report_calls(
 ) -> Result<Vec<u8>, Memory>
     ensures { IfOk result (λ text. text.items ≡ calls_text relation outcome.now) }
 {
+    let left_out = &outcome.left_out;
     let mut text = Buffer::new(alloc);
-    match write_calls_outcome(&mut text, relation, outcome) {
-        Ok(()) => Ok(text.into_bytes()),
-        Err(_) => Err(Memory),
-    }
+    add_findings(alloc, &mut text, relation, PROFILE_WORD, &outcome.calls)?;
+    add_left_out(&mut text, &left_out.skipped, &left_out.other_architectures)?;
+    Ok(text.into_bytes())
 }
 
 /// The joint finding on filters and those beside them, then a line for each syscall for which the relation doesn't
@@ -243,8 +212,6 @@ pub fn report_calls_beside(
     ensures { IfOk result (λ text. text.items ≡ findings_text relation beside_word calls.now) }
 {
     let mut text = Buffer::new(alloc);
-    match write_findings(&mut text, relation, BESIDE_WORD, calls) {
-        Ok(()) => Ok(text.into_bytes()),
-        Err(_) => Err(Memory),
-    }
+    add_findings(alloc, &mut text, relation, BESIDE_WORD, calls)?;
+    Ok(text.into_bytes())
 }

@@ -1,6 +1,6 @@
 //! The comparison of a stack of filters with a profile, call by call, from their bytes.
 
-ghost use Rattle.std.specs.Prelude.{◌≡◌, ◌<◌, ℕ, List, Option, IfOk, length, map};
+ghost use Rattle.std.specs.Prelude.{◌≡◌, ◌<◌, IfOk, length, map};
 ghost use Rattle.scf_compare.specs.Sides.{behavior_of};
 ghost use Rattle.scf_insn.specs.Kernel.{x32_syscall_bit};
 ghost use Rattle.scf_profile.specs.NamedCalls.{HasItsNames};
@@ -8,12 +8,10 @@ ghost use Rattle.scf_profile.specs.References.{texts_at};
 ghost use Rattle.scf_tool.specs.Comparisons.{AreFoundOfTable, IsFoundOfCall};
 ghost use Rattle.scf_tool.specs.Comparisons as comparisons;
 ghost use Rattle.scf_tool.specs.Verifying.{LeavesProfileReader, LeavesTableReader};
-ghost use Rattle.scf_tool.specs.VerifyingCalls.{AreVerifiedCalls, VerifiesCalls};
-ghost use Rattle.scf_tool.specs.VerifyingStacks.{LeavesFilterReaders};
-ghost use Rattle.scf_tool.specs.internal.Verification.{AreInputs};
+ghost use Rattle.scf_tool.specs.VerifyingStacks.{LeavesFilterReaders, VerifiesCalls};
 
 use crate::architecture_scope::scope_of_call;
-use crate::inputs::{Inputs, read_inputs};
+use crate::inputs::read_inputs;
 use crate::left_out::LeftOut;
 use crate::verify_fault::VerifyFault;
 use scf_compare::{Finding, Limit, Side, Splits, compare_sides_within};
@@ -149,38 +147,6 @@ pub(crate) fn compare_calls(
     Ok(findings)
 }
 
-/// Compares a stack of filters with a profile, call by call of the table and by a relation.
-fn compare_named_calls(
-    alloc: Global,
-    inputs: Inputs,
-    relation: Relation,
-    limits: Limits,
-) -> Result<CallsOutcome, Memory>
-    ensures { IfOk result (λ outcome. (filters : List (Option (List ℕ))) (table profile : Option (List ℕ))
-        → AreInputs filters table profile inputs
-        → AreVerifiedCalls relation filters table profile limits outcome) }
-{
-    let filters = Side::Stack(inputs.stack.filters());
-    let profile = Side::Profile(&inputs.loaded.profile);
-    let calls = compare_calls(
-        alloc,
-        &filters,
-        &profile,
-        Architecture::X8664,
-        &inputs.names,
-        relation,
-        limits,
-    )?;
-    let loaded = inputs.loaded;
-    Ok(CallsOutcome {
-        calls,
-        left_out: LeftOut {
-            skipped: loaded.skipped,
-            other_architectures: loaded.other_architectures,
-        },
-    })
-}
-
 /// Compares the stack of filters with the profile that readers have, call by call and by a relation: each call that the
 /// table names, by itself, in at most `limits.each` steps and with at most `limits.splits` splits. All together take at
 /// most `limits.total` steps, and as many below splits: the calls for which no step is left are `Unfinished`. The
@@ -203,5 +169,17 @@ pub fn verify_calls<F: Source, P: Source, T: Source>(
     ensures profile_reader { LeavesProfileReader P.remaining P.failures profile_reader.old result profile_reader.new }
 {
     let inputs = read_inputs(alloc, filter_readers, profile_reader, table_reader)?;
-    Ok(compare_named_calls(alloc, inputs, relation, limits)?)
+    let left = Side::Stack(inputs.stack.filters());
+    let right = Side::Profile(&inputs.loaded.profile);
+    let own = Architecture::X8664;
+    let names = &inputs.names;
+    let calls = compare_calls(alloc, &left, &right, own, names, relation, limits)?;
+    let loaded = inputs.loaded;
+    Ok(CallsOutcome {
+        calls,
+        left_out: LeftOut {
+            skipped: loaded.skipped,
+            other_architectures: loaded.other_architectures,
+        },
+    })
 }

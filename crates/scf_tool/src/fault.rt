@@ -25,8 +25,8 @@ pub(crate) enum Fault {
     Compile(CompileFault),
     /// A filter, a stack, a table or a profile is refused, or memory ran out during their comparison.
     Verify(VerifyFault),
-    /// A filter of the stack beside another is refused.
-    Beside(VerifyFault),
+    /// Two stacks weren't compared.
+    Stacks(BesideFault),
 }
 
 impl From<RequestFault> for Fault {
@@ -88,14 +88,9 @@ impl From<VerifyFault> for Fault {
 }
 
 impl From<BesideFault> for Fault {
-    ghost use Rattle.scf_tool.specs.Faults.{fault_of_beside};
-
-    ghost from_gives = { λ fault e. e ≡ fault_of_beside fault };
+    ghost from_gives = { λ fault e. e ≡ faults.Stacks fault };
 
     fn from(fault: BesideFault) -> Fault {
-        match fault {
-            BesideFault::Verify(fault) => Fault::Verify(fault),
-            BesideFault::Beside(fault) => Fault::Beside(fault),
-        }
+        Fault::Stacks(fault)
     }
 }

@@ -11,7 +11,7 @@ use crate::fragments::Fragment::{Decimal, Text};
 use crate::fragments::write_fragments;
 use crate::status::Status;
 use crate::status::Status::{CommandLine, Failed, Refused};
-use crate::verify_fault::VerifyFault;
+use crate::verify_fault::{BesideFault, VerifyFault};
 use scf_compile::CompileFault;
 use scf_insn::{InputFault, ReadFault, Sink, WriteFault, write_whole};
 use scf_machine::{CheckFault, PushFault};
@@ -236,11 +236,14 @@ fn verify_line(fault: VerifyFault) -> FaultLine
     }
 }
 
-/// The source and kind of a fault of the filters beside others.
-fn beside_line(fault: VerifyFault) -> FaultLine
+/// The source and kind of a fault of two stacks.
+fn beside_line(fault: BesideFault) -> FaultLine
     ensures { fault_line_of result ≡ table.beside_kind fault }
 {
-    line("beside", verify_line(fault).kind)
+    match fault {
+        BesideFault::Verify(fault) => verify_line(fault),
+        BesideFault::Beside(fault) => line("beside", verify_line(fault).kind),
+    }
 }
 
 /// The source and kind of a request's fault.
@@ -268,7 +271,7 @@ impl Fault {
             Fault::Text(fault) => line("text", text_kind(fault)),
             Fault::Compile(fault) => line("compile", compile_kind(fault)),
             Fault::Verify(fault) => verify_line(fault),
-            Fault::Beside(fault) => beside_line(fault),
+            Fault::Stacks(fault) => beside_line(fault),
         }
     }
 

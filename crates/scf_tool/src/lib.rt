@@ -32,12 +32,13 @@ pub use architecture_call_verification::verify_calls_of;
 pub use architecture_scope::NumberRange;
 pub use architecture_verification::verify_architectures;
 pub use beside_verification::{verify_beside, verify_calls_beside};
+pub use buffer::{encoding_of, listing_of};
 pub use call_reporting::{report_calls, report_calls_beside};
 pub use call_verification::{CallFinding, CallsOutcome, verify_calls};
 pub use command_line::refuse_words;
 pub use commands::run_command;
 pub use left_out::LeftOut;
-pub use reporting::{report, report_beside, report_by};
+pub use reporting::{finding_of, report, report_beside, report_by};
 pub use scf_request::{
     BundleFault, Limits, NumberFault, Part, PartKind, TableReader, record_of, split,
 };

@@ -6,12 +6,14 @@ ghost use Rattle.std.specs.Fmt.{decimal};
 ghost use Rattle.std.specs.List.{flat_map};
 ghost use Rattle.scf_insn.specs.Answers.{data_half};
 ghost use Rattle.scf_insn.specs.Streams.{Writes};
-ghost use Rattle.scf_tool.specs.Lines.{answer_text, path_text, reason_text, steps_text, text_by, traced_text};
+ghost use Rattle.scf_tool.specs.Lines.{answer_text, reason_text, steps_text, text_by, traced_text};
 ghost use Rattle.scf_tool.specs.Numerals.{eight_digits};
+ghost use Rattle.scf_tool.specs.internal.Gathering.{Adds};
 
+use crate::buffer::Buffer;
 use crate::fragments::Fragment::{Decimal, EightDigits, Text};
 use crate::fragments::write_fragments;
-use scf_insn::{Action, Answer, Sink, WriteFault, write_whole};
+use scf_insn::{Action, Answer, Memory, Sink, WriteFault, write_whole};
 use scf_machine::Trace;
 use scf_profile::Reason;
 
@@ -63,34 +65,40 @@ pub(crate) fn write_steps<S: Sink>(sink: &mut S, steps: u64) -> Result<(), Write
     write_fragments(sink, &[Text(" steps "), Decimal(steps), Text("\n")])
 }
 
-fn write_indices<S: Sink>(sink: &mut S, indices: &[usize]) -> Result<(), WriteFault>
-    ensures { Writes S.contents S.failures sink.old
-        (flat_map (λ index. codes " " ++ decimal index) indices.now) result sink.new }
+/// Adds an answer to a text.
+pub(crate) fn add_answer(text: &mut Buffer, answer: Answer) -> Result<(), Memory>
+    ensures { Adds text.old (answer_text answer.0) result text.new }
+{
+    match write_answer(text, answer) {
+        Ok(()) => Ok(()),
+        Err(_) => Err(Memory),
+    }
+}
+
+fn add_indices(text: &mut Buffer, indices: &[usize]) -> Result<(), Memory>
+    ensures { Adds text.old (flat_map (λ index. codes " " ++ decimal index) indices.now) result text.new }
 {
     for index in indices {
-        write_fragments(sink, &[Text(" "), Decimal(*index as u64)])?;
+        text.add(&[Text(" "), Decimal(*index as u64)])?;
     }
     Ok(())
 }
 
-/// Writes the line of a run's path.
-fn write_path<S: Sink>(sink: &mut S, indices: &[usize]) -> Result<(), WriteFault>
-    ensures { Writes S.contents S.failures sink.old (path_text indices.now) result sink.new }
-{
-    write_whole(sink, b"path")?;
-    write_indices(sink, indices)?;
-    write_whole(sink, b"\n")
-}
-
-/// Writes the answer of a run, its steps and its path.
-pub(crate) fn write_trace<S: Sink>(sink: &mut S, trace: &Trace) -> Result<(), WriteFault>
-    ensures { Writes S.contents S.failures sink.old
-        (traced_text trace.now.answer.0 trace.now.indices.items) result sink.new }
+/// Adds the answer of a run, its steps and its path.
+pub(crate) fn add_trace(text: &mut Buffer, trace: &Trace) -> Result<(), Memory>
+    ensures { Adds text.old (traced_text trace.now.answer.0 trace.now.indices.items) result text.new }
 {
     let indices = trace.indices.as_slice();
-    write_answer(sink, trace.answer)?;
-    write_steps(sink, indices.len() as u64)?;
-    write_path(sink, indices)
+    add_answer(text, trace.answer)?;
+    text.add(&[
+        Text(" steps "),
+        Decimal(indices.len() as u64),
+        Text("\n"),
+        Text("path"),
+    ])?;
+    add_indices(text, indices)?;
+    text.add(&[Text("\n")])?;
+    Ok(())
 }
 
 /// Writes the reason of a profile's answer, and a line end.

@@ -1,11 +1,9 @@
 //! The report of a comparison.
-#![tactic(auto, using(crate::proofs::WritingLemmas::one_after_another))]
 
 ghost use Rattle.std.specs.Prelude.{◌≡◌, ◌++◌, codes, string_bytes, IfOk};
 ghost use Rattle.std.specs.Fmt.{decimal};
 ghost use Rattle.std.specs.List.{flat_map};
 ghost use Rattle.scf_compare.specs.Verdicts.{finding_of};
-ghost use Rattle.scf_insn.specs.Streams.{Writes};
 ghost use Rattle.scf_tool.specs.Reports.{
   answer_line,
   argument_text,
@@ -18,32 +16,32 @@ ghost use Rattle.scf_tool.specs.Reports.{
   report_text,
   said_of,
 };
+ghost use Rattle.scf_tool.specs.internal.Gathering.{Adds};
 
 use crate::buffer::Buffer;
 use crate::fragments::Fragment::{Decimal, Hexadecimal, Text};
-use crate::fragments::write_fragments;
-use crate::lines::write_last_answer;
+use crate::lines::add_answer;
 use crate::verification::Outcome;
 use scf_compare::{Finding, Verdict, Which};
-use scf_insn::{Answer, CallRecord, Memory, Sink, WriteFault, write_whole};
+use scf_insn::{Answer, CallRecord, Memory};
 use scf_profile::{Relation, Texts};
 use std::alloc::Global;
 
-pub(crate) fn write_arguments<S: Sink>(sink: &mut S, arguments: &[u64]) -> Result<(), WriteFault>
-    ensures { Writes S.contents S.failures sink.old (flat_map argument_text arguments.now) result sink.new }
+pub(crate) fn add_arguments(text: &mut Buffer, arguments: &[u64]) -> Result<(), Memory>
+    ensures { Adds text.old (flat_map argument_text arguments.now) result text.new }
 {
     for argument in arguments {
-        write_fragments(sink, &[Text(" 0x"), Hexadecimal(*argument)])?;
+        text.add(&[Text(" 0x"), Hexadecimal(*argument)])?;
     }
     Ok(())
 }
 
-/// Writes the number, the architecture and the instruction pointer of a call.
-fn write_call_front<S: Sink>(sink: &mut S, call: &CallRecord) -> Result<(), WriteFault>
-    ensures { Writes S.contents S.failures sink.old
+/// Adds the number, the architecture and the instruction pointer of a call.
+fn add_call_front(text: &mut Buffer, call: &CallRecord) -> Result<(), Memory>
+    ensures { Adds text.old
         (codes "call nr " ++ decimal call.now.nr ++ codes " arch " ++ prefixed call.now.arch
         ++ codes " ip " ++ prefixed call.now.ip ++ codes " args")
-        result sink.new }
+        result text.new }
 {
     let front = [
         Text("call nr "),
@@ -54,26 +52,25 @@ fn write_call_front<S: Sink>(sink: &mut S, call: &CallRecord) -> Result<(), Writ
         Hexadecimal(call.ip),
         Text(" args"),
     ];
-    write_fragments(sink, &front)
+    text.add(&front)
 }
 
-fn write_call<S: Sink>(sink: &mut S, call: &CallRecord) -> Result<(), WriteFault>
-    ensures { Writes S.contents S.failures sink.old (call_line call.now) result sink.new }
+fn add_call(text: &mut Buffer, call: &CallRecord) -> Result<(), Memory>
+    ensures { Adds text.old (call_line call.now) result text.new }
 {
-    write_call_front(sink, call)?;
-    write_arguments(sink, &call.args)?;
-    write_whole(sink, b"\n")
+    add_call_front(text, call)?;
+    add_arguments(text, &call.args)?;
+    text.add(&[Text("\n")])?;
+    Ok(())
 }
 
-pub(crate) fn write_answer_line<S: Sink>(
-    sink: &mut S,
-    who: &str,
-    answer: Answer,
-) -> Result<(), WriteFault>
-    ensures { Writes S.contents S.failures sink.old (answer_line who.now answer.0) result sink.new }
+pub(crate) fn add_answer_line(text: &mut Buffer, who: &str, answer: Answer) -> Result<(), Memory>
+    ensures { Adds text.old (answer_line who.now answer.0) result text.new }
 {
-    write_fragments(sink, &[Text(who), Text(" ")])?;
-    write_last_answer(sink, answer)
+    text.add(&[Text(who), Text(" ")])?;
+    add_answer(text, answer)?;
+    text.add(&[Text("\n")])?;
+    Ok(())
 }
 
 /// The name of a profile as the right side of a comparison.
@@ -105,56 +102,56 @@ pub(crate) fn failing(relation: Relation) -> &'static str
     }
 }
 
-/// Writes a line of one word or two.
-pub(crate) fn write_word<S: Sink>(sink: &mut S, word: &str) -> Result<(), WriteFault>
-    ensures { Writes S.contents S.failures sink.old (word.now ++ codes "\n") result sink.new }
+/// Adds a line of one word or two.
+pub(crate) fn add_word(text: &mut Buffer, word: &str) -> Result<(), Memory>
+    ensures { Adds text.old (word.now ++ codes "\n") result text.new }
 {
-    write_fragments(sink, &[Text(word), Text("\n")])
+    text.add(&[Text(word), Text("\n")])
 }
 
-/// Writes the lines of a call for which the relation doesn't hold.
-fn write_difference<S: Sink>(
-    sink: &mut S,
+/// Adds the lines of a call for which the relation doesn't hold.
+fn add_difference(
+    text: &mut Buffer,
     relation: Relation,
     right_word: &str,
     call: &CallRecord,
     left: Answer,
     right: Answer,
-) -> Result<(), WriteFault>
-    ensures { Writes S.contents S.failures sink.old
-        (finding_text relation right_word.now (Finding.Fails call.now left right)) result sink.new }
+) -> Result<(), Memory>
+    ensures { Adds text.old
+        (finding_text relation right_word.now (Finding.Fails call.now left right)) result text.new }
 {
-    write_word(sink, failing(relation))?;
-    write_call(sink, call)?;
-    write_answer_line(sink, "filter", left)?;
-    write_answer_line(sink, right_word, right)
+    add_word(text, failing(relation))?;
+    add_call(text, call)?;
+    add_answer_line(text, "filter", left)?;
+    add_answer_line(text, right_word, right)?;
+    Ok(())
 }
 
-/// Writes the lines of a finding on filters and the right side with this name.
-pub(crate) fn write_finding<S: Sink>(
-    sink: &mut S,
+/// Adds the lines of a finding on filters and the right side with this name.
+pub(crate) fn add_finding(
+    text: &mut Buffer,
     relation: Relation,
     right_word: &str,
     finding: &Finding,
-) -> Result<(), WriteFault>
-    ensures { Writes S.contents S.failures sink.old
-        (finding_text relation right_word.now finding.now) result sink.new }
+) -> Result<(), Memory>
+    ensures { Adds text.old (finding_text relation right_word.now finding.now) result text.new }
 {
     match finding {
-        Finding::Holds { .. } => write_word(sink, holding(relation)),
-        Finding::Fails { call, left, right } => write_difference(
-            sink, relation, right_word, call, *left, *right,
+        Finding::Holds { .. } => add_word(text, holding(relation)),
+        Finding::Fails { call, left, right } => add_difference(
+            text, relation, right_word, call, *left, *right,
         ),
         Finding::Undecided { at, .. } => {
             let line = [Text("undecided at "), Decimal(*at as u64), Text("\n")];
-            write_fragments(sink, &line)
+            text.add(&line)
         }
-        Finding::Unfinished => write_whole(sink, b"unfinished\n"),
+        Finding::Unfinished => text.add(&[Text("unfinished\n")]),
     }
 }
 
 /// The finding that a verdict is.
-pub(crate) fn finding_of_verdict(verdict: &Verdict) -> Finding
+pub fn finding_of(verdict: &Verdict) -> Finding
     ensures { result ≡ finding_of verdict.now }
 {
     match verdict {
@@ -176,50 +173,30 @@ pub(crate) fn finding_of_verdict(verdict: &Verdict) -> Finding
     }
 }
 
-fn write_name<'a, S: Sink>(sink: &mut S, word: &'a str, name: &'a String) -> Result<(), WriteFault>
-    ensures { Writes S.contents S.failures sink.old (name_line word.now (string_bytes name.now)) result sink.new }
+fn add_name<'a>(text: &mut Buffer, word: &'a str, name: &'a String) -> Result<(), Memory>
+    ensures { Adds text.old (name_line word.now (string_bytes name.now)) result text.new }
 {
-    let line = [Text(word), Text(" "), Text(name.as_str()), Text("\n")];
-    write_fragments(sink, &line)
+    text.add(&[Text(word), Text(" "), Text(name.as_str()), Text("\n")])
 }
 
-/// Writes a line for each name, behind a word.
-fn write_names<S: Sink>(sink: &mut S, word: &str, names: &Texts) -> Result<(), WriteFault>
-    ensures { Writes S.contents S.failures sink.old (flat_map (name_line word.now) names.now) result sink.new }
+/// Adds a line for each name, behind a word.
+fn add_names(text: &mut Buffer, word: &str, names: &Texts) -> Result<(), Memory>
+    ensures { Adds text.old (flat_map (name_line word.now) names.now) result text.new }
 {
     for name in names.as_slice() {
-        write_name(sink, word, name)?;
+        add_name(text, word, name)?;
     }
     Ok(())
 }
 
-/// Writes what was left out of a profile.
-pub(crate) fn write_left_out<S: Sink>(
-    sink: &mut S,
-    skipped: &Texts,
-    others: &Texts,
-) -> Result<(), WriteFault>
-    ensures { Writes S.contents S.failures sink.old
-        (left_out_text (record { skipped = skipped.now; other_architectures = others.now })) result sink.new }
+/// Adds what was left out of a profile.
+pub(crate) fn add_left_out(text: &mut Buffer, skipped: &Texts, others: &Texts) -> Result<(), Memory>
+    ensures { Adds text.old
+        (left_out_text (record { skipped = skipped.now; other_architectures = others.now })) result text.new }
 {
-    write_names(sink, "skipped", skipped)?;
-    write_names(sink, "other", others)
-}
-
-fn write_outcome<S: Sink>(
-    sink: &mut S,
-    relation: Relation,
-    outcome: &Outcome,
-) -> Result<(), WriteFault>
-    ensures { Writes S.contents S.failures sink.old (report_text relation outcome.now) result sink.new }
-{
-    write_finding(
-        sink,
-        relation,
-        PROFILE_WORD,
-        &finding_of_verdict(&outcome.verdict),
-    )?;
-    write_left_out(sink, &outcome.skipped, &outcome.other_architectures)
+    add_names(text, "skipped", skipped)?;
+    add_names(text, "other", others)?;
+    Ok(())
 }
 
 /// The report of an outcome: the verdict, then a line for each skipped name and one for each other architecture, in
@@ -235,11 +212,11 @@ pub fn report(alloc: Global, outcome: &Outcome) -> Result<Vec<u8>, Memory>
 pub fn report_by(alloc: Global, relation: Relation, outcome: &Outcome) -> Result<Vec<u8>, Memory>
     ensures { IfOk result (λ text. text.items ≡ report_text relation outcome.now) }
 {
+    let finding = finding_of(&outcome.verdict);
     let mut text = Buffer::new(alloc);
-    match write_outcome(&mut text, relation, outcome) {
-        Ok(()) => Ok(text.into_bytes()),
-        Err(_) => Err(Memory),
-    }
+    add_finding(&mut text, relation, PROFILE_WORD, &finding)?;
+    add_left_out(&mut text, &outcome.skipped, &outcome.other_architectures)?;
+    Ok(text.into_bytes())
 }
 
 /// The lines of a finding on filters and those beside them.
@@ -251,8 +228,6 @@ pub fn report_beside(
     ensures { IfOk result (λ text. text.items ≡ finding_text relation beside_word finding.now) }
 {
     let mut text = Buffer::new(alloc);
-    match write_finding(&mut text, relation, BESIDE_WORD, finding) {
-        Ok(()) => Ok(text.into_bytes()),
-        Err(_) => Err(Memory),
-    }
+    add_finding(&mut text, relation, BESIDE_WORD, finding)?;
+    Ok(text.into_bytes())
 }

@@ -1,42 +1,18 @@
 //! Compares a stack of filters with a profile, from their bytes.
 
-ghost use Rattle.std.specs.Prelude.{List, Option, ℕ, IfOk, map};
+ghost use Rattle.std.specs.Prelude.{map};
 ghost use Rattle.scf_compare.specs.Limits.{limit_of_steps};
 ghost use Rattle.scf_tool.specs.Verifying.{LeavesProfileReader, LeavesTableReader};
-ghost use Rattle.scf_tool.specs.VerifyingStacks.{IsVerifiedBy, LeavesFilterReaders, VerifiesBy};
-ghost use Rattle.scf_tool.specs.internal.Verification.{AreInputs};
+ghost use Rattle.scf_tool.specs.VerifyingStacks.{LeavesFilterReaders, VerifiesBy};
 
-use crate::inputs::{Inputs, read_inputs};
+use crate::inputs::read_inputs;
 use crate::verification::Outcome;
 use crate::verify_fault::VerifyFault;
 use scf_compare::{Limit, compare_by};
 use scf_facts::WordSets;
-use scf_insn::{Memory, Source};
+use scf_insn::Source;
 use scf_profile::{Relation, Scope};
 use std::alloc::Global;
-
-/// Compares the stack and the profile over the records of a scope by a relation.
-pub(crate) fn compare_inputs(
-    alloc: Global,
-    inputs: Inputs,
-    scope: Scope,
-    relation: Relation,
-    limit: Limit,
-) -> Result<Outcome, Memory>
-    ensures { IfOk result (λ outcome. (filters : List (Option (List ℕ))) (table profile : Option (List ℕ))
-        → AreInputs filters table profile inputs
-        → IsVerifiedBy relation filters table profile scope limit outcome) }
-{
-    let loaded = inputs.loaded;
-    let stack = &inputs.stack;
-    let profile = &loaded.profile;
-    let verdict = compare_by::<WordSets>(alloc, stack, profile, scope, relation, limit)?;
-    Ok(Outcome {
-        verdict,
-        skipped: loaded.skipped,
-        other_architectures: loaded.other_architectures,
-    })
-}
 
 /// Reads a stack of filters, a syscall table and a profile, and compares the stack with the profile over the records of
 /// a scope, in at most `limit` steps. The table gives the profile's names their numbers.
@@ -92,5 +68,13 @@ pub fn verify_by<F: Source, P: Source, T: Source>(
     ensures profile_reader { LeavesProfileReader P.remaining P.failures profile_reader.old result profile_reader.new }
 {
     let inputs = read_inputs(alloc, filter_readers, profile_reader, table_reader)?;
-    Ok(compare_inputs(alloc, inputs, scope, relation, limit)?)
+    let stack = &inputs.stack;
+    let profile = &inputs.loaded.profile;
+    let verdict = compare_by::<WordSets>(alloc, stack, profile, scope, relation, limit)?;
+    let loaded = inputs.loaded;
+    Ok(Outcome {
+        verdict,
+        skipped: loaded.skipped,
+        other_architectures: loaded.other_architectures,
+    })
 }

@@ -1,5 +1,9 @@
 //! Why inputs weren't compared.
 
+ghost use Rattle.std.specs.Prelude.{◌≡◌};
+ghost use Rattle.scf_tool.specs.declared.verify_fault.BesideFault.TheVariants as besides;
+ghost use Rattle.scf_tool.specs.declared.verify_fault.VerifyFault.TheVariants as verifies;
+
 use scf_insn::{InputFault, Memory, ReadFault};
 use scf_machine::{CheckFault, PushFault};
 use scf_profile::{LoadFault, TableFault};
@@ -28,10 +32,7 @@ pub enum VerifyFault {
 }
 
 impl From<ReadFault> for VerifyFault {
-    ghost use Rattle.std.specs.Prelude.{◌≡◌};
-    ghost use Rattle.scf_tool.specs.declared.verify_fault.VerifyFault.TheVariants.{FilterRead};
-
-    ghost from_gives = { λ fault e. e ≡ FilterRead fault };
+    ghost from_gives = { λ fault e. e ≡ verifies.FilterRead fault };
 
     fn from(fault: ReadFault) -> VerifyFault {
         VerifyFault::FilterRead(fault)
@@ -39,10 +40,7 @@ impl From<ReadFault> for VerifyFault {
 }
 
 impl From<TableFault> for VerifyFault {
-    ghost use Rattle.std.specs.Prelude.{◌≡◌};
-    ghost use Rattle.scf_tool.specs.declared.verify_fault.VerifyFault.TheVariants.{Table};
-
-    ghost from_gives = { λ fault e. e ≡ Table fault };
+    ghost from_gives = { λ fault e. e ≡ verifies.Table fault };
 
     fn from(fault: TableFault) -> VerifyFault {
         VerifyFault::Table(fault)
@@ -50,10 +48,7 @@ impl From<TableFault> for VerifyFault {
 }
 
 impl From<LoadFault> for VerifyFault {
-    ghost use Rattle.std.specs.Prelude.{◌≡◌};
-    ghost use Rattle.scf_tool.specs.declared.verify_fault.VerifyFault.TheVariants.{Profile};
-
-    ghost from_gives = { λ fault e. e ≡ Profile fault };
+    ghost from_gives = { λ fault e. e ≡ verifies.Profile fault };
 
     fn from(fault: LoadFault) -> VerifyFault {
         VerifyFault::Profile(fault)
@@ -61,10 +56,7 @@ impl From<LoadFault> for VerifyFault {
 }
 
 impl From<Memory> for VerifyFault {
-    ghost use Rattle.std.specs.Prelude.{◌≡◌};
-    ghost use Rattle.scf_tool.specs.declared.verify_fault.VerifyFault.TheVariants as faults;
-
-    ghost from_gives = { λ _ e. e ≡ faults.Memory };
+    ghost from_gives = { λ _ e. e ≡ verifies.Memory };
 
     fn from(_refused: Memory) -> VerifyFault {
         VerifyFault::Memory
@@ -83,10 +75,7 @@ pub enum BesideFault {
 }
 
 impl From<VerifyFault> for BesideFault {
-    ghost use Rattle.std.specs.Prelude.{◌≡◌};
-    ghost use Rattle.scf_tool.specs.declared.verify_fault.BesideFault.TheVariants.{Verify};
-
-    ghost from_gives = { λ fault e. e ≡ Verify fault };
+    ghost from_gives = { λ fault e. e ≡ besides.Verify fault };
 
     fn from(fault: VerifyFault) -> BesideFault {
         BesideFault::Verify(fault)
@@ -94,11 +83,7 @@ impl From<VerifyFault> for BesideFault {
 }
 
 impl From<Memory> for BesideFault {
-    ghost use Rattle.std.specs.Prelude.{◌≡◌};
-    ghost use Rattle.scf_tool.specs.declared.verify_fault.BesideFault.TheVariants.{Verify};
-    ghost use Rattle.scf_tool.specs.declared.verify_fault.VerifyFault.TheVariants as faults;
-
-    ghost from_gives = { λ _ e. e ≡ Verify faults.Memory };
+    ghost from_gives = { λ _ e. e ≡ besides.Verify verifies.Memory };
 
     fn from(_refused: Memory) -> BesideFault {
         BesideFault::Verify(VerifyFault::Memory)

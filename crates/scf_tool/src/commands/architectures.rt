@@ -21,10 +21,11 @@ ghost use Rattle.scf_tool.specs.Commands.{
   GivesReasonAmong,
   HoldsArchitectures,
   HoldsOtherParts,
-  IsAtLeastOne,
+  IsTableCount,
   ReadsInput,
   SpellsTable,
 };
+ghost use Rattle.scf_tool.specs.Commands as spec;
 ghost use Rattle.scf_tool.specs.Statuses.{LeavesWhole};
 ghost use Rattle.scf_tool.specs.internal.Verification.{named_of};
 
@@ -63,16 +64,14 @@ fn is_of(table: &TableReader<PartReader<'_>>, architecture: Architecture) -> boo
 }
 
 /// How many of the tables are of an architecture.
+#[tactic(auto, using(crate::proofs::TableLemmas::texts_counted))]
 fn count_of(tables: &[TableReader<PartReader<'_>>], architecture: Architecture) -> usize
     ensures { result ≡ length (texts_for architecture (map rest_of_table tables.now)) }
 {
-    let mut count: usize = 0;
-    for table in tables {
-        if is_of(table, architecture) {
-            count += 1;
-        }
-    }
-    count
+    tables
+        .iter()
+        .filter(|table| is_of(table, architecture))
+        .count()
 }
 
 /// Whether no two of the tables are of one architecture.
@@ -89,16 +88,23 @@ fn are_distinct(tables: &[TableReader<PartReader<'_>>]) -> bool
     true
 }
 
-/// Whether a bundle holds what a command takes: some filters or none, one profile, and one table or more, no two of one
+/// Whether there are as many tables as a command takes: just one, or one or more.
+fn is_table_count(count: usize, only_one: bool) -> bool
+    ensures { IsTrue result ↔ IsTableCount only_one count }
+{
+    if only_one { count == 1 } else { count >= 1 }
+}
+
+/// Whether a bundle holds what a command takes: some filters or none, one profile, and so many tables, no two of one
 /// architecture.
-fn are_taken(contents: &Contents<'_>, has_filters: bool) -> bool
-    ensures { IsTrue result ↔ AreTaken has_filters IsAtLeastOne
+fn are_taken(contents: &Contents<'_>, has_filters: bool, only_one: bool) -> bool
+    ensures { IsTrue result ↔ AreTaken has_filters only_one
         (of_kind Filter contents.now) (of_kind OfProfile contents.now) (of_architectures contents.now) }
 {
     let has_some = !contents.filters.is_empty();
     has_some == has_filters
         && contents.profiles.len() == 1
-        && !contents.architecture_tables.is_empty()
+        && is_table_count(contents.architecture_tables.len(), only_one)
         && are_distinct(&contents.architecture_tables)
 }
 
@@ -107,18 +113,19 @@ fn parts_of<'a>(
     alloc: Global,
     bytes: &'a [u8],
     has_filters: bool,
+    only_one: bool,
 ) -> Result<Option<ArchitectureParts<'a>>, BundleFault>
     ensures parts { (input : Option (List ℕ)) → ReadsInput input (Ok bytes.now) → IfOk result (λ parts.
         MatchOption parts
-        (HoldsOtherParts has_filters IsAtLeastOne input)
+        (HoldsOtherParts has_filters only_one input)
         (λ own. HoldsArchitectures input (map rest_of own.filters.items) (rest_of own.profile ∷ [])
         (map rest_of_table own.tables.items)
-        × AreTaken has_filters IsAtLeastOne (map rest_of own.filters.items) (rest_of own.profile ∷ [])
+        × AreTaken has_filters only_one (map rest_of own.filters.items) (rest_of own.profile ∷ [])
         (map rest_of_table own.tables.items))) }
     ensures fault { IfErr result (AreNoParts architecture_kinds bytes.now) }
 {
     let contents = Contents::of_architectures(alloc, bytes)?;
-    if !are_taken(&contents, has_filters) {
+    if !are_taken(&contents, has_filters, only_one) {
         return Ok(None);
     }
     let filters = contents.filters;
@@ -173,60 +180,72 @@ fn loaded(
 /// over those with a number in it.
 fn compare_at_once(
     alloc: Global,
-    parts: ArchitectureParts<'_>,
+    filters: &mut [PartReader<'_>],
+    profile: &mut PartReader<'_>,
+    tables: &mut [TableReader<PartReader<'_>>],
     scope: Scope,
     relation: Relation,
     limits: Limits,
 ) -> Result<Reply, VerifyFault>
     ensures reply { IfOk result (λ reply. ComparesProfiles (Scopes.AtOnce scope) relation limits
-        (map rest_of parts.entry.filters.items) (rest_of parts.entry.profile)
-        (map rest_of_table parts.entry.tables.items) (Ok reply)) }
+        (map rest_of filters.old) (rest_of profile.old) (map rest_of_table tables.old) (Ok reply)) }
     ensures fault { IfErr result (λ fault. ComparesProfiles (Scopes.AtOnce scope) relation limits
-        (map rest_of parts.entry.filters.items) (rest_of parts.entry.profile)
-        (map rest_of_table parts.entry.tables.items) (Err (Fault.Verify fault))) }
+        (map rest_of filters.old) (rest_of profile.old) (map rest_of_table tables.old) (Err (Fault.Verify fault))) }
 {
-    let mut filters = parts.filters;
-    let mut profile = parts.profile;
-    let mut tables = parts.tables;
-    let outcome = verify_architectures(
-        alloc,
-        &mut filters,
-        &mut profile,
-        &mut tables,
-        range_of(scope),
-        relation,
-        limit_of(limits),
-    )?;
+    let limit = limit_of(limits);
+    let range = range_of(scope);
+    let outcome = verify_architectures(alloc, filters, profile, tables, range, relation, limit)?;
     report_of(alloc, relation, &outcome)
 }
 
 /// The report on a stack and a profile, call by call of the only table.
 fn compare_each_call(
     alloc: Global,
-    parts: ArchitectureParts<'_>,
+    filters: &mut [PartReader<'_>],
+    profile: &mut PartReader<'_>,
+    tables: &mut [TableReader<PartReader<'_>>],
     relation: Relation,
     limits: Limits,
 ) -> Result<Reply, VerifyFault>
-    requires { length parts.tables.items ≡ 1 }
+    requires { length tables.old ≡ 1 }
     ensures reply { IfOk result (λ reply. ComparesProfiles Scopes.EachCall relation limits
-        (map rest_of parts.entry.filters.items) (rest_of parts.entry.profile)
-        (map rest_of_table parts.entry.tables.items) (Ok reply)) }
+        (map rest_of filters.old) (rest_of profile.old) (map rest_of_table tables.old) (Ok reply)) }
     ensures fault { IfErr result (λ fault. ComparesProfiles Scopes.EachCall relation limits
-        (map rest_of parts.entry.filters.items) (rest_of parts.entry.profile)
-        (map rest_of_table parts.entry.tables.items) (Err (Fault.Verify fault))) }
+        (map rest_of filters.old) (rest_of profile.old) (map rest_of_table tables.old) (Err (Fault.Verify fault))) }
 {
-    let mut filters = parts.filters;
-    let mut profile = parts.profile;
-    let mut tables = parts.tables;
-    let outcome = verify_calls_of(
-        alloc,
-        &mut filters,
-        &mut profile,
-        &mut tables,
-        relation,
-        limits,
-    )?;
+    let outcome = verify_calls_of(alloc, filters, profile, tables, relation, limits)?;
     report_of_calls(alloc, relation, &outcome)
+}
+
+/// The report on a stack and a profile, over the records that are asked for.
+fn compare_parts(
+    alloc: Global,
+    filters: &mut [PartReader<'_>],
+    profile: &mut PartReader<'_>,
+    tables: &mut [TableReader<PartReader<'_>>],
+    comparison: Comparison,
+) -> Result<Reply, VerifyFault>
+    requires { comparison.scopes ≡ Scopes.EachCall → length tables.old ≡ 1 }
+    ensures reply { IfOk result (λ reply. ComparesProfiles comparison.scopes comparison.relation comparison.limits
+        (map rest_of filters.old) (rest_of profile.old) (map rest_of_table tables.old) (Ok reply)) }
+    ensures fault { IfErr result (λ fault. ComparesProfiles comparison.scopes comparison.relation comparison.limits
+        (map rest_of filters.old) (rest_of profile.old) (map rest_of_table tables.old) (Err (Fault.Verify fault))) }
+{
+    let limits = comparison.limits;
+    let relation = comparison.relation;
+    match comparison.scopes {
+        Scopes::AtOnce(scope) => compare_at_once(
+            alloc, filters, profile, tables, scope, relation, limits,
+        ),
+        Scopes::EachCall => compare_each_call(alloc, filters, profile, tables, relation, limits),
+    }
+}
+
+/// Whether single calls are compared.
+fn is_call_by_call(over: Scopes) -> bool
+    ensures { result ≡ spec.is_call_by_call over }
+{
+    matches!(over, Scopes::EachCall)
 }
 
 /// `compare --architectures`: whether a stack of filters answers as a profile does, or is no more or no less
@@ -239,21 +258,14 @@ pub(super) fn compare_architectures<R: Source>(
     ensures answer { ComparesArchitectures comparison (R.remaining input.old) result }
     ensures left { LeavesWhole R.remaining R.failures input.old result input.new }
 {
-    let limits = comparison.limits;
-    let relation = comparison.relation;
     let bytes = whole_input(alloc, input)?;
-    let Some(parts) = parts_of(alloc, &bytes, true)? else {
+    let Some(parts) = parts_of(alloc, &bytes, true, is_call_by_call(comparison.scopes))? else {
         return Err(Fault::Parts);
     };
-    match comparison.scopes {
-        Scopes::AtOnce(scope) => Ok(compare_at_once(alloc, parts, scope, relation, limits)?),
-        Scopes::EachCall => {
-            if parts.tables.len() != 1 {
-                return Err(Fault::Parts);
-            }
-            Ok(compare_each_call(alloc, parts, relation, limits)?)
-        }
-    }
+    let mut filters = parts.filters;
+    let mut profile = parts.profile;
+    let mut tables = parts.tables;
+    Ok(compare_parts(alloc, &mut filters, &mut profile, &mut tables, comparison)?)
 }
 
 /// The filter of a profile and tables.
@@ -265,8 +277,8 @@ fn compiled(
     ensures program { IfOk result (λ program. (loaded : LoadedProfiles)
         × AreStated profile.now (map rest_of_table tables.now) loaded
         × SameAnswersAsEach (RunAnswers program) loaded.profiles) }
-    ensures fault { IfErr result (λ fault. (filters : List (List ℕ))
-        → CompilesEach filters profile.now (map rest_of_table tables.now) (Err fault)) }
+    ensures fault { IfErr result (λ fault.
+        CompilesEach profile.now (map rest_of_table tables.now) (Err fault)) }
 {
     let loaded = loaded(alloc, profile, tables)?;
     Ok(compile_profiles(alloc, &loaded.profiles)?)
@@ -278,10 +290,10 @@ fn filter_bytes(
     profile: &[u8],
     tables: &[TableReader<PartReader<'_>>],
 ) -> Result<Vec<u8>, Fault>
-    ensures filter { IfOk result (λ bytes. (filters : List (List ℕ))
-        → CompilesEach filters profile.now (map rest_of_table tables.now) (Ok (Reply.Bytes bytes))) }
-    ensures fault { IfErr result (λ fault. (filters : List (List ℕ))
-        → CompilesEach filters profile.now (map rest_of_table tables.now) (Err fault)) }
+    ensures filter { IfOk result (λ bytes.
+        CompilesEach profile.now (map rest_of_table tables.now) (Ok (Reply.Bytes bytes))) }
+    ensures fault { IfErr result (λ fault.
+        CompilesEach profile.now (map rest_of_table tables.now) (Err fault)) }
 {
     let program = compiled(alloc, profile, tables)?;
     match encoding_of(alloc, program.insns()) {
@@ -292,11 +304,11 @@ fn filter_bytes(
 
 /// `compile --architectures`: the filter that answers as a profile does, for each architecture that has a table.
 pub(super) fn compile_architectures<R: Source>(alloc: Global, input: &mut R) -> Result<Reply, Fault>
-    ensures answer { EndsOnArchitectures false IsAtLeastOne (R.remaining input.old) CompilesEach result }
+    ensures answer { EndsOnArchitectures false false (R.remaining input.old) (λ filters. CompilesEach) result }
     ensures left { LeavesWhole R.remaining R.failures input.old result input.new }
 {
     let bytes = whole_input(alloc, input)?;
-    let Some(parts) = parts_of(alloc, &bytes, false)? else {
+    let Some(parts) = parts_of(alloc, &bytes, false, false)? else {
         return Err(Fault::Parts);
     };
     Ok(Reply::Bytes(filter_bytes(alloc, parts.profile.rest(), &parts.tables)?))
@@ -308,11 +320,12 @@ pub(super) fn ask_architectures<R: Source>(
     call: &CallRecord,
     input: &mut R,
 ) -> Result<Reply, Fault>
-    ensures answer { EndsOnArchitectures false IsAtLeastOne (R.remaining input.old) (GivesReasonAmong call.now) result }
+    ensures answer { EndsOnArchitectures false false (R.remaining input.old)
+        (λ filters. GivesReasonAmong call.now) result }
     ensures left { LeavesWhole R.remaining R.failures input.old result input.new }
 {
     let bytes = whole_input(alloc, input)?;
-    let Some(parts) = parts_of(alloc, &bytes, false)? else {
+    let Some(parts) = parts_of(alloc, &bytes, false, false)? else {
         return Err(Fault::Parts);
     };
     let loaded = loaded(alloc, parts.profile.rest(), &parts.tables)?;

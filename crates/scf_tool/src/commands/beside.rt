@@ -3,7 +3,6 @@
 ghost use Rattle.std.specs.Prelude.{◌∷◌, [], ℕ, List, map, IfErr, IfOk, Ok, Err};
 ghost use Rattle.scf_request.specs.Contents.{rest_of};
 ghost use Rattle.scf_tool.specs.Commands.{ComparesBeside, ComparesStacks};
-ghost use Rattle.scf_tool.specs.Faults.{fault_of_beside};
 ghost use Rattle.scf_tool.specs.Statuses.{LeavesWhole};
 
 use crate::beside_verification::{verify_beside, verify_calls_beside};
@@ -34,7 +33,7 @@ fn compare_at_once(
         (map rest_of filters.old) (map rest_of beside.old) tables (Ok reply)) }
     ensures fault { (tables : List (List ℕ))
         → IfErr result (λ fault. ComparesStacks (Scopes.AtOnce scope) relation limits
-        (map rest_of filters.old) (map rest_of beside.old) tables (Err (fault_of_beside fault))) }
+        (map rest_of filters.old) (map rest_of beside.old) tables (Err (Fault.Stacks fault))) }
 {
     let finding = verify_beside(alloc, filters, beside, scope, relation, limit_of(limits))?;
     let status = status_of_finding(&finding);
@@ -54,7 +53,7 @@ fn compare_each_call(
     ensures reply { IfOk result (λ reply. ComparesStacks Scopes.EachCall relation limits
         (map rest_of filters.old) (map rest_of beside.old) (rest_of table.old ∷ []) (Ok reply)) }
     ensures fault { IfErr result (λ fault. ComparesStacks Scopes.EachCall relation limits
-        (map rest_of filters.old) (map rest_of beside.old) (rest_of table.old ∷ []) (Err (fault_of_beside fault))) }
+        (map rest_of filters.old) (map rest_of beside.old) (rest_of table.old ∷ []) (Err (Fault.Stacks fault))) }
 {
     let calls = verify_calls_beside(alloc, filters, beside, table, relation, limits)?;
     let status = status_of_calls(&calls);

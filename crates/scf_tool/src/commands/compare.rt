@@ -30,7 +30,7 @@ use crate::call_verification::{CallFinding, CallsOutcome, limit_of, verify_calls
 use crate::commands::{only, whole_input};
 use crate::fault::Fault;
 use crate::reply::Reply;
-use crate::reporting::{finding_of_verdict, report_by};
+use crate::reporting::{finding_of, report_by};
 use crate::stack_verification::verify_by;
 use crate::status::Status;
 use crate::verification::Outcome;
@@ -68,7 +68,7 @@ pub(super) fn report_of(
     ensures reply { IfOk result (IsReport relation outcome.now) }
     ensures memory { IfErr result (λ fault. fault ≡ VerifyFault.Memory) }
 {
-    let status = status_of_finding(&finding_of_verdict(&outcome.verdict));
+    let status = status_of_finding(&finding_of(&outcome.verdict));
     let text = report_by(alloc, relation, outcome)?;
     Ok(Reply::Compared { text, status })
 }

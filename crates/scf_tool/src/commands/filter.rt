@@ -3,20 +3,18 @@
 ghost use Rattle.std.specs.Prelude.{◌≡◌, ℕ, List, IfOk};
 ghost use Rattle.scf_insn.specs.Words.{words_of};
 ghost use Rattle.scf_machine.specs.Path.{IsPathOf};
-ghost use Rattle.scf_text.specs.Listing.{text_of};
 ghost use Rattle.scf_tool.specs.Commands.{EndsOnFilter, Lists};
 ghost use Rattle.scf_request.specs.declared.request.Request.TheVariants as requests;
 ghost use Rattle.scf_tool.specs.Lines.{traced_text};
 ghost use Rattle.scf_tool.specs.Statuses.{LeavesFilter};
 
-use crate::buffer::Buffer;
+use crate::buffer::{Buffer, listing_of};
 use crate::fault::Fault;
 use crate::filter::read_filter;
-use crate::lines::write_trace;
+use crate::lines::add_trace;
 use crate::reply::Reply;
-use scf_insn::{CallRecord, Insn, Memory, ReadFault, Source, read_program};
+use scf_insn::{CallRecord, Memory, ReadFault, Source, read_program};
 use scf_machine::{Program, Trace, run, trace};
-use scf_text::disassemble;
 use std::alloc::Global;
 
 /// `check`: whether a filter is accepted.
@@ -46,10 +44,8 @@ fn lines_of(alloc: Global, trace: &Trace) -> Result<Vec<u8>, Memory>
     ensures { IfOk result (λ text. text.items ≡ traced_text trace.now.answer.0 trace.now.indices.items) }
 {
     let mut text = Buffer::new(alloc);
-    match write_trace(&mut text, trace) {
-        Ok(()) => Ok(text.into_bytes()),
-        Err(_) => Err(Memory),
-    }
+    add_trace(&mut text, trace)?;
+    Ok(text.into_bytes())
 }
 
 /// The lines of a filter's run on a call and its way.
@@ -74,17 +70,6 @@ pub(super) fn trace_filter<R: Source>(
     match traced(alloc, &program, call) {
         Ok(lines) => Ok(Reply::Bytes(lines)),
         Err(_) => Err(Fault::from(ReadFault::Memory)),
-    }
-}
-
-/// The listing of instructions.
-fn listing_of(alloc: Global, insns: &[Insn]) -> Result<Vec<u8>, Memory>
-    ensures { IfOk result (λ text. text.items ≡ text_of insns.now) }
-{
-    let mut text = Buffer::new(alloc);
-    match disassemble(insns, &mut text) {
-        Ok(()) => Ok(text.into_bytes()),
-        Err(_) => Err(Memory),
     }
 }
 

@@ -1,7 +1,9 @@
-use Rattle.scf_tool.proofs.Common.{err_from_is_err_and}
+use Rattle.scf_tool.proofs.Common.{Some, err_from_is_err_and}
+use Rattle.scf_tool.proofs.StackLemmas.{read_well_each}
 use Rattle.scf_tool.specs.declared.verification.Outcome.{Outcome}
+use Rattle.scf_c.specs.declared.memory.Reader.{Reader}
+use Rattle.scf_c.specs.internal.Reading.{rest_of}
 use Rattle.scf_c.proofs.ComparisonLemmas.{each_refused}
-use Rattle.scf_c.proofs.ReadingLemmas.{reads_well_each}
 use Rattle.scf_c.proofs.architecture_comparison.compare_each.Goals as goal
 
 pub returns-in_err-outcome-clause-refused : goal.returns-in_err-outcome-clause-refused
@@ -16,4 +18,4 @@ returns-in_err-outcome-clause-refused c =
       c.in_ok-table_readers.ensures,
       c.new.ensures,
     ) at left.answer)
-    (reads_well_each Outcome _ _ _ _ _ _ _ left.filter_readers left.table_readers left.profile_reader))
+    (read_well_each (λ (reader : Reader). Some (rest_of reader)) Outcome _ _ _ _ _ _ _ left.filter_readers left.table_readers left.profile_reader))

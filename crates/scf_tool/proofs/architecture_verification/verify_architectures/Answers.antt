@@ -1,11 +1,12 @@
-use Rattle.scf_tool.proofs.Common.{err_from_is_err_and}
-use Rattle.scf_tool.proofs.TableLemmas.{are_compared_under, each_is_read}
+use Rattle.scf_tool.proofs.Common.{err_from_is_err_and, inr, refl}
+use Rattle.scf_tool.proofs.TableLemmas.{are_compared_under}
 use Rattle.scf_tool.proofs.architecture_verification.verify_architectures.Goals as goal
 
 pub returns-in_err-verdict-clause-answer : goal.returns-in_err-verdict-clause-answer
 returns-in_err-verdict-clause-answer g c =
     let p = err_from_is_err_and c.from_residual-in_err-verdict.result c.from_residual-in_err-verdict.ensures.1 in
-    rw (p.1, p.2) (each_is_read _ _ _ _ c.in_ok-inputs.ensures.inputs)
+    let read = c.in_ok-inputs.ensures.inputs in
+    rw (p.1, p.2) (inr (_, read.has_stack, inr (_, read.are_tables, inr (_, read.are_loaded, refl))))
 
 pub returns-clause-answer : goal.returns-clause-answer
 returns-clause-answer g c =

@@ -1,22 +1,22 @@
 use Rattle.scf_tool.proofs.Common.{inr, refl, err_from_is_err_and, Finding}
-use Rattle.scf_tool.proofs.BesideLemmas.{pair_reads_well, stacks_fault}
-use Rattle.scf_tool.proofs.StackLemmas.{memory_is_no_read, told_of_parts}
-use Rattle.scf_request.specs.declared.request.Scopes.TheVariants.{AtOnce}
+use Rattle.scf_tool.proofs.BesideLemmas.{pair_reads_well}
+use Rattle.scf_tool.proofs.StackLemmas.{part_bytes, told_of_parts}
 use Rattle.scf_tool.proofs.commands.beside.compare_at_once.Goals as goal
 
 pub returns-in_err-finding-clause-fault : goal.returns-in_err-finding-clause-fault
 returns-in_err-finding-clause-fault c = λ tables.
     let p = err_from_is_err_and c.from_residual.result c.from_residual.ensures.1 in
     let left = c.in_err-finding.ensures in
-    rw (p.1, p.2) (stacks_fault (AtOnce c.args.scope) c.args.relation c.args.limits _ _ tables c.in_err-finding.field-0.0
-    (pair_reads_well Finding _ _ c.in_err-finding.field-0.0 _ _ _ _ left.answer left.filter_readers left.beside_readers)
-    (rw (told_of_parts c.args.filters.now, told_of_parts c.args.beside.now) at left.answer))
+    rw (p.1, p.2) (
+      pair_reads_well part_bytes Finding _ _ c.in_err-finding.field-0.0 _ _ _ _ left.answer left.filter_readers left.beside_readers,
+      rw (told_of_parts c.args.filters.now, told_of_parts c.args.beside.now) at left.answer,
+    )
 
 pub returns-in_err-text-clause-fault : goal.returns-in_err-text-clause-fault
 returns-in_err-text-clause-fault c = λ tables.
     let p = err_from_is_err_and c.from_residual-in_err-text.result c.from_residual-in_err-text.ensures.1 in
     let stacks = rw (told_of_parts c.args.filters.now, told_of_parts c.args.beside.now) at c.in_ok-finding.ensures.answer in
-    rw (p.1, p.2) (memory_is_no_read, inr (stacks.0, stacks.1, stacks.2, refl))
+    rw (p.1, p.2) (tt, inr (stacks.0, stacks.1, stacks.2, refl))
 
 pub returns-clause-reply : goal.returns-clause-reply
 returns-clause-reply c = λ tables. (

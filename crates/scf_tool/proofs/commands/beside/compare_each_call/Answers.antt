@@ -1,30 +1,29 @@
-use Rattle.scf_tool.proofs.Common.{inr, refl, err_from_is_err_and}
-use Rattle.scf_tool.proofs.BesideLemmas.{calls_read_well, stacks_fault}
-use Rattle.scf_tool.proofs.StackLemmas.{memory_is_no_read, told_of_parts}
+use Rattle.scf_tool.proofs.Common.{List, Some, inr, refl, rest_of, err_from_is_err_and}
+use Rattle.scf_tool.proofs.BesideLemmas.{calls_read_well}
+use Rattle.scf_tool.proofs.StackLemmas.{part_bytes, told_of_parts}
 use Rattle.scf_tool.specs.declared.call_verification.CallFinding.{CallFinding}
-use Rattle.scf_request.specs.declared.request.Scopes.TheVariants.{EachCall}
-use Rattle.scf_tool.proofs.Common.{[], ◌∷◌, List, Some, rest_of}
 use Rattle.scf_tool.proofs.commands.beside.compare_each_call.Goals as goal
 
 pub returns-in_err-calls-clause-fault : goal.returns-in_err-calls-clause-fault
 returns-in_err-calls-clause-fault c =
     let p = err_from_is_err_and c.from_residual.result c.from_residual.ensures.1 in
     let left = c.in_err-calls.ensures in
-    rw (p.1, p.2) (stacks_fault EachCall c.args.relation c.args.limits _ _ (rest_of c.args.table.now ∷ [])
-    c.in_err-calls.field-0.0
-    (calls_read_well (List CallFinding) _ _ (Some (rest_of c.args.table.now)) c.in_err-calls.field-0.0 _ _ _ _ _ _ left.refused left.filter_readers
-    left.beside_readers left.table_reader) (
-      rest_of c.args.table.now,
-      refl,
-      rw (told_of_parts c.args.filters.now, told_of_parts c.args.beside.now) at left.refused,
-    ))
+    rw (p.1, p.2) (
+      calls_read_well part_bytes (List CallFinding) _ _ (Some (rest_of c.args.table.now)) c.in_err-calls.field-0.0 _ _ _ _
+          _ _ left.refused left.filter_readers left.beside_readers left.table_reader,
+      (
+        rest_of c.args.table.now,
+        refl,
+        rw (told_of_parts c.args.filters.now, told_of_parts c.args.beside.now) at left.refused,
+      ),
+    )
 
 pub returns-in_err-text-clause-fault : goal.returns-in_err-text-clause-fault
 returns-in_err-text-clause-fault c =
     let p = err_from_is_err_and c.from_residual-in_err-text.result c.from_residual-in_err-text.ensures.1 in
     let stacks = rw (told_of_parts c.args.filters.now, told_of_parts c.args.beside.now) at c.in_ok-calls.ensures.calls in
     rw (p.1, p.2) (
-      memory_is_no_read,
+      tt,
       (rest_of c.args.table.now, refl, inr (stacks.0, stacks.1, stacks.2, inr (stacks.3, stacks.4, refl))),
     )
 

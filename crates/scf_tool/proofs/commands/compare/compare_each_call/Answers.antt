@@ -1,7 +1,7 @@
-use Rattle.scf_tool.proofs.Common.{IfOk-weaker, err_from_is_err_and}
+use Rattle.scf_tool.proofs.Common.{IfOk-weaker, err_from_is_err_and, inr, refl}
 use Rattle.scf_tool.specs.declared.call_verification.CallsOutcome.{CallsOutcome}
-use Rattle.scf_tool.proofs.PartyLemmas.{memory_fault, parties_were_read}
-use Rattle.scf_tool.proofs.StackLemmas.{memory_is_no_read, reads_well, told_of_parts}
+use Rattle.scf_tool.proofs.PartyLemmas.{memory_fault}
+use Rattle.scf_tool.proofs.StackLemmas.{part_bytes, reads_well, told_of_parts}
 use Rattle.scf_tool.proofs.commands.compare.compare_each_call.Goals as goal
 
 pub returns-in_err-outcome-clause-fault : goal.returns-in_err-outcome-clause-fault
@@ -9,7 +9,7 @@ returns-in_err-outcome-clause-fault c =
     let p = err_from_is_err_and c.from_residual.result c.from_residual.ensures.1 in
     let left = c.in_err-outcome.ensures in
     rw (p.1, p.2) (
-      reads_well CallsOutcome _ _ _ _ _ _ _ left.filter_readers left.table_reader left.profile_reader,
+      reads_well part_bytes CallsOutcome _ _ _ _ _ _ _ left.filter_readers left.table_reader left.profile_reader,
       rw (told_of_parts c.args.filters.now) at left.answer,
     )
 
@@ -21,7 +21,6 @@ returns-clause-reply c =
 
 pub returns-clause-fault : goal.returns-clause-fault
 returns-clause-fault c =
-    memory_fault _ c.report_of_calls.result c.report_of_calls.ensures.memory (
-      memory_is_no_read,
-      parties_were_read _ _ _ _ _ (rw (told_of_parts c.args.filters.now) at c.in_ok-outcome.ensures.answer),
-    )
+    let read = rw (told_of_parts c.args.filters.now) at c.in_ok-outcome.ensures.answer in
+    memory_fault _ c.report_of_calls.result c.report_of_calls.ensures.memory
+    (tt, inr (_, read.has_stack, inr (_, read.is_table, inr (_, read.is_loaded, refl))))
