@@ -1,18 +1,17 @@
 -- The bits that splits have fixed.
-use Rattle.std.specs.Prelude.{sum_by, slice_set}
+use Rattle.std.specs.Prelude.{slice_set}
 use Rattle.std.proofs.lemmas.Nat.{pow_below}
 use Rattle.std.proofs.lemmas.Nat.Bits.{bit_at-trailing_ones}
 use Rattle.std.specs.Int.{trailing_ones}
 use Rattle.scf_facts.proofs.Common.{IsPowerOfTwo, and_pow, one_shl, w32}
 use Rattle.scf_compare.proofs.Bits.{whole_word}
 use Rattle.std.proofs.lemmas.List.Sums.{sum_by-set}
-use Rattle.std.proofs.lemmas.List.{get_or-set_same}
 use Rattle.std.proofs.lemmas.Nat.{or_disjoint}
 use Rattle.std.specs.Int.Bits.{or_zero_r}
 use Rattle.scf_facts.proofs.MaskLaws.{in_joined, joined, under_power}
 use Rattle.scf_facts.specs.declared.bits.Bits.{Bits}
 use Rattle.scf_facts.specs.Bits.{HasBits}
-use Rattle.scf_compare.proofs.Common.{◌≡◌, ◌∙◌, ◌+◌, ◌*◌, ◌%◌, ◌<◌, ◌-◌, ◌^◌, ℕ, List, arith, bit_and, bit_or, common_steps, eq-eqb, eqb, false, get_or, inl, inr, length, or_lt, refl, slice_index, sym}
+use Rattle.scf_compare.proofs.Common.{◌≡◌, ◌∙◌, ◌+◌, ◌*◌, ◌%◌, ◌<◌, ◌-◌, ◌^◌, ℕ, List, arith, bit_and, bit_or, common_steps, eq-eqb, eqb, false, inl, inr, length, or_lt, refl, slice_index, sym}
 use Rattle.scf_compare.specs.internal.FixedBits.{HaveBits, bits_at, lacking}
 
 -- a number with some bits and further ones has both

@@ -1,6 +1,7 @@
 pub mod Bits
 pub mod BitSets
 pub mod Branches
+pub mod Budgets
 pub mod Common
 pub mod ControlFlows
 pub mod Halves

@@ -1,5 +1,6 @@
 pub mod Asking
 pub mod BitSlices
+pub mod Budgets
 pub mod Comparers
 pub mod Conditions
 pub mod ControlFlow

@@ -1,7 +1,8 @@
 //! How much a comparison may do where its first walk doesn't decide it.
 
-ghost use Rattle.std.specs.Prelude.{◌≡◌, true};
+ghost use Rattle.std.specs.Prelude.{◌≡◌};
 ghost use Rattle.scf_compare.specs.Limits.{limit_of_steps};
+ghost use Rattle.scf_compare.specs.internal.Budgets.{IsOneTaken, IsSplitTaken, IsStepTaken};
 
 /// How many splits a comparison may make. A split takes the records that a walk has come to apart, by a bit of one of
 /// their words, and walks the whole tree again with each half.
@@ -37,57 +38,34 @@ impl Limit {
             splits: Splits::DEFAULT,
         }
     }
-}
 
-/// What is left of a comparison's splits, and of the steps below them.
-#[derive(Clone, Copy)]
-pub(crate) enum Budget {
-    Left { splits: u64, steps: u64 },
-    NoLimit,
-}
-
-impl Budget {
-    /// So many splits, and below them so many steps.
-    pub(crate) fn new(splits: Splits, steps: u64) -> Budget
-        ensures { splits ≡ Splits.NoLimit → result ≡ Budget.NoLimit }
-    {
-        match splits {
-            Splits::AtMost(splits) => Budget::Left { splits, steps },
-            Splits::NoLimit => Budget::NoLimit,
-        }
-    }
-
-    /// The steps that are left, of which there were `before`.
-    pub(crate) fn steps_left(self, before: u64) -> u64 {
-        match self {
-            Budget::Left { steps, .. } => steps,
-            Budget::NoLimit => before,
-        }
-    }
-
-    /// Takes a step, if one is left.
+    /// Takes one of the steps, if one is left. Where splits have no limit, none is counted.
     pub(crate) fn take_step(&mut self) -> bool
-        ensures unlimited { self.old ≡ Budget.NoLimit → (result ≡ true) × (self.new ≡ Budget.NoLimit) }
+        ensures splits { self.new.splits ≡ self.old.splits }
+        ensures steps { IsStepTaken self.old.splits result self.old.steps self.new.steps }
     {
-        match self {
-            Budget::Left { steps, .. } => take_one(steps),
-            Budget::NoLimit => true,
+        match self.splits {
+            Splits::AtMost(_) => take_one(&mut self.steps),
+            Splits::NoLimit => true,
         }
     }
 
-    /// Takes a split, if one is left.
+    /// Takes one of the splits, if one is left.
     pub(crate) fn take_split(&mut self) -> bool
-        ensures unlimited { self.old ≡ Budget.NoLimit → (result ≡ true) × (self.new ≡ Budget.NoLimit) }
+        ensures splits { IsSplitTaken result self.old.splits self.new.splits }
+        ensures steps { self.new.steps ≡ self.old.steps }
     {
-        match self {
-            Budget::Left { splits, .. } => take_one(splits),
-            Budget::NoLimit => true,
+        match &mut self.splits {
+            Splits::AtMost(splits) => take_one(splits),
+            Splits::NoLimit => true,
         }
     }
 }
 
 /// Takes one of a number, if it isn't 0.
-fn take_one(left: &mut u64) -> bool {
+fn take_one(left: &mut u64) -> bool
+    ensures { IsOneTaken result left.old left.new }
+{
     match left.checked_sub(1) {
         Some(fewer) => {
             *left = fewer;

@@ -17,6 +17,7 @@ ghost use Rattle.scf_compare.specs.Findings.{
   compared_in,
   compared_sides,
 };
+ghost use Rattle.scf_compare.specs.Limits.{LeavesStepsBelow};
 ghost use Rattle.scf_compare.specs.Sides.{IsPlainSide, behavior_of, effort_of_sides};
 ghost use Rattle.scf_compare.specs.Verdicts.{
   IsDecided,
@@ -27,7 +28,7 @@ ghost use Rattle.scf_compare.specs.Verdicts.{
 };
 ghost use Rattle.scf_compare.specs.internal.Comparers.{IsComparison};
 
-use crate::budget::{Budget, Limit, Splits};
+use crate::budget::{Limit, Splits};
 use crate::by_number::ByNumber;
 use crate::explore::explore;
 use crate::finding::Finding;
@@ -53,8 +54,8 @@ use std::slice;
 /// the limit is below the exact effort; the steps of `Holds` are within both.
 ///
 /// A store that starts exact decides plain sides: with a limit of at least the effort the finding is `Holds` exactly if
-/// the relation holds of the answers to every record of the scope, else `Fails`. If the splits have no limit, this is so
-/// of any two sides and every store.
+/// the relation holds of the answers to every record of the scope, else `Fails`. If the splits have no limit, any two
+/// sides are decided so, by every store.
 pub fn compare_sides<F: WordFacts>(
     alloc: Global,
     left: &Side<'_>,
@@ -73,7 +74,7 @@ pub fn compare_sides<F: WordFacts>(
         limit.steps (effort_of_sides left.now right.now)) }
 {
     let mut taken = 0;
-    let mut budget = Budget::new(limit.splits, limit.steps);
+    let mut budget = limit;
     let finding = compare_counted::<F>(
         alloc,
         left,
@@ -88,10 +89,10 @@ pub fn compare_sides<F: WordFacts>(
 }
 
 /// Compares as `compare_sides` does, in at most the `left_over` steps that several comparisons share, and below splits
-/// in at most `left_below` of them. What is taken is subtracted, of which no clause speaks for `left_below`; if an
-/// allocation fails, neither changes.
+/// in at most `left_below` of them. What is taken is subtracted; if an allocation fails, neither changes.
 ///
-/// With no steps left the finding is `Unfinished`.
+/// With no steps left the finding is `Unfinished`. `Undecided` takes more steps below splits than it may make splits,
+/// or as many as the limit and `left_below` allow.
 pub fn compare_sides_within<F: WordFacts>(
     alloc: Global,
     left: &Side<'_>,
@@ -103,7 +104,8 @@ pub fn compare_sides_within<F: WordFacts>(
     left_below: &mut u64,
 ) -> Result<Finding, Memory>
     ensures holds { IfOk result (IsTrueFinding (compared_sides by over left.now right.now)) }
-    ensures within { IfOk result (IsFindingWithin (min limit.steps left_over.old) (effort_of_sides left.now right.now)) }
+    ensures within { IfOk result (IsFindingWithin
+        (min limit.steps left_over.old) (effort_of_sides left.now right.now)) }
     ensures decided { IsTrue F.starts_exact → IsPlainSide left.now → IsPlainSide right.now
         → IfOk result (IsFindingDecided (AllRelated (compared_sides by over left.now right.now))
         (min limit.steps left_over.old) (effort_of_sides left.now right.now)) }
@@ -112,13 +114,18 @@ pub fn compare_sides_within<F: WordFacts>(
         (min limit.steps left_over.old) (effort_of_sides left.now right.now)) }
     ensures left { IfOk result (λ finding. LeavesFindingSteps
         (min limit.steps left_over.old) (effort_of_sides left.now right.now) left_over.old finding left_over.new) }
+    ensures left_below { IfOk result (λ finding. LeavesStepsBelow
+        limit.splits (min limit.steps left_below.old) left_below.old finding left_below.new) }
     ensures err { OnErr result (left_over.new ≡ left_over.old) }
     ensures err_below { OnErr result (left_below.new ≡ left_below.old) }
 {
     let mut taken = 0;
     let most = limit.steps.min(*left_over);
     let most_below = limit.steps.min(*left_below);
-    let mut budget = Budget::new(limit.splits, most_below);
+    let mut budget = Limit {
+        steps: most_below,
+        splits: limit.splits,
+    };
     let finding = compare_counted::<F>(
         alloc,
         left,
@@ -130,8 +137,7 @@ pub fn compare_sides_within<F: WordFacts>(
         &mut taken,
     )?;
     *left_over -= taken;
-    let taken_below = most_below.saturating_sub(budget.steps_left(most_below));
-    *left_below = left_below.saturating_sub(taken_below);
+    *left_below -= most_below - budget.steps;
     Ok(finding)
 }
 
@@ -143,11 +149,12 @@ fn compare_counted<F: WordFacts>(
     over: Scope,
     by: Relation,
     limit: u64,
-    budget: &mut Budget,
+    budget: &mut Limit,
     taken: &mut u64,
 ) -> Result<Finding, Memory>
     ensures { IfOk result (λ finding.
-        IsComparison (compared_sides by over left.now right.now) (IsTrue F.starts_exact) limit budget.old finding taken.new) }
+        IsComparison (compared_sides by over left.now right.now)
+        (IsTrue F.starts_exact) limit budget.old finding taken.new budget.new.steps) }
 {
     match *left {
         Side::Stack(filters) => {
@@ -169,11 +176,11 @@ fn compare_with<F: WordFacts, L: SideTree + Drop>(
     over: Scope,
     by: Relation,
     limit: u64,
-    budget: &mut Budget,
+    budget: &mut Limit,
     taken: &mut u64,
 ) -> Result<Finding, Memory>
     ensures { IfOk result (λ finding. IsComparison (compared_in by over (L.behavior left) (behavior_of right.now))
-        (IsTrue F.starts_exact) limit budget.old finding taken.new) }
+        (IsTrue F.starts_exact) limit budget.old finding taken.new budget.new.steps) }
 {
     match *right {
         Side::Stack(filters) => {
@@ -200,16 +207,17 @@ fn compare_with<F: WordFacts, L: SideTree + Drop>(
 }
 
 /// Walks the tree of a pair; if that leaves it undecided, a second time with splits.
+#[tactic(auto, using(crate::proofs::Budgets::unsplit_below))]
 fn compare_pair<F: WordFacts, L: SideTree, R: SideTree>(
     alloc: Global,
     pair: &Pair<L, R>,
     limit: u64,
-    budget: &mut Budget,
+    budget: &mut Limit,
     taken: &mut u64,
 ) -> Result<Finding, Memory>
     ensures { IfOk result (λ finding. IsComparison
         (compared_in pair.now.by pair.now.over (L.behavior pair.now.left) (R.behavior pair.now.right))
-        (IsTrue F.starts_exact) limit budget.old finding taken.new) }
+        (IsTrue F.starts_exact) limit budget.old finding taken.new budget.new.steps) }
 {
     let facts: F = facts_of(alloc, pair.over)?;
     let (left, start) = pair.left.start();

@@ -86,8 +86,8 @@ impl FixedBits {
         Some(WordBit { word, mask })
     }
 
-    /// The next bit to split on, if any isn't fixed: of those on which an open test depends, if there is one, and then of
-    /// all. Bits that the store knows are fixed on the way.
+    /// The next bit to split on, if any isn't fixed: of those on which an open test depends, if there is one, and then
+    /// of all. Bits that the store knows are fixed on the way.
     pub(crate) fn next_bit<F: WordFacts>(
         &mut self,
         facts: &F,

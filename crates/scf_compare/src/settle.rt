@@ -1,7 +1,8 @@
 //! The second walk of a comparison, which splits the records by bits of their words until every test is decided.
 
-ghost use Rattle.std.specs.Prelude.{◌≡◌, ◌↔◌, ℕ, List, IfNone, IfOk, IfSome, IsSome};
+ghost use Rattle.std.specs.Prelude.{◌≡◌, ◌↔◌, ℕ, List, IfNone, IfOk, IfSome};
 ghost use Rattle.scf_compare.specs.Findings.{WordsRelated};
+ghost use Rattle.scf_compare.specs.internal.Budgets.{IsTurn, LeavesSteps};
 ghost use Rattle.scf_compare.specs.internal.FixedBits.{AreWhole, HaveBits, IsOpenBit};
 ghost use Rattle.scf_compare.specs.internal.Frontier.{IsFrontier};
 ghost use Rattle.scf_compare.specs.internal.Leaves.{AreWordsIn, Tells};
@@ -17,7 +18,7 @@ ghost use Rattle.scf_compare.specs.internal.Settling.{
 };
 ghost use Rattle.scf_compare.specs.internal.Stages.{IsFound};
 
-use crate::budget::Budget;
+use crate::budget::Limit;
 use crate::comparison::{Comparison, PairLeaf};
 use crate::explore::{Stage, difference_by, is_related};
 use crate::finding::Finding;
@@ -76,13 +77,14 @@ fn difference_of<C: Comparison>(comparison: &C, fixed: &FixedBits) -> Option<Fin
 
 /// Splits on a bit, if a split is left: opens a branch where the bit is clear, and learns that it is set. Both begin at
 /// the root.
+#[tactic(auto, using(crate::proofs::Budgets::none_left))]
 fn restart<C: Comparison, F: WordFacts>(
     settling: &Settling<'_, C>,
     frontier: &mut Frontier<F, C::Known, SettlingNode<C::Node>>,
     known: &mut C::Known,
     fixed: FixedBits,
     bit: WordBit,
-    budget: &mut Budget,
+    budget: &mut Limit,
 ) -> Result<Option<Stage<SettlingNode<C::Node>>>, Memory>
     requires frontier { let own = settling.now in let tree = C.tree own.comparison.now in
         IsFrontier F.WordFacts (settling_trees tree own.start own.root)
@@ -95,7 +97,8 @@ fn restart<C: Comparison, F: WordFacts>(
         IfOk result (λ stage. IfSome stage (IsAtSplit F.WordFacts (C.compared own.comparison.now) trees
         frontier.old frontier.new (HaveBits fixed.words) (weight ((tree own.start).size own.root) fixed.words)
         (trees known.new))) }
-    ensures unlimited { budget.old ≡ Budget.NoLimit → IfOk result IsSome × (budget.new ≡ Budget.NoLimit) }
+    ensures splits { IfOk result (λ stage. IsTurn stage budget.old.splits budget.new.splits) }
+    ensures steps { budget.new.steps ≡ budget.old.steps }
 {
     if !budget.take_split() {
         return Ok(None);
@@ -143,7 +146,7 @@ fn advance_again<C: Comparison, F: WordFacts>(
     frontier: &mut Frontier<F, C::Known, SettlingNode<C::Node>>,
     known: &mut C::Known,
     node: SettlingNode<C::Node>,
-    budget: &mut Budget,
+    budget: &mut Limit,
 ) -> Result<Option<Stage<SettlingNode<C::Node>>>, Memory>
     requires frontier { let own = settling.now in let tree = C.tree own.comparison.now in
         IsFrontier F.WordFacts (settling_trees tree own.start own.root)
@@ -155,7 +158,8 @@ fn advance_again<C: Comparison, F: WordFacts>(
         let trees = settling_trees tree own.start own.root in
         IfOk result (λ stage. IfSome stage (IsNextStage F.WordFacts (C.compared own.comparison.now) trees
         frontier.old frontier.new (trees known.old) node (trees known.new))) }
-    ensures unlimited { budget.old ≡ Budget.NoLimit → IfOk result IsSome × (budget.new ≡ Budget.NoLimit) }
+    ensures splits { IfOk result (λ stage. IsTurn stage budget.old.splits budget.new.splits) }
+    ensures steps { budget.new.steps ≡ budget.old.steps }
 {
     let mut fixed = node.fixed;
     let step = settling.step(&frontier.facts, known, &node);
@@ -195,6 +199,7 @@ fn advance_again<C: Comparison, F: WordFacts>(
 
 /// Walks the whole tree from a node again, with splits. The finding is `Holds`, with these steps, or `Fails`; there is
 /// none only if the budget was used up.
+#[tactic(auto, using(crate::proofs::Budgets::walks))]
 pub(crate) fn settle<C: Comparison, F: WordFacts>(
     alloc: Global,
     comparison: &C,
@@ -202,13 +207,14 @@ pub(crate) fn settle<C: Comparison, F: WordFacts>(
     start: C::Known,
     root: C::Node,
     steps: u64,
-    budget: &mut Budget,
+    budget: &mut Limit,
 ) -> Result<Option<Finding>, Memory>
     requires unmarked { F.level facts ≡ 0 }
     requires scope { (words : List ℕ) → F.allows facts 0 words ↔ AreWordsIn (C.compared comparison.now) words }
     requires root { StartsAt (AreWordsIn (C.compared comparison.now)) (C.tree comparison.now start) root }
     ensures settled { IfOk result (λ finding. IfSome finding (IsSettled (C.compared comparison.now) steps)) }
-    ensures unlimited { budget.old ≡ Budget.NoLimit → IfOk result IsSome }
+    ensures steps { IfOk result (λ finding.
+        LeavesSteps budget.old.splits finding budget.old.steps budget.new.steps) }
 {
     let settling = Settling {
         comparison,

@@ -53,8 +53,8 @@ step_size tree (Leaf leaf) = 0
 abbrev pub Costs : {N E : Type 0} → Tree N → Step N E → ℕ → Type 0
 Costs tree step size = step_size tree step + 1 ≤ size
 
--- The step of a plain node: an atom decides, and complete facts stay complete with its answer; the next nodes are plain,
--- and a leaf tells all.
+-- The step of a plain node: an atom decides, and complete facts stay complete with its answer; the next nodes are
+-- plain, and a leaf tells all.
 abbrev pub StaysPlain : {N E : Type 0} → Tree N → (E → Type 0) → Step N E → Type 0
 StaysPlain tree tells_all (Next next) = tree.is_plain next
 StaysPlain tree tells_all (Branch atom if_true if_false) =

@@ -1,4 +1,3 @@
-use Rattle.scf_compare.proofs.Common.{◌≡◌, false, true}
 use Rattle.scf_compare.proofs.explore.difference_by.Goals as goal
 
 pub returns-else-relates-clause-found : goal.returns-else-relates-clause-found

@@ -1,8 +1,6 @@
-use Rattle.std.specs.Prelude.{sum_by}
-use Rattle.scf_compare.proofs.Common.{◌≡◌, AreWordsIn, CallRecord, IsWords-words_of, ap, arith, call_of-words_of, inl, inr, length, open_size, refl, sym, words_of, ◌∙◌}
+use Rattle.scf_compare.proofs.Common.{◌≡◌, AreWordsIn, IsWords-words_of, ap, arith, call_of-words_of, inl, inr, length, refl, sym, words_of, ◌∙◌}
+use Rattle.scf_compare.proofs.Budgets.{after_turn, at_first}
 use Rattle.scf_compare.proofs.Weights.{found_settles}
-use Rattle.scf_compare.specs.Findings.{AllRelated}
-use Rattle.scf_compare.specs.internal.Settling.{settling_trees}
 use Rattle.scf_compare.proofs.settle.settle.Goals as goal
 
 pub loop-settling-init : goal.loop-settling-init
@@ -22,7 +20,7 @@ loop-settling-init g c =
             rw c.requires.unmarked ((c.requires.scope words).1 within),
             (c.requires.root.reached words within, c.none.ensures words),
           ));
-      budget = λ none. none;
+      budget = at_first c.args.budget.now.splits c.args.budget.now.steps;
     })
 
 pub loop-settling-preserved : goal.loop-settling-preserved
@@ -37,8 +35,7 @@ loop-settling-preserved g c =
             | inl related ↦ inl related
             | inr ahead ↦ on.words words ahead
           ];
-      budget = λ none.
-          (after.unlimited (c.take_step.ensures.unlimited (c.loop-settling.invariant.budget none)).1).1;
+      budget = grind (arith, after_turn);
     }
 
 pub returns-in-Some-AllSeen-clause-settled : goal.returns-in-Some-AllSeen-clause-settled

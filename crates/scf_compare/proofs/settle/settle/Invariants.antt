@@ -1,6 +1,6 @@
-use Rattle.scf_compare.proofs.Common.{◌≡◌, ◌+◌, ◌⊎◌, ℕ, List, AreWordsIn, IsAhead, IsFrontier, open_size}
+use Rattle.scf_compare.proofs.Common.{◌+◌, ◌⊎◌, ℕ, List, AreWordsIn, IsAhead, IsFrontier, open_size}
 use Rattle.scf_compare.specs.Findings.{WordsRelated}
-use Rattle.scf_compare.specs.declared.budget.Budget.TheVariants.{NoLimit}
+use Rattle.scf_compare.specs.internal.Budgets.{LeavesSplits}
 use Rattle.scf_compare.specs.internal.Settling.{settling_trees}
 use Rattle.scf_compare.proofs.settle.settle.Given as goal
 
@@ -14,7 +14,7 @@ invariant-loop-settling g l =
       node : (trees l.known).is_node l.node;
       words : (words : List ℕ) → AreWordsIn compared words
           → WordsRelated compared words ⊎ IsAhead store trees l.frontier ((trees l.known).reaches l.node) words;
-      budget : l.fn.budget ≡ NoLimit → l.budget ≡ NoLimit;
+      budget : LeavesSplits l.fn.budget.splits l.budget.splits l.fn.budget.steps l.budget.steps;
     }
 
 abbrev pub decreases-loop-settling : goal.decreases-loop-settling

@@ -1,5 +1,4 @@
-use Rattle.scf_facts.proofs.MaskLaws.{under_power}
-use Rattle.scf_compare.proofs.Common.{◌∙◌, arith, bit_and, common_steps, eq-eqb, eqb-true, pow_pos, slice_index, sym}
+use Rattle.scf_compare.proofs.Common.{◌∙◌, arith, eqb-true, pow_pos, slice_index}
 use Rattle.scf_compare.proofs.BitSets.{have_set, lacking_less, more_bits, no_more_bits}
 use Rattle.scf_compare.proofs.fixed_bits.FixedBits.fix.Goals as goal
 use Rattle.scf_compare.proofs.fixed_bits.FixedBits.fix.Goals.{then-is_set, else-is_set}
