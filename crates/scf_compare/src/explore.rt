@@ -4,31 +4,31 @@ ghost use Rattle.std.specs.Prelude.{◌≡◌, ◌↔◌, ℕ, List, IsTrue, fal
 ghost use Rattle.scf_insn.specs.Words.{IsRecord, words_of};
 ghost use Rattle.scf_compare.specs.Findings.{AllRelated, AreSteps, IsFindingDecided, IsFindingWithin, IsTrueFinding, WordsRelated};
 ghost use Rattle.scf_compare.specs.internal.Leaves.{AreWordsIn, IsFirstUndecided, IsLeaf, IsUndecidedLeaf};
-ghost use Rattle.scf_compare.specs.internal.Leaves.{KnowsBoth, Tells, WereSeen};
+ghost use Rattle.scf_compare.specs.internal.Leaves.{KnowsBoth, Tells};
 ghost use Rattle.scf_compare.specs.internal.Frontier.{IsFrontier, IsExact};
-ghost use Rattle.scf_compare.specs.internal.Stages.{DecidesIfKnown, IsFound, IsStageAfter, finding_of_all};
+ghost use Rattle.scf_compare.specs.internal.Stages.{DecidesIfKnown, IsFound, IsJudged, IsStageAfter, finding_of_all};
 
 use crate::comparison::{Comparison, PairLeaf};
 use crate::finding::{Finding, Which};
-use crate::frontier::{Frontier, ask, fork, take_branch};
+use crate::frontier::{Frontier, Stage, ask, take_branch};
 use crate::step::Step;
 use scf_facts::WordFacts;
 use scf_insn::{CallRecord, Memory};
 use std::alloc::Global;
 
-/// Where the walk is after a step.
-#[derive(Drop)]
-pub(crate) enum Stage<N> {
-    /// At this node.
-    At(N),
-    /// Behind the last leaf.
-    AllSeen,
-    /// At a finding.
-    Found(Finding),
+/// What is found at a leaf.
+#[derive(Clone, Copy)]
+pub(crate) enum Judged {
+    /// The relation holds of the answers to all words that come to it.
+    Related,
+    /// A record shows that it doesn't hold.
+    Fails(Finding),
+    /// Neither is known.
+    Open,
 }
 
 /// Whether both answers are known at a leaf, and the relation holds of them.
-pub(crate) fn is_related<C: Comparison>(comparison: &C, leaf: PairLeaf) -> bool
+fn is_related<C: Comparison>(comparison: &C, leaf: PairLeaf) -> bool
     ensures related { IsTrue result → (words : List ℕ) → Tells (C.compared comparison.now) leaf words
         → WordsRelated (C.compared comparison.now) words }
     ensures undecided { result ≡ false → IsUndecidedLeaf (C.compared comparison.now) leaf }
@@ -69,48 +69,35 @@ pub(crate) fn difference_by<C: Comparison>(comparison: &C, call: CallRecord) -> 
     }
 }
 
-/// Judges a leaf: `Fails`, if a record shows it. If the store doesn't decide whether the answers are related, the
-/// leaf's side and instruction index are kept as the first undecided ones, unless there were some before.
-///
-/// A record is shown only after both sides answered it.
-fn judge<C: Comparison, F: WordFacts>(
+/// Judges a leaf by what the store knows there. A record is shown only after both sides answered it.
+pub(crate) fn judge<C: Comparison, F: WordFacts>(
     comparison: &C,
     facts: &F,
     leaf: PairLeaf,
-    first_undecided: &mut Option<(Which, usize)>,
-) -> Option<Finding>
-    requires leaf { IsLeaf (C.compared comparison.now) leaf }
-    requires scope { (words : List ℕ) → F.allows facts.now (F.level facts.now) words
+) -> Judged
+    requires { (words : List ℕ) → F.allows facts.now (F.level facts.now) words
         → AreWordsIn (C.compared comparison.now) words }
-    requires index { IfSome first_undecided.old (IsFirstUndecided (C.compared comparison.now)) }
-    ensures seen { IfNone result ((words : List ℕ) → F.allows facts.now (F.level facts.now) words
-        → Tells (C.compared comparison.now) leaf words
-        → WereSeen (C.compared comparison.now) first_undecided.new words) }
-    ensures found { IfSome result (IsFound (C.compared comparison.now)) }
-    ensures index { IfSome first_undecided.new (IsFirstUndecided (C.compared comparison.now)) }
-    ensures first { IsSome first_undecided.old → first_undecided.new ≡ first_undecided.old }
+    ensures judged { IsJudged (C.compared comparison.now)
+        (λ words. F.allows facts.now (F.level facts.now) words × Tells (C.compared comparison.now) leaf words) result }
     ensures exact { IsTrue (F.is_exact facts.now (F.level facts.now)) → KnowsBoth leaf
         → ((words : List ℕ) → F.allows facts.now (F.level facts.now) words
         → Tells (C.compared comparison.now) leaf words)
-        → first_undecided.new ≡ first_undecided.old }
+        → result ≡ Judged.Open → ⊥ }
 {
-    if is_related(comparison, leaf) {
-        return None;
+    if is_related(comparison, leaf) || facts.is_empty() {
+        return Judged::Related;
     }
-    if facts.is_empty() {
-        return None;
+    let Some(words) = facts.pick() else {
+        return Judged::Open;
+    };
+    match difference_by(comparison, CallRecord::from_words(&words)) {
+        Some(finding) => Judged::Fails(finding),
+        None => Judged::Open,
     }
-    if let Some(words) = facts.pick() {
-        let shown = difference_by(comparison, CallRecord::from_words(&words));
-        if shown.is_some() {
-            return shown;
-        }
-    }
-    *first_undecided = first_undecided.or(Some(open_end_of(comparison, leaf)));
-    None
 }
 
-/// One step of the walk from a node. At a leaf it is judged, and the newest open branch is taken.
+/// One step of the walk from a node. A leaf is judged, and the newest open branch is taken. If the store doesn't decide
+/// the leaf, its side and instruction index are kept as the first undecided ones, unless there were some before.
 fn advance<C: Comparison, F: WordFacts>(
     comparison: &C,
     frontier: &mut Frontier<F, C::Known, C::Node>,
@@ -134,23 +121,22 @@ fn advance<C: Comparison, F: WordFacts>(
 {
     match comparison.step(&frontier.facts, known, &node) {
         Step::Next(next) => Ok(Stage::At(next)),
-        Step::Branch(Some(atom), if_true, if_false) => {
+        Step::Branch(atom, if_true, if_false) => {
             let next = ask(comparison, frontier, known, atom, if_true, if_false)?;
             Ok(Stage::At(next))
         }
-        Step::Branch(None, if_true, if_false) => {
-            let next = fork(comparison, frontier, known, if_true, if_false)?;
-            Ok(Stage::At(next))
-        }
-        Step::Leaf(leaf) => {
-            if let Some(finding) = judge(comparison, &frontier.facts, leaf, first_undecided) {
-                return Ok(Stage::Found(finding));
+        Step::Leaf(leaf) => match judge(comparison, &frontier.facts, leaf) {
+            Judged::Related => {
+                let stage = take_branch(comparison, frontier, known)?;
+                Ok(stage)
             }
-            match take_branch(comparison, frontier, known)? {
-                Some(next) => Ok(Stage::At(next)),
-                None => Ok(Stage::AllSeen),
+            Judged::Fails(finding) => Ok(Stage::Found(finding)),
+            Judged::Open => {
+                *first_undecided = first_undecided.or(Some(open_end_of(comparison, leaf)));
+                let stage = take_branch(comparison, frontier, known)?;
+                Ok(stage)
             }
-        }
+        },
     }
 }
 

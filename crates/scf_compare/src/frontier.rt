@@ -1,13 +1,14 @@
 //! The open branches of a walk.
 
-ghost use Rattle.std.specs.Prelude.{◌≡◌, ◌+◌, ◌<◌, ◌≤◌, ◌↔◌, ◌++◌, ◌∷◌, [], ℕ, List, IsTrue, OnOk, IfOk, MatchOption};
+ghost use Rattle.std.specs.Prelude.{◌≡◌, ◌+◌, ◌<◌, ◌≤◌, ◌↔◌, ◌++◌, ◌∷◌, [], ℕ, List, IsTrue, OnOk, IfOk};
 ghost use Rattle.scf_facts.specs.Levels.{IsSameLevel};
 ghost use Rattle.scf_compare.specs.internal.Leaves.{AreWordsIn, IsLeaf};
-ghost use Rattle.scf_compare.specs.internal.Frontier.{GivesLearned, LearnsOfWords, LearnsExactly, IsInBranch, IsFrontier};
-ghost use Rattle.scf_compare.specs.internal.Stages.{LeadsTo, IsTaken};
+ghost use Rattle.scf_compare.specs.internal.Frontier.{GivesLearned, LearnsOfWords, LearnsExactly, IsFrontier};
+ghost use Rattle.scf_compare.specs.internal.Stages.{IsBranchTaken, LeadsTo};
 ghost use Rattle.scf_compare.specs.internal.Trees.{IsProper};
 
 use crate::comparison::Comparison;
+use crate::finding::Finding;
 use crate::step::Step;
 use scf_facts::{Atom, Tell, WordFacts};
 use scf_insn::Memory;
@@ -19,6 +20,17 @@ pub(crate) struct OpenBranch<K, N> {
     pub(crate) known: K,
     pub(crate) node: N,
     pub(crate) learned: Option<(Atom, bool)>,
+}
+
+/// Where a walk is after a step.
+#[derive(Drop)]
+pub(crate) enum Stage<N> {
+    /// At this node.
+    At(N),
+    /// Behind the last leaf.
+    AllSeen,
+    /// At a finding.
+    Found(Finding),
 }
 
 /// The store at the current node, and the open branches, the newest last.
@@ -86,75 +98,58 @@ fn learn_answer<F: WordFacts>(facts: &mut F, learned: Option<(Atom, bool)>) -> R
     }
 }
 
-/// Takes the newest branch: undoes to its mark, learns the answer that leads into it, and returns its node.
+/// Goes on with the newest branch, if there is one: undoes to its mark, and learns the answer that leads into it.
 pub(crate) fn take_branch<C: Comparison, F: WordFacts>(
     comparison: &C,
     frontier: &mut Frontier<F, C::Known, C::Node>,
     known: &mut C::Known,
-) -> Result<Option<C::Node>, Memory>
+) -> Result<Stage<C::Node>, Memory>
     requires { IsFrontier F.WordFacts (C.tree comparison.now) (AreWordsIn (C.compared comparison.now)) frontier.old }
-    ensures { IfOk result (λ taken. MatchOption taken
-        ((words : List ℕ) → IsInBranch F.WordFacts (C.tree comparison.now) frontier.old words → ⊥)
-        (IsTaken F.WordFacts (C.compared comparison.now) (C.tree comparison.now)
-        frontier.old frontier.new (C.tree comparison.now known.new))) }
+    ensures { IfOk result (IsBranchTaken F.WordFacts (C.compared comparison.now) (C.tree comparison.now)
+        frontier.old frontier.new (C.tree comparison.now known.new)) }
 {
     let _ = comparison;
     let Some(branch) = frontier.branches.pop() else {
-        return Ok(None);
+        return Ok(Stage::AllSeen);
     };
     frontier.facts.undo();
     learn_answer(&mut frontier.facts, branch.learned)?;
     *known = branch.known;
-    Ok(Some(branch.node))
+    Ok(Stage::At(branch.node))
 }
 
-/// Goes on from a question. If the store knows the answer, that side is followed. Otherwise a branch is opened for the
-/// answer no, and yes is learned.
+/// Goes on from a test. If the store knows the answer, that side is followed. Otherwise a branch is opened for the answer
+/// no, and yes is learned; where no atom decides the test, nothing is learned on either side.
 pub(crate) fn ask<C: Comparison, F: WordFacts>(
     comparison: &C,
     frontier: &mut Frontier<F, C::Known, C::Node>,
     known: &C::Known,
-    atom: Atom,
+    atom: Option<Atom>,
     if_true: C::Node,
     if_false: C::Node,
 ) -> Result<C::Node, Memory>
     requires frontier { IsFrontier F.WordFacts (C.tree comparison.now)
         (AreWordsIn (C.compared comparison.now)) frontier.old }
-    requires proper { let step = Step.Branch (Some atom) if_true if_false in
+    requires proper { let step = Step.Branch atom if_true if_false in
         IsProper (C.tree comparison.now known.now) (IsLeaf (C.compared comparison.now)) step }
-    ensures { let step = Step.Branch (Some atom) if_true if_false in
+    ensures { let step = Step.Branch atom if_true if_false in
         IfOk result (LeadsTo F.WordFacts (C.compared comparison.now) (C.tree comparison.now)
         frontier.old frontier.new (C.tree comparison.now known.now) step) }
 {
     let _ = comparison;
-    match frontier.facts.tell(atom) {
-        Tell::Always => Ok(if_true),
-        Tell::Never => Ok(if_false),
-        Tell::Maybe => {
-            frontier.branch_out(*known, if_false, Some((atom, false)))?;
-            frontier.facts.learn(atom, true)?;
+    match atom {
+        None => {
+            frontier.branch_out(*known, if_false, None)?;
             Ok(if_true)
         }
+        Some(atom) => match frontier.facts.tell(atom) {
+            Tell::Always => Ok(if_true),
+            Tell::Never => Ok(if_false),
+            Tell::Maybe => {
+                frontier.branch_out(*known, if_false, Some((atom, false)))?;
+                frontier.facts.learn(atom, true)?;
+                Ok(if_true)
+            }
+        },
     }
-}
-
-/// Goes on from a test that no atom decides: follows one side and opens a branch for the other.
-pub(crate) fn fork<C: Comparison, F: WordFacts>(
-    comparison: &C,
-    frontier: &mut Frontier<F, C::Known, C::Node>,
-    known: &C::Known,
-    if_true: C::Node,
-    if_false: C::Node,
-) -> Result<C::Node, Memory>
-    requires frontier { IsFrontier F.WordFacts (C.tree comparison.now)
-        (AreWordsIn (C.compared comparison.now)) frontier.old }
-    requires proper { let step = Step.Branch None if_true if_false in
-        IsProper (C.tree comparison.now known.now) (IsLeaf (C.compared comparison.now)) step }
-    ensures { let step = Step.Branch None if_true if_false in
-        IfOk result (LeadsTo F.WordFacts (C.compared comparison.now) (C.tree comparison.now)
-        frontier.old frontier.new (C.tree comparison.now known.now) step) }
-{
-    let _ = comparison;
-    frontier.branch_out(*known, if_false, None)?;
-    Ok(if_true)
 }

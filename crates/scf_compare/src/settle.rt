@@ -1,64 +1,29 @@
 //! The second walk of a comparison, which splits the records by bits of their words until every test is decided.
 
-ghost use Rattle.std.specs.Prelude.{◌≡◌, ◌↔◌, ℕ, List, IfNone, IfOk, IfSome};
+ghost use Rattle.std.specs.Prelude.{◌≡◌, ◌≤◌, ◌↔◌, ℕ, List, None, IfNone, IfOk, IfSome};
 ghost use Rattle.scf_compare.specs.Findings.{WordsRelated};
 ghost use Rattle.scf_compare.specs.internal.Budgets.{IsTurn, LeavesSteps};
-ghost use Rattle.scf_compare.specs.internal.FixedBits.{AreWhole, HaveBits, IsOpenBit};
+ghost use Rattle.scf_compare.specs.internal.FixedBits.{AreWhole, HaveBits, IsOpenBit, lacking};
 ghost use Rattle.scf_compare.specs.internal.Frontier.{IsFrontier};
-ghost use Rattle.scf_compare.specs.internal.Leaves.{AreWordsIn, Tells};
+ghost use Rattle.scf_compare.specs.internal.Leaves.{AreWordsIn};
 ghost use Rattle.scf_compare.specs.internal.Settling.{
-  IsAtSplit,
-  IsBranchTaken,
-  IsJudged,
-  IsNextStage,
   IsSettled,
   StartsAt,
   settling_trees,
-  weight,
 };
-ghost use Rattle.scf_compare.specs.internal.Stages.{IsFound};
+ghost use Rattle.scf_compare.specs.internal.Stages.{IsFound, IsStageAfter};
 
 use crate::budget::Limit;
-use crate::comparison::{Comparison, PairLeaf};
-use crate::explore::{Stage, difference_by, is_related};
+use crate::comparison::Comparison;
+use crate::explore::{Judged, difference_by, judge};
 use crate::finding::Finding;
 use crate::fixed_bits::{FixedBits, WordBit};
-use crate::frontier::{Frontier, ask, fork, take_branch};
+use crate::frontier::{Frontier, Stage, ask, take_branch};
 use crate::settling::{Settling, SettlingNode};
 use crate::step::Step;
 use scf_facts::WordFacts;
 use scf_insn::{CallRecord, Memory};
 use std::alloc::Global;
-
-/// What is found at a leaf.
-#[derive(Clone, Copy)]
-pub(crate) enum Judged {
-    /// The relation holds of the answers to all words that come to it.
-    Related,
-    /// A record shows that it doesn't hold.
-    Fails(Finding),
-    /// Neither is known.
-    Open,
-}
-
-/// Judges a leaf by what the store knows there.
-fn judge_again<C: Comparison, F: WordFacts>(comparison: &C, facts: &F, leaf: PairLeaf) -> Judged
-    requires { (words : List ℕ) → F.allows facts.now (F.level facts.now) words
-        → AreWordsIn (C.compared comparison.now) words }
-    ensures { IsJudged (C.compared comparison.now)
-        (λ words. F.allows facts.now (F.level facts.now) words × Tells (C.compared comparison.now) leaf words) result }
-{
-    if is_related(comparison, leaf) || facts.is_empty() {
-        return Judged::Related;
-    }
-    let Some(words) = facts.pick() else {
-        return Judged::Open;
-    };
-    match difference_by(comparison, CallRecord::from_words(&words)) {
-        Some(finding) => Judged::Fails(finding),
-        None => Judged::Open,
-    }
-}
 
 /// The difference that the only words with these bits show, if they are in the scope and show one.
 fn difference_of<C: Comparison>(comparison: &C, fixed: &FixedBits) -> Option<Finding>
@@ -75,13 +40,14 @@ fn difference_of<C: Comparison>(comparison: &C, fixed: &FixedBits) -> Option<Fin
     }
 }
 
-/// Splits on a bit, if a split is left: opens a branch where the bit is clear, and learns that it is set. Both begin at
-/// the root.
+/// Splits on a bit that isn't fixed yet, if a split is left: opens a branch where the bit is clear, and learns that it is
+/// set. Both begin at the root.
 #[tactic(auto, using(crate::proofs::Budgets::none_left))]
 fn restart<C: Comparison, F: WordFacts>(
     settling: &Settling<'_, C>,
     frontier: &mut Frontier<F, C::Known, SettlingNode<C::Node>>,
     known: &mut C::Known,
+    from: SettlingNode<C::Node>,
     fixed: FixedBits,
     bit: WordBit,
     budget: &mut Limit,
@@ -91,52 +57,37 @@ fn restart<C: Comparison, F: WordFacts>(
         (AreWordsIn (C.compared own.comparison.now)) frontier.old }
     requires root { let own = settling.now in
         StartsAt (AreWordsIn (C.compared own.comparison.now)) (C.tree own.comparison.now own.start) own.root }
+    requires have { (words : List ℕ) → F.allows frontier.old.facts (F.level frontier.old.facts) words
+        → HaveBits from.fixed.words words → HaveBits fixed.words words }
+    requires less { lacking fixed.words ≤ lacking from.fixed.words }
     requires open { IsOpenBit fixed.words bit }
-    ensures split { let own = settling.now in let tree = C.tree own.comparison.now in
-        let trees = settling_trees tree own.start own.root in
-        IfOk result (λ stage. IfSome stage (IsAtSplit F.WordFacts (C.compared own.comparison.now) trees
-        frontier.old frontier.new (HaveBits fixed.words) (weight ((tree own.start).size own.root) fixed.words)
-        (trees known.new))) }
+    ensures stage { let own = settling.now in
+        let trees = settling_trees (C.tree own.comparison.now) own.start own.root in
+        (before : C.Known) → IfOk result (λ stage. IfSome stage (IsStageAfter F.WordFacts
+        (C.compared own.comparison.now) trees frontier.old frontier.new (trees before) from (trees known.new) None)) }
     ensures splits { IfOk result (λ stage. IsTurn stage budget.old.splits budget.new.splits) }
     ensures steps { budget.new.steps ≡ budget.old.steps }
 {
     if !budget.take_split() {
         return Ok(None);
     }
+    let node = settling.root;
     let mut set = fixed;
     set.fix(bit, true);
+    let if_set = SettlingNode { node, fixed: set };
     let mut clear = fixed;
     clear.fix(bit, false);
-    let node = settling.root;
-    let is_set = bit.is_set();
-    frontier.branch_out(
-        settling.start,
-        SettlingNode { node, fixed: clear },
-        Some((is_set, false)),
+    let if_clear = SettlingNode { node, fixed: clear };
+    let half = ask(
+        settling,
+        frontier,
+        &settling.start,
+        Some(bit.is_set()),
+        if_set,
+        if_clear,
     )?;
-    frontier.facts.learn(is_set, true)?;
     *known = settling.start;
-    Ok(Some(Stage::At(SettlingNode { node, fixed: set })))
-}
-
-/// Goes on with the newest open branch, if there is one.
-fn next_branch<C: Comparison, F: WordFacts>(
-    settling: &Settling<'_, C>,
-    frontier: &mut Frontier<F, C::Known, SettlingNode<C::Node>>,
-    known: &mut C::Known,
-) -> Result<Stage<SettlingNode<C::Node>>, Memory>
-    requires { let own = settling.now in let tree = C.tree own.comparison.now in
-        IsFrontier F.WordFacts (settling_trees tree own.start own.root)
-        (AreWordsIn (C.compared own.comparison.now)) frontier.old }
-    ensures { let own = settling.now in let tree = C.tree own.comparison.now in
-        let trees = settling_trees tree own.start own.root in
-        IfOk result (IsBranchTaken F.WordFacts (C.compared own.comparison.now) trees frontier.old frontier.new
-        (trees known.new)) }
-{
-    match take_branch(settling, frontier, known)? {
-        Some(next) => Ok(Stage::At(next)),
-        None => Ok(Stage::AllSeen),
-    }
+    Ok(Some(Stage::At(half)))
 }
 
 /// One step of the second walk, if the budget suffices. At a test that no atom decides, and at a leaf where the store
@@ -154,10 +105,10 @@ fn advance_again<C: Comparison, F: WordFacts>(
     requires root { let own = settling.now in
         StartsAt (AreWordsIn (C.compared own.comparison.now)) (C.tree own.comparison.now own.start) own.root }
     requires node { (C.tree settling.now.comparison.now known.old).is_node node.node }
-    ensures stage { let own = settling.now in let tree = C.tree own.comparison.now in
-        let trees = settling_trees tree own.start own.root in
-        IfOk result (λ stage. IfSome stage (IsNextStage F.WordFacts (C.compared own.comparison.now) trees
-        frontier.old frontier.new (trees known.old) node (trees known.new))) }
+    ensures stage { let own = settling.now in
+        let trees = settling_trees (C.tree own.comparison.now) own.start own.root in
+        IfOk result (λ stage. IfSome stage (IsStageAfter F.WordFacts (C.compared own.comparison.now) trees
+        frontier.old frontier.new (trees known.old) node (trees known.new) None)) }
     ensures splits { IfOk result (λ stage. IsTurn stage budget.old.splits budget.new.splits) }
     ensures steps { budget.new.steps ≡ budget.old.steps }
 {
@@ -167,30 +118,30 @@ fn advance_again<C: Comparison, F: WordFacts>(
     match step {
         Step::Next(next) => Ok(Some(Stage::At(next))),
         Step::Branch(Some(atom), if_true, if_false) => {
-            let next = ask(settling, frontier, known, atom, if_true, if_false)?;
+            let next = ask(settling, frontier, known, Some(atom), if_true, if_false)?;
             Ok(Some(Stage::At(next)))
         }
         Step::Branch(None, if_true, if_false) => match fixed.next_bit(&frontier.facts, test) {
             Some(bit) => {
-                let stage = restart(settling, frontier, known, fixed, bit, budget)?;
+                let stage = restart(settling, frontier, known, node, fixed, bit, budget)?;
                 Ok(stage)
             }
             None => {
-                let next = fork(settling, frontier, known, if_true, if_false)?;
+                let next = ask(settling, frontier, known, None, if_true, if_false)?;
                 Ok(Some(Stage::At(next)))
             }
         },
-        Step::Leaf(leaf) => match judge_again(settling, &frontier.facts, leaf) {
-            Judged::Related => Ok(Some(next_branch(settling, frontier, known)?)),
+        Step::Leaf(leaf) => match judge(settling, &frontier.facts, leaf) {
+            Judged::Related => Ok(Some(take_branch(settling, frontier, known)?)),
             Judged::Fails(finding) => Ok(Some(Stage::Found(finding))),
             Judged::Open => match fixed.next_bit(&frontier.facts, test) {
                 Some(bit) => {
-                    let stage = restart(settling, frontier, known, fixed, bit, budget)?;
+                    let stage = restart(settling, frontier, known, node, fixed, bit, budget)?;
                     Ok(stage)
                 }
                 None => match difference_of(settling, &fixed) {
                     Some(finding) => Ok(Some(Stage::Found(finding))),
-                    None => Ok(Some(next_branch(settling, frontier, known)?)),
+                    None => Ok(Some(take_branch(settling, frontier, known)?)),
                 },
             },
         },

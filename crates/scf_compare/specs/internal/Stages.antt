@@ -2,14 +2,16 @@
 use Rattle.std.specs.Prelude.{◌≡◌, ◌+◌, ◌<◌, ◌≤◌, ◌⊎◌, ℕ, List, Option, Some, None}
 use Rattle.scf_facts.specs.declared.word_facts.WordFacts.{Ghosts as Store}
 use Rattle.scf_compare.specs.declared.comparison.PairLeaf.{PairLeaf}
-use Rattle.scf_compare.specs.declared.explore.Stage.{Stage}
-use Rattle.scf_compare.specs.declared.explore.Stage.TheVariants.{At, AllSeen, Found}
+use Rattle.scf_compare.specs.declared.explore.Judged.{Judged}
+use Rattle.scf_compare.specs.declared.explore.Judged.TheVariants.{Related, Fails as ShownBy, Open}
+use Rattle.scf_compare.specs.declared.frontier.Stage.{Stage}
+use Rattle.scf_compare.specs.declared.frontier.Stage.TheVariants.{At, AllSeen, Found}
 use Rattle.scf_compare.specs.declared.frontier.Frontier.{Frontier}
 use Rattle.scf_compare.specs.declared.step.Step.{Step}
 use Rattle.scf_compare.specs.declared.finding.Finding.{Finding}
 use Rattle.scf_compare.specs.declared.finding.Finding.TheVariants.{Holds, Undecided}
 use Rattle.scf_compare.specs.declared.finding.Which.{Which}
-use Rattle.scf_compare.specs.Findings.{AllRelated, Compared, IsFindingDecided, IsFindingWithin, IsStepCount, IsTrueFinding}
+use Rattle.scf_compare.specs.Findings.{AllRelated, Compared, IsFindingDecided, IsFindingWithin, IsStepCount, IsTrueFinding, WordsRelated}
 use Rattle.scf_compare.specs.internal.Leaves.{AreWordsIn, Tells, KnowsBoth, WereSeen}
 use Rattle.scf_compare.specs.internal.Frontier.{IsInBranch, IsAhead, IsFrontier, AreExact, IsExact, open_size}
 use Rattle.scf_compare.specs.internal.Trees.{Tree, GoesOn, StaysPlain, step_size}
@@ -31,6 +33,12 @@ abbrev pub finding_of_all : ℕ → Option (Which × ℕ) → Finding
 finding_of_all steps (Some first) = Undecided first.0 first.1
 finding_of_all steps None = Holds steps
 
+-- what is found of the words that have come to a leaf
+abbrev pub IsJudged : Compared → (List ℕ → Type 0) → Judged → Type 0
+IsJudged compared have_come Related = (words : List ℕ) → have_come words → WordsRelated compared words
+IsJudged compared have_come (ShownBy finding) = IsFound compared finding
+IsJudged compared have_come Open = Unit {0}
+
 -- The tree at a node is the one for what is known there.
 module _ {F K N : Type 0} (store : Store F) (compared : Compared) (tree : K → Tree N) (old new : Frontier F K N) where
   -- A step at one frontier leads to a node at another: no words are lost, the size doesn't grow, and what complete
@@ -51,6 +59,12 @@ module _ {F K N : Type 0} (store : Store F) (compared : Compared) (tree : K → 
     pub words : (words : List ℕ) → IsInBranch store tree old words → IsAhead store tree new (there.reaches next) words
     pub size : open_size tree new + there.size next ≡ open_size tree old
     pub exact : AreExact store tree old → IsExact store tree new (there.is_plain next) (there.reaches next)
+
+  -- the stage after the newest branch was taken, or where there is none
+  abbrev pub IsBranchTaken : Tree N → Stage N → Type 0
+  IsBranchTaken there (At next) = IsTaken there next
+  IsBranchTaken there AllSeen = (words : List ℕ) → IsInBranch store tree old words → ⊥
+  IsBranchTaken there (Found finding) = ⊥
 
   -- A step goes from one node to another, and the first undecided leaf is known, if there was one: the words that were
   -- ahead still are, or were seen; at least one step fewer is left; and what complete facts decide they still decide.

@@ -1,9 +1,10 @@
 use Rattle.std.specs.Prelude.{sum_by}
-use Rattle.scf_compare.proofs.Common.{ap, length, open_size, sym, ◌≡◌, ◌+◌, ◌<◌, ◌≤◌, ◌⊎◌, ◌∙◌, ℕ, List, inl, inr, arith, refl, Option, None, Some, IfSome, IsSome, IsWords-words_of, call_of-words_of, words_of, Compared, AllRelated, IsFindingDecided, IsTrueFinding, Which, AreWordsIn, IsFirstUndecided, WereSeen, finding_of_all}
+use Rattle.scf_compare.proofs.Common.{ap, open_size, ◌≡◌, ◌+◌, ◌<◌, ◌≤◌, ◌⊎◌, ◌∙◌, ℕ, List, inl, inr, arith, refl, Option, None, Some, IfSome, IsSome, Compared, AllRelated, IsFindingDecided, IsTrueFinding, Which, AreWordsIn, IsFirstUndecided, WereSeen, finding_of_all}
 use Rattle.scf_compare.specs.declared.finding.Finding.{Finding}
 use Rattle.scf_compare.specs.declared.finding.Finding.TheVariants.{Fails, Holds, Undecided, Unfinished}
 use Rattle.scf_compare.specs.internal.Stages.{DecidesIfKnown}
 use Rattle.scf_compare.specs.Findings.{IsStepCount, IsFindingWithin}
+use Rattle.scf_compare.proofs.Stages.{all_related, begun}
 use Rattle.scf_compare.proofs.explore.explore.Goals as goal
 
 -- what was seen stays so
@@ -32,14 +33,7 @@ of_all : (compared : Compared) (steps limit effort : ℕ) (first_undecided : Opt
     × (first_undecided ≡ None → IsFindingDecided (AllRelated compared) limit effort finding)
     × DecidesIfKnown (AllRelated compared) limit effort finding
 of_all compared steps limit effort None index seen bounds =
-    let all : AllRelated compared = λ call is_record in_scope.
-    let within : AreWordsIn compared (words_of call) =
-    (IsWords-words_of call is_record, rw (call_of-words_of call is_record) in_scope) in
-    elim (seen (words_of call) within) [
-      | inl related ↦ related
-      | inr undecided ↦ absurd (let none = undecided in cc)
-    ] in
-    (all, (bounds.1, bounds.2), (λ _. all), all)
+    let all = all_related compared seen in (all, (bounds.1, bounds.2), (λ _. all), all)
 of_all compared steps limit effort (Some first) index seen bounds = (index, bounds.0, (λ e. absurd (cc)), tt)
 
 -- what decides does so where it is known
@@ -63,13 +57,10 @@ loop-steps-init g c =
     let none : open_size tree c.new-frontier.result ≡ 0 =
     ap (sum_by (λ branch. (tree branch.known).size branch.node)) new.branches in
     rw new.facts (record {
-      frontier = record {
-        marks = c.requires.unmarked ∙ sym (ap length new.branches);
-        branches = λ index branch stands. absurd (let no_branch = rw new.branches at stands in cc);
-        within = λ level up_to words allowed.
-            let first : level ≡ 0 = omega (arith, ap length new.branches) in
-            (c.requires.scope words).0 (rw first at allowed);
-      };
+      frontier =
+          begun g.F.WordFacts tree (AreWordsIn (g.C.Comparison.compared c.args.comparison.now))
+          (record { facts = c.args.facts; branches = c.new-frontier.result.branches }) new.branches c.requires.unmarked
+          (λ words. (c.requires.scope words).0);
       node = c.requires.node;
       index = tt;
       words = λ words within.

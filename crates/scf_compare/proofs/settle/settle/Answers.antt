@@ -1,19 +1,19 @@
-use Rattle.scf_compare.proofs.Common.{◌≡◌, AreWordsIn, IsWords-words_of, ap, arith, call_of-words_of, inl, inr, length, refl, sym, words_of, ◌∙◌}
+use Rattle.scf_compare.proofs.Common.{AreWordsIn, arith, inl, inr, refl}
 use Rattle.scf_compare.proofs.Budgets.{after_turn, at_first}
+use Rattle.scf_compare.proofs.Stages.{all_related, begun}
 use Rattle.scf_compare.proofs.Weights.{found_settles}
+use Rattle.scf_compare.specs.internal.Settling.{settling_trees}
 use Rattle.scf_compare.proofs.settle.settle.Goals as goal
 
 pub loop-settling-init : goal.loop-settling-init
 loop-settling-init g c =
     let new = c.new-frontier.ensures in
     rw new.facts (record {
-      frontier = record {
-        marks = c.requires.unmarked ∙ sym (ap length new.branches);
-        branches = λ index branch stands. absurd (let no_branch = rw new.branches at stands in cc);
-        within = λ level up_to words allowed.
-            let first : level ≡ 0 = omega (arith, ap length new.branches) in
-            (c.requires.scope words).0 (rw first at allowed);
-      };
+      frontier =
+          begun g.F.WordFacts (settling_trees (g.C.Comparison.tree c.args.comparison.now) c.args.start c.args.root)
+          (AreWordsIn (g.C.Comparison.compared c.args.comparison.now))
+          (record { facts = c.args.facts; branches = c.new-frontier.result.branches }) new.branches c.requires.unmarked
+          (λ words. (c.requires.scope words).0);
       node = c.requires.root.node;
       words = λ words within.
           inr (inr (
@@ -32,7 +32,7 @@ loop-settling-preserved g c =
       node = on.node;
       words = λ words within.
           elim (c.loop-settling.invariant.words words within) [
-            | inl related ↦ inl related
+            | inl seen ↦ inl seen
             | inr ahead ↦ on.words words ahead
           ];
       budget = grind (arith, after_turn);
@@ -42,13 +42,8 @@ pub returns-in-Some-AllSeen-clause-settled : goal.returns-in-Some-AllSeen-clause
 returns-in-Some-AllSeen-clause-settled g c =
     let seen = rw (c.in-Some-AllSeen.is, c.in-Some-AllSeen.field-0-is) at c.in_ok-next.ensures.stage in (
       refl,
-      λ call is_record in_scope.
-          let within : AreWordsIn (g.C.Comparison.compared c.args.comparison.now) (words_of call) =
-          (IsWords-words_of call is_record, rw (call_of-words_of call is_record) in_scope) in
-          elim (c.loop-settling.invariant.words (words_of call) within) [
-            | inl related ↦ related
-            | inr ahead ↦ seen (words_of call) ahead
-          ],
+      all_related (g.C.Comparison.compared c.args.comparison.now) (λ words within.
+          elim (c.loop-settling.invariant.words words within) [ inl before ↦ before | inr ahead ↦ seen words ahead ]),
     )
 
 pub returns-in-Some-Found-clause-settled : goal.returns-in-Some-Found-clause-settled

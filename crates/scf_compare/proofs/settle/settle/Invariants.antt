@@ -1,5 +1,4 @@
-use Rattle.scf_compare.proofs.Common.{◌+◌, ◌⊎◌, ℕ, List, AreWordsIn, IsAhead, IsFrontier, open_size}
-use Rattle.scf_compare.specs.Findings.{WordsRelated}
+use Rattle.scf_compare.proofs.Common.{◌+◌, ◌⊎◌, ℕ, List, AreWordsIn, IsAhead, IsFrontier, None, WereSeen, open_size}
 use Rattle.scf_compare.specs.internal.Budgets.{LeavesSplits}
 use Rattle.scf_compare.specs.internal.Settling.{settling_trees}
 use Rattle.scf_compare.proofs.settle.settle.Given as goal
@@ -13,7 +12,7 @@ invariant-loop-settling g l =
       frontier : IsFrontier store trees (AreWordsIn compared) l.frontier;
       node : (trees l.known).is_node l.node;
       words : (words : List ℕ) → AreWordsIn compared words
-          → WordsRelated compared words ⊎ IsAhead store trees l.frontier ((trees l.known).reaches l.node) words;
+          → WereSeen compared None words ⊎ IsAhead store trees l.frontier ((trees l.known).reaches l.node) words;
       budget : LeavesSplits l.fn.budget.splits l.budget.splits l.fn.budget.steps l.budget.steps;
     }
 
