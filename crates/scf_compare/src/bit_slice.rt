@@ -63,6 +63,7 @@ impl BitSlice {
     }
 
     /// The known bits of the slice, given those of its word.
+    #[tactic(auto, using(crate::proofs::BitSlices::number_fits, crate::proofs::BitSlices::image_known))]
     pub(crate) fn in_bits(self, word: Bits) -> Computed
         requires { IsBitSlice self }
         ensures { (words : List ℕ) → HasBits word (slice_index words self.word)

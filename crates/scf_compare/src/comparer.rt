@@ -325,6 +325,7 @@ pub fn compare_by<F: WordFacts>(
 }
 
 /// Compares filters, the oldest first, with a profile over the records of a scope by a relation.
+#[tactic(auto, using(crate::proofs::Verdicts::on_the_left, crate::proofs::Verdicts::true_by))]
 fn compare_filters<F: WordFacts>(
     alloc: Global,
     filters: &[Program],

@@ -14,6 +14,7 @@ use scf_facts::{Tell, WordFacts};
 const MOST_AT_ONCE: usize = 8;
 
 /// The step from a node, behind those that the store decides.
+#[tactic(auto, using(crate::proofs::Steps::followed))]
 pub(crate) fn decided_step<T: SideTree, F: WordFacts>(
     side: &T,
     facts: &F,

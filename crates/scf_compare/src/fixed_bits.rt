@@ -182,6 +182,7 @@ impl FixedBits {
 }
 
 /// The lowest bit that a mask lacks.
+#[tactic(auto, using(crate::proofs::BitSets::lowest_lacking))]
 fn lowest_lacking(mask: u32) -> Option<u32>
     ensures one { IfSome result IsPowerOfTwo }
     ensures apart { IfSome result (λ bit. bit_and mask bit ≡ 0) }

@@ -35,6 +35,7 @@ impl<C: Comparison> Comparison for Settling<'_, C> {
 
     ghost tree = { λ settling. settling_trees (C.tree settling.comparison.now) settling.start settling.root };
 
+    #[tactic(auto, using(crate::proofs::Weights::settled_costs))]
     fn step<F: WordFacts>(
         &self,
         facts: &F,

@@ -5,10 +5,6 @@ use Rattle.scf_compare.specs.internal.FixedBits.{lacking}
 use Rattle.scf_compare.specs.internal.Settling.{settling_trees}
 use Rattle.scf_compare.proofs.settle.restart.Goals as goal
 
-pub ask-requires-clause-proper : goal.ask-requires-clause-proper
-ask-requires-clause-proper g c =
-    (rw c.is_set.ensures c.requires.open.word, c.requires.root.node, c.requires.root.node)
-
 pub returns-clause-stage : goal.returns-clause-stage
 returns-clause-stage g c = λ before.
     let C = g.C.Comparison in

@@ -3,13 +3,6 @@ use Rattle.scf_compare.proofs.Common.{[], ◌+◌, ◌*◌, ◌<◌, ◌≤◌, 
 use Rattle.scf_compare.proofs.Stacks.{is_stack_leaf, paths_from}
 use Rattle.scf_compare.proofs.stack.step_from.Goals as goal
 
-pub filter_of-requires : goal.filter_of-requires
-filter_of-requires g c = c.loop-next.invariant.node.0
-
-pub step_in_filter-requires : goal.step_in_filter-requires
-step_in_filter-requires g c = rw c.filter_of.ensures c.loop-next.invariant.node.1
-
--- a step's costs in the tree of a filter, with the newer filters behind each of its ends
 whole_costs : (filters : List (List Insn)) (index a b n whole : ℕ) → a + b + 1 ≤ n
     → n * stack_paths (drop (index + 1) filters) ≤ whole
     → a * stack_paths (drop (index + 1) filters) + b * stack_paths (drop (index + 1) filters) + 1 ≤ whole
@@ -18,28 +11,6 @@ whole_costs filters index a b n whole costs most = grind (arith, paths_count, sc
 whole_cost : (filters : List (List Insn)) (index a n whole : ℕ) → a + 1 ≤ n
     → n * stack_paths (drop (index + 1) filters) ≤ whole → a * stack_paths (drop (index + 1) filters) + 1 ≤ whole
 whole_cost filters index a n whole cost most = grind (arith, whole_costs filters index a 0 n whole)
-
-pub returns-in-Next : goal.returns-in-Next
-returns-in-Next g c =
-    let step = rw (c.filter_of.ensures, c.in-Next.is) at c.step_in_filter.ensures in
-    let so_far = c.loop-next.invariant in
-    grind (
-      arith,
-      so_far.reaches,
-      step.leads,
-      whole_cost c.args.filters.now c.loop-next.index _ _ _ step.costs so_far.size,
-    )
-
-pub returns-in-Branch : goal.returns-in-Branch
-returns-in-Branch g c =
-    let step = rw (c.filter_of.ensures, c.in-Branch.is) at c.step_in_filter.ensures in
-    let so_far = c.loop-next.invariant in
-    grind (
-      arith,
-      so_far.reaches,
-      step.leads,
-      whole_costs c.args.filters.now c.loop-next.index _ _ _ _ step.costs so_far.size,
-    )
 
 -- the end of a filter's tree is one of the stack, and so is the end at which all filters so far decide
 pub returns-then-index-filters : goal.returns-then-index-filters

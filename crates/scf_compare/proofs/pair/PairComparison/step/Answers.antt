@@ -1,23 +1,6 @@
 use Rattle.scf_compare.proofs.Common.{◌≤◌, arith, mul-le-mul_left, scaled_costs}
 use Rattle.scf_compare.proofs.pair.PairComparison.step.Goals as goal
 
-pub returns-in-Next : goal.returns-in-Next
-returns-in-Next g c =
-    let step = rw c.in-Next.is at c.step.ensures in
-    let tree = g.L.SideTree.tree c.args.self.now.left in
-    let whole = (g.R.SideTree.behavior c.args.self.now.right).size in
-    let counts = g.met.R.SideTree.size_counts c.args.self.now.right in
-    rw c.in-AtLeft.is (record {
-      proper = step.proper;
-      leads = λ words given on. (on.0, step.leads words (on.0, given) on.1);
-      costs = omega (
-        arith,
-        scaled_costs ((tree c.step.new.known).size c.in-Next.next) 0
-            ((tree c.args.known.now.left).size c.in-AtLeft.node) whole (omega (arith, step.costs)) counts,
-      );
-      plain = λ plain. (step.plain plain.0, plain.1);
-    })
-
 pub returns-in-Branch : goal.returns-in-Branch
 returns-in-Branch g c =
     let step = rw c.in-Branch.is at c.step.ensures in

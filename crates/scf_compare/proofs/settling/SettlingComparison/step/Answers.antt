@@ -19,21 +19,6 @@ returns-in-Next g c =
       plain = λ plain. absurd plain;
     }
 
-pub returns-in-Branch : goal.returns-in-Branch
-returns-in-Branch g c =
-    let step = rw c.in-Branch.is at c.step.ensures in
-    let own = c.args.self.now in
-    let tree = g.C.Comparison.tree own.comparison.now in
-    record {
-      proper = step.proper;
-      leads = λ words given on. grind (arith, step.leads words given on.0, on.1);
-      costs = settled_costs ((tree c.step.new.known).size c.in-Branch.if_true)
-          ((tree c.step.new.known).size c.in-Branch.if_false)
-          ((tree c.args.known.now).size c.args.node.now.node) ((tree own.start).size own.root)
-          c.args.node.now.fixed.words step.costs;
-      plain = λ plain. absurd plain;
-    }
-
 pub returns-in-Leaf : goal.returns-in-Leaf
 returns-in-Leaf g c =
     let step = rw c.in-Leaf.is at c.step.ensures in
