@@ -1,16 +1,14 @@
 -- The steps of the filter that is asked are steps of the stack, and at its leaves the next one begins.
-use Rattle.scf_compare.proofs.Common.{[], ◌+◌, ◌*◌, ◌<◌, ◌≤◌, ℕ, List, length, drop, arith, take_all, mul-le-mul_left, Insn, stack_paths, filter_size, scaled_costs, paths_count, filter_at}
+use Rattle.scf_compare.proofs.Common.{[], ◌+◌, ◌*◌, ◌<◌, ◌≤◌, ℕ, List, length, drop, arith, take_all, mul-le-mul_left, Insn, stack_paths, filter_size, paths_count, filter_at}
 use Rattle.scf_compare.proofs.Stacks.{is_stack_leaf, paths_from}
+use Rattle.scf_compare.specs.internal.Laws.{scaled_counts}
 use Rattle.scf_compare.proofs.stack.step_from.Goals as goal
 
-whole_costs : (filters : List (List Insn)) (index a b n whole : ℕ) → a + b + 1 ≤ n
-    → n * stack_paths (drop (index + 1) filters) ≤ whole
-    → a * stack_paths (drop (index + 1) filters) + b * stack_paths (drop (index + 1) filters) + 1 ≤ whole
-whole_costs filters index a b n whole costs most = grind (arith, paths_count, scaled_costs)
-
-whole_cost : (filters : List (List Insn)) (index a n whole : ℕ) → a + 1 ≤ n
-    → n * stack_paths (drop (index + 1) filters) ≤ whole → a * stack_paths (drop (index + 1) filters) + 1 ≤ whole
-whole_cost filters index a n whole cost most = grind (arith, whole_costs filters index a 0 n whole)
+whole_cost : (filters : List (List Insn)) (index n whole : ℕ) → 1 ≤ n
+    → n * stack_paths (drop (index + 1) filters) ≤ whole → 1 ≤ whole
+whole_cost filters index n whole cost most =
+    let newer = drop (index + 1) filters in
+    omega (arith, scaled_counts n (stack_paths newer) cost (paths_count newer))
 
 -- the end of a filter's tree is one of the stack, and so is the end at which all filters so far decide
 pub returns-then-index-filters : goal.returns-then-index-filters
@@ -30,8 +28,7 @@ returns-then-index-filters g c =
           (step.leads words w before.1));
       costs = omega (
         arith,
-        whole_cost filters index 0 (filter_size (filter_at filters index) c.loop-next.node) _ step.costs
-            so_far.size,
+        whole_cost filters index (filter_size (filter_at filters index) c.loop-next.node) _ step.costs so_far.size,
       );
       plain = λ plain.
           let before = so_far.plain plain in
