@@ -37,6 +37,15 @@ pub settled_costs : (a b n effort : ℕ) (fixed : List Bits) → a + b + 1 ≤ n
 settled_costs a b n effort fixed h =
     scaled_costs a b n (weight effort fixed) h (weight_counts effort (lacking fixed))
 
+pub settled_cost : (a n effort : ℕ) (fixed : List Bits) → a + 1 ≤ n
+    → a * weight effort fixed + 1 ≤ n * weight effort fixed
+settled_cost a n effort fixed h = omega (arith, settled_costs a 0 n effort fixed (omega arith))
+
+pub settled_end : (n effort : ℕ) (fixed : List Bits) → 1 ≤ n → 1 ≤ n * weight effort fixed
+settled_end n effort fixed h = omega (arith, settled_cost 0 n effort fixed h)
+
+pub ruleset settled = (settled_costs, settled_cost, settled_end)
+
 -- what a step counts where more is fixed, by what one counts before
 pub weighs_less : (effort size : ℕ) (more fewer : List Bits) → lacking more ≤ lacking fewer → 0 < size
     → weight effort more ≤ size * weight effort fewer
