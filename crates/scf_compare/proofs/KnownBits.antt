@@ -1,5 +1,5 @@
 -- What is known bit by bit of results, and of the least and the greatest.
-use Rattle.scf_compare.proofs.Common.{◌≡◌, ◌≢◌, ℕ, ◌+◌, ◌-◌, ◌*◌, ◌/◌, ◌%◌, ◌<◌, ◌≤◌, ◌^◌, eqb, refl, sym, ap, ◌∙◌, arith, bit_and, bit_or, bit_xor, inl, inr, Bits, HasBits, IsLowMask, add-mod, and_le_l, and_le_r, and_mask, and_mod, and_self, and_shr, and_twice, at_bit, bit_at, bit_at-trailing_ones, bit_at_not, bit_at_ones, bit_at_ones_above, cases_eq, cases_lt, div-mul-le_self, eq-eqb, kept, le-div, le_or_l, mod-mod-pow, mul-le-mul, mul-le-mul_left, mul-mod, mul-mod_left, ne_eqb, one_shl, ones_shl, or_low_ones, or_lt, or_zero_r, part_of, pow_mono, same_from_bits, same_from_bits_below, same_from_xor, shr_le, shr_mono, trailing_le, trailing_of_zero, trailing_ones, w32, xor_lt, xor_self}
+use Rattle.scf_compare.proofs.Common.{◌≡◌, ◌≢◌, ℕ, ◌+◌, ◌-◌, ◌*◌, ◌/◌, ◌%◌, ◌<◌, ◌≤◌, ◌^◌, eqb, refl, sym, ap, ◌∙◌, arith, bit_and, bit_or, bit_xor, inl, inr, Bits, HasBits, IsLowMask, add-mod, and_comm, and_le_l, and_le_r, and_mask, and_mod, and_self, and_shr, and_twice, at_bit, bit_at, bit_at-trailing_ones, bit_at_not, bit_at_ones, bit_at_ones_above, cases_eq, cases_lt, div-mul-le_self, eq-eqb, kept, le-div, le_or_l, mod-mod-pow, mul-le-mul, mul-le-mul_left, mul-mod, mul-mod_left, ne_eqb, one_shl, ones_shl, or_low_ones, or_lt, or_zero_r, part_of, pow_mono, same_from_bits, same_from_bits_below, same_from_xor, shr_le, shr_mono, trailing_le, trailing_of_zero, trailing_ones, w32, xor_lt, xor_self}
 use Rattle.scf_compare.proofs.BitSlices.{and_scaled}
 use Rattle.scf_compare.proofs.Bits.{each_bit, whole_word}
 
@@ -136,19 +136,12 @@ each_one a i fits below within = elim (cases_eq a (2 ^ 32 - 1)) [
   | inr less ↦ (bit_at-trailing_ones w32 a (omega arith)).2 i below
 ]
 
--- the low bits that are set in two numbers at once are set in each
-ones_of_both : (a b k : ℕ) → ((i : ℕ) → i < k → bit_at (bit_and a b) i ≡ 1)
-    → (bit_and a (2 ^ k - 1) ≡ 2 ^ k - 1) × (bit_and b (2 ^ k - 1) ≡ 2 ^ k - 1)
-ones_of_both a b k each = (
-  same_from_bits _ _ (λ i. elim (cases_lt i k) [
-    | inl below ↦ grind (arith, each_bit, each i below, bit_at_ones k i below)
-    | inr past ↦ grind (arith, each_bit, bit_at_ones_above k i past)
-  ]),
-  same_from_bits _ _ (λ i. elim (cases_lt i k) [
-    | inl below ↦ grind (arith, each_bit, each i below, bit_at_ones k i below)
-    | inr past ↦ grind (arith, each_bit, bit_at_ones_above k i past)
-  ]),
-)
+-- the low bits that are set in two numbers at once are set in the first
+ones_of_both : (a b k : ℕ) → ((i : ℕ) → i < k → bit_at (bit_and a b) i ≡ 1) → bit_and a (2 ^ k - 1) ≡ 2 ^ k - 1
+ones_of_both a b k each = same_from_bits _ _ (λ i. elim (cases_lt i k) [
+  | inl below ↦ grind (arith, each_bit, each i below, bit_at_ones k i below)
+  | inr past ↦ grind (arith, each_bit, bit_at_ones_above k i past)
+])
 
 pub low_ones : (first second : Bits) (k mask : ℕ) → first.mask < 2 ^ 32
     → k ≡ trailing_ones w32 (bit_and first.mask second.mask) → mask ≡ 2 ^ k - 1 → IsLowMask first second mask
@@ -156,9 +149,14 @@ low_ones first second k mask fits count low =
     let both = bit_and first.mask second.mask in
     let both_fits : both < 2 ^ 32 = omega (arith, and_le_l first.mask second.mask) in
     let within : k ≤ 32 = omega (arith, trailing_le 32 (2 ^ 32 - 1 - both), count) in
-    let known = ones_of_both first.mask second.mask k
-    (λ i below. each_one both i both_fits (omega (arith, count)) (omega arith)) in
-    record { count = k; within = within; low = low; known_first = rw low known.0; known_second = rw low known.1 }
+    let each = λ (i : ℕ) (below : i < k). each_one both i both_fits (omega (arith, count)) (omega arith) in
+    record {
+      count = k;
+      within = within;
+      low = low;
+      known_first = rw low (ones_of_both first.mask second.mask k each);
+      known_second = rw low (ones_of_both second.mask first.mask k (λ i below. rw and_comm (each i below)));
+    }
 
 pub low_ones_below : (first second : Bits) (k : ℕ) → first.mask < 2 ^ 32
     → k ≡ trailing_ones w32 (bit_and first.mask second.mask) → k ≢ 32
