@@ -2,7 +2,14 @@
 
 ghost use Rattle.std.specs.Prelude.{◌≡◌, ◌↔◌, ℕ, List, IsTrue, false, IfOk, IfSome, IfNone, IsSome};
 ghost use Rattle.scf_insn.specs.Words.{IsRecord, words_of};
-ghost use Rattle.scf_compare.specs.Findings.{AllRelated, AreSteps, IsFindingDecided, IsFindingWithin, IsTrueFinding, WordsRelated};
+ghost use Rattle.scf_compare.specs.Findings.{
+  AllRelated,
+  AreSteps,
+  IsFindingDecided,
+  IsFindingWithin,
+  IsTrueFinding,
+  WordsRelated,
+};
 ghost use Rattle.scf_compare.specs.internal.Leaves.{AreWordsIn, IsFirstUndecided, IsLeaf, IsUndecidedLeaf};
 ghost use Rattle.scf_compare.specs.internal.Leaves.{KnowsBoth, Tells};
 ghost use Rattle.scf_compare.specs.internal.Frontier.{IsFrontier, IsExact};

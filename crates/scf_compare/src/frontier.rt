@@ -118,8 +118,8 @@ pub(crate) fn take_branch<C: Comparison, F: WordFacts>(
     Ok(Stage::At(branch.node))
 }
 
-/// Goes on from a test. If the store knows the answer, that side is followed. Otherwise a branch is opened for the answer
-/// no, and yes is learned; where no atom decides the test, nothing is learned on either side.
+/// Goes on from a test. If the store knows the answer, that side is followed. Otherwise a branch is opened for the
+/// answer no, and yes is learned; where no atom decides the test, nothing is learned on either side.
 pub(crate) fn ask<C: Comparison, F: WordFacts>(
     comparison: &C,
     frontier: &mut Frontier<F, C::Known, C::Node>,

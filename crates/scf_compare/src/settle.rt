@@ -40,8 +40,8 @@ fn difference_of<C: Comparison>(comparison: &C, fixed: &FixedBits) -> Option<Fin
     }
 }
 
-/// Splits on a bit that isn't fixed yet, if a split is left: opens a branch where the bit is clear, and learns that it is
-/// set. Both begin at the root.
+/// Splits on a bit that isn't fixed yet, if a split is left: opens a branch where the bit is clear, and learns that it
+/// is set. Both begin at the root.
 #[tactic(auto, using(crate::proofs::Budgets::none_left))]
 fn restart<C: Comparison, F: WordFacts>(
     settling: &Settling<'_, C>,
