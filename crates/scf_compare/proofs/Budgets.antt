@@ -38,6 +38,10 @@ no_split_left (AtMost a) (AtMost b) steps now after so_far step none = grind ari
 no_split_left (AtMost a) NoLimit steps now after so_far step none = absurd so_far
 no_split_left NoLimit last steps now after so_far step none = grind arith
 
+pub none_taken : (splits : Splits) (steps : ℕ) (finding : Finding) → LeavesSteps splits (Some finding) steps steps
+none_taken (AtMost most) steps finding = omega arith
+none_taken NoLimit steps finding = refl
+
 pub ruleset walks = (at_end, no_step_left, no_split_left)
 
 pub none_left : (old new : Splits) → IsSplitTaken false old new → old ≡ AtMost 0

@@ -4,6 +4,7 @@ ghost use Rattle.std.specs.Prelude.{◌≡◌, All, IsTrue, IfOk, OnErr, min};
 ghost use Rattle.scf_machine.specs.Machine.{RunAnswers};
 ghost use Rattle.scf_machine.specs.Plain.{IsPlainProgram};
 ghost use Rattle.scf_machine.specs.Precedence.{StackAnswers};
+ghost use Rattle.scf_machine.specs.Rules.{IsFilter};
 ghost use Rattle.scf_profile.specs.PlainProfile.{IsPlainProfile};
 ghost use Rattle.scf_profile.specs.SameAnswers.{SameAnswers};
 ghost use Rattle.scf_profile.specs.Scope.{RelatedAnswersIn, SameAnswersIn};
@@ -156,29 +157,62 @@ fn compare_counted<F: WordFacts>(
         IsComparison (compared_sides by over left.now right.now)
         (IsTrue F.starts_exact) limit budget.old finding taken.new budget.new.steps) }
 {
+    let is_same = are_same_stacks(left, right);
     match *left {
         Side::Stack(filters) => {
-            let stack = StackSide { filters };
-            compare_with::<F, StackSide<'_>>(alloc, stack, right, over, by, limit, budget, taken)
+            let left = StackSide { filters };
+            compare_with::<F, StackSide<'_>>(
+                alloc, left, right, is_same, over, by, limit, budget, taken,
+            )
         }
         Side::Profile(profile) => {
-            let profile = ByNumber::new(profile);
-            compare_with::<F, ByNumber<'_>>(alloc, profile, right, over, by, limit, budget, taken)
+            let left = ByNumber::new(profile);
+            compare_with::<F, ByNumber<'_>>(
+                alloc, left, right, is_same, over, by, limit, budget, taken,
+            )
         }
     }
 }
 
-/// Compares the left side with the right one.
+/// Whether both sides are stacks of the same filters.
+fn are_same_stacks(left: &Side<'_>, right: &Side<'_>) -> bool
+    ensures { IsTrue result → (by : Relation) (over : Scope) → AllRelated (compared_sides by over left.now right.now) }
+{
+    match (*left, *right) {
+        (Side::Stack(left), Side::Stack(right)) => have_same_filters(left, right),
+        _ => false,
+    }
+}
+
+/// Whether two stacks have the same filters, in the same order.
+fn have_same_filters(left: &[Program], right: &[Program]) -> bool
+    ensures same { IsTrue result → left.now ≡ right.now }
+    ensures filters { IsTrue result → All IsFilter left.now }
+{
+    if left.len() != right.len() {
+        return false;
+    }
+    for i in 0..left.len() {
+        if left[i].insns() != right[i].insns() {
+            return false;
+        }
+    }
+    true
+}
+
+/// Compares the left side with the right one, which may be known to answer each call alike.
 fn compare_with<F: WordFacts, L: SideTree + Drop>(
     alloc: Global,
     left: L,
     right: &Side<'_>,
+    is_same: bool,
     over: Scope,
     by: Relation,
     limit: u64,
     budget: &mut Limit,
     taken: &mut u64,
 ) -> Result<Finding, Memory>
+    requires { IsTrue is_same → AllRelated (compared_in by over (L.behavior left) (behavior_of right.now)) }
     ensures { IfOk result (λ finding. IsComparison (compared_in by over (L.behavior left) (behavior_of right.now))
         (IsTrue F.starts_exact) limit budget.old finding taken.new budget.new.steps) }
 {
@@ -191,7 +225,7 @@ fn compare_with<F: WordFacts, L: SideTree + Drop>(
                 over,
                 by,
             };
-            compare_pair::<F, L, StackSide<'_>>(alloc, &pair, limit, budget, taken)
+            compare_pair::<F, L, StackSide<'_>>(alloc, &pair, is_same, limit, budget, taken)
         }
         Side::Profile(profile) => {
             let right = ByNumber::new(profile);
@@ -201,20 +235,23 @@ fn compare_with<F: WordFacts, L: SideTree + Drop>(
                 over,
                 by,
             };
-            compare_pair::<F, L, ByNumber<'_>>(alloc, &pair, limit, budget, taken)
+            compare_pair::<F, L, ByNumber<'_>>(alloc, &pair, is_same, limit, budget, taken)
         }
     }
 }
 
-/// Walks the tree of a pair; if that leaves it undecided, a second time with splits.
+/// Walks the tree of a pair; if that leaves it undecided, a second time with splits, unless both sides are the same.
 #[tactic(auto, using(crate::proofs::Budgets::unsplit_below))]
 fn compare_pair<F: WordFacts, L: SideTree, R: SideTree>(
     alloc: Global,
     pair: &Pair<L, R>,
+    is_same: bool,
     limit: u64,
     budget: &mut Limit,
     taken: &mut u64,
 ) -> Result<Finding, Memory>
+    requires { IsTrue is_same → AllRelated
+        (compared_in pair.now.by pair.now.over (L.behavior pair.now.left) (R.behavior pair.now.right)) }
     ensures { IfOk result (λ finding. IsComparison
         (compared_in pair.now.by pair.now.over (L.behavior pair.now.left) (R.behavior pair.now.right))
         (IsTrue F.starts_exact) limit budget.old finding taken.new budget.new.steps) }
@@ -226,6 +263,7 @@ fn compare_pair<F: WordFacts, L: SideTree, R: SideTree>(
     let root = PairNode::AtLeft(start);
     let finding = explore(alloc, pair, facts, known, root, limit, taken)?;
     match finding {
+        Finding::Undecided { .. } if is_same => Ok(Finding::Holds { steps: *taken }),
         Finding::Undecided { .. } => {
             let again: F = facts_of(alloc, pair.over)?;
             let settled = settle(alloc, pair, again, known, root, *taken, budget)?;

@@ -28,7 +28,8 @@
 //! may stay undecided. The path remembers the first such test, by the bits of the record on which it depends
 //! (`sources`).
 //!
-//! If the walk ends with such a leaf, and nothing fails, a second one begins (`settle`). Take the filter `ld [16];
+//! If the walk ends with such a leaf, and nothing fails, two stacks of the same filters are related all the same. Of
+//! others a second walk begins (`settle`). Take the filter `ld [16];
 //! add #1; jgt #9, ..`: the sum is unknown, and the test is open. The second walk splits there, on a bit of word 4: it
 //! opens a branch where the highest bit is clear, learns that it is set, and begins at the root again (`settling`). The
 //! sum is now known to be above 9, or 0 where all bits are set; that one is split off by further bits. The bits that

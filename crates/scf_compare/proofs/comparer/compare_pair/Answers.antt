@@ -1,7 +1,7 @@
 use Rattle.std.specs.Prelude.{unwrap_or}
-use Rattle.scf_compare.proofs.Common.{ℕ, Compared, Finding, IfSome, IsTrue, IsTrueFinding, None, Option, Some, Which, compared_in, sym}
+use Rattle.scf_compare.proofs.Common.{ℕ, Compared, Finding, IfSome, IsTrue, IsTrueFinding, None, Option, Some, Which, compared_in, refl, sym}
 use Rattle.scf_compare.specs.Findings.{AreSteps, IsFindingWithin}
-use Rattle.scf_compare.proofs.Budgets.{settled_below, undecided_below}
+use Rattle.scf_compare.proofs.Budgets.{none_taken, settled_below, undecided_below}
 use Rattle.scf_compare.specs.declared.budget.Limit.{Limit}
 use Rattle.scf_compare.specs.internal.Budgets.{LeavesSteps}
 use Rattle.scf_compare.specs.declared.finding.Finding.TheVariants.{Fails, Holds, Undecided, Unfinished}
@@ -53,17 +53,29 @@ module _ (compared : Compared) (is_complete : Type 0) (limit taken : ℕ) (budge
   settled_comparison (Some (Undecided other index)) is left = absurd is
   settled_comparison (Some Unfinished) is left = absurd is
 
-pub returns-in_ok-settled-in-Undecided : goal.returns-in_ok-settled-in-Undecided
-returns-in_ok-settled-in-Undecided g c =
+pub returns-in_ok-settled-in-Undecided-2 : goal.returns-in_ok-settled-in-Undecided-2
+returns-in_ok-settled-in-Undecided-2 g c =
     let pair = c.args.pair.now in
     let compared : Compared = compared_in pair.by pair.over (g.L.SideTree.behavior pair.left) (g.R.SideTree.behavior pair.right) in
-    let first = rw c.in-Undecided.is at c.in_ok-finding.ensures in
+    let first = rw c.in-Undecided-2.is at c.in_ok-finding.ensures in
     let start = c.start.ensures in
-    let second = c.in_ok-settled-in-Undecided in
-    rw (c.unwrap_or.ensures, c.in-Undecided.is)
+    let second = c.in_ok-settled-in-Undecided-2 in
+    rw (c.unwrap_or.ensures, c.in-Undecided-2.is)
     (settled_comparison compared (IsTrue g.F.WordFacts.starts_exact) c.args.limit c.explore.new.taken c.args.budget.now
-    c.in-Undecided.side c.in-Undecided.at c.settle.new.budget.steps first.holds first.within (rw start.size at first.taken)
+    c.in-Undecided-2.side c.in-Undecided-2.at c.settle.new.budget.steps first.holds first.within (rw start.size at first.taken)
     (λ exact plain plain_right.
     first.decided (c.in_ok-facts.ensures.exact exact) (start.plain plain, plain_right))
     second.settled second.ensures.settled
     second.ensures.steps)
+
+pub returns-in-Undecided : goal.returns-in-Undecided
+returns-in-Undecided g c =
+    let pair = c.args.pair.now in
+    let compared : Compared = compared_in pair.by pair.over (g.L.SideTree.behavior pair.left) (g.R.SideTree.behavior pair.right) in
+    let first = rw c.in-Undecided.is at c.in_ok-finding.ensures in
+    let start = c.start.ensures in
+    settled_comparison compared (IsTrue g.F.WordFacts.starts_exact) c.args.limit c.explore.new.taken c.args.budget.now
+    c.in-Undecided.side c.in-Undecided.at c.args.budget.now.steps first.holds first.within (rw start.size at first.taken)
+    (λ exact plain plain_right.
+    first.decided (c.in_ok-facts.ensures.exact exact) (start.plain plain, plain_right))
+    (Some (Holds c.explore.new.taken)) (refl, c.requires c.if-is_same.true) (none_taken c.args.budget.now.splits c.args.budget.now.steps _)
