@@ -188,16 +188,15 @@ def stack_digest(stack: Stack) -> str:
 class Judge:
     """Compares stacks with profiles, each pair once; `tell` is called with the number of comparisons."""
 
-    def __init__(self, table: Table, limit: str | None, tell: Callable[[int], None] = lambda _: None) -> None:
+    def __init__(self, table: Table, tell: Callable[[int], None] = lambda _: None) -> None:
         self.table = table
-        self.limit = limit
         self.tell = tell
         self.known: dict[tuple[object, ...], Judgement] = {}
         self.foreign: dict[tuple[tuple[object, ...], ...], list[other_abis.Known]] = {}
 
     def judge(self, stack: Stack, asked: Request | None, relation: str = SAME) -> Judgement:
         """The verdict on a stack with filters."""
-        asked_of = asked or Request(ALLOWS_ALL, self.table, self.limit)
+        asked_of = asked or Request(ALLOWS_ALL, self.table)
         stub = asked_of.applied.stub if asked_of.applied is not None else {}
         key = stack.filters, asked_of.profile, tuple(stub.items()), relation, asked is None
         if len(self.known) > MOST_KNOWN:
@@ -269,7 +268,6 @@ class Options:
     """What is expected beside the configuration: a profile of all rows, or one that none may exceed."""
 
     table: Table
-    limit: str | None = None
     expected: tuple[str, bytes] | None = None
     baseline: tuple[str, bytes] | None = None
     is_forced: bool = False
@@ -282,7 +280,7 @@ class Options:
         """Raises a ToolError if scf refuses a profile, the table or the limit. Two entries that conflict, or two
         conditions on one argument, are left to the runtimes, which accept them."""
         for name, profile in filter(None, (self.expected, self.baseline, ("", ALLOWS_ALL))):
-            comparison = Comparison([Filter("", IS_ALLOWED.filter)], profile, self.table, self.limit,
+            comparison = Comparison([Filter("", IS_ALLOWED.filter)], profile, self.table,
                                     is_native=self.scope is not None)
             fault = comparison.run(comparison.scope)[1].fault
             if fault is not None and fault.kind not in ("Conflict", "RepeatedIndex"):
@@ -304,8 +302,8 @@ class Expectations:
         key = json.dumps(config), runtime
         if key not in self.known:
             try:
-                self.known[key] = verify.request_of(config, runtime, False, self.options.table, self.options.limit,
-                                                    SAME, self.options.scope)
+                self.known[key] = verify.request_of(config, runtime, False, self.options.table, SAME,
+                                                    self.options.scope)
             except verify.ContainerError as why:
                 self.known[key] = str(why)
         return self.known[key]
@@ -320,7 +318,7 @@ class Expectations:
             return None
         name, data = self.options.expected
         if runtime is None:
-            return Expected(Request(data, self.options.table, self.options.limit, self.options.scope), name)
+            return Expected(Request(data, self.options.table, self.options.scope), name)
         value = json.loads(data)
         linux = value.get("linux") if isinstance(value, dict) else None
         return self._of_config({"linux": linux if isinstance(linux, dict) else {"seccomp": value}}, runtime, name)
@@ -364,7 +362,7 @@ class Expectations:
             profile = units.profile_of(settings).encode()
         except (units.SettingError, program.ToolError) as why:
             return Expected(source=source, why=str(why))
-        return Expected(Request(profile, self.options.table, self.options.limit, self.options.scope), source)
+        return Expected(Request(profile, self.options.table, self.options.scope), source)
 
 
 def rows_of(kernel: Kernel, snapshot: Snapshot, options: Options) -> list[Row]:
@@ -408,7 +406,7 @@ def judged(stack: Stack, expected: Expected, options: Options, judge: Judge) -> 
         found = judge.judge(stack, expected.asked)
     if options.baseline is None:
         return found
-    asked = Request(options.baseline[1], options.table, options.limit, options.scope, NO_MORE)
+    asked = Request(options.baseline[1], options.table, options.scope, NO_MORE)
     least = judge.judge(stack, asked, NO_MORE)
     if VERDICTS.index(least.verdict) < VERDICTS.index(found.verdict) and least.verdict in (WEAKER, NOT_KNOWN):
         return replace(least, is_of_baseline=True)

@@ -125,13 +125,13 @@ def _findings(audit: Audit, table_of: Table) -> Iterator[Markup]:
             yield preformatted(command)
 
 
-def _surfaces(stacks: list[Stack], table_of: Table, limit: str | None) -> list[Surface | None]:
+def _surfaces(stacks: list[Stack], table_of: Table) -> list[Surface | None]:
     """What each stack allows, with a limit of its own; None if scf refuses it."""
     found: list[Surface | None] = []
     for stack in stacks:
         client.begin_limits()
         try:
-            found.append(surfaces.of_filters(stack.filters, table_of, limit))
+            found.append(surfaces.of_filters(stack.filters, table_of))
         except client.Refusal:
             found.append(None)
     return found
@@ -148,11 +148,11 @@ def _since(audit: Audit, before: dict[tuple[str, str], tuple[str, str]] | None) 
         if found else tag("p", "No row is new, gone or has another verdict.")
 
 
-def _stacks(audit: Audit, table_of: Table, limit: str | None) -> Iterator[Markup]:
+def _stacks(audit: Audit, table_of: Table) -> Iterator[Markup]:
     """What each distinct stack allows."""
     groups = Groups()
     found = [Named(f"stack {at}", surface, stack.description, stack_digest(stack)) for at, (stack, surface)
-             in enumerate(zip(audit.stacks, _surfaces(audit.stacks, table_of, limit)))]
+             in enumerate(zip(audit.stacks, _surfaces(audit.stacks, table_of)))]
     if not found:
         return
     yield from pages.matrix(found, groups)
@@ -162,8 +162,7 @@ def _stacks(audit: Audit, table_of: Table, limit: str | None) -> Iterator[Markup
         yield from pages.stack(one, groups)
 
 
-def page(audit: Audit, table_of: Table, limit: str | None,
-         before: dict[tuple[str, str], tuple[str, str]] | None = None) -> str:
+def page(audit: Audit, table_of: Table, before: dict[tuple[str, str], tuple[str, str]] | None = None) -> str:
     """The page, with what changed since an earlier audit; what each stack allows is asked of scf for it."""
     return document(f"seccomp audit of {os.uname().nodename}", *_head(audit), *_since(audit, before), *_rows(audit),
-                    *_findings(audit, table_of), *_stacks(audit, table_of, limit))
+                    *_findings(audit, table_of), *_stacks(audit, table_of))

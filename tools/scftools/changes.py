@@ -10,7 +10,7 @@ from .answers import DISPOSITIONS, ENOSYS, X32, Answer
 from .architectures import JUDGED, NATIVE, Architecture
 from .calls import Call
 from .client import Refusal
-from .explanation import join_names
+from .explanation import MORE_SPLITS, join_names
 from .filters import Filter
 from .profiles import STUB, Origin
 from .questions import checked
@@ -98,24 +98,23 @@ class Side:
 
 @dataclass(frozen=True)
 class ProfilePair:
-    """Both profiles, the table of x86-64, and the step limit as a text, or None for scf's."""
+    """Both profiles, the table of x86-64, and whether that alone is judged."""
 
     sides: dict[str, Side]
     table: Table
-    limit: str | None
     is_native: bool
 
     @property
     def _stacks(self) -> StackComparison:
         """The comparison of the old profile's filter with the new one's."""
         old, new = ([side.filter] for side in self.sides.values())
-        return StackComparison(old, new, self.table, self.limit)
+        return StackComparison(old, new, self.table)
 
     @property
     def _comparison(self) -> compare.Comparison:
         """The comparison of the old profile's filter with the new profile."""
         old, new = self.sides.values()
-        return compare.Comparison([old.filter], new.source.data, self.table, self.limit, stub=new.source.stub,
+        return compare.Comparison([old.filter], new.source.data, self.table, stub=new.source.stub,
                                   is_native=self.is_native)
 
     @property
@@ -272,11 +271,10 @@ def _whole(pair: ProfilePair, same: Verdict, relation: str) -> Verdict:
     return Verdict(relation) if found.holds else replace(found, word=FAILED[relation]) if found.fails else found
 
 
-def of_profiles(old: Source, new: Source, table: Table, limit: str | None, relation: str,
-                is_native: bool = False) -> Changes:
+def of_profiles(old: Source, new: Source, table: Table, relation: str, is_native: bool = False) -> Changes:
     """What changes from one profile to another."""
     pair = ProfilePair({name: Side(name, source, tables.of_profile(source.data, table, is_native))
-                        for name, source in ((OLD, old), (NEW, new))}, table, limit, is_native)
+                        for name, source in ((OLD, old), (NEW, new))}, table, is_native)
     compared = pair.compared(SAME)
     same = compared.verdict
     assert same is not None
@@ -369,6 +367,8 @@ def lines(changes: Changes) -> Iterator[str]:
             yield (f"# only the {side} profile names {join_names(changes.alone[side])}: the {other} one kills a "
                    f"process that makes such a syscall")
     yield from output.notes(_apart("other architectures, not compared", changes.architectures))
+    if UNDECIDED in (changes.whole.word, *(it.kind for it in (*changes.calls, changes.unnamed) if it is not None)):
+        yield f"# {MORE_SPLITS}"
 
 
 def _change_json(changes: Changes, change: Change, table: Table) -> dict[str, object]:

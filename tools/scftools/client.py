@@ -20,7 +20,12 @@ MAX_MEMORY = 350 << 20
 # A tool's comparisons without --limit: seconds of CPU time for the tool and all that it runs; after the first limit
 # comparisons have few steps, after the second none.
 SECONDS, ALL_SECONDS, FEW_STEPS = 6, 8, "1000"
-LIMIT_HELP = f"at most N steps for each comparison [default: 1000000, and {SECONDS} s of CPU time for all together]"
+# The options of `scf compare` by which a tool's command line limits each comparison, with their texts.
+LIMITS = {
+    "limit": f"at most N steps for each comparison [default: 1000000, and {SECONDS} s of CPU time for all together]",
+    "splits": "at most N splits for each comparison that tests leave undecided; 18446744073709551615 is no limit "
+              "[default: 10000]"}
+limits: dict[str, str] = {}
 SPENT = (f"all comparisons together took {SECONDS} s of CPU time, the most without --limit: what {FEW_STEPS} steps "
          f"don't decide is unfinished")
 FAULT = Pattern(r"fault ([a-z]+) ([A-Za-z0-9]+)((?: [a-z]+ [0-9]+)*)")
@@ -218,11 +223,11 @@ def _report_spent() -> None:
     _is_spent_reported = True
 
 
-def compare(words: Sequence[str], bundle: bytes, limit: str | None) -> Run:
-    """`scf compare` with this step limit, a text; a tool without one has scf's own while there is time."""
-    words = ["compare", *words]
-    if limit is not None or not program.is_tool:
-        return run([*words, *([f"--limit={limit}"] if limit is not None else [])], bundle)
+def compare(words: Sequence[str], bundle: bytes) -> Run:
+    """`scf compare` within the limits of the command line; a tool without --limit has scf's own while there is time."""
+    words = ["compare", *words, *(f"--{name}={text}" for name, text in limits.items())]
+    if "limit" in limits or not program.is_tool:
+        return run(words, bundle)
     if built() is None:
         # the time to build it doesn't count
         run(["--version"])

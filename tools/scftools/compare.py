@@ -33,15 +33,13 @@ MOST_UNDECIDED = 20
 
 @dataclass
 class Comparison:
-    """Filters, oldest first, a profile and x86-64's table; the step limit as a text, or None for scf's; a relation; of
-    a resolved profile the index of each entry in the user's, and for each architecture the least number that runc
-    answers with ENOSYS; whether x86-64 alone is judged, whatever the profile names; and the OCI name of the table's
-    architecture, if that isn't x86-64."""
+    """Filters, oldest first, a profile and x86-64's table; a relation; of a resolved profile the index of each entry in
+    the user's, and for each architecture the least number that runc answers with ENOSYS; whether x86-64 alone is
+    judged, whatever the profile names; and the OCI name of the table's architecture, if that isn't x86-64."""
 
     filters: Sequence[Filter]
     profile: bytes
     table: Table
-    limit: str | None = None
     relation: str = SAME
     origins: Sequence[Origin] | None = None
     stub: newer.Bounds = field(default_factory=dict)
@@ -73,7 +71,7 @@ class Comparison:
     def _run_by(self, judged: Tables, scope: Sequence[str], filters: Sequence[bytes], relation: str,
                 is_by_call: bool = False) -> tuple[int, Report]:
         given = bundles.of_comparison(filters, self.profile, judged)
-        done = client.compare([*scope, *RELATIONS[relation]], given, self.limit)
+        done = client.compare([*scope, *RELATIONS[relation]], given)
         known = self.facts if b"\nskipped " in done.out else None
         pointer = None if is_by_call and any(map(looks_at_pointer, filters)) else 0
         return done.status, verdicts.report(done.text, known.names if known else None, judged.has, pointer)
@@ -200,6 +198,7 @@ def count_lines(calls: Sequence[NamedCall], other: str = PROFILE) -> Iterator[st
         yield f"syscalls in the table without a verdict: {len(undecided)}"
         yield from undecided[:MOST_UNDECIDED]
         yield from [f"more such syscalls: {len(undecided) - MOST_UNDECIDED}"] * (len(undecided) > MOST_UNDECIDED)
+        yield from [explanation.MORE_SPLITS] * any(call.verdict.word == UNDECIDED for call in calls)
 
 
 def of_calls(comparison: Comparison, report: Report) -> tuple[list[str], list[str]]:
@@ -269,7 +268,7 @@ def of_left_out(comparison: Comparison, report: Report) -> Iterator[str]:
 def foreign_of(comparison: Comparison, scope: str) -> list[other_abis.Known]:
     """What is known of the syscalls of other ABIs that a scope doesn't cover."""
     judged = comparison.tables.of if scope in (LISTED, CALLS) else ()
-    return other_abis.known_of([one.data for one in comparison.filters], comparison.limit, judged)
+    return other_abis.known_of([one.data for one in comparison.filters], judged)
 
 
 def of_foreign(comparison: Comparison, report: Report, scope: str, is_quiet: bool = False) -> Iterator[str]:
@@ -373,7 +372,7 @@ def compile_profile(profile: bytes, judged: Tables, origins: Sequence[Origin] | 
 def left_out(profile: bytes, judged: Tables) -> Report:
     """What scf leaves out of a profile, which a comparison without a step reports."""
     allows = instruction(RETURN_CONSTANT, ALLOW.word)
-    done = client.compare(SCOPES[LISTED], bundles.of_comparison([allows], profile, judged), "0")
+    done = client.run(["compare", *SCOPES[LISTED], "--limit=0"], bundles.of_comparison([allows], profile, judged))
     known = profiles.read(profile) if b"\nskipped " in done.out else None
     return verdicts.report(done.text, known.names if known else None, judged.has)
 

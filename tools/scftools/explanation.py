@@ -12,6 +12,10 @@ from .tables import Table, Tables
 from .verdicts import Fault, Report
 
 
+# What to do where scf is undecided.
+MORE_SPLITS = "not known: try more splits, --splits N"
+
+
 def join_names(names: Sequence[str]) -> str:
     """Names in a sentence."""
     return names[0] if len(names) == 1 else ", ".join(names[:-1]) + f" and {names[-1]}"
@@ -85,7 +89,8 @@ def of_verdict(report: Report, table: Table, is_native: bool, count: int) -> Ite
     if verdict.fails or verdict.word == verdicts.UNDETERMINED:
         yield from of_differing(verdict, table, is_native, count)
     elif not verdict.holds:
-        yield from what_a_row_says(report.lines[0])
+        when, *what_to_do = what_a_row_says(report.lines[0])
+        yield from (when, *([MORE_SPLITS] if verdict.word == verdicts.UNDECIDED else what_to_do))
 
 
 def of_skipped(report: Report, judged: Tables, default_lets_through: bool) -> Iterator[str]:

@@ -111,10 +111,10 @@ class Known:
             for call, answer in self.not_denied]}
 
 
-def _proved(filters: Sequence[bytes], kind: Kind, limit: str | None) -> Known | None:
+def _proved(filters: Sequence[bytes], kind: Kind) -> Known | None:
     """scf's result for all syscalls of a kind, or None if it can't decide."""
     try:
-        verdict = Asker(filters, limit, kind.of).of_numbers(IS_DENIED, 0, kind.last - kind.of.first)
+        verdict = Asker(filters, kind.of).of_numbers(IS_DENIED, 0, kind.last - kind.of.first)
     except client.Refusal:
         return None
     if verdict is None or not verdict.holds and (verdict.call is None or verdict.filters is None):
@@ -151,25 +151,24 @@ def all_denied() -> list[Known]:
     return [Known(kind) for kind in KINDS]
 
 
-def of_each(filters: Sequence[bytes], limit: str | None, example: Verdict | None = None,
-            judged: Collection[str] = ()) -> list[Known]:
+def of_each(filters: Sequence[bytes], example: Verdict | None = None, judged: Collection[str] = ()) -> list[Known]:
     """For each kind that isn't judged otherwise, whether filters, oldest first, allow any foreign syscall, given one
     that they allow, if there is one; nothing if scf refuses the filters."""
     call = example.call if example is not None else None
     abi = call.abi if call is not None and call.number < NO_CALL else None
     found = (Known(kind, ((call, example.filters),)) if kind.of.oci == abi else
-             _proved(filters, kind, limit) or _tried(filters, kind)
+             _proved(filters, kind) or _tried(filters, kind)
              for kind in KINDS if kind.of.oci not in judged)
     return [one for one in found if one is not None]
 
 
-def known_of(filters: Sequence[bytes], limit: str | None = None, judged: Collection[str] = ()) -> list[Known]:
+def known_of(filters: Sequence[bytes], judged: Collection[str] = ()) -> list[Known]:
     """The same; one comparison is enough if all are denied, unless some kinds are judged otherwise."""
     if any(kind.of.oci in judged for kind in KINDS):
-        return of_each(filters, limit, None, judged)
+        return of_each(filters, None, judged)
     given = bundles.of_comparison(filters, ALLOWS_NATIVE, tables.native_alone(b""))
-    done = client.compare(["--no-more"], given, limit)
+    done = client.compare(["--no-more"], given)
     verdict = verdicts.report(done.text).verdict
     if verdict is None:
         return []
-    return all_denied() if verdict.holds else of_each(filters, limit, verdict)
+    return all_denied() if verdict.holds else of_each(filters, verdict)

@@ -210,12 +210,11 @@ class ProvedProfile:
 
 @dataclass(frozen=True)
 class Request:
-    """Filters, oldest first, the table of an architecture, the step limit as a text, the architecture, the name of the
+    """Filters, oldest first, the table of an architecture, the architecture, the name of the
     runtime that reads the profile, and the OCI names of other architectures that the profile may list, too."""
 
     filters: Sequence[Filter]
     table: Table
-    limit: str | None = None
     architecture: Architecture = JUDGED[NATIVE]
     runtime: str | None = None
     others: Sequence[str] = ()
@@ -226,7 +225,7 @@ class Request:
 
     def comparison(self, profile: dict[str, object], relation: str = SAME) -> tuple[Comparison, dict[str, int]]:
         """The comparison of the filters with a profile, and the numbers from which on the runtime may put a stub."""
-        found = Comparison(self.filters, engines.to_bytes(profile), self.table, self.limit, OF_FILTERS[relation],
+        found = Comparison(self.filters, engines.to_bytes(profile), self.table, OF_FILTERS[relation],
                            architecture=self.architecture.oci)
         if self.runtime is None:
             return found, {}
@@ -379,7 +378,7 @@ def _covered(request: Request, listed: Sequence[str], count: int = 1) -> Iterato
 def _allowed(request: Request, one: Architecture) -> Iterator[str]:
     """A line if scf doesn't prove that the filters deny every syscall of an architecture."""
     # no syscall has a number from NO_CALL on
-    verdict = Asker(request.data, request.limit, one).of_numbers(IS_DENIED, 0, min(one.last, NO_CALL - 1) - one.first)
+    verdict = Asker(request.data, one).of_numbers(IS_DENIED, 0, min(one.last, NO_CALL - 1) - one.first)
     if verdict is None or verdict.holds:
         return
     said = "undecided whether any syscall is allowed"

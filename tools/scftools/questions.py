@@ -53,16 +53,14 @@ def checked(status: int, report: Report, scope: str) -> Report:
 
 @dataclass(frozen=True)
 class Asker:
-    """Filters, oldest first, the step limit as a text, or None for scf's, and the architecture whose syscalls are asked
-    about. A number is one of its table."""
+    """Filters, oldest first, and the architecture whose syscalls are asked about. A number is one of its table."""
 
     filters: Sequence[bytes]
-    limit: str | None = None
     architecture: Architecture = JUDGED[NATIVE]
 
     def _done(self, profile: bytes, table: bytes, words: Sequence[str], relation: str) -> client.Run:
         given = bundles.of_comparison(self.filters, profile, Tables({self.architecture.oci: Table(table)}))
-        return client.compare([*words, *RELATIONS[relation]], given, self.limit)
+        return client.compare([*words, *RELATIONS[relation]], given)
 
     def _profile_of(self, question: Question) -> bytes:
         return question.answer.as_profile([self.architecture.oci]) or b""

@@ -146,8 +146,8 @@ class Needs:
 class Judge:
     """A profile, its filter for one architecture, and what its conditions test of each syscall there."""
 
-    def __init__(self, profile: bytes, architecture: str, table: Table, limit: str | None):
-        self.profile, self.tables, self.limit = profile, Tables({architecture: table}), limit
+    def __init__(self, profile: bytes, architecture: str, table: Table):
+        self.profile, self.tables = profile, Tables({architecture: table})
         self.filter = client.compile_profile(profile, self.tables)
         top = entries.read(profile)
         if top is None:
@@ -191,7 +191,7 @@ class Judge:
         one = traced.architecture.oci
         beside = entries.profile_of(default, [Entry(0, ("it",), answer, conditions)], [one])
         table = Tables({one: Table(b"it %d\n" % traced.number)})
-        return verdicts.compared([self.filter], beside, table, ["--architectures", relation], self.limit).verdict
+        return verdicts.compared([self.filter], beside, table, ["--architectures", relation]).verdict
 
     def _compared(self, traced: TracedCall, values: dict[int, int]) -> Answers | Verdict:
         """By comparisons: a syscall with these arguments that is allowed, and one that isn't; or only a verdict."""
@@ -207,8 +207,8 @@ class Judges:
     """A profile, which judges each syscall in its architecture. `own` is the architecture of what doesn't say it: the
     machine's, or, if the profile doesn't list that, the first that it lists."""
 
-    def __init__(self, profile: bytes, named: Architecture | None, table: str | None, limit: str | None):
-        self.profile, self.limit, machine = profile, limit, JUDGED[of_machine()]
+    def __init__(self, profile: bytes, named: Architecture | None, table: str | None):
+        self.profile, machine = profile, JUDGED[of_machine()]
         listed = tables.of_profile(profile, tables.read(None)).of
         self.own = named or (machine if machine.oci in listed else JUDGED[next(iter(listed))])
         self.taken = "" if self.own in (named, machine) else TAKEN.format(self.own.name, machine.name)
@@ -225,7 +225,7 @@ class Judges:
         """The judge of an architecture's syscalls; if the profile doesn't list it, one to which they are foreign."""
         at = next(it for it in (architecture, self.own.oci, *self.listed.of) if it in self.listed.of)
         if at not in self._of:
-            self._of[at] = Judge(self.profile, at, self.tables[at], self.limit)
+            self._of[at] = Judge(self.profile, at, self.tables[at])
         return self._of[at]
 
     def looked_at(self, architecture: str, name: str) -> tuple[int, ...]:

@@ -155,10 +155,10 @@ def _failed(asker: Asker, those: Sequence[tuple[Row, Conditions]]) -> set[int]:
     return found
 
 
-def add(filters: Sequence[bytes], table: Table, limit: str | None, rows: Sequence[Row], one: Architecture) -> None:
+def add(filters: Sequence[bytes], table: Table, rows: Sequence[Row], one: Architecture) -> None:
     """Adds the conditions to the rows of an architecture that have several answers, where scf proves them."""
-    answers = Request([Filter("", data) for data in filters], table, limit, one).answers()
-    asker, of_number = Asker(filters, limit, one), {number: found for number, _, found in answers.named()}
+    answers = Request([Filter("", data) for data in filters], table, one).answers()
+    asker, of_number = Asker(filters, one), {number: found for number, _, found in answers.named()}
     groups: dict[tuple[Answer, bool], list[tuple[Row, Conditions]]] = {}
     for row in rows:
         found = _of_number(answers, row.names, of_number[row.number])

@@ -14,13 +14,11 @@ from .verdicts import DIFFERS, RELATIONS, SAME, SCOPES, Report, Verdict
 
 @dataclass(frozen=True)
 class StackComparison:
-    """Two stacks of filters, each oldest first, and a table; the step limit as a text, or None for scf's; a relation of
-    the left side's answers to the right side's."""
+    """Two stacks of filters, each oldest first, a table, and a relation of the left side's answers to the right's."""
 
     left: Sequence[Filter]
     right: Sequence[Filter]
     table: Table
-    limit: str | None = None
     relation: str = SAME
 
     def run(self, scope: str = ALL, relation: str | None = None,
@@ -31,7 +29,7 @@ class StackComparison:
         given = bundles.of_stacks(left, right, self.table.data if scope == CALLS else None)
         words = ["--beside", *SCOPES[scope], *RELATIONS[relation or self.relation]]
         words += [] if numbers is None else [f"--nr-from={numbers[0]}", f"--nr-to={numbers[1]}"]
-        done = client.compare(words, given, self.limit)
+        done = client.compare(words, given)
         pointer = None if scope == CALLS and any(map(looks_at_pointer, left + right)) else 0
         return done.status, verdicts.report(done.text, pointer=pointer)
 

@@ -86,7 +86,7 @@ class Beside:
 
 def _comparison(one: Asker, other: Asker, table: Table, before: Sequence[bytes] = ()) -> StackComparison:
     sides = ([Filter("", data) for data in (*before, *it.filters)] for it in (one, other))
-    return StackComparison(*sides, table, one.limit)
+    return StackComparison(*sides, table)
 
 
 def are_same(one: Surface, filters: Sequence[bytes]) -> bool:
@@ -176,7 +176,6 @@ class Settings:
     """The settings for each stack, and the filters to compare it with, if any."""
 
     table: Table
-    limit: str | None
     other: Sequence[Filter] = ()
     architecture: Architecture = JUDGED[NATIVE]
     # whether to say which arguments get which answer
@@ -202,13 +201,13 @@ class Block:
 
 def _surface(filters: Sequence[Filter], settings: Settings) -> Surface:
     data = [one.data for one in filters]
-    found = surfaces.of_filters(data, settings.table, settings.limit, settings.architecture)
+    found = surfaces.of_filters(data, settings.table, settings.architecture)
     if not settings.other:
         found.add_others()
     if settings.has_conditions:
         from . import row_conditions  # pylint: disable=import-outside-toplevel
 
-        row_conditions.add(data, settings.table, settings.limit, found.rows, settings.architecture)
+        row_conditions.add(data, settings.table, found.rows, settings.architecture)
     return found
 
 

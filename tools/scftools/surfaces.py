@@ -136,7 +136,7 @@ class Surface:
         for one in (it.kind.of for it in self.foreign if not it.are_denied):
             table = tables.of_architecture(one.oci)
             if table is not None:
-                self.others.append(of_filters(self.asker.filters, table, self.asker.limit, one))
+                self.others.append(of_filters(self.asker.filters, table, one))
 
 
 def _asked(asker: Asker, question: Question, rows: Iterable[Row]) -> None:
@@ -211,14 +211,13 @@ def _of_rest(asker: Asker, rows: Sequence[Row], table: Table,
     if verdict is not None and verdict.holds:
         return other_abis.all_denied()
     if verdict is not None and is_foreign:
-        return other_abis.of_each(asker.filters, asker.limit, verdict)
-    return other_abis.known_of(asker.filters, asker.limit)
+        return other_abis.of_each(asker.filters, verdict)
+    return other_abis.known_of(asker.filters)
 
 
-def of_filters(filters: Sequence[bytes], table: Table, limit: str | None,
-               one: Architecture = JUDGED[NATIVE]) -> Surface:
+def of_filters(filters: Sequence[bytes], table: Table, one: Architecture = JUDGED[NATIVE]) -> Surface:
     """The surface of filters, oldest first, to an architecture with this table."""
-    asker, wider = Asker(filters, limit, one), questions.with_more_names(table, one, *filters)
+    asker, wider = Asker(filters, one), questions.with_more_names(table, one, *filters)
     rows = rows_of(asker, wider)
     named = [row for row in rows if table.names_of(row.number)]
     for row in named:

@@ -2,7 +2,8 @@
 
     scf audit [--expect FILE] [--baseline no-more:FILE] [--allow-unconfined] [--force]
               [--runtime-root FOLDER] [--json | --json-lines] [--prometheus FILE] [--html FILE]
-              [--since FILE] [--watch SECONDS] [--native] [--limit N] [--table FILE]
+              [--since FILE] [--watch SECONDS] [--native] [--limit N] [--splits N]
+              [--table FILE]
 
 All processes are read in one pass. Those with a filter are stopped for a moment, one after another, and their filters
 are compared with what is configured, each distinct stack with each distinct profile once. A container's profile is that
@@ -59,7 +60,7 @@ def read_words():
     parser.add_argument("--html", metavar="FILE", help="write a page of HTML")
     parser.add_argument("--since", metavar="FILE", help="for --html: an object that --json printed earlier")
     parser.add_argument("--watch", metavar="SECONDS", type=float, help="again and again, with this pause")
-    parser.add("--native", "--limit", "--table")
+    parser.add("--native", "--limit", "--splits", "--table")
     given = parser.parse_args()
     if given.baseline is not None and not given.baseline.startswith(BASELINE):
         parser.error(f"--baseline takes {BASELINE}FILE")
@@ -76,7 +77,7 @@ def options_of(given):
     def profile(name):
         return None if name is None else (name, profile_inputs.read(name, is_runtimes=True).data)
 
-    return audit.Options(tables.read(given.table), given.limit, profile(given.expect), profile(given.baseline),
+    return audit.Options(tables.read(given.table), profile(given.expect), profile(given.baseline),
                          given.force, given.allow_unconfined, tuple(given.runtime_root),
                          verdicts.NATIVE if given.native else None)
 
@@ -98,7 +99,7 @@ def write(found, given, options, since):
     if given.html is not None:
         from . import audit_page  # pylint: disable=import-outside-toplevel
 
-        output.replace_file(given.html, audit_page.page(found, options.table, options.limit, since))
+        output.replace_file(given.html, audit_page.page(found, options.table, since))
 
 
 def show(found, given, table):
@@ -133,7 +134,7 @@ def main():
     given = read_words()
     options, since, before = options_of(given), earlier(given.since), None
     options.check()
-    judge = audit.Judge(options.table, options.limit, progress)
+    judge = audit.Judge(options.table, progress)
     while True:
         found = processes.read_or_end(lambda: audit.of_machine(options, judge), is_json=given.json)
         progress(None)

@@ -1,9 +1,10 @@
 """Compares filters with a profile: runs `scf compare`, and says what its verdict means.
 
     scf compare [--native|--all|--calls] [--no-more|--no-less|--disposition] [--limit N]
-                [--table FILE] [--caps LIST] [--verbose] [--json] [--html FILE] FILTER.. PROFILE
+                [--splits N] [--table FILE] [--caps LIST] [--verbose] [--json] [--html FILE]
+                FILTER.. PROFILE
     scf compare [--native|--all|--calls] [--no-more|--no-less|--disposition] [--limit N]
-                [--table FILE] [--json] FILTER.. --beside FILTER..
+                [--splits N] [--table FILE] [--json] FILTER.. --beside FILTER..
 
 FILTER is a raw filter, or a text as `scf check` takes it; several form a stack, oldest first. PROFILE is a resolved
 OCI seccomp profile, or another one as `scf ask` takes it. Each may be a file or a pipe, and one of them `-` for
@@ -21,7 +22,8 @@ compared, a line after the verdict says so. --all compares each possible record,
 no kernel has. If a syscall decides then whose architecture the profile names and scf has no table of, the first line is
 `undetermined: the profile is for this architecture, too`. --table FILE takes the place of x86-64's table.
 
-Without --limit all comparisons together have 6 seconds of CPU time. What isn't decided by then is `unfinished`.
+Without --limit all comparisons together have 6 seconds of CPU time. What isn't decided by then is `unfinished`. What
+tests leave `undecided` takes more splits: --splits N.
 
 KILL_PROCESS, KILL_THREAD, TRAP and ERRNO deny a syscall, USER_NOTIF and TRACE delegate it to a supervisor or tracer,
 LOG and ALLOW allow it. Denied < delegated < allowed: --no-more asks whether the filters are nowhere more permissive
@@ -51,7 +53,7 @@ def read_words():
     parser.scope("x86-64 syscalls alone, whatever architectures the profile names",
                  "all syscalls, also those of other ABIs [default with --beside]")
     parser.relation(with_disposition=True)
-    parser.add("--limit", "--table", "--verbose", "--caps", "--json", "--html")
+    parser.add("--limit", "--splits", "--table", "--verbose", "--caps", "--json", "--html")
     parser.add_argument("--beside", metavar="FILTER", nargs="+",
                         help="compare with these filters, oldest first, and not with a profile")
     parser.add("filters")
@@ -84,8 +86,7 @@ def compare_stacks(options):
     from . import stack_comparison  # pylint: disable=import-outside-toplevel
 
     one, other = filters.read_stack(options.filters), filters.read_stack(options.beside)
-    comparison = stack_comparison.StackComparison(one, other, tables.read(options.table), options.limit,
-                                                  options.relation)
+    comparison = stack_comparison.StackComparison(one, other, tables.read(options.table), options.relation)
     return stack_comparison.tell(comparison, options.scope or compare.ALL, options.json)
 
 
@@ -94,7 +95,7 @@ def main():
     if options.beside is not None:
         return compare_stacks(options)
     stack, profile = filters.read_stack(options.filters), profile_inputs.read(options.profile, options.caps)
-    comparison = compare.Comparison(stack, profile.data, tables.read(options.table), options.limit, options.relation,
+    comparison = compare.Comparison(stack, profile.data, tables.read(options.table), options.relation,
                                     profile.origins, is_native=options.scope == compare.NATIVE)
     scope = options.scope or comparison.scope
     status, report = comparison.run(scope)

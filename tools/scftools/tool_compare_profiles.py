@@ -3,7 +3,7 @@
     scf compare-profiles [--native] [--no-more|--no-less] [--runtime runc|crun|docker|podman]
                          [--engine docker|docker-20.10|podman] [--caps LIST] [--kernel X.Y]
                          [--arch native|all] [--ignore MEMBER ..] [--keep-first] [--limit N]
-                         [--table FILE] [--json] OLD NEW
+                         [--splits N] [--table FILE] [--json] OLD NEW
 
 OLD and NEW are resolved OCI seccomp profiles, or whole config.json files that hold one. Both are compiled, as by
 `scf compile`, and the filters compared; if they differ, syscall by syscall. First comes the verdict over the syscalls
@@ -39,7 +39,7 @@ def read_words():
     runtimes.add_options(parser)
     parser.add_argument("--keep-first", action="store_true", help="both are an engine's: of two answers to a syscall, "
                                                                   "both without conditions, keep the first")
-    parser.add("--limit", "--table", "--json")
+    parser.add("--limit", "--splits", "--table", "--json")
     parser.add_argument("old", metavar="OLD", help="a profile, or a config.json; - is standard input")
     parser.add_argument("new", metavar="NEW", help="another one, to compare with it")
     options = parser.parse_args()
@@ -101,7 +101,7 @@ def main():
     old, new = both(options)
     table = tables.read(options.table)
     try:
-        found = changes.of_profiles(old, new, table, options.limit, options.relation, options.native)
+        found = changes.of_profiles(old, new, table, options.relation, options.native)
     except client.Refusal as why:
         return refuse(why, options, table, old if why.subject[0] == changes.OLD else new)
     if options.json:

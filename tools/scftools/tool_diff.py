@@ -1,7 +1,7 @@
 """Compares two filters: whether both answer every syscall alike, and if not, which differ.
 
-    scf diff [--native|--calls] [--no-more|--no-less|--disposition] [--limit N] [--table FILE]
-             [--json] OLD NEW
+    scf diff [--native|--calls] [--no-more|--no-less|--disposition] [--limit N] [--splits N]
+             [--table FILE] [--json] OLD NEW
 
 It is `scf compare OLD --beside NEW`, which also takes several filters on each side. Each is a raw filter, or a text
 as `scf check` takes it, and one of them may be `-` for standard input. Every possible record is compared: the verdict
@@ -24,11 +24,11 @@ def main():
     parser = words.Parser(__doc__)
     parser.scope("only x86-64 syscalls")
     parser.relation(with_disposition=True, other="NEW")
-    parser.add("--limit", "--table", "--json")
+    parser.add("--limit", "--splits", "--table", "--json")
     parser.add_argument("old", metavar="OLD", help="a raw filter; - is standard input")
     parser.add_argument("new", metavar="NEW", help="another one")
     options = parser.parse_args()
     parser.one_standard_input([options.old, options.new, options.table])
     comparison = stack_comparison.StackComparison([filters.read(options.old)], [filters.read(options.new)],
-                                                  tables.read(options.table), options.limit, options.relation)
+                                                  tables.read(options.table), options.relation)
     return stack_comparison.tell(comparison, options.scope or compare.ALL, options.json)

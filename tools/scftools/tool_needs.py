@@ -1,7 +1,7 @@
 """Says which syscalls of a program a profile wouldn't allow, from logs of its syscalls.
 
-    scf needs [--profile] [--runtime runc|crun] [--arch ARCH] [--limit N] [--table FILE]
-              [--caps LIST] [--json] LOG.. PROFILE
+    scf needs [--profile] [--runtime runc|crun] [--arch ARCH] [--limit N] [--splits N]
+              [--table FILE] [--caps LIST] [--json] LOG.. PROFILE
 
 A LOG is what `strace -f --quiet=none -o LOG PROGRAM ..` wrote, or what strace wrote to standard error, with any
 options; without --quiet=none or -n a log file doesn't say which processes run in 32-bit mode. Or it is one of these:
@@ -67,7 +67,7 @@ def read_words():
                         help="print the smallest profile that allows the syscalls of the log")
     parser.add("--arch", help=words.ARCH_HELP.format(" of a log that doesn't say it",
                                                      ", or the first that PROFILE lists"))
-    parser.add("--limit", "--table", "--caps", "--json")
+    parser.add("--limit", "--splits", "--table", "--caps", "--json")
     parser.add_argument("--runtime", choices=tuple(requirements.OF_RUNTIMES),
                         help="add what this container runtime calls itself before it executes the program")
     parser.add_argument("logs", metavar="LOG", nargs="+",
@@ -101,7 +101,7 @@ def main():
     profile = profile_inputs.read(options.profile, options.caps).data
     if strace.is_log(profile):
         raise program.ToolError(f"'{options.profile}' is a strace log, not a profile: LOG comes before PROFILE")
-    judges = requirements.Judges(profile, named, options.table, options.limit)
+    judges = requirements.Judges(profile, named, options.table)
     try:
         return tell(options, requirements.read(options.logs, judges, options.runtime), judges)
     except client.Refusal as why:

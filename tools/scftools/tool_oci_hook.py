@@ -2,7 +2,8 @@
 
     scf oci-hook [--runtime runc|crun|docker|podman] [--policy same|no-more] [--kill]
                  [--keep-first] [--allow-unconfined] [--dry-run] [--force] [--wait SECONDS]
-                 [--deadline SECONDS] [--native] [--limit N] [--table FILE] [--json] <STATE
+                 [--deadline SECONDS] [--native] [--limit N] [--splits N] [--table FILE]
+                 [--json] <STATE
     scf oci-hook --print-hook [OPTION ..] >scf.json
 
 A runtime starts a hook with the container's state on standard input. The profile is `linux.seccomp` of config.json in
@@ -64,7 +65,7 @@ def read_words():
                              f"{hooks.DEADLINE * 10:g}; then it is undecided [default: {hooks.DEADLINE:g}]")
     parser.add_argument("--dry-run", action="store_true",
                         help="only report: end with status 0 and kill nothing, whatever is found")
-    parser.add("--force", "--native", "--limit")
+    parser.add("--force", "--native", "--limit", "--splits")
     parser.add("--table", help="the syscall table [default: tables/x86_64.table]")
     parser.add("--json")
     parser.add_argument("--print-hook", action="store_true", help="print a hooks.d file with the other options")
@@ -82,7 +83,7 @@ def judge(options, process):
     config = hooks.configured(process.container)
     if config is None:
         return hooks.without_profile(options.allow_unconfined)
-    asked = verify.request_of(config, options.runtime, options.keep_first, tables.read(options.table), options.limit,
+    asked = verify.request_of(config, options.runtime, options.keep_first, tables.read(options.table),
                               POLICIES[options.policy], verdicts.NATIVE if options.native else None)
     return hooks.finding_of(process.confined(options.wait, options.force), asked, process.members)
 

@@ -1,7 +1,7 @@
 """Prints the profile of filters: what they answer to syscalls, as an OCI seccomp profile.
 
     scf profile-of [--arch ARCH|--runtime RUNTIME] [--no-more|--no-less] [--limit N]
-                   [--table FILE] FILTER.. >PROFILE
+                   [--splits N] [--table FILE] FILTER.. >PROFILE
 
 The FILTERs form one stack, oldest first; `scf filters-of` takes them from a process. Before a profile is printed, scf
 proves that it answers every syscall of each architecture that it lists as the filters do; `scf compare FILTER..
@@ -54,7 +54,7 @@ def read_words():
                       help="print the nearest profile that is nowhere more permissive than the filters")
     side.add_argument("--no-less", dest="relation", action="store_const", const=NO_LESS, default=SAME,
                       help="print the nearest profile that is nowhere stricter than the filters")
-    parser.add("--arch", "--limit", "--table", "filters")
+    parser.add("--arch", "--limit", "--splits", "--table", "filters")
     options = parser.parse_args()
     if options.runtime is not None and options.arch is not None:
         parser.error("give either --arch or --runtime, which confines this machine's syscalls whatever a profile lists")
@@ -66,8 +66,8 @@ def main():
     options = read_words()
     one = architectures.judged_in(options.arch)
     others = [it for it in architectures.JUDGED if it != one.oci] if options.arch is None else []
-    request = profile_of.Request(filters.read_stack(options.filters), tables.read(options.table, one), options.limit,
-                                 one, options.runtime, others)
+    request = profile_of.Request(filters.read_stack(options.filters), tables.read(options.table, one), one,
+                                 options.runtime, others)
     try:
         result = profile_of.of_request(request, options.relation)
     except Refusal as why:

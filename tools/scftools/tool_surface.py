@@ -1,9 +1,9 @@
 """Says for each syscall whether filters allow, delegate or deny it, or on what that depends.
 
-    scf surface [--arch ARCH] [--conditions] [--limit N] [--table FILE] [--json]
-                [--html FILE] FILTER.. [--beside OTHER..]
-    scf surface [--arch ARCH] [--conditions] [--limit N] [--table FILE] [--json]
-                [--html FILE] [--force] --pid PID [--beside OTHER..]
+    scf surface [--arch ARCH] [--conditions] [--limit N] [--splits N] [--table FILE]
+                [--json] [--html FILE] FILTER.. [--beside OTHER..]
+    scf surface [--arch ARCH] [--conditions] [--limit N] [--splits N] [--table FILE]
+                [--json] [--html FILE] [--force] --pid PID [--beside OTHER..]
 
 The FILTERs form one stack, oldest first; with --pid it is that of a running process, as the kernel keeps it, and each
 distinct stack of its threads has a block of its own. Each syscall in the table is always allowed, always denied, always
@@ -41,7 +41,7 @@ from . import architectures, client, filters, output, processes, stack_surfaces,
 
 def read_words():
     parser = words.Parser(__doc__, f"With --pid: {processes.NEEDS}")
-    parser.add("--arch", "--limit", "--table", "--json", "--html")
+    parser.add("--arch", "--limit", "--splits", "--table", "--json", "--html")
     parser.add_argument("--conditions", action="store_true",
                         help="say which arguments get which answer, instead of examples")
     parser.add_argument("--pid", metavar="PID", help="the filters of a process instead of files")
@@ -75,7 +75,7 @@ def main():
     stack = filters.read_stack(options.filters)
     one = architectures.judged_in(options.arch)
     beside = filters.read_stack(options.beside)
-    settings = stack_surfaces.Settings(tables.read(options.table, one), options.limit, beside, one, options.conditions)
+    settings = stack_surfaces.Settings(tables.read(options.table, one), beside, one, options.conditions)
     found = None if options.pid is None else looked_at(options)
     blocks = [stack_surfaces.of_stack(stack, settings)] if found is None else stack_surfaces.of_process(found, settings)
     if options.html is not None:

@@ -3,9 +3,9 @@
     scf verify-process [--native|--calls] [--no-more|--no-less] [--all] [--force]
                        [--runtime runc|crun|docker|podman] [--engine docker|docker-20.10|podman]
                        [--caps LIST] [--kernel X.Y] [--arch native|all] [--ignore MEMBER ..]
-                       [--limit N] [--table FILE] [--verbose] [--json] PID PROFILE
+                       [--limit N] [--splits N] [--table FILE] [--verbose] [--json] PID PROFILE
     scf verify-process [--native|--calls] [--no-more|--no-less] [--all] [--force] [--limit N]
-                       [--table FILE] [--json] PID --beside FOLDER
+                       [--splits N] [--table FILE] [--json] PID --beside FOLDER
 
 The filters are read from the kernel as by `scf filters-of`, for all threads of the process, and compared with the
 profile as by `scf compare`, which shows why a syscall differs. Filters belong to threads. Each distinct stack has a
@@ -54,7 +54,7 @@ def read_words():
     parser.add("--force")
     parser.relation()
     runtimes.add_options(parser, without_caps="the bounding set of PID")
-    parser.add("--limit", "--table", "--verbose", "--json", "pid")
+    parser.add("--limit", "--splits", "--table", "--verbose", "--json", "pid")
     parser.add_argument("--beside", metavar="FOLDER", help="compare with the filters that filters-of wrote")
     if not any(it.partition("=")[0] == "--beside" for it in sys.argv):
         parser.add_argument("profile", metavar="PROFILE",
@@ -85,7 +85,7 @@ def setting_of(options, kernel):
 
 def request_of(options, kernel):
     """How each stack is compared, and with what."""
-    settings = tables.read(options.table), options.limit, options.scope, options.relation
+    settings = tables.read(options.table), options.scope, options.relation
     if options.beside is not None:
         return verify.SavedRequest(verify.read_saved(options.beside), *settings)
     if options.runtime is None:

@@ -1,6 +1,6 @@
 """Says why a syscall was denied, delegated or logged: by which entry of a profile, and which tests of a filter.
 
-    scf why [--native] [--limit N] [--table FILE] [--caps LIST] [--json] LINE|-
+    scf why [--native] [--limit N] [--splits N] [--table FILE] [--caps LIST] [--json] LINE|-
             [PROFILE|FILTER ..]
     scf why .. --pid PID [PROFILE|FILTER ..]
     scf why .. --core FILE [PROFILE|FILTER ..]
@@ -56,7 +56,7 @@ def read_words():
     group = parser.add_mutually_exclusive_group()
     group.add_argument("--pid", metavar="PID", help="take the records of this process from the kernel's log")
     group.add_argument("--core", metavar="FILE", help="take the syscall from a core; - is standard input")
-    parser.add("--limit", "--native", "--table", "--caps", "--json")
+    parser.add("--limit", "--splits", "--native", "--table", "--caps", "--json")
     parser.add_argument("words", metavar="LINE|PROFILE|FILTER", nargs="*",
                         help="without --pid and --core first what was logged, or - for standard input; then a profile "
                              "and the filters of the process, oldest first")
@@ -159,7 +159,7 @@ def read(options, files, table):
 def main():
     options = read_words()
     table = tables.read(options.table)
-    files = read_files(options.words, trials.Trial(table, options.limit), options.caps, options.native)
+    files = read_files(options.words, trials.Trial(table), options.caps, options.native)
     found, files = read(options, files, table)
     report = causes.Report(found, [causes.of(event, count, files) for event, count in found.events.values()])
     if options.pid is not None:

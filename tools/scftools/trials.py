@@ -14,16 +14,14 @@ from .verdicts import UNFINISHED, Report, Verdict
 
 @dataclass
 class JointTrial:
-    """Runs of scf's compiler and comparison with the tables of some architectures and a step limit; counts the
-    comparisons."""
+    """Runs of scf's compiler and comparison with the tables of some architectures; counts the comparisons."""
 
     tables: Tables
-    limit: str | None = None
     count: int = 0
 
     def only(self, name: str) -> Trial:
         """The same with the table of one of the architectures, by its OCI name."""
-        return Trial(self.tables.of[name], self.limit, JUDGED[name])
+        return Trial(self.tables.of[name], JUDGED[name])
 
     def profile_of(self, default: Answer, found: Iterable[Entry]) -> bytes:
         """The text of a profile for the architectures, without entries that have no names."""
@@ -35,7 +33,7 @@ class JointTrial:
 
     def _report(self, filters: Sequence[bytes], profile: bytes, tables: Tables, words: Sequence[str]) -> Report:
         self.count += 1
-        return verdicts.compared(filters, profile, tables, [*tables.words, *words], self.limit)
+        return verdicts.compared(filters, profile, tables, [*tables.words, *words])
 
     def verdict(self, filters: Sequence[bytes], profile: bytes, *words: str) -> Verdict:
         """scf's verdict on filters compared with a profile."""
@@ -45,8 +43,8 @@ class JointTrial:
 class Trial(JointTrial):
     """The same with the table of one architecture."""
 
-    def __init__(self, table: Table, limit: str | None = None, architecture: Architecture = JUDGED[NATIVE]):
-        super().__init__(Tables({architecture.oci: table}), limit)
+    def __init__(self, table: Table, architecture: Architecture = JUDGED[NATIVE]):
+        super().__init__(Tables({architecture.oci: table}))
         self.table, self.architecture = table, architecture
 
     def report(self, filters: Sequence[bytes], profile: bytes, table: bytes, *words: str) -> Report:

@@ -207,10 +207,9 @@ def report(text: str, profile_names: Sequence[str] | None = None, is_known: Call
                   tuple(skipped), tuple(architectures))
 
 
-def compared(filters: Sequence[bytes], profile: bytes, tables: Tables, words: Sequence[str],
-             limit: str | None) -> Report:
+def compared(filters: Sequence[bytes], profile: bytes, tables: Tables, words: Sequence[str]) -> Report:
     """scf's report on filters compared with a profile by these options. Raises Refusal if it has no verdict."""
-    done = client.compare(words, bundles.of_comparison(filters, profile, tables), limit)
+    done = client.compare(words, bundles.of_comparison(filters, profile, tables))
     found = report(done.text)
     if found.verdict is None:
         raise Refusal(found.lines[0] if found.lines else "", done.status)

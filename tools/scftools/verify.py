@@ -55,17 +55,15 @@ class Request:
 
     profile: bytes
     table: Table
-    limit: str | None
     # None for all architectures that the profile names
     scope: str | None = None
     relation: str = verdicts.SAME
     applied: AppliedProfile | None = None
 
     @classmethod
-    def of_runtime(cls, applied: AppliedProfile, table: Table, limit: str | None, scope: str | None,
-                   relation: str) -> Request:
+    def of_runtime(cls, applied: AppliedProfile, table: Table, scope: str | None, relation: str) -> Request:
         """The settings for a profile as a runtime applies it."""
-        return cls(applied.data, table, limit, scope, relation, applied)
+        return cls(applied.data, table, scope, relation, applied)
 
     @property
     def remarks(self) -> list[str]:
@@ -82,7 +80,7 @@ class Request:
     def comparison(self, stack: Sequence[Filter], relation: str | None = None) -> Comparison:
         """The comparison of filters with the profile."""
         origins = self.applied.origins if self.applied is not None else None
-        return Comparison(stack, self.profile, self.table, self.limit, relation or self.relation, origins,
+        return Comparison(stack, self.profile, self.table, relation or self.relation, origins,
                           is_native=self.scope == verdicts.NATIVE)
 
     def notes(self, block: Block) -> Iterator[str]:
@@ -115,18 +113,18 @@ def member(value: Any, wanted: str, path: str) -> Any:
     return value.get(wanted)
 
 
-def request_of(config: dict[str, Any], runtime: str | None, keeps_first: bool, table: Table, limit: str | None,
-               relation: str, scope: str | None = None) -> Request:
+def request_of(config: dict[str, Any], runtime: str | None, keeps_first: bool, table: Table, relation: str,
+               scope: str | None = None) -> Request:
     """The question about a container with this configuration, as its runtime applies it; over all architectures that
     its profile names unless a scope is given."""
     try:
         if runtime is not None:
-            return Request.of_runtime(runtimes.applied(config, runtime), table, limit, scope, relation)
+            return Request.of_runtime(runtimes.applied(config, runtime), table, scope, relation)
         text = json.dumps(config)
         if keeps_first:
             profile, _ = engines.resolve(config, engines.Setting((), (0, 0), False), lambda _: None, True)
             text = engines.printed(profile)
-        return Request(text.encode(), table, limit, scope, relation)
+        return Request(text.encode(), table, scope, relation)
     except RecursionError as error:
         raise ContainerError("the container's configuration: the profile is nested too deep") from error
     except engines.Refused as why:
@@ -148,13 +146,12 @@ class SavedRequest:
 
     saved: Sequence[Filter]
     table: Table
-    limit: str | None
     scope: str | None
     relation: str
     remarks: Sequence[str] = ()
 
     def judge(self, stack: Stack) -> Block:
-        comparison = StackComparison(stack.named, self.saved, self.table, self.limit, self.relation)
+        comparison = StackComparison(stack.named, self.saved, self.table, self.relation)
         scope = self.scope or verdicts.ALL
         status, report = comparison.run(scope)
         return Block(stack, status, comparison, report, scope=scope)

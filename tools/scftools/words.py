@@ -32,7 +32,7 @@ SHARED: dict[str, dict[str, Any]] = {
     "--keep-first": {"action": "store_true",
                      "help": "of two answers to a syscall, both without conditions, keep the first, as libseccomp "
                              "does"},
-    "--limit": {"metavar": "N", "help": client.LIMIT_HELP},
+    **{f"--{name}": {"metavar": "N", "help": text} for name, text in client.LIMITS.items()},
     "--native": {"action": "store_true", "help": "x86-64 alone, whatever architectures the profile names"},
     "--table": {"metavar": "FILE", "help": "the syscall table; - is standard input [default: tables/x86_64.table]"},
     "--verbose": {"action": "store_true",
@@ -84,6 +84,8 @@ class Parser(argparse.ArgumentParser):
             program.finish(program.SUCCESS)
         options = super().parse_args(*given, **named)
         output.color = options.color
+        texts = {name: getattr(options, name, None) for name in client.LIMITS}
+        client.limits = {name: text for name, text in texts.items() if text is not None}
         return options
 
     def error(self, message: str) -> NoReturn:

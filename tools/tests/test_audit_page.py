@@ -78,7 +78,7 @@ class Pages(Case):
             audit.NOT_KNOWN, HOSTILE, is_unconfined=True))]
         snapshot = machine.Snapshot({7: seven, 8: eight}, {(stack.filters, False): stack})
         found = audit.Audit(rows, snapshot, 0.0, left_out=[HOSTILE])
-        return audit_page.page(found, table, None, {("unit", HOSTILE): (HOSTILE, "weaker")})
+        return audit_page.page(found, table, {("unit", HOSTILE): (HOSTILE, "weaker")})
 
     def test_an_audit(self):
         text = Page(self.made(), self).check()
@@ -93,7 +93,7 @@ class Pages(Case):
 
     def test_nothing_to_show(self):
         table = tables.read(None)
-        text = Page(audit_page.page(audit.Audit([], machine.Snapshot(), 0.0), table, None), self).check()
+        text = Page(audit_page.page(audit.Audit([], machine.Snapshot(), 0.0), table), self).check()
         self.assertIn("There is no container, no unit, and no other program with a filter.", text)
         self.assertNotIn("Dangerous syscalls", text)
 

@@ -10,6 +10,8 @@ from common import (ALLOW, EPERM, I386, KILL_PROCESS, KILL_THREAD, SCF, TABLE, U
 from scftools import tables
 
 READ, WRITE, EXIT_GROUP = 0, 1, 231
+# Goes on for x86-64 syscalls alone.
+NATIVE = load(4) + jeq(X86_64, 1, 0) + ret(KILL_PROCESS) + load(0) + jge(0x40000000, 0, 1) + ret(KILL_PROCESS)
 
 
 class Compare(Case):
@@ -167,18 +169,30 @@ class Compare(Case):
         self.assertEqual(status, 2)
         self.assertTrue(out.startswith("fault number limit\n# The option's text isn't a number"), out)
 
-    def test_undecided(self):
-        native = load(4) + jeq(X86_64, 1, 0) + ret(KILL_PROCESS) + load(0) + jge(0x40000000, 0, 1) + ret(KILL_PROCESS)
-        unknown = native + UNKNOWN_ZERO + jeq(0, 1, 0) + ret(EPERM) + ret(ALLOW)
+    def of_each(self, data):
+        """The command lines that compare a filter with one that allows each x86-64 syscall, or a profile that does."""
+        one, other = self.file("one.bpf", NATIVE + data), self.file("other.bpf", NATIVE + ret(ALLOW))
         profile = self.file("p", b'{"defaultAction":"SCMP_ACT_ALLOW"}')
-        status, out, _ = self.run_tool("compare", self.file("unknown.bpf", unknown), profile, "--limit=100000")
-        self.assertEqual(status, 4)
-        self.assertRegex(out, r"^undecided at [0-9]+\n# Runs of a filter end at this instruction")
+        return ["compare", one, profile], ["diff", one, other], ["compare", one, "--beside", other]
+
+    def test_undecided(self):
+        for words in self.of_each(UNKNOWN_ZERO + jeq(0, 1, 0) + ret(EPERM) + ret(ALLOW)):
+            status, out, _ = self.run_tool(*words, "--limit=100000")
+            self.assertEqual((status, out.count("\n# not known: try more splits, --splits N\n")), (4, 1), out)
+            self.assertRegex(out, r"^undecided at [0-9]+\n# Runs of a filter end at this instruction")
+
+    def test_splits(self):
+        """Whether a product is even takes a split: no call gets the errno."""
+        for words in self.of_each(load(16) + insn(0x24, 6) + insn(0x45, 1, 0, 1) + ret(EPERM) + ret(ALLOW)):
+            self.assertEqual(self.run_tool(*words, "--splits=x")[1].split("\n")[0], "fault number splits")
+            for more, status, word in (["--splits=0"], 4, "undecided"), ([], 0, "same"), (["--splits", str(2**64 - 1)],
+                                                                                       0, "same"):
+                status_of, out, _ = self.run_tool(*words, *more)
+                self.assertEqual((status_of, out.split("\n")[0].split(" ")[0]), (status, word), more)
 
     def test_a_computation_that_is_decided(self):
         """A is the number times the number. Four words have the square 49, of which 7 alone is below 0x40000000."""
-        native = load(4) + jeq(X86_64, 1, 0) + ret(KILL_PROCESS) + load(0) + jge(0x40000000, 0, 1) + ret(KILL_PROCESS)
-        square = native + insn(0x07, 0) + insn(0x2C, 0) + jeq(49, 0, 1) + ret(EPERM) + ret(ALLOW)
+        square = NATIVE + insn(0x07, 0) + insn(0x2C, 0) + jeq(49, 0, 1) + ret(EPERM) + ret(ALLOW)
         status, out, _ = self.run_tool("compare", self.file("square.bpf", square),
                                        self.file("p", b'{"defaultAction":"SCMP_ACT_ALLOW"}'))
         self.assertEqual((status, out.split("\n")[0]), (1, "differs"))

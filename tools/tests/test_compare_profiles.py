@@ -248,6 +248,7 @@ esac
             "differs", "more 0, less 0, otherwise 0, undecided 1",
             "# syscalls that are undecided: 1",
             "1 write undecided args 0x1 0x0 0x0 0x0 0x0 0x0 old ALLOW entry 0 new ALLOW entry 0"]))
+        self.assertEqual(out.count("\n# not known: try more splits, --splits N\n"), 1)
         status, out, _ = self.run_words([os.path.join(tree, "tools", "compare-profiles"), "--no-more", given, given])
         self.assertEqual((status, out.split("\n")[0]), (4, "undecided at 3".partition(" ")[0]))
 
@@ -412,7 +413,7 @@ class RandomProfiles(unittest.TestCase):
             new = self.changed(random_of, old)
             if random_of.random() < 0.2:
                 new = kernel_profiles.random_profile(random_of)
-            found = changes.of_profiles(changes.Source(old), changes.Source(new), table, None, "same")
+            found = changes.of_profiles(changes.Source(old), changes.Source(new), table, "same")
             kinds = {}
             for change in found.calls:
                 kinds.setdefault(change.number, set()).add(change.kind)

@@ -83,7 +83,7 @@ class Limits(Case):
         kept = program.is_tool, client.SECONDS, client.ALL_SECONDS, client._is_spent_reported
         program.is_tool, client.SECONDS, client.ALL_SECONDS, client._is_spent_reported = True, seconds, most, True
         try:
-            return client.compare(words, self.given, None)
+            return client.compare(words, self.given)
         finally:
             program.is_tool, client.SECONDS, client.ALL_SECONDS, client._is_spent_reported = kept
 

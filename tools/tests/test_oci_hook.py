@@ -299,7 +299,7 @@ class OfProcesses(Hook):
         """Of a process it can't be known whether it is the container's, too."""
         child = self.child([refusing(MOUNT)])
         process = hooks.Process(hooks.container_of(self.state(child.pid, self.bundle(refuses("mount")))))
-        asked = verify.request_of(hooks.configured(process.container), None, False, tables.read(None), None, "same")
+        asked = verify.request_of(hooks.configured(process.container), None, False, tables.read(None), "same")
         for told, expected in ((None, (0, "same")), ("others are there", (4, None))):
             finding = hooks.finding_of(process.look(), asked, hooks.Members(list, others_note=lambda it=told: it))
             self.assertEqual((finding.status, finding.verdict), expected)

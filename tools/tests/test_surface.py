@@ -14,6 +14,7 @@ import subprocess
 import sys
 import termios
 import unittest
+from unittest import mock
 
 from common import (ALLOW, EPERM, I386, KILL_PROCESS, KILL_THREAD, SCF, TABLE, TOP, UNKNOWN_ZERO, X86_64, Case,
                     filter_of, insn, jeq, jge, load, ret, tool)
@@ -132,7 +133,8 @@ def answers_by_hand(filters, number):
 
 
 def of(filters, limit=None, table=OWN):
-    return surfaces.of_filters(filters, tables.Table(table), limit)
+    with mock.patch.dict(client.limits, {} if limit is None else {"limit": limit}):
+        return surfaces.of_filters(filters, tables.Table(table))
 
 
 @functools.lru_cache(None)
@@ -628,7 +630,8 @@ class Beside(Case):
                          [(SOCKET, "undecided", M)])
         found = stack_surfaces.of_surfaces(of([BY_SQUARE]), of([ret(ALLOW)]))
         self.assertEqual([(pair.number, pair.one.said, pair.other.said) for pair in found.pairs], [(SOCKET, D, M)])
-        found = stack_surfaces.of_surfaces(of([gate(ret(ALLOW))], "0"), of([gate(ret(EPERM))], "0"))
+        with mock.patch.dict(client.limits, {"limit": "0"}):
+            found = stack_surfaces.of_surfaces(of([gate(ret(ALLOW))]), of([gate(ret(EPERM))]))
         self.assertEqual((found.status, [pair.number for pair in found.pairs]), (4, NUMBERS))
 
     def test_foreign_calls_and_numbers_without_a_name(self):
@@ -712,7 +715,7 @@ class Process(Confined):
 
     def test_strict_mode_and_no_filter(self):
         """Without a filter there is nothing to compare; the threads are told."""
-        asked = stack_surfaces.Settings(tables.Table(OWN), None, [])
+        asked = stack_surfaces.Settings(tables.Table(OWN), [])
         for is_strict, status, says in ((True, 4, "has no filter, but seccomp's strict mode"),
                                         (False, 1, "has no filter: it isn't confined, and every syscall is allowed")):
             found = processes.Inspection([processes.Stack((), is_strict, {7: [7]})], {7: b"x"}, {})
