@@ -1,10 +1,13 @@
 """Filters as C arrays: of struct sock_filter, `{ 0x20, 0, 0, 4 },` or BPF_STMT and BPF_JUMP, and of bytes."""
 from __future__ import annotations
 
+import itertools
+import operator
 import re
 from collections.abc import Iterator
 
 from . import constants, tables
+from .values import Any
 
 # (patterns are compiled when they are first used, which is rare)
 COMMENT = r"(?ms)/\*.*?\*/|//[^\n]*|^[ \t]*#[ \t]*include[^\n]*"
@@ -17,12 +20,14 @@ OFFSET = (r"(?:__builtin_)?offsetof\s*\(\s*struct\s+seccomp_data\s*,\s*(nr|arch|
 # linux/seccomp.h: struct seccomp_data
 FIELDS = {"nr": 0, "arch": 4, "instruction_pointer": 8}
 MACRO = r"(?s)(BPF_STMT|BPF_JUMP)\s*\((.*)\)"
-TOKEN = r"\s*(?:(0[xX][0-9a-fA-F]+|[0-9]+)[uUlL]*\b|([A-Za-z_]\w*)|(<<|>>|[-|&+~()]))"
-# How tightly operators bind, the loosest first.
-BINDS = (("|",), ("&",), ("<<", ">>"), ("+", "-"))
+TOKEN = r"\s*(?:(0[xX][0-9a-fA-F]{1,40}|[0-9]{1,40})[uUlL]*\b|([A-Za-z_]\w*)|(<<|>>|[-|&+~()]))"
+# The operators, by the names of Python's syntax trees.
+SHIFTS = (operator.lshift, operator.rshift)
+OPERATIONS = {"BitOr": operator.or_, "BitAnd": operator.and_, "LShift": SHIFTS[0], "RShift": SHIFTS[1],
+              "Add": operator.add, "Sub": operator.sub, "Invert": operator.invert, "USub": operator.neg}
 X32_BIT = {"__X32_SYSCALL_BIT": 0x40000000, "X32_SYSCALL_BIT": 0x40000000}
-# How deep brackets of an expression may be.
-DEEPEST = 20
+# The most numbers, operators and brackets of an expression.
+LONGEST = 99
 
 
 class Malformed(Exception):
@@ -40,75 +45,42 @@ def _number_of(name: str) -> int:
     return number
 
 
-class Expression:
-    """A constant expression of C: numbers, constants, and the operators of BINDS, `~` and brackets."""
-
-    def __init__(self, text: str):
-        self.tokens = list(_tokens(re.sub(OFFSET, lambda it: str(_offset(it)), re.sub(CAST, "", text))))
-        self.at = self.depth = 0
-
-    def value(self) -> int:
-        found = self._binary(0)
-        if self.at < len(self.tokens):
-            raise Malformed(f"'{self.tokens[self.at]}' isn't expected")
-        return found % (1 << 64)
-
-    def _next(self) -> str:
-        return self.tokens[self.at] if self.at < len(self.tokens) else ""
-
-    def _binary(self, level: int) -> int:
-        if level == len(BINDS):
-            return self._unary()
-        found = self._binary(level + 1)
-        while self._next() in BINDS[level]:
-            operator = self.tokens[self.at]
-            self.at += 1
-            found = _applied(operator, found, self._binary(level + 1))
-        return found
-
-    def _unary(self) -> int:
-        token = self._next()
-        self.at, self.depth = self.at + 1, self.depth + 1
-        if self.depth > DEEPEST:
-            raise Malformed("an expression is nested too deep")
-        if token in ("~", "-"):
-            found = ~self._unary() if token == "~" else -self._unary()
-        elif token == "(":
-            found = self._binary(0)
-            if self._next() != ")":
-                raise Malformed("a bracket isn't closed")
-            self.at += 1
-        elif token[:1].isdigit():
-            found = int(token, 16 if token[:2].lower() == "0x" else 8 if token[0] == "0" and token.isdigit() and
-                        set(token) <= set("01234567") else 10)
-        elif token and (token[0].isalpha() or token[0] == "_"):
-            found = _number_of(token)
-        else:
-            raise Malformed(f"'{token}' isn't expected" if token else "a number is missing")
-        self.depth -= 1
-        return found
-
-
-def _offset(found: re.Match[str]) -> int:
-    return 16 + 8 * int(found[2]) if found[2] else FIELDS[found[1]]
-
-
-def _applied(operator: str, left: int, right: int) -> int:
-    if operator in ("<<", ">>"):
-        if not 0 <= right < 64 or left < 0:
-            raise Malformed(f"a shift of {left} by {right}")
-        return left << right if operator == "<<" else left >> right
-    return {"|": left | right, "&": left & right, "+": left + right, "-": left - right}[operator]
-
-
-def _tokens(text: str) -> Iterator[str]:
-    at, text, pattern = 0, text.rstrip(), re.compile(TOKEN)
-    while at < len(text):
-        found = pattern.match(text, at)
+def _words(text: str) -> Iterator[str]:
+    """The numbers, constants and operators of an expression, as Python has them."""
+    bare = re.sub(OFFSET, lambda it: str(16 + 8 * int(it[2]) if it[2] else FIELDS[it[1]]), re.sub(CAST, "", text))
+    at, pattern = 0, re.compile(TOKEN)
+    while bare[at:].strip():
+        found = pattern.match(bare, at)
         if not found:
-            raise Malformed(f"'{text[at:at + 20].strip()}' isn't a constant expression")
+            raise Malformed(f"'{bare[at:at + 20].strip()}' isn't a constant expression")
         at = found.end()
-        yield found[1] or found[2] or found[3]
+        number, name, operator_of = found.groups()
+        base = 16 if number and number[:2].lower() == "0x" else 8 if number and re.fullmatch("0[0-7]+", number) else 10
+        yield operator_of or str(int(number, base) if number else _number_of(name))
+
+
+def value_of(text: str) -> int:
+    """The value of a constant expression of C, modulo 2^64. Python binds its operators as C does."""
+    import ast  # pylint: disable=import-outside-toplevel
+
+    def value(node: Any) -> int:
+        if isinstance(node, ast.Constant):
+            return node.value
+        operation = OPERATIONS.get(type(getattr(node, "op", None)).__name__)
+        if operation is None:
+            raise Malformed(f"'{text[:60]}' isn't a constant expression")
+        parts = [value(it) for it in ([node.operand] if isinstance(node, ast.UnaryOp) else [node.left, node.right])]
+        if operation in SHIFTS and (not 0 <= parts[1] < 64 or parts[0] < 0):
+            raise Malformed(f"a shift of {parts[0]} by {parts[1]}")
+        return operation(*parts)
+
+    words = list(itertools.islice(_words(text), LONGEST + 1))
+    if len(words) > LONGEST:
+        raise Malformed("an expression is too long, or nested too deep")
+    try:
+        return value(ast.parse(" ".join(words), mode="eval").body) % (1 << 64)
+    except SyntaxError as error:
+        raise Malformed(f"'{text[:60]}' isn't a constant expression") from error
 
 
 def _split(text: str) -> Iterator[str]:
@@ -139,7 +111,7 @@ def _row(text: str) -> list[str]:
 
 
 def _fields(text: str) -> tuple[int, int, int, int]:
-    values = [Expression(it).value() for it in _row(text)]
+    values = [value_of(it) for it in _row(text)]
     # a number of 32 bits, which `~` and `-` make negative here
     values[3] %= 1 << 32 if values[3] >= (1 << 64) - (1 << 32) else 1 << 64
     for name, value, end in zip(("code", "jt", "jf", "k"), values, (1 << 16, 1 << 8, 1 << 8, 1 << 32)):

@@ -235,9 +235,9 @@ class Expressions(unittest.TestCase):
     def test_values(self):
         for text, value in (("1 | 2 & 3", 3), ("1 + 2 << 3", 24), ("~0 & 0xff", 255), ("010", 8), ("-1", (1 << 64) - 1),
                             ("(1 | 2) + 4", 7), ("0x10U - 6", 10), ("7 - 2 - 1", 4), ("EPERM", 1), ("1 << 2 | 1", 5)):
-            self.assertEqual(c_arrays.Expression(text).value(), value, text)
-        self.assertEqual(EPERM, c_arrays.Expression("SECCOMP_RET_ERRNO | EPERM").value())
-        self.assertEqual(jeq(1, 0, 0), insn(c_arrays.Expression("BPF_JMP | BPF_JEQ").value(), 1))
+            self.assertEqual(c_arrays.value_of(text), value, text)
+        self.assertEqual(EPERM, c_arrays.value_of("SECCOMP_RET_ERRNO | EPERM"))
+        self.assertEqual(jeq(1, 0, 0), insn(c_arrays.value_of("BPF_JMP | BPF_JEQ"), 1))
 
 
 if __name__ == "__main__":
