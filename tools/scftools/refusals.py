@@ -18,11 +18,11 @@ from .profiles import ACTIONS, HOLDS, LONGEST_NUMBER, DerivedProfile, Origin
 from .tables import Tables
 from .values import Any
 
-# A kind of fault, the path of the value that is wrong or lacks a member, and what is to be said.
-MemberFault = tuple[str, Path, str]
-
 WITH_ERRNO = ("SCMP_ACT_ERRNO", "SCMP_ACT_TRACE")
 WORD, MOST_ERRNO = 1 << 64, 65535
+# What a value may have to be, as Python has it, and the least number.
+KINDS_OF_VALUES = {"a string": (str, 0), "an array": (list, 0), "an object": (dict, 0),
+                   "a whole number": (int, -(WORD >> 1)), "a whole number from 0 to 2^64-1": (int, 0)}
 # The kinds of faults that are about one member, or two entries.
 KINDS = ("Missing", "Kind", "Action", "Operator", "EmptyNames", "Index", "RepeatedIndex", "Errno", "ErrnoRange",
          "NoX8664", "EngineForm", "Conflict")
@@ -36,129 +36,112 @@ def _shown(value: object) -> str:
     return output.cut(json.dumps(value), LONGEST)
 
 
-def _is_whole(value: object, least: int = 0) -> bool:
-    return type(value) is int and least <= value < WORD
+class MemberFault(Exception):
+    """The kind of a profile's first fault, the path of the value that is wrong or lacks a member, and what is to be
+    said."""
+
+    def __init__(self, kind: str, path: Path, says: str):
+        super().__init__(says)
+        self.kind, self.path, self.says = kind, path, says
+
+    @property
+    def entry(self) -> object:
+        """The index of the entry that it is about, None without one."""
+        steps = list(self.path)
+        return next(iter(steps[steps.index("syscalls") + 1:]), None) if "syscalls" in steps else None
 
 
-def _kind(path: Path, value: object, what: str) -> MemberFault:
-    return "Kind", path, f"is {_shown(value)}, not {what}"
+def _check(value: object, path: Path, what: str) -> None:
+    """Refuses a value that is of another kind."""
+    of_kind, least = KINDS_OF_VALUES[what]
+    if type(value) is not of_kind or type(value) is int and not least <= value < WORD:
+        raise MemberFault("Kind", path, f"is {_shown(value)}, not {what}")
 
 
-def _missing(path: Path, name: str) -> MemberFault:
-    return "Missing", path, f"has no {name}"
+def _member(holder: dict[str, Any], path: Path, name: str, what: str, is_needed: bool = False) -> Any:
+    """A member of this kind; None where it lacks and may."""
+    value = holder.get(name)
+    if value is not None:
+        _check(value, [*path, name], what)
+    elif is_needed:
+        raise MemberFault("Missing", path, f"has no {name}")
+    return value
 
 
-def _word(holder: dict[str, Any], path: Path, name: str, known: tuple[str, ...], kind: str) -> Iterator[MemberFault]:
+def _word(holder: dict[str, Any], path: Path, name: str, known: tuple[str, ...], kind: str) -> None:
     """An action or an operator."""
-    value = holder.get(name)
-    if value is None:
-        yield _missing(path, name)
-    elif not isinstance(value, str):
-        yield _kind([*path, name], value, "a string")
-    elif value not in known:
-        yield kind, [*path, name], f"is {_shown(value)}, which is none"
+    value = _member(holder, path, name, "a string", True)
+    if value not in known:
+        raise MemberFault(kind, [*path, name], f"is {_shown(value)}, which is none")
 
 
-def _errno(holder: dict[str, Any], path: Path, name: str, action: object) -> Iterator[MemberFault]:
-    value = holder.get(name)
-    if value is None:
-        return
-    if not _is_whole(value, -(WORD >> 1)):
-        yield _kind([*path, name], value, "a whole number")
-    elif action not in WITH_ERRNO:
-        yield "Errno", [*path, name], f"is {_shown(value)}, and {action} takes none"
-    elif not 0 <= value <= MOST_ERRNO:
-        yield "ErrnoRange", [*path, name], f"is {_shown(value)}"
+def _errno(holder: dict[str, Any], path: Path, name: str, action: str) -> None:
+    value = _member(holder, path, name, "a whole number")
+    if value is not None and action not in WITH_ERRNO:
+        raise MemberFault("Errno", [*path, name], f"is {_shown(value)}, and {action} takes none")
+    if value is not None and not 0 <= value <= MOST_ERRNO:
+        raise MemberFault("ErrnoRange", [*path, name], f"is {_shown(value)}")
 
 
-def _engine_member(holder: dict[str, Any], path: Path, name: str) -> Iterator[MemberFault]:
-    if holder.get(name) is not None and holder[name] not in ({}, []):
-        yield "EngineForm", [*path, name], f"is {_shown(holder[name])}"
+def _engine_member(holder: dict[str, Any], path: Path, name: str) -> None:
+    if holder.get(name) not in (None, {}, []):
+        raise MemberFault("EngineForm", [*path, name], f"is {_shown(holder[name])}")
 
 
-def _condition(one: Any, path: Path, seen: set[int]) -> Iterator[MemberFault]:
-    if not isinstance(one, dict):
-        yield _kind(path, one, "an object")
-        return
-    index = one.get("index")
-    if index is None:
-        yield _missing(path, "index")
-    elif not _is_whole(index, -(WORD >> 1)):
-        yield _kind([*path, "index"], index, "a whole number")
-    elif not 0 <= index < 6:
-        yield "Index", [*path, "index"], f"is {_shown(index)}"
-    yield from _word(one, path, "op", tuple(HOLDS), "Operator")
-    for name in ("value", "valueTwo"):
-        if one.get(name) is None and name == "value":
-            yield _missing(path, name)
-        elif one.get(name) is not None and not _is_whole(one[name]):
-            yield _kind([*path, name], one[name], "a whole number from 0 to 2^64-1")
+def _condition(one: Any, path: Path, seen: set[int]) -> None:
+    _check(one, path, "an object")
+    index = _member(one, path, "index", "a whole number", True)
+    if not 0 <= index < 6:
+        raise MemberFault("Index", [*path, "index"], f"is {_shown(index)}")
+    _word(one, path, "op", tuple(HOLDS), "Operator")
+    _member(one, path, "value", "a whole number from 0 to 2^64-1", True)
+    _member(one, path, "valueTwo", "a whole number from 0 to 2^64-1")
     if index in seen:
-        yield "RepeatedIndex", [*path, "index"], f"is {_shown(index)}, as in an earlier condition of this entry"
+        raise MemberFault("RepeatedIndex", [*path, "index"],
+                          f"is {_shown(index)}, as in an earlier condition of this entry")
     seen.add(index)
 
 
-def _entry(entry: Any, path: Path) -> Iterator[MemberFault]:
-    if not isinstance(entry, dict):
-        yield _kind(path, entry, "an object")
-        return
+def _entry(entry: Any, path: Path) -> None:
+    _check(entry, path, "an object")
     for name in ("includes", "excludes"):
-        yield from _engine_member(entry, path, name)
-    names = entry.get("names")
-    if names is None:
-        yield _missing(path, "names")
-    elif not isinstance(names, list):
-        yield _kind([*path, "names"], names, "an array")
-    elif not names:
-        yield "EmptyNames", [*path, "names"], "is empty"
-    for at, one in enumerate(names if isinstance(names, list) else ()):
-        if not isinstance(one, str):
-            yield _kind([*path, "names", at], one, "a string")
-    yield from _word(entry, path, "action", ACTIONS, "Action")
-    yield from _errno(entry, path, "errnoRet", entry.get("action"))
-    args = entry.get("args")
-    if args is not None and not isinstance(args, list):
-        yield _kind([*path, "args"], args, "an array")
+        _engine_member(entry, path, name)
+    names = _member(entry, path, "names", "an array", True)
+    if not names:
+        raise MemberFault("EmptyNames", [*path, "names"], "is empty")
+    for at, one in enumerate(names):
+        _check(one, [*path, "names", at], "a string")
+    _word(entry, path, "action", ACTIONS, "Action")
+    _errno(entry, path, "errnoRet", entry["action"])
     seen: set[int] = set()
-    for at, one in enumerate(args if isinstance(args, list) else ()):
-        yield from _condition(one, [*path, "args", at], seen)
+    for at, one in enumerate(_member(entry, path, "args", "an array") or ()):
+        _condition(one, [*path, "args", at], seen)
 
 
-def _profile(top: Any, path: Path) -> Iterator[MemberFault]:
-    """The faults of a seccomp object, in the order in which scf tests it; the first is scf's."""
-    if not isinstance(top, dict):
-        yield _kind(path, top, "an object")
-        return
-    yield from _word(top, path, "defaultAction", ACTIONS, "Action")
-    yield from _errno(top, path, "defaultErrnoRet", top.get("defaultAction"))
-    architectures = top.get("architectures")
-    if architectures is not None and not isinstance(architectures, list):
-        yield _kind([*path, "architectures"], architectures, "an array")
-    elif architectures:
-        for at, one in enumerate(architectures):
-            if not isinstance(one, str):
-                yield _kind([*path, "architectures", at], one, "a string")
-        if NATIVE not in architectures:
-            yield "NoX8664", [*path, "architectures"], f"lacks {NATIVE}"
-    yield from _engine_member(top, path, "archMap")
-    entries = top.get("syscalls")
-    if entries is not None and not isinstance(entries, list):
-        yield _kind([*path, "syscalls"], entries, "an array")
-    for at, entry in enumerate(entries if isinstance(entries, list) else ()):
-        yield from _entry(entry, [*path, "syscalls", at])
+def _profile(top: Any, path: Path) -> None:
+    """Raises the fault of a seccomp object that scf finds first."""
+    _check(top, path, "an object")
+    _word(top, path, "defaultAction", ACTIONS, "Action")
+    _errno(top, path, "defaultErrnoRet", top["defaultAction"])
+    listed = _member(top, path, "architectures", "an array") or ()
+    for at, one in enumerate(listed):
+        _check(one, [*path, "architectures", at], "a string")
+    if listed and NATIVE not in listed:
+        raise MemberFault("NoX8664", [*path, "architectures"], f"lacks {NATIVE}")
+    _engine_member(top, path, "archMap")
+    for at, entry in enumerate(_member(top, path, "syscalls", "an array") or ()):
+        _entry(entry, [*path, "syscalls", at])
 
 
-def _root(value: Any) -> tuple[Any, list[str], MemberFault | None]:
-    """The seccomp object of a profile or a whole config.json, its path, or a fault on the way to it."""
-    if not isinstance(value, dict):
-        return value, [], _kind([], value, "an object")
+def _root(value: Any) -> tuple[Any, list[str]]:
+    """The seccomp object of a profile or a whole config.json, and its path. Raises a fault on the way to it."""
+    _check(value, [], "an object")
     if value.get("defaultAction") is not None or value.get("linux") is None:
-        return value, [], None
-    if not isinstance(value["linux"], dict):
-        return value, [], _kind(["linux"], value["linux"], "an object")
-    if value["linux"].get("seccomp") is None:
-        return value, [], _missing(["linux"], "seccomp: the container isn't confined")
-    return value["linux"]["seccomp"], ["linux", "seccomp"], None
+        return value, []
+    linux = _member(value, [], "linux", "an object")
+    if linux.get("seccomp") is None:
+        raise MemberFault("Missing", ["linux"], "has no seccomp: the container isn't confined")
+    return linux["seccomp"], ["linux", "seccomp"]
 
 
 def _read(data: bytes) -> tuple[str, Any] | None:
@@ -177,8 +160,7 @@ def _line(data: bytes, text: str, path: Path, what: str) -> str:
     return f"{member} {what}" + (f", at {where}" if where is not None else "")
 
 
-def _of_conflict(data: bytes, text: str, value: Any, fault: Fault) -> Iterator[str]:
-    _, path, _ = _root(value)
+def _of_conflict(data: bytes, text: str, path: Path, fault: Fault) -> Iterator[str]:
     places = [json_places.place_of(text, [*path, "syscalls", fault.numbers[name]]) for name in ("first", "second")]
     if not isinstance(data, DerivedProfile) and None not in places:
         yield f"the entries begin at {places[0]} and at {places[1]}"
@@ -192,15 +174,15 @@ def _of_member(fault: Fault, data: bytes) -> Iterator[str]:
     if found is None:
         return
     text, value = found
-    if fault.kind == "Conflict":
-        yield from _of_conflict(data, text, value, fault)
-        return
-    top, path, wrong = _root(value)
-    first = wrong or next(_profile(top, path), None)
-    entry = next((step for step in (first[1] if first else ()) if isinstance(step, int)), None)
-    in_entry = first is not None and len(first[1]) > len(path) and first[1][len(path)] == "syscalls"
-    if first is not None and first[0] == fault.kind and fault.numbers.get("entry") == (entry if in_entry else None):
-        yield _line(data, text, first[1], first[2])
+    try:
+        top, path = _root(value)
+        if fault.kind == "Conflict":
+            yield from _of_conflict(data, text, path, fault)
+        else:
+            _profile(top, path)
+    except MemberFault as first:
+        if first.kind == fault.kind and fault.numbers.get("entry") == first.entry:
+            yield _line(data, text, first.path, first.says)
 
 
 def _conflicting(fault: Fault, profile: bytes, judged: Tables) -> Call:
