@@ -64,24 +64,16 @@ def conditions_of(event: Event, name: str) -> list[dict[str, object]]:
     return found
 
 
-def _tests_of(conditions: list[dict[str, object]]) -> tuple[tuple[int, int, int], ...]:
-    """The same for a filter: indexes, masks and values."""
-    return tuple((it["index"], it["value"], it["valueTwo"]) if it["op"] == MASKED else (it["index"], WORD, it["value"])
-                 for it in conditions)
-
-
 class Search:
     """Tries changes of a profile that allow a syscall of one name."""
 
-    def __init__(self, profile: bytes, trial: Trial, name: str, number: int):
-        self.trial, self.name, self.number = trial, name, number
+    def __init__(self, profile: bytes, top: Object, trial: Trial, name: str, number: int):
+        self.top, self.trial, self.name, self.number = top, trial, name, number
         self.filter = trial.filter_of(profile)
-        self.top = entries.read(profile)
 
     def _changed(self, taken_out: list[int], added: list[dict[str, object]],
                  conditions: list[dict[str, object]]) -> Amendment:
         """A change, which isn't proved yet."""
-        assert self.top is not None
         known = self.trial.table.names_of(self.number)
         found, gone = [], []
         for index, entry in enumerate(self.top.get("syscalls", [])):
@@ -92,7 +84,9 @@ class Search:
             gone.append((index, not names))
             found += [Object({**entry, "names": names})] if names else []
         changed = {**self.top, "syscalls": [*found, *added]}
-        return Amendment(self.name, tuple(gone), tuple(added), _tests_of(conditions), json.dumps(changed).encode())
+        tests = tuple((it["index"], it["value"], it["valueTwo"]) if it["op"] == MASKED else
+                      (it["index"], WORD, it["value"]) for it in conditions)
+        return Amendment(self.name, tuple(gone), tuple(added), tests, json.dumps(changed).encode())
 
     def _is_proved(self, change: Amendment) -> bool:
         """Whether scf proves that the changed profile allows these calls, and answers all others as before."""
@@ -106,7 +100,6 @@ class Search:
         return verdict.word == SAME
 
     def _with(self, taken_out: list[int], conditions: list[dict[str, object]]) -> Iterator[Amendment]:
-        assert self.top is not None
         allowed: dict[str, object] = {"names": [self.name], "action": ALLOW}
         if conditions:
             allowed["args"] = conditions
@@ -115,7 +108,6 @@ class Search:
     def _by_entry(self, place: int, conditions: list[dict[str, object]]) -> Iterator[Amendment]:
         """Changes of an entry that denies, to one that doesn't deny the calls with all of these arguments. Each of its
         own conditions must be on one of them, and for one value."""
-        assert self.top is not None
         entry = self.top["syscalls"][place]
         own = {it["index"]: it for it in entry.get("args") or []}
         known = {it["index"] for it in conditions}
@@ -131,7 +123,6 @@ class Search:
 
     def _of_entry(self, place: int) -> Iterator[Amendment]:
         """The change of an entry with conditions to one that allows."""
-        assert self.top is not None
         own = [dict(it) for it in self.top["syscalls"][place].get("args") or []]
         if own and all(it["op"] in (EQUAL, MASKED) for it in own):
             conditions = [{**it, "valueTwo": it.get("valueTwo", 0)} for it in own]
@@ -139,7 +130,6 @@ class Search:
 
     def candidates(self, reason: Reason, conditions: list[dict[str, object]]) -> Iterator[Amendment]:
         """Changes that allow the calls with these arguments, the smallest first."""
-        assert self.top is not None
         if reason.entry is not None and conditions:
             yield from self._by_entry(reason.entry, conditions)
             return
@@ -165,9 +155,10 @@ def amendments(profile: bytes, event: Event, reason: Reason, trial: Trial) -> It
     names = trial.table.names_of(event.call.number) if event.call.is_native else []
     if not names or reason.is_foreign or reason.answer is None or reason.answer.allows:
         return
-    search = Search(profile, trial, names[0], event.call.number)
-    if search.top is None:
+    top = entries.read(profile)
+    if top is None:
         return
+    search = Search(profile, top, trial, names[0], event.call.number)
     conditions = conditions_of(event, names[0])
     for some in ([conditions] if conditions else []) + [[]]:
         found = search.run(reason, some)

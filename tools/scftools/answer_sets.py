@@ -99,16 +99,11 @@ class Machine:
 
     def __init__(self, sets: Sets, one: Architecture, numbers: Sequence[int]):
         self.sets, self.architecture, self.numbers = sets, one, tuple(one.first + it for it in numbers)
-        # the variables for what isn't followed, by what it is
+        # the variables for tests that aren't followed
         self._variables: dict[object, int] = {}
         self._unknown: dict[object, Unknown] = {}
         self._tested: dict[tuple[Word, int, Word], tuple[int, int]] = {}
         self.every = (1 << len(self.numbers)) - 1
-
-    def _variable(self, what: object) -> int:
-        """The set where something that isn't followed is so."""
-        at = self._variables.setdefault(what, len(self._variables))
-        return self.sets.node(COMPUTED + at, NONE, ALL)
 
     def _opaque(self, origin: object) -> Unknown:
         """A word that isn't followed, by what it was computed from."""
@@ -151,7 +146,8 @@ class Machine:
             elif isinstance(a, Bits) and isinstance(value, int):
                 found = self._where(test, a.sets, value), self.every
             else:
-                found = self._variable(key), self.every
+                at = self._variables.setdefault(key, len(self._variables))
+                found = self.sets.node(COMPUTED + at, NONE, ALL), self.every
             self._tested[key] = found
         return self._tested[key]
 

@@ -350,11 +350,8 @@ class _Cover:
         if is_late:
             orders = iter([self.indices, self.indices[::-1]])
         found = {self._alternative(arguments, order): None for order in orders}
-
-        def merit(one: Alternative) -> tuple[int, int]:
-            return self.sets.weight(self.sets.both(left, self.sets.of_conditions(one))), -len(one)
-
-        return max(found, key=merit)
+        return max(found, key=lambda it: (
+            self.sets.weight(self.sets.both(left, self.sets.of_conditions(it))), -len(it)))
 
     def find(self) -> list[Alternative]:
         left, found = self.whole, []

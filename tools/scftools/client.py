@@ -204,11 +204,6 @@ def compile_profile(profile: bytes, tables: Tables) -> bytes:
     return done.out
 
 
-def _seconds_taken() -> float:
-    """The CPU time of this process and its ended children since the limits count."""
-    return sum(os.times()[:4]) - _seconds_before
-
-
 def begin_limits() -> None:
     """Has the limits count from now on, for a tool that does its work again and again."""
     global _is_spent_reported, _seconds_before  # pylint: disable=global-statement
@@ -232,7 +227,8 @@ def compare(words: Sequence[str], bundle: bytes) -> Run:
         # the time to build it doesn't count
         run(["--version"])
     for steps, until in (([], SECONDS), ([f"--limit={FEW_STEPS}"], ALL_SECONDS)):
-        left = until - _seconds_taken()
+        # (of this process and its ended children)
+        left = until + _seconds_before - sum(os.times()[:4])
         done = run([*words, *steps], bundle, left) if left > 0 else None
         if done is not None and done.out:
             return done

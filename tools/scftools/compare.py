@@ -108,7 +108,8 @@ class Comparison:
         denials = other_abis.denial_filters(report.architectures)
         ended, others = self._run_others([*denials, *filters], relation)
         if others.verdict is None or others.verdict.holds:
-            return program.UNKNOWN, as_undetermined(report)
+            return program.UNKNOWN, replace(report, lines=(FOR_OTHER_ABI, *report.lines[1:3]),
+                                            verdict=replace(report.verdict, word=UNDETERMINED, profile=None))
         return ended, others
 
     def _run_calls(self, relation: str) -> tuple[int, Report]:
@@ -161,13 +162,6 @@ def _in_all(lists: Iterable[Sequence[str]]) -> tuple[str, ...]:
     """What is in each of some lists, in the order of the first."""
     first, *others = lists
     return tuple(it for it in first if all(it in other for other in map(set, others)))
-
-
-def as_undetermined(report: Report) -> Report:
-    """A report whose syscall the profile covers, and scf doesn't judge."""
-    assert report.verdict is not None
-    return replace(report, lines=(FOR_OTHER_ABI, *report.lines[1:3]),
-                   verdict=replace(report.verdict, word=UNDETERMINED, profile=None))
 
 
 def responsible(comparison: Comparison, report: Report, scope: str) -> Iterator[tuple[str, str]]:

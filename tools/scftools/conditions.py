@@ -44,12 +44,6 @@ def _is_null_test(one: Condition, greatest: int) -> bool:
                                    ("SCMP_CMP_GE", 1), ("SCMP_CMP_LT", 1))
 
 
-def _greatest(entry: Entry, judged: Tables) -> int:
-    """The greatest argument of an entry's syscalls on any architecture that is judged."""
-    on = {it for name in entry.names for it in judged.numbers_of(name)} or judged.of
-    return max(JUDGED[it].greatest for it in on)
-
-
 def _of_value(entry: Entry, place: int, one: Condition, greatest: int) -> Iterator[Finding]:
     """What is odd about a condition by itself."""
     where, more = f"entry {entry.place}, condition {place}", {"entry": entry.place, "condition": place}
@@ -107,7 +101,8 @@ def _of_argument(entry: Entry, place: int, one: Condition, argument: Argument, g
 def of_conditions(found: Sequence[Entry], judged: Tables) -> Iterator[Finding]:
     """Conditions that can't be meant: they always hold, or are on the wrong argument."""
     for entry in found:
-        greatest = _greatest(entry, judged)
+        on = {it for name in entry.names for it in judged.numbers_of(name)} or judged.of
+        greatest = max(JUDGED[it].greatest for it in on)
         kinds = {index: Argument.of(entry, index, judged) for index in {it.index for it in entry.conditions}}
         for place, one in enumerate(entry.conditions):
             yield from _of_value(entry, place, one, greatest)

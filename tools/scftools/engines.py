@@ -279,11 +279,6 @@ class Resolver:
         if self.notes <= MAX_NOTES:
             self.tell(text)
 
-    def tell_more(self) -> None:
-        """Reports at the end how many notes weren't printed."""
-        if self.notes > MAX_NOTES:
-            self.tell(f"{self.notes - MAX_NOTES} more such lines")
-
     def errno_of(self, holder: dict[str, Any], name: str, number: str, where: str) -> Any:
         """An errno: by its name or as a text where that stands, else the number (getErrno of containers-common)."""
         text = holder.get(name)
@@ -415,7 +410,8 @@ def resolve(value: Any, setting: Setting, tell: Callable[[str], None],
     profile = resolver.resolved(value)
     if keeps_first:
         resolver.keep_first(profile)
-    resolver.tell_more()
+    if resolver.notes > MAX_NOTES:
+        tell(f"{resolver.notes - MAX_NOTES} more such lines")
     return profile, resolver.origins
 
 

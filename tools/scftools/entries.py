@@ -78,15 +78,13 @@ class Object(dict):
 
     def __init__(self, pairs: Sequence[tuple[str, Any]]):
         super().__init__(pairs)
-        self.repeated: tuple[str, ...] = _repeated(pairs) if len(self) < len(pairs) else ()
+        self.repeated: tuple[str, ...] = ()
+        if len(self) < len(pairs):
+            seen: set[str] = set()
+            # `add` returns None, so a name is kept if it was seen before
+            self.repeated = tuple(dict.fromkeys(name for name, _ in pairs if name in seen or seen.add(name)))
         for name in [name for name, value in self.items() if value is None]:
             del self[name]
-
-
-def _repeated(pairs: Sequence[tuple[str, Any]]) -> tuple[str, ...]:
-    seen: set[str] = set()
-    # `add` returns None, so a name is kept if it was seen before
-    return tuple(dict.fromkeys(name for name, _ in pairs if name in seen or seen.add(name)))
 
 
 def read(data: bytes) -> Object | None:

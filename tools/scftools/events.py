@@ -4,7 +4,7 @@ from __future__ import annotations
 import errno
 import itertools
 import re
-from collections.abc import Iterable, Iterator, Sequence
+from collections.abc import Iterable, Iterator
 
 from . import audit_records, strace, tables
 from .answers import ACTIONS, DOES, MAX_ERRNO, Answer
@@ -131,15 +131,11 @@ class EventLog:
             self.left += 1
 
 
-def outcome_of(halves: Sequence[int]) -> Outcome:
-    """What a record's code says of the answer."""
-    actions = tuple(ACTIONS.get(half, "UNNAMED") for half in halves)
-    return Outcome(actions, halves[0] if actions == ("UNNAMED",) else None)
-
-
 def of_record(record: audit_records.Record) -> Event:
     call = Call(record.number, record.architecture, record.pointer)
-    return Event(RECORD, call, outcome_of(record.halves), process=record.process, name=record.name, time=record.time)
+    actions = tuple(ACTIONS.get(half, "UNNAMED") for half in record.halves)
+    outcome = Outcome(actions, record.halves[0] if actions == ("UNNAMED",) else None)
+    return Event(RECORD, call, outcome, process=record.process, name=record.name, time=record.time)
 
 
 class _Ends(strace.Log):

@@ -129,16 +129,14 @@ class Hold:
     def __exit__(self, *_: object) -> None:
         try:
             self.until = max(self.until, time.monotonic() + HELD_FOR_ONE)
-            while any(map(self.wakes, self.stopping)) and time.monotonic() < self.until:
+            # (a thread that sleeps uninterruptibly doesn't stop soon)
+            while time.monotonic() < self.until and any(
+                    self.kernel.status_of(it).get("State", "D")[:1] != "D" for it in self.stopping):
                 self.settle(PAUSE)
             self.let_stopped_go()
         finally:
             self.is_over = True
             self.lock.release()
-
-    def wakes(self, thread: int) -> bool:
-        """Whether a thread that was told to stop may yet: one that sleeps uninterruptibly doesn't."""
-        return self.kernel.status_of(thread).get("State", "D")[:1] != "D"
 
     def reap(self) -> None:
         """Waits for threads while the tracing one waits in PTRACE_SEIZE.

@@ -8,7 +8,6 @@ from __future__ import annotations
 import codecs
 import errno
 import os
-import re
 import sys
 from collections.abc import Iterable, Iterator, Sequence
 
@@ -17,10 +16,6 @@ from .values import Pattern
 # C0, DEL and C1; and the characters that change the direction of text or end a line (Unicode's Bidi_Control, LINE
 # SEPARATOR and PARAGRAPH SEPARATOR), which make text look different than it is.
 CONTROL = Pattern("[\x00-\x1f\x7f-\x9f\u061c\u200e\u200f\u2028-\u202e\u2066-\u2069]")
-
-
-def _bytes_of(found: re.Match[str]) -> str:
-    return "".join(f"\\x{byte:02x}" for byte in found[0].encode())
 
 
 def _of_surrogates(error: UnicodeError) -> tuple[bytes, int]:
@@ -37,7 +32,8 @@ codecs.register_error("surrogates", _of_surrogates)
 def escaped(text: str | bytes) -> str:
     """The text as one line: control characters and bytes that aren't UTF-8 become `\\xNN`."""
     data = text.encode("utf-8", "surrogates") if isinstance(text, str) else text
-    return CONTROL.sub(_bytes_of, data.decode("utf-8", "backslashreplace"))
+    return CONTROL.sub(lambda it: "".join(f"\\x{byte:02x}" for byte in it[0].encode()),
+                       data.decode("utf-8", "backslashreplace"))
 
 
 def cut(text: str, most: int = 64) -> str:

@@ -171,14 +171,8 @@ def _cell(rows: list[surfaces.Row]) -> str:
     return f"{SOME}: {', '.join(shown + [f'{unknown} not known'] * bool(unknown)) or 'denied'} of {len(rows)}"
 
 
-def _group_calls(rows: list[surfaces.Row]) -> Markup:
-    """The syscalls of a group with what decides."""
-    return listed(joined([tag("code", " or ".join(it.names)), f" {word_of(it.said)}",
-                          *(f"; {detail}" for detail in surface_output.details(it))]) for it in rows)
-
-
 def stack(one: Named, groups: Groups) -> Iterator[Markup]:
-    """All syscalls of a stack, group by group."""
+    """All syscalls of a stack, group by group, each with what decides."""
     yield tag("h3", f"{one.name}: ", one.description, id=one.anchor)
     if one.digest is not None:
         yield tag("p", "SHA-256 ", tag("code", one.digest, class_="long"))
@@ -187,8 +181,9 @@ def stack(one: Named, groups: Groups) -> Iterator[Markup]:
         return
     yield listed(surface_output.of_whole(one.surface))
     for group, rows in surface_output.grouped(one.surface.rows, groups):
-        yield tag("details", tag("summary", f"{group}: {_cell(rows)}"),
-                  tag("div", _group_calls(rows), id=f"{one.anchor}-{group}"))
+        calls = listed(joined([tag("code", " or ".join(it.names)), f" {word_of(it.said)}",
+                               *(f"; {detail}" for detail in surface_output.details(it))]) for it in rows)
+        yield tag("details", tag("summary", f"{group}: {_cell(rows)}"), tag("div", calls, id=f"{one.anchor}-{group}"))
 
 
 def matrix(found: Sequence[Named], groups: Groups) -> Iterator[Markup]:

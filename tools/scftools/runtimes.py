@@ -139,9 +139,6 @@ class _Rule:
     args: list[dict[str, Any]]
     origin: Origin
 
-    def as_entry(self) -> dict[str, Any]:
-        return {"names": self.names, **self.answer.members(), **({"args": self.args} if self.args else {})}
-
 
 @dataclass
 class _Application:
@@ -164,11 +161,6 @@ class _Application:
 
     def refuse(self, why: str) -> None:
         raise Refused(f"{self.runtime.program} refuses the profile: {why}")
-
-    def count_rules(self, more: int) -> None:
-        self.count += more
-        if self.count > MAX_RULES:
-            raise Refused(f"the profile has more than {MAX_RULES} rules (one for each name of an entry)")
 
     def answer_of(self, action: str, number: int | None, where: str) -> Answer:
         """What libseccomp is given for an action and its number."""
@@ -230,7 +222,9 @@ class _Application:
             args = args[:CRUN_CONDITIONS]
         indices = [it.get("index", 0) for it in args]
         is_all = len(set(indices)) == len(indices)
-        self.count_rules(len(names) * (1 if is_all else len(args)))
+        self.count += len(names) * (1 if is_all else len(args))
+        if self.count > MAX_RULES:
+            raise Refused(f"the profile has more than {MAX_RULES} rules (one for each name of an entry)")
         if is_all:
             yield _Rule(names, answer, args, origin)
             return
@@ -295,7 +289,8 @@ class _Application:
         if architectures:
             found["architectures"] = architectures
         found.update((name, profile[name]) for name in engines.KEPT if name in profile)
-        found["syscalls"] = [rule.as_entry() for rule in rules]
+        found["syscalls"] = [{"names": it.names, **it.answer.members(), **({"args": it.args} if it.args else {})}
+                             for it in rules]
         self.tell_unknown()
         handed, places = multiplexed.with_rules(found)
         return AppliedProfile(self.runtime, found, handed, [rules[it].origin for it in places], self.remarks,

@@ -165,12 +165,6 @@ def _pair_json(pair: Pair, groups: Groups) -> dict[str, object]:
     return found
 
 
-def _json_beside(found: Beside, groups: Groups) -> dict[str, object]:
-    """The members of JSON beyond those of the first surface."""
-    return {"differs": [_pair_json(pair, groups) for pair in found.pairs], "foreign_differ": found.foreign_differ,
-            "unnamed_differ": found.unnamed_differ}
-
-
 @dataclass(frozen=True)
 class Settings:
     """The settings for each stack, and the filters to compare it with, if any."""
@@ -274,7 +268,10 @@ def _json_of(block: Block, found: Inspection | None, groups: Groups) -> dict[str
     if block.surface is not None:
         said.update(surface_output.as_json(block.surface, groups))
     if block.beside is not None:
-        said["beside"] = {**surface_output.as_json(block.beside.other, groups), **_json_beside(block.beside, groups)}
+        said["beside"] = {**surface_output.as_json(block.beside.other, groups),
+                          "differs": [_pair_json(pair, groups) for pair in block.beside.pairs],
+                          "foreign_differ": block.beside.foreign_differ,
+                          "unnamed_differ": block.beside.unnamed_differ}
     if block.threads is not None and found is not None:
         said["confined"] = "by filters" if block.filters else "strict" if block.threads.is_strict else "not"
         said.update(block.threads.as_json(found.names))

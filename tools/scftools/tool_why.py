@@ -95,11 +95,6 @@ def is_of(line, process):
     return found is not None and found[1] == str(process)
 
 
-def records_of(process, table):
-    """The records of a process in the kernel's log."""
-    return events.read((line for line in audit_records.kernel_lines() if is_of(line, process)), table)
-
-
 def started(process):
     """When a process began, in seconds since 1970; None if it has ended."""
     from . import ptrace  # pylint: disable=import-outside-toplevel
@@ -136,7 +131,7 @@ def filters_of(process, found):
 
 def of_process(options, files, table):
     """The records of a process, and files; without any the filters that it has, if it runs."""
-    found = records_of(options.pid, table)
+    found = events.read((line for line in audit_records.kernel_lines() if is_of(line, options.pid)), table)
     if not options.words:
         files = causes.Inputs(files.trial, None, filters_of(options.pid, found))
     return found, files
