@@ -121,28 +121,11 @@ def described(kernel: Kernel, number: int) -> Process | None:
                    status.get("NoNewPrivs") == "1", tuple(threads), is_confined, is_stuck)
 
 
-@dataclass
-class _Pass:
-    """What a pass over confined processes found: their stacks, and why some weren't read."""
-
-    stacks: dict[tuple[tuple[bytes, ...], bool], Stack] = field(default_factory=dict)
-    unread: dict[int, str] = field(default_factory=dict)
-    asked_again: list[tuple[int, int]] = field(default_factory=list)
-
-    def add(self, number: int, pieces: list[processes.Inspection]) -> None:
-        """Adds what was found of a process."""
-        for one in pieces:
-            self.asked_again += one.asked_again
-            for stack in one.stacks:
-                same = self.stacks.setdefault((stack.filters, stack.is_strict), Stack(stack.filters, stack.is_strict))
-                same.threads.setdefault(number, []).extend(stack.threads[number])
-
-
 def _read_all(kernel: Kernel, numbers: Iterable[int], is_forced: bool, until: float,
-              tell: Callable[[int], None]) -> _Pass:
+              tell: Callable[[int], None]) -> Snapshot:
     """Reads the filters of some processes, one after another; `tell` is called with each one's number before
     some of its threads are."""
-    found, restarts = _Pass(), Restarts(kernel)
+    found, restarts = Snapshot(), Restarts(kernel)
     waiting = [(number, TO_STOP) for number in numbers]
     for number, patience in waiting:
         found.unread.pop(number, None)
@@ -152,7 +135,12 @@ def _read_all(kernel: Kernel, numbers: Iterable[int], is_forced: bool, until: fl
             found.unread[number] = "its control group is frozen, so it can't be stopped"
         else:
             try:
-                found.add(number, list(_read_slices(kernel, number, patience, is_forced, restarts, tell)))
+                # (all of a process, or nothing of it)
+                for one in list(_read_slices(kernel, number, patience, is_forced, restarts, tell)):
+                    for stack in one.stacks:
+                        found.add((stack.filters, stack.is_strict), number, stack.threads[number])
+                    found.notes += [f"the syscall of thread {thread} of process {process} restarts, and its seccomp "
+                                    f"supervisor gets it a second time" for process, thread in one.asked_again]
             except Unreadable as why:
                 found.unread[number] = str(why)
                 if patience == TO_STOP and kernel.status_of(number).get("State", "D")[:1] != "D":
@@ -177,7 +165,7 @@ def _read_slices(kernel: Kernel, number: int, patience: float, is_forced: bool, 
             patience, is_forced, restarts)
 
 
-def _read_in_child(kernel: Kernel, numbers: list[int], is_forced: bool) -> _Pass:
+def _read_in_child(kernel: Kernel, numbers: list[int], is_forced: bool) -> Snapshot:
     """The same in a child process, so that it ends in time. A process that the kernel makes a tracer wait for is left
     out, and the others are read anew."""
     stuck: dict[int, str] = {}
@@ -197,7 +185,7 @@ def _read_in_child(kernel: Kernel, numbers: list[int], is_forced: bool) -> _Pass
             except (child.Late, child.Died):
                 stuck[int.from_bytes(shared[:], "little")] = ("the kernel makes a tracer wait, as for a thread that "
                                                               "executes a program")
-    return _Pass(unread={it: stuck.get(it, "the kernel makes a tracer wait for other processes") for it in numbers})
+    return Snapshot(unread={it: stuck.get(it, "the kernel makes a tracer wait for other processes") for it in numbers})
 
 
 def why_no_filters(kernel: Kernel) -> str | None:
@@ -263,5 +251,4 @@ def _add_filters(kernel: Kernel, snapshot: Snapshot, confined: list[int], is_for
             snapshot.unread[number] = passed.unread[number]
         elif number not in read_ones:
             snapshot.forget(number)
-    snapshot.notes += [f"the syscall of thread {thread} of process {process} restarts, and its seccomp supervisor "
-                       f"gets it a second time" for process, thread in passed.asked_again]
+    snapshot.notes += passed.notes
