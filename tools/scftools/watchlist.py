@@ -209,43 +209,42 @@ class Watch:
         return (denied.entry, denied.answer, allowed) if allowed else None
 
 
-def _allowed(name: str, danger: Dangerous, watch: Watch, owners: Owners) -> tuple[bool, Finding]:
-    """A dangerous syscall that is allowed, always or with some arguments; and whether that is decided."""
+def _allowed(name: str, danger: Dangerous, watch: Watch, owners: Owners) -> Finding:
+    """A dangerous syscall that is allowed, always or with some arguments, or of which that is undecided."""
     number, how, call = watch.numbers[name], watch.how(name), watch.allowed[watch.numbers[name]].verdict.call
     more: dict[str, object] = {"name": name, "number": number, "reason": danger.reason}
     if call is None:
-        return False, Finding("dangerous-call", f"undecided whether {owners.named(name, number)} is allowed: {how}"
-                              f"{owners.also}", {**more, **owners.as_json()})
+        return Finding("dangerous-call", f"undecided whether {owners.named(name, number)} is allowed: {how}"
+                       f"{owners.also}", {**more, **owners.as_json()}, False)
     arguments = [it & watch.trial.architecture.greatest for it in call.arguments]
     entry, shown = watch.deciding(name, arguments), list(map(hex, arguments))
     some = "" if how == ALWAYS else f" with some arguments, such as {' '.join(shown)},"
     called = owners.named(" or ".join(watch.trial.table.names_of(number)), number)
-    return True, Finding("dangerous-call", f"{called} is allowed{some} {_by(entry)}: {danger.reason}{owners.also}",
-                         {**more, "is_always": how == ALWAYS, "arguments": shown, "entry": entry, **owners.as_json()})
+    return Finding("dangerous-call", f"{called} is allowed{some} {_by(entry)}: {danger.reason}{owners.also}",
+                   {**more, "is_always": how == ALWAYS, "arguments": shown, "entry": entry, **owners.as_json()})
 
 
-def of_dangerous(judged: Tables, watches: Mapping[str, Watch]) -> Iterator[tuple[bool, Finding]]:
-    """The dangerous syscalls that are allowed, and whether that is decided."""
+def of_dangerous(judged: Tables, watches: Mapping[str, Watch]) -> Iterator[Finding]:
+    """The dangerous syscalls that are allowed, or of which that is undecided."""
     for name, danger in dangerous().items():
         how = {one: watch.how(name) for one, watch in watches.items() if name in watch.numbers}
         for _, owners in by_owners(how, judged):
             yield _allowed(name, danger, watches[owners.first], owners)
 
 
-def _lacking(one: Needed, watch: Watch, owners: Owners) -> tuple[bool, Finding]:
+def _lacking(one: Needed, watch: Watch, owners: Owners) -> Finding:
     users, number, less = watch.users(one), watch.numbers[one.name], watch.lacks(one)
     more: dict[str, object] = {"names": users, **owners.as_json()}
     answer, where, entry = watch.answer(less.verdict.call) if less and less.verdict.call else (None, "", None)
     called = owners.named(one.name, number)
     if answer is None:
-        return False, Finding(one.kind, f"undecided whether {called} is always allowed{owners.also}", more)
-    return True, Finding(one.kind, f"{listed(users, 'and')} {'is' if len(users) == 1 else 'are'} allowed, and {called} "
-                         f"is not: {one.why} is answered {where} {answer.describe()}{owners.also}",
-                         {**more, "entry": entry})
+        return Finding(one.kind, f"undecided whether {called} is always allowed{owners.also}", more, False)
+    return Finding(one.kind, f"{listed(users, 'and')} {'is' if len(users) == 1 else 'are'} allowed, and {called} "
+                   f"is not: {one.why} is answered {where} {answer.describe()}{owners.also}", {**more, "entry": entry})
 
 
-def of_needed(judged: Tables, watches: Mapping[str, Watch]) -> Iterator[tuple[bool, Finding]]:
-    """A finding if a syscall isn't always allowed, but others that need it are; and whether that is decided."""
+def of_needed(judged: Tables, watches: Mapping[str, Watch]) -> Iterator[Finding]:
+    """A finding if a syscall isn't always allowed, but others that need it are, or if that is undecided."""
     for one in NEEDED:
         less = {name: watch.lacks(one) for name, watch in watches.items() if one.name in watch.numbers}
         is_decided = {name: None if it is None else it.verdict.call is not None for name, it in less.items()}
