@@ -13,19 +13,8 @@ from .tables import Table
 # At most so many processes of a row are named in a line.
 MOST_NAMED = 3
 PLURALS = {CONTAINER: "containers", UNIT: "units", PROGRAM: "other confined programs"}
-# The metrics, each with its help.
-METRICS = {
-    "scf_container_verdict": "The verdict on a container; the label says which.",
-    "scf_unit_verdict": "The verdict on a systemd unit; the label says which.",
-    "scf_audit_rows": "How many rows of a kind have a verdict.",
-    "scf_unconfined_processes": "Processes with a thread that has no seccomp filter.",
-    "scf_confined_processes": "Processes with a thread that has a seccomp filter.",
-    "scf_unread_processes": "Confined processes whose filters could not be read.",
-    "scf_distinct_stacks": "Distinct stacks of filters.",
-    "scf_audit_status": "The exit status: 0 as configured, 1 weaker or unconfined, 4 something is not known.",
-    "scf_audit_seconds": "How long the audit took.",
-    "scf_audit_timestamp_seconds": "When the audit began, in seconds since 1970.",
-}
+# A metric's name and help, and its values with their labels.
+Metric = "tuple[str, str, list[tuple[list[tuple[str, str | None]], object]]]"
 
 
 def time_text(seconds: float) -> str:
@@ -227,27 +216,29 @@ def _sample(name: str, labels: Iterable[tuple[str, str | None]], value: object) 
     return f"{name}{{{shown}}} {value}\n" if shown else f"{name} {value}\n"
 
 
-def _samples(audit: Audit) -> dict[str, list[tuple[list[tuple[str, str | None]], object]]]:
-    """The values of each metric, with their labels."""
-    containers = [([("id", it.key), ("name", it.name), ("engine", it.container.engine), ("image", it.container.image),
-                    ("pod", it.container.pod), ("verdict", it.verdict)], 1)
-                  for it in audit.rows if it.kind == CONTAINER and it.container is not None]
-    single = {"scf_unconfined_processes": audit.unconfined,
-              "scf_confined_processes": audit.confined,
-              "scf_unread_processes": len(audit.snapshot.unread), "scf_distinct_stacks": len(audit.stacks),
-              "scf_audit_status": audit.status, "scf_audit_seconds": f"{audit.seconds:.3f}",
-              "scf_audit_timestamp_seconds": f"{audit.time:.3f}"}
-    return {"scf_container_verdict": containers,
-            "scf_unit_verdict": [([("unit", it.key), ("verdict", it.verdict)], 1) for it in audit.rows
-                                 if it.kind == UNIT],
-            "scf_audit_rows": [([("kind", kind), ("verdict", verdict)], audit.counts[kind, verdict])
-                               for kind in KINDS for verdict in VERDICTS],
-            **{name: [([], value)] for name, value in single.items()}}
+def _metrics(audit: Audit) -> Iterator[Metric]:
+    yield "scf_container_verdict", "The verdict on a container; the label says which.", [
+        ([("id", it.key), ("name", it.name), ("engine", it.container.engine), ("image", it.container.image),
+          ("pod", it.container.pod), ("verdict", it.verdict)], 1)
+        for it in audit.rows if it.kind == CONTAINER and it.container is not None]
+    yield "scf_unit_verdict", "The verdict on a systemd unit; the label says which.", [
+        ([("unit", it.key), ("verdict", it.verdict)], 1) for it in audit.rows if it.kind == UNIT]
+    yield "scf_audit_rows", "How many rows of a kind have a verdict.", [
+        ([("kind", kind), ("verdict", verdict)], audit.counts[kind, verdict]) for kind in KINDS for verdict in VERDICTS]
+    for name, help_text, value in (
+            ("unconfined_processes", "Processes with a thread that has no seccomp filter.", audit.unconfined),
+            ("confined_processes", "Processes with a thread that has a seccomp filter.", audit.confined),
+            ("unread_processes", "Confined processes whose filters could not be read.", len(audit.snapshot.unread)),
+            ("distinct_stacks", "Distinct stacks of filters.", len(audit.stacks)),
+            ("audit_status", "The exit status: 0 as configured, 1 weaker or unconfined, 4 something is not known.",
+             audit.status),
+            ("audit_seconds", "How long the audit took.", f"{audit.seconds:.3f}"),
+            ("audit_timestamp_seconds", "When the audit began, in seconds since 1970.", f"{audit.time:.3f}")):
+        yield f"scf_{name}", help_text, [([], value)]
 
 
 def metrics(audit: Audit) -> str:
     """The audit in Prometheus's text format."""
-    found = _samples(audit)
     return "".join(f"# HELP {name} {help_text}\n# TYPE {name} gauge\n"
-                   + "".join(_sample(name, labels, value) for labels, value in found[name])
-                   for name, help_text in METRICS.items())
+                   + "".join(_sample(name, labels, value) for labels, value in samples)
+                   for name, help_text, samples in _metrics(audit))
