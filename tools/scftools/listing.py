@@ -4,7 +4,7 @@ from __future__ import annotations
 
 from collections.abc import Iterable, Iterator, Sequence
 
-from . import client, verdicts
+from . import client, output, verdicts
 from .answers import ACTIONS, X32, X86_64, Answer
 from .architectures import shown_name
 from .calls import Call, number_text
@@ -211,17 +211,7 @@ class Path:
     def describe(self) -> str:
         """The indexes; three or more consecutive ones as a range."""
         return " ".join(f"{first}-{last}" if last - first > 1 else " ".join(map(str, range(first, last + 1)))
-                        for first, last in _ranges(self.indexes))
-
-
-def _ranges(indexes: Sequence[int]) -> list[tuple[int, int]]:
-    found: list[tuple[int, int]] = []
-    for index in indexes:
-        if found and index == found[-1][1] + 1:
-            found[-1] = found[-1][0], index
-        else:
-            found.append((index, index))
-    return found
+                        for first, last in output.runs(self.indexes))
 
 
 def path_of(data: bytes, words: Sequence[str], with_path: bool = True) -> Path:

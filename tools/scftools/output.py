@@ -46,6 +46,17 @@ def some(texts: Sequence[str], most: int) -> str:
     return ", ".join(texts[:most]) + (f" and {len(texts) - most} more" if len(texts) > most else "")
 
 
+def runs(numbers: Iterable[int]) -> list[tuple[int, int]]:
+    """Numbers by runs of neighbours, each its first and its last one."""
+    found: list[tuple[int, int]] = []
+    for number in numbers:
+        if found and number == found[-1][1] + 1:
+            found[-1] = found[-1][0], number
+        else:
+            found.append((number, number))
+    return found
+
+
 # Verdicts, and how other lines begin that say as much: in green, in red and in yellow (ECMA-48), where there is colour.
 VERDICTS = {"same": 32, "no more": 32, "no less": 32, "differs": 31, "more": 31, "less": 31, "unfinished": 33}
 BEGINNINGS = {"accepted ": 32, "fault ": 31, "undecided at ": 33, "undetermined: ": 33}

@@ -91,13 +91,8 @@ class Inspection:
 
 def threads_text(threads: Sequence[int]) -> str:
     """Threads by their numbers, which rise; neighbours as `7 to 9`."""
-    runs: list[list[int]] = []
-    for thread in threads:
-        if runs and thread == runs[-1][-1] + 1:
-            runs[-1].append(thread)
-        else:
-            runs.append([thread])
-    shown = ", ".join(f"{run[0]} to {run[-1]}" if len(run) > 2 else ", ".join(map(str, run)) for run in runs)
+    shown = ", ".join(f"{first} to {last}" if last - first > 1 else ", ".join(map(str, range(first, last + 1)))
+                      for first, last in output.runs(threads))
     return f"thread{'s' * (len(threads) > 1)} {shown}"
 
 
