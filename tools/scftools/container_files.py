@@ -261,12 +261,6 @@ class Place:
     group: containers.Group | None
     space: tuple[int, int] | None
 
-    def has_group(self, process: Process) -> bool:
-        """Whether a process is in the container's control group or below."""
-        if self.group is None:
-            return False
-        return (process.groups.get(self.group.hierarchy, b"") + b"/").startswith(self.group.path + b"/")
-
 
 def _stated_group(one: Described, process: Process) -> containers.Group | None:
     """The control group that a runtime's file states, if the container's first process is in it or below. A user's own
@@ -293,7 +287,7 @@ def place_of(kernel: Kernel, one: Described, process: Process) -> Place:
     """Where the processes of a container are, given its first one. A group that has this tool or the machine's first
     process in it isn't the container's own: the container was started without one."""
     group = _stated_group(one, process) or _named_group(process)
-    if group is not None and any(group.has(kernel, it) for it in (1, os.getpid())):
+    if group is not None and any(group.has(kernel.groups_of(it)) for it in (1, os.getpid())):
         group = None
     is_first = process.inner == 1 and len(process.spaces) > 1
     return Place(one, group, process.spaces[0] if is_first else None)
@@ -314,7 +308,7 @@ class Membership:
     def container_of(self, process: Process) -> Described | None:
         """The container of a process; None if no file describes it."""
         for place in self.by_group:
-            if place.has_group(process):
+            if place.group.has(process.groups):
                 return place.container
         for space in process.spaces:
             if space in self.by_space:

@@ -41,9 +41,9 @@ class Group:
     # whether it is known to be a container's
     is_of_container: bool
 
-    def has(self, kernel: Kernel, process: int) -> bool:
-        """Whether a process is in it or in a group below."""
-        return (kernel.groups_of(process).get(self.hierarchy, b"") + b"/").startswith(self.path + b"/")
+    def has(self, groups: dict[str, bytes]) -> bool:
+        """Whether a process with these groups, by their hierarchies, is in it or in a group below."""
+        return (groups.get(self.hierarchy, b"") + b"/").startswith(self.path + b"/")
 
 
 @dataclass
@@ -110,8 +110,9 @@ def container_of(kernel: Kernel, process: int) -> Container:
         return [it for it in kernel.processes() if has_space and space[0] in kernel.namespaces_of(it)]
 
     if group is not None:
-        return Container(group.path, lambda: [it for it in kernel.processes() if group.has(kernel, it)],
-                         lambda: [it for it in in_space() if not group.has(kernel, it) and is_unknown(kernel, it)])
+        return Container(group.path, lambda: [it for it in kernel.processes() if group.has(kernel.groups_of(it))],
+                         lambda: [it for it in in_space() if not group.has(kernel.groups_of(it))
+                                  and is_unknown(kernel, it)])
     if not has_space:
         raise Unreadable(f"process {process} is in no container: its control group is the root, and its PID namespace "
                          f"this tool's")
