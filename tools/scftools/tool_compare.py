@@ -52,7 +52,7 @@ def read_words():
     parser = words.Parser(__doc__)
     parser.scope("x86-64 syscalls alone, whatever architectures the profile names",
                  "all syscalls, also those of other ABIs [default with --beside]")
-    parser.relation(with_disposition=True)
+    parser.relation(of_disposition=words.OF_DISPOSITION)
     parser.add("--limit", "--splits", "--table", "--verbose", "--caps", "--json", "--html")
     parser.add_argument("--beside", metavar="FILTER", nargs="+",
                         help="compare with these filters, oldest first, and not with a profile")

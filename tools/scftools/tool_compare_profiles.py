@@ -35,7 +35,7 @@ from . import (changes, client, engines, output, profile_inputs, profiles, progr
 def read_words():
     parser = words.Parser(__doc__)
     parser.add("--native")
-    parser.relation(other="OLD")
+    parser.relation("only check that nothing is {} than OLD")
     runtimes.add_options(parser)
     parser.add_argument("--keep-first", action="store_true", help="both are an engine's: of two answers to a syscall, "
                                                                   "both without conditions, keep the first")

@@ -23,7 +23,7 @@ from . import compare, filters, stack_comparison, tables, words
 def main():
     parser = words.Parser(__doc__)
     parser.scope("only x86-64 syscalls")
-    parser.relation(with_disposition=True, other="NEW")
+    parser.relation("only check that nothing is {} than NEW", words.OF_DISPOSITION)
     parser.add("--limit", "--splits", "--table", "--json")
     parser.add_argument("old", metavar="OLD", help="a raw filter; - is standard input")
     parser.add_argument("new", metavar="NEW", help="another one")

@@ -42,18 +42,13 @@ Examples:
 """
 from . import architectures, engines, explanation, filters, output, profile_of, program, runtimes, tables, words
 from .client import Refusal
-from .verdicts import NO_LESS, NO_MORE, SAME
 
 
 def read_words():
     parser = words.Parser(__doc__)
     parser.add_argument("--runtime", choices=tuple(runtimes.RUNTIMES),
                         help="print a profile for this container runtime; docker stands for runc, podman for crun")
-    side = parser.add_mutually_exclusive_group()
-    side.add_argument("--no-more", dest="relation", action="store_const", const=NO_MORE, default=SAME,
-                      help="print the nearest profile that is nowhere more permissive than the filters")
-    side.add_argument("--no-less", dest="relation", action="store_const", const=NO_LESS, default=SAME,
-                      help="print the nearest profile that is nowhere stricter than the filters")
+    parser.relation("print the nearest profile that is nowhere {} than the filters")
     parser.add("--arch", "--limit", "--splits", "--table", "filters")
     options = parser.parse_args()
     if options.runtime is not None and options.arch is not None:

@@ -18,6 +18,7 @@ import argparse  # noqa: E402 pylint: disable=wrong-import-position
 
 ARCH_HELP = ("the architecture of the syscalls{}, and of the table if none is given: x86-64, i386, x32, aarch64 or arm "
              "[default: this machine's{}]")
+OF_DISPOSITION = "only check that both sides deny, delegate and allow the same"
 # The options and arguments that several tools take.
 SHARED: dict[str, dict[str, Any]] = {
     "--arch": {"metavar": "ARCH", "help": ARCH_HELP.format("", "")},
@@ -106,26 +107,23 @@ class Parser(argparse.ArgumentParser):
         for name in names:
             self.add_argument(name, **{**SHARED[name], **changed})
 
-    def scope(self, native: str, of_all: str = "") -> None:
-        """Adds `--native` and `--calls`, on request `--all`, which exclude each other."""
+    def one_of(self, dest: str, default: str | None, *flags: tuple[str, str, str]) -> None:
+        """Adds flags that exclude each other, each with what it stands for and its help; but those without help."""
         group = self.add_mutually_exclusive_group()
-        group.add_argument("--native", dest="scope", action="store_const", const=verdicts.NATIVE, help=native)
-        if of_all:
-            group.add_argument("--all", dest="scope", action="store_const", const=verdicts.ALL, help=of_all)
-        group.add_argument("--calls", dest="scope", action="store_const", const=verdicts.CALLS,
-                           help="each syscall that a table names by itself, and no other")
+        for flag, value, text in flags:
+            if text:
+                group.add_argument(flag, dest=dest, action="store_const", const=value, default=default, help=text)
 
-    def relation(self, with_disposition: bool = False, other: str = "the profile") -> None:
-        """Adds `--no-more` and `--no-less`, on request `--disposition`, which exclude each other."""
-        group = self.add_mutually_exclusive_group()
-        group.add_argument("--no-more", dest="relation", action="store_const", const=verdicts.NO_MORE,
-                           default=verdicts.SAME, help=f"only check that nothing is more permissive than {other}")
-        group.add_argument("--no-less", dest="relation", action="store_const", const=verdicts.NO_LESS,
-                           default=verdicts.SAME, help=f"only check that nothing is stricter than {other}")
-        if with_disposition:
-            group.add_argument("--disposition", dest="relation", action="store_const",
-                               const=verdicts.SAME_DISPOSITION, default=verdicts.SAME,
-                               help="only check that both sides deny, delegate and allow the same")
+    def scope(self, native: str, of_all: str = "") -> None:
+        """Adds `--native` and `--calls`, on request `--all`."""
+        self.one_of("scope", None, ("--native", verdicts.NATIVE, native), ("--all", verdicts.ALL, of_all),
+                    ("--calls", verdicts.CALLS, "each syscall that a table names by itself, and no other"))
+
+    def relation(self, text: str = "only check that nothing is {} than the profile", of_disposition: str = "") -> None:
+        """Adds `--no-more` and `--no-less`, on request `--disposition`."""
+        self.one_of("relation", verdicts.SAME, ("--no-more", verdicts.NO_MORE, text.format("more permissive")),
+                    ("--no-less", verdicts.NO_LESS, text.format("stricter")),
+                    ("--disposition", verdicts.SAME_DISPOSITION, of_disposition))
 
     def one_standard_input(self, names: Iterable[str | None]) -> None:
         """Rejects a command line that names standard input twice."""
