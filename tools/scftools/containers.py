@@ -8,7 +8,7 @@ systemd's names for sibling groups. If there is none, it is the process's.
 from __future__ import annotations
 
 import os
-from collections.abc import Callable, Iterator
+from collections.abc import Callable, Iterator, Sequence
 
 from . import output
 from .hold import Unreadable
@@ -55,6 +55,9 @@ class Container:
     processes: Callable[[], list[int]]
     # Those of the PID namespace in other groups, of which nothing tells whether they are the container's.
     others: Callable[[], list[int]] = list
+    # Whether the kernel ends them with the first one, and what is to be known of which they are.
+    end_together: bool = False
+    remarks: Sequence[str] = ()
 
     @property
     def description(self) -> str:

@@ -120,32 +120,20 @@ def configured(container: Container) -> dict[str, Any] | None:
     return verify.seccomp_in(value, name)
 
 
-@dataclass(frozen=True)
-class Members:
-    """The processes of a container."""
-
-    numbers: Callable[[], list[int]]
-    # Whether the kernel ends them with the first one.
-    end_together: bool = False
-    remarks: Sequence[str] = ()
-    # The lines about other processes that may also be the container's.
-    others_note: Callable[[], str | None] = lambda: None
-
-
-def members_of(kernel: Kernel, pid: int) -> Members:
+def members_of(kernel: Kernel, pid: int) -> containers.Container:
     """The processes of a container whose first one this is: those of its PID namespace if it is also the first one
     there, else those of its control group if this tool isn't in that group itself."""
     if kernel.status_of(pid).get("NSpid", "").split()[1:][-1:] == ["1"]:
         space = kernel.namespaces_of(pid)[:1]
-        return Members(lambda: [it for it in kernel.processes() if set(space) & set(kernel.namespaces_of(it))],
-                       end_together=True)
+        return containers.Container(None, lambda: [it for it in kernel.processes()
+                                                   if set(space) & set(kernel.namespaces_of(it))], end_together=True)
     try:
         found = processes.container_of(kernel, pid)
         if found.group is not None and os.getpid() not in found.processes():
-            return Members(found.processes, others_note=lambda: containers.others_note(kernel, found))
+            return found
     except processes.Unreadable:
         pass
-    return Members(lambda: descendants(kernel, pid), remarks=(OF_NO_GROUP,))
+    return containers.Container(None, lambda: descendants(kernel, pid), remarks=(OF_NO_GROUP,))
 
 
 def descendants(kernel: Kernel, pid: int) -> list[int]:
@@ -231,7 +219,7 @@ class Process:
         return {pid: file for pid, file in held.items() if pid in still}
 
     def running_others(self) -> list[int]:
-        return [it for it in self.members.numbers()
+        return [it for it in self.members.processes()
                 if it != self.container.pid and self.kernel.status_of(it).get("State", "Z")[:1] not in "ZX"]
 
     def threads(self) -> dict[int, int]:
@@ -240,7 +228,7 @@ class Process:
         pid = self.container.pid
         threads = self.kernel.threads_of(pid)
         found = {it: pid for it in threads if it == pid or self.container.status != CREATED}
-        for other in self.members.numbers():
+        for other in self.members.processes():
             found.update((it, other) for it in self.kernel.threads_of(other) if other != pid)
         return found
 
@@ -284,13 +272,13 @@ class Finding:
     value: Callable[[], dict[str, object]]
 
 
-def finding_of(found: Inspection, request: verify.Request, members: Members) -> Finding:
+def finding_of(found: Inspection, request: verify.Request, process: Process) -> Finding:
     """The result for all distinct stacks. Its text has no line for each name or architecture that was left out."""
-    blocks, others = verify.blocks(found, request), members.others_note()
+    blocks, others = verify.blocks(found, request), containers.others_note(process.kernel, process.members)
     status, verdict = verify.worst(blocks), blocks[0].verdict
     if others is not None and status == program.SUCCESS:
         status, verdict = program.UNKNOWN, None
-    remarks = [*request.remarks, *members.remarks, *([others] if others else [])]
+    remarks = [*request.remarks, *process.members.remarks, *([others] if others else [])]
 
     def lines() -> list[str]:
         own = [line for line in verify.lines(blocks, found, request)

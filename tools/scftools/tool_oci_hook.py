@@ -85,7 +85,7 @@ def judge(options, process):
         return hooks.without_profile(options.allow_unconfined)
     asked = verify.request_of(config, options.runtime, options.keep_first, tables.read(options.table),
                               POLICIES[options.policy], verdicts.NATIVE if options.native else None)
-    return hooks.finding_of(process.confined(options.wait, options.force), asked, process.members)
+    return hooks.finding_of(process.confined(options.wait, options.force), asked, process)
 
 
 def tell(is_json, container, result, killed):

@@ -300,10 +300,11 @@ class OfProcesses(Hook):
         child = self.child([refusing(MOUNT)])
         process = hooks.Process(hooks.container_of(self.state(child.pid, self.bundle(refuses("mount")))))
         asked = verify.request_of(hooks.configured(process.container), None, False, tables.read(None), "same")
-        for told, expected in ((None, (0, "same")), ("others are there", (4, None))):
-            finding = hooks.finding_of(process.look(), asked, hooks.Members(list, others_note=lambda it=told: it))
+        for others, expected in (([], (0, "same")), ([os.getpid()], (4, None))):
+            process.members = processes.Container(None, list, lambda it=others: it)
+            finding = hooks.finding_of(process.look(), asked, process)
             self.assertEqual((finding.status, finding.verdict), expected)
-            self.assertEqual("# others are there" in finding.lines(), told is not None)
+            self.assertEqual("weren't checked" in "".join(finding.lines()), bool(others))
 
     def test_members_that_are_one_in_go(self):
         """What runc reads as the profile, and crun doesn't, is refused."""
@@ -549,7 +550,7 @@ class Inside(Hook):
         child.wait()
         kernel = FakeKernel([refusing(MOUNT)])
         kernel.threads_of = lambda _: [child.pid]
-        process.kernel, process.members = kernel, hooks.Members(lambda: [child.pid])
+        process.kernel, process.members = kernel, processes.Container(None, lambda: [child.pid])
         with self.assertRaises(processes.Unreadable) as caught:
             process.look()
         self.assertEqual(str(caught.exception), f"process {child.pid} has ended")
