@@ -45,7 +45,6 @@ class Comparison:
     stub: newer.Bounds = field(default_factory=dict)
     is_native: bool = False
     architecture: str = architectures.NATIVE
-    _facts: list[Profile | None] = field(default_factory=list)
 
     @property
     def tables(self) -> Tables:
@@ -60,9 +59,7 @@ class Comparison:
     @property
     def facts(self) -> Profile | None:
         """What the tools read of the profile themselves."""
-        if not self._facts:
-            self._facts.append(profiles.read(self.profile))
-        return self._facts[0]
+        return profiles.read(self.profile)
 
     def _run(self, scope: str, filters: Sequence[bytes], relation: str) -> tuple[int, Report]:
         judged = self.tables if scope == LISTED else tables.native_alone(self.table.data)
@@ -81,7 +78,7 @@ class Comparison:
         the others."""
         if self.tables.is_native:
             return self._run(ALL, filters, relation)
-        others = replace(self, profile=NOTHING_ELSE, _facts=[])
+        others = replace(self, profile=NOTHING_ELSE)
         return others._run(ALL, [*other_abis.denial_filters(self.tables.of), *filters], relation)
 
     def run(self, scope: str | None = None, relation: str | None = None) -> tuple[int, Report]:

@@ -58,7 +58,7 @@ def _below(comparison: Comparison, bounds: Bounds) -> Comparison:
 def _beyond(comparison: Comparison, bounds: Bounds, answer: Answer) -> Comparison:
     """The comparison of the numbers from the bounds on with one answer."""
     profile = answer.as_profile(list(comparison.tables.of)) or b""
-    return replace(_only(comparison, bounds, answer, True), profile=profile, _facts=[])
+    return replace(_only(comparison, bounds, answer, True), profile=profile)
 
 
 def with_stub(data: bytes, bounds: Bounds) -> bytes:

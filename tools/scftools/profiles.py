@@ -6,7 +6,6 @@ from __future__ import annotations
 
 import functools
 import json
-import re
 from collections.abc import Iterator, Sequence
 
 from . import json_places
@@ -94,6 +93,7 @@ def entry_at(data: bytes, place: int) -> object:
     return entries[place] if isinstance(entries, list) and place < len(entries) else None
 
 
+@functools.lru_cache(2)
 def read(data: bytes) -> Profile | None:
     """What the tools need of a profile, or None if it can't be read."""
     top = _top(data)
@@ -187,22 +187,11 @@ def errno_by_name(data: bytes) -> str | None:
 
 def _too_deep(text: str) -> int | None:
     """Where JSON nests deeper than scf's parser allows."""
-    depth, is_text, escaped = 0, False, -1
-    for found in re.finditer(r'["\\\[\]{}]', text):
-        at, letter = found.start(), found[0]
-        if is_text:
-            if at != escaped and letter == "\\":
-                escaped = at + 1
-            elif at != escaped and letter == '"':
-                is_text = False
-        elif letter == '"':
-            is_text = True
-        elif letter in "[{":
-            depth += 1
-            if depth > DEEPEST:
-                return at
-        elif letter in "]}":
-            depth -= 1
+    depth = 0
+    for found in json_places.TOKEN.finditer(text):
+        depth += {"[": 1, "{": 1, "]": -1, "}": -1}.get(found[0], 0)
+        if depth > DEEPEST:
+            return found.start()
     return None
 
 

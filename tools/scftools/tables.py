@@ -23,34 +23,32 @@ class Table:
 
     def __init__(self, data: bytes):
         self.data = data
-        self._names: dict[int, list[str]] | None = None
-        self._numbers: dict[str, int] = {}
 
-    def _read(self) -> dict[int, list[str]]:
-        if self._names is None:
-            self._names = {}
-            for line in self.data.split(b"\n"):
-                entry = LINE.fullmatch(line)
-                if entry:
-                    name, number = entry[1].decode(), int(entry[2])
-                    self._names.setdefault(number, []).append(name)
-                    self._numbers.setdefault(name, number)
-        return self._names
+    @functools.cached_property
+    def _parsed(self) -> tuple[dict[int, list[str]], dict[str, int]]:
+        """The names of each number, and the number of each name."""
+        names: dict[int, list[str]] = {}
+        numbers: dict[str, int] = {}
+        for line in self.data.split(b"\n"):
+            entry = LINE.fullmatch(line)
+            if entry:
+                name, number = entry[1].decode(), int(entry[2])
+                names.setdefault(number, []).append(name)
+                numbers.setdefault(name, number)
+        return names, numbers
 
     def names_of(self, number: int) -> list[str]:
         """The names of a number, in the table's order."""
-        return self._read().get(number, [])
+        return self._parsed[0].get(number, [])
 
     def number_of(self, name: str) -> int | None:
-        self._read()
-        return self._numbers.get(name)
+        return self._parsed[1].get(name)
 
     def names(self) -> Iterable[str]:
-        self._read()
-        return self._numbers.keys()
+        return self._parsed[1].keys()
 
     def numbers(self) -> Iterable[int]:
-        return self._read().keys()
+        return self._parsed[0].keys()
 
 
 def read(name: str | None, one: Architecture = JUDGED[NATIVE]) -> Table:
