@@ -13,7 +13,6 @@ DEFINE = Pattern(rf"^[ \t]*#[ \t]*define[ \t]+__(?:ARM_)?NR_([A-Za-z_]\w*)[ \t]+
                  re.M | re.A)
 COMMENT = Pattern(r"/\*.*?(?:\*/|\Z)|//[^\n]*", re.S)
 NAME = Pattern(r"[A-Za-z_]\w*", re.A)
-ROW = Pattern(r"[^\n]+")
 # The first row that isn't empty and no comment.
 FIRST = Pattern(r"^[ \t\r]*([^ \t\r\n#][^\n]*)", re.M)
 # A count, and names in capital letters, such as SYSCALL_BASE, are no syscalls.
@@ -71,10 +70,7 @@ def of_source_table(text: str, numbering: Numbering) -> dict[str, int]:
     """The syscalls of syscall_64.tbl: its rows of a number, an ABI, a name and entry points. The rows of x86-64 are
     `common` and `64`, those of x32 `common` and `x32`."""
     calls: dict[str, int] = {}
-    line, begun = 1, 0
-    for found in ROW.finditer(text):
-        line, begun = line + text.count("\n", begun, found.start()), found.start()
-        row = found[0]
+    for line, row in enumerate(text.split("\n"), 1):
         fields = row.split("#", 1)[0].split(None, 3)
         if not fields:
             continue
