@@ -118,20 +118,10 @@ def _holding(data: bytes) -> int:
 
         with tempfile.TemporaryFile() as spare:
             file = os.dup(spare.fileno())
-    rest = memoryview(data)
-    while rest:
-        rest = rest[os.write(file, rest):]
+    with os.fdopen(file, "wb", closefd=False) as opened:
+        opened.write(data)
     os.lseek(file, 0, os.SEEK_SET)
     return file
-
-
-def _all_of(file: int) -> bytes:
-    found = []
-    while True:
-        piece = os.read(file, 1 << 16)
-        if not piece:
-            return b"".join(found)
-        found.append(piece)
 
 
 def _limit(child: int, seconds: float | None) -> None:
@@ -176,8 +166,8 @@ def run(words: Sequence[str], given: bytes | None = b"", seconds: float | None =
         os.close(source)
     if program_built is not None:
         _limit(child, seconds)
-    out = _all_of(ends[0])
-    os.close(ends[0])
+    with os.fdopen(ends[0], "rb") as printed:
+        out = printed.read()
     state = os.waitpid(child, 0)[1]
     if os.WIFSIGNALED(state) and seconds is not None and os.WTERMSIG(state) == KILLED:
         return Run(UNKNOWN, b"")
