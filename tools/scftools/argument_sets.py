@@ -249,21 +249,13 @@ class Sets:
         first = self.bits * (index + 1) - 32 * (half + 1)
         return tuple(self.node(variable, NONE, ALL) for variable in range(first, first + 32))
 
-    def cube(self, index: int, value: int, mask: int) -> int:
-        """The arguments of which one agrees with a value in these bits."""
+    def cube(self, index: int, value: int, mask: int, greater: int = NONE) -> int:
+        """The arguments of which one agrees with a value in these bits; if `greater` is ALL, or is greater in them."""
         found = ALL
         for at in range(self.bits):
             if mask >> at & 1:
-                parts = (NONE, found) if value >> at & 1 else (found, NONE)
+                parts = (NONE, found) if value >> at & 1 else (found, greater)
                 found = self.node(self.bits * (index + 1) - 1 - at, *parts)
-        return found
-
-    def from_on(self, index: int, value: int) -> int:
-        """The arguments of which one is at least this value."""
-        found = ALL
-        for at in range(self.bits):
-            parts = (NONE, found) if value >> at & 1 else (found, ALL)
-            found = self.node(self.bits * (index + 1) - 1 - at, *parts)
         return found
 
     def of_condition(self, one: Condition) -> int:
@@ -276,7 +268,7 @@ class Sets:
             return found if op == "SCMP_CMP_EQ" else self.complement(found)
         # at least `value`, or above it
         least = value + (op in ("SCMP_CMP_GT", "SCMP_CMP_LE"))
-        found = self.from_on(index, least) if least <= self.most else NONE
+        found = self.cube(index, least, self.most, ALL) if least <= self.most else NONE
         return found if op in ("SCMP_CMP_GE", "SCMP_CMP_GT") else self.complement(found)
 
     def of_conditions(self, those: Iterable[Condition]) -> int:
