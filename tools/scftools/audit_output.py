@@ -175,10 +175,6 @@ def row_json(row: Row, numbers: dict[int, int], table: Table) -> dict[str, objec
             "parts": [_part_json(row, it, numbers, table) for it in row.parts]}
 
 
-def _numbers(audit: Audit) -> dict[int, int]:
-    return {id(stack): at for at, stack in enumerate(audit.stacks)}
-
-
 def head_json(audit: Audit) -> dict[str, object]:
     """The JSON of the whole audit, without its rows."""
     system = os.uname()
@@ -195,13 +191,13 @@ def head_json(audit: Audit) -> dict[str, object]:
 
 def as_json(audit: Audit, table: Table) -> dict[str, object]:
     """The audit as one object."""
-    numbers = _numbers(audit)
-    return {**head_json(audit), "rows": [row_json(it, numbers, table) for it in audit.rows]}
+    *rows, head = json_lines(audit, table)
+    return {**head, "rows": rows}
 
 
 def json_lines(audit: Audit, table: Table) -> Iterator[dict[str, object]]:
     """An object for each row, and the last one for the whole."""
-    numbers = _numbers(audit)
+    numbers = {id(stack): at for at, stack in enumerate(audit.stacks)}
     yield from (row_json(it, numbers, table) for it in audit.rows)
     yield head_json(audit)
 

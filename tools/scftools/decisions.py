@@ -208,12 +208,6 @@ class Reply:
         return {**found, **self.members()}
 
 
-def decide(filters: Sequence[Filter], query: Query) -> tuple[int, Decision]:
-    """scf's exit status, and what the stack answers."""
-    done = client.run(["decide", *query.words()], bundles.of_stack([it.data for it in filters]))
-    return done.status, verdicts.decision(done.text)
-
-
 def _reply(status: int, lines: Sequence[str], query: Query, decision: Decision, table: Table) -> Reply:
     """The reply of filters, without what gives the answer."""
     fault = decision.fault
@@ -223,7 +217,8 @@ def _reply(status: int, lines: Sequence[str], query: Query, decision: Decision, 
 
 def of_stack(filters: Sequence[Filter], query: Query, table: Table) -> Reply:
     """What a stack answers to a syscall, which filter gives the answer, and the path through that one."""
-    status, decision = decide(filters, query)
+    done = client.run(["decide", *query.words()], bundles.of_stack([it.data for it in filters]))
+    decision = verdicts.decision(done.text)
 
     def givers() -> list[Giver]:
         return listing.deciding_filters(filters, query.words(), decision.answer) if decision.answer else []
@@ -244,8 +239,8 @@ def of_stack(filters: Sequence[Filter], query: Query, table: Table) -> Reply:
         return {**({"filters": files} if len(filters) > 1 and (giver or decision.fault) else {}),
                 **({"path": giver.as_json()} if giver else {})}
 
-    return replace(_reply(status, [decision.line] if decision.line else [], query, decision, table), reasons=reasons,
-                   members=members)
+    return replace(_reply(done.status, [decision.line] if decision.line else [], query, decision, table),
+                   reasons=reasons, members=members)
 
 
 def of_run(one: Filter, query: Query, table: Table, with_path: bool) -> Reply:
