@@ -4,7 +4,7 @@ from __future__ import annotations
 import os
 import re
 import time
-from collections.abc import Iterable, Iterator
+from collections.abc import Iterator
 
 from . import output
 from .audit import CONTAINER, KINDS, PROGRAM, STRICTER, UNIT, VERDICTS, Audit, Judgement, Part, Row, stack_digest
@@ -207,11 +207,6 @@ def _label(text: str) -> str:
     return output.escaped(text).replace("\\", "\\\\").replace('"', '\\"')
 
 
-def _sample(name: str, labels: Iterable[tuple[str, str | None]], value: object) -> str:
-    shown = ",".join(f'{label}="{_label(text or "")}"' for label, text in labels)
-    return f"{name}{{{shown}}} {value}\n" if shown else f"{name} {value}\n"
-
-
 def _metrics(audit: Audit) -> Iterator[Metric]:
     yield "scf_container_verdict", "The verdict on a container; the label says which.", [
         ([("id", it.key), ("name", it.name), ("engine", it.container.engine), ("image", it.container.image),
@@ -235,6 +230,10 @@ def _metrics(audit: Audit) -> Iterator[Metric]:
 
 def metrics(audit: Audit) -> str:
     """The audit in Prometheus's text format."""
-    return "".join(f"# HELP {name} {help_text}\n# TYPE {name} gauge\n"
-                   + "".join(_sample(name, labels, value) for labels, value in samples)
-                   for name, help_text, samples in _metrics(audit))
+    lines_of = []
+    for name, help_text, samples in _metrics(audit):
+        lines_of += [f"# HELP {name} {help_text}\n", f"# TYPE {name} gauge\n"]
+        for labels, value in samples:
+            shown = ",".join(f'{label}="{_label(text or "")}"' for label, text in labels)
+            lines_of.append(f"{name}{{{shown}}} {value}\n" if shown else f"{name} {value}\n")
+    return "".join(lines_of)

@@ -49,12 +49,6 @@ def _head(audit: Audit) -> Iterator[Markup]:
     yield tag("p", PROVED, class_="faint")
 
 
-def _processes(row: Row) -> Markup:
-    shown = [f"{number} {output.escaped(name)}" for number, name in row.names.items()]
-    count = audit_output.number_text(len(shown), "process", "processes")
-    return tag("details", tag("summary", count), listed(shown))
-
-
 def _stacks_of(row: Row, audit: Audit) -> Markup:
     """The distinct stacks of a row's threads, each with its verdict if they have several."""
     numbers = {id(stack): at for at, stack in enumerate(audit.stacks)}
@@ -77,10 +71,13 @@ def _row(row: Row, audit: Audit) -> list[object]:
     source += [tag("code", digest[:DIGITS], title=digest)] if digest else []
     if row.expected.why is not None:
         source += [" ", row.expected.why]
+    processes = [f"{number} {output.escaped(name)}" for number, name in row.names.items()]
+    count = audit_output.number_text(len(processes), "process", "processes")
     return [_coloured(row.verdict), joined([row.kind, " ", tag("strong", row.name, class_="long")]),
             ", ".join(audit_output.about(row)), tag("span", *source, class_="long"), _stacks_of(row, audit),
             tag("details", tag("summary", str(len(capabilities))), " ".join(capabilities)) if capabilities else "none",
-            "yes" if all(it.has_no_new_privileges for it in row.processes) else "no", _processes(row)]
+            "yes" if all(it.has_no_new_privileges for it in row.processes) else "no",
+            tag("details", tag("summary", count), listed(processes))]
 
 
 def _rows(audit: Audit) -> Iterator[Markup]:

@@ -6,7 +6,7 @@ import json
 from collections.abc import Iterator, Sequence
 
 from . import client, compare, constants, entries, newer, output, program, questions, reasons, tables
-from .answers import DISPOSITIONS, ENOSYS, X32, Answer
+from .answers import DISPOSITIONS, ENOSYS, X32
 from .architectures import JUDGED, NATIVE, Architecture
 from .calls import Call
 from .client import Refusal
@@ -240,12 +240,6 @@ def _of_calls(pair: ProfilePair) -> list[Change]:
     return sorted(found, key=lambda it: KINDS.index(it.kind))
 
 
-def _kind_of(before: Answer | None, after: Answer | None) -> str:
-    """The kind of a change from one answer to another."""
-    one, other = (DISPOSITIONS.index(answer.disposition) if answer else 0 for answer in (before, after))
-    return MORE if one < other else LESS if one > other else OTHERWISE
-
-
 def _of_unnamed(pair: ProfilePair) -> Change | None:
     """Whether the defaults differ, which answer all numbers that a table doesn't name: by the least of them."""
     for one, table in pair.both:
@@ -258,7 +252,9 @@ def _of_unnamed(pair: ProfilePair) -> Change | None:
             return Change(number, (), verdict.word, architecture=one)
         call = Call(one.first + number, one.number)
         asked = pair.asked(call)
-        return Change(number, (), _kind_of(asked[OLD].answer, asked[NEW].answer), call, asked, one)
+        before, after = (DISPOSITIONS.index(it.answer.disposition) if it.answer else 0 for it in asked.values())
+        kind = MORE if before < after else LESS if before > after else OTHERWISE
+        return Change(number, (), kind, call, asked, one)
     return None
 
 

@@ -200,16 +200,10 @@ def begin_limits() -> None:
     _is_spent_reported, _seconds_before = False, sum(os.times()[:4])
 
 
-def _report_spent() -> None:
-    """Reports once that the time is up."""
-    global _is_spent_reported  # pylint: disable=global-statement
-    if not _is_spent_reported:
-        program.say(SPENT)
-    _is_spent_reported = True
-
-
 def compare(words: Sequence[str], bundle: bytes) -> Run:
-    """`scf compare` within the limits of the command line; a tool without --limit has scf's own while there is time."""
+    """`scf compare` within the limits of the command line; a tool without --limit has scf's own while there is time,
+    and reports once that it is up."""
+    global _is_spent_reported  # pylint: disable=global-statement
     words = ["compare", *words, *(f"--{name}={text}" for name, text in limits.items())]
     if "limit" in limits or not program.is_tool:
         return run(words, bundle)
@@ -222,5 +216,7 @@ def compare(words: Sequence[str], bundle: bytes) -> Run:
         done = run([*words, *steps], bundle, left) if left > 0 else None
         if done is not None and done.out:
             return done
-        _report_spent()
+        if not _is_spent_reported:
+            program.say(SPENT)
+        _is_spent_reported = True
     return run([*words, "--limit=0"], bundle)

@@ -43,12 +43,6 @@ def rank(half: int) -> int:
     return half - (1 << 16) if half & 0x8000 else half
 
 
-def weaker(outcome: Outcome) -> Answer | None:
-    """The strictest answer with a name that is less strict than each of an outcome; None if all are as strict."""
-    least = max(map(rank, outcome.halves))
-    return next((Answer(name, 0) for half, name in ACTIONS.items() if rank(half) > least), None)
-
-
 class Stack:
     """Filters, oldest first, whose answers are asked of scf."""
 
@@ -101,7 +95,9 @@ class Stack:
     def as_strict(self, call: Call, values: dict[int, int], outcome: Outcome) -> Call | bool | None:
         """A call with these arguments that is answered at least as strictly as the outcome says; False if scf proved
         that there is none, None if that isn't known."""
-        less = weaker(outcome)
+        # the strictest answer with a name that is less strict than each of the outcome
+        least = max(map(rank, outcome.halves))
+        less = next((Answer(name, 0) for half, name in ACTIONS.items() if rank(half) > least), None)
         if less is None or not call.is_native:
             return None
         exact = [(index, WORD, value) for index, value in values.items()]

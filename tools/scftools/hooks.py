@@ -275,7 +275,7 @@ class Finding:
 def finding_of(found: Inspection, request: verify.Request, process: Process) -> Finding:
     """The result for all distinct stacks. Its text has no line for each name or architecture that was left out."""
     blocks, others = verify.blocks(found, request), containers.others_note(process.kernel, process.members)
-    status, verdict = verify.worst(blocks), blocks[0].verdict
+    status, verdict = blocks[0].status, blocks[0].verdict
     if others is not None and status == program.SUCCESS:
         status, verdict = program.UNKNOWN, None
     remarks = [*request.remarks, *process.members.remarks, *([others] if others else [])]
@@ -296,12 +296,6 @@ def plain_finding(status: int, verdict: str | None, line: str) -> Finding:
     """A finding of a single line."""
     value: dict[str, object] = {"status": status, "scope": compare.NATIVE, "verdict": verdict}
     return Finding(status, verdict, lambda: [line], lambda: value if verdict else {**value, "why": line})
-
-
-def without_profile(is_allowed: bool) -> Finding:
-    """The configuration has no profile."""
-    return plain_finding(program.SUCCESS if is_allowed else program.NEGATIVE, "unstated",
-                         "the configuration has no seccomp profile: the container isn't confined")
 
 
 def failure(why: str, status: int = program.IO_ERROR) -> Finding:

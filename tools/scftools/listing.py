@@ -2,7 +2,7 @@
 instructions run on a syscall, by `scf run --path`, and the last tests among them."""
 from __future__ import annotations
 
-from collections.abc import Iterable, Iterator, Sequence
+from collections.abc import Iterator, Sequence
 
 from . import client, output, verdicts
 from .answers import ACTIONS, X32, X86_64, Answer
@@ -181,13 +181,6 @@ def _meaning(index: int, insn: Instruction, known: Known, table: Table, count: i
     shown = [f"{it}" if it < count else f"{it}, which is out of range" for it in insn.targets(index)]
     what = _tested(insn, known, table) if insn.code != JUMP else None
     return (f"{what}: " if what else "") + f"to {shown[0]}" + (f", else {shown[1]}" if len(shown) > 1 else "")
-
-
-def mark_lines(lines: Iterable[str], indexes: Iterable[int]) -> Iterator[str]:
-    """The lines of a listing, some instructions marked by `>`."""
-    on_path = frozenset(indexes)
-    for index, line in enumerate(lines):
-        yield f"{'>' if index in on_path else ' '} {line}"
 
 
 def listing_lines(data: bytes, lines: Sequence[str], table: Table) -> Iterator[str]:

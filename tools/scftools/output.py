@@ -64,14 +64,11 @@ BEGINNINGS = {"accepted ": 32, "fault ": 31, "undecided at ": 33, "undetermined:
 color = "auto"
 
 
-def _is_colored() -> bool:
-    if color == "auto":
-        return sys.stdout is not None and sys.stdout.isatty() and not os.environ.get("NO_COLOR")
-    return color == "always"
-
-
 def _colored(line: str) -> str:
-    """A line, safe by itself, in the colour of what it says; the tools' own lines are faint."""
+    """A line, safe by itself, in the colour of what it says, where that is wanted; the tools' own lines are faint."""
+    is_auto = color == "auto" and sys.stdout is not None and sys.stdout.isatty() and not os.environ.get("NO_COLOR")
+    if not is_auto and color != "always":
+        return line
     found = VERDICTS.get(line) or next((it for word, it in BEGINNINGS.items() if line.startswith(word)), None)
     if found is None and not line.startswith("# "):
         return line
@@ -94,7 +91,7 @@ def put(text: str | bytes) -> None:
 
 def put_line(text: str) -> None:
     """Prints a line, escaped, in colour where that is wanted."""
-    put(f"{_colored(escaped(text)) if _is_colored() else escaped(text)}\n")
+    put(f"{_colored(escaped(text))}\n")
 
 
 def put_lines(lines: Iterable[str]) -> None:

@@ -54,6 +54,7 @@ def main():
     elif path is None:
         output.put_lines(lines)
     else:
-        output.put_lines(listing.mark_lines(lines, path.indexes))
+        on_path = frozenset(path.indexes)
+        output.put_lines(f"{'>' if index in on_path else ' '} {line}" for index, line in enumerate(lines))
         output.put_lines(output.notes(explanation.of_answer(call.call, path.decision.answer, table)))
     return path.status if path else done.status

@@ -82,7 +82,8 @@ def judge(options, process):
     """Whether the container is confined as its configuration says."""
     config = hooks.configured(process.container)
     if config is None:
-        return hooks.without_profile(options.allow_unconfined)
+        return hooks.plain_finding(program.SUCCESS if options.allow_unconfined else program.NEGATIVE, "unstated",
+                                   "the configuration has no seccomp profile: the container isn't confined")
     asked = verify.request_of(config, options.runtime, options.keep_first, tables.read(options.table),
                               POLICIES[options.policy], verdicts.NATIVE if options.native else None)
     return hooks.finding_of(process.confined(options.wait, options.force), asked, process)

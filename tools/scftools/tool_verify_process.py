@@ -109,8 +109,8 @@ def main():
     container, found = processes.read_or_end(read, has_force=True, is_json=options.json)
     blocks = verify.blocks(found, request)
     others = None if container is None else containers.others_note(kernel, container)
-    is_unknown = others is not None and verify.worst(blocks) == program.SUCCESS
-    status = program.UNKNOWN if is_unknown else verify.worst(blocks)
+    is_unknown = others is not None and blocks[0].status == program.SUCCESS
+    status = program.UNKNOWN if is_unknown else blocks[0].status
     if options.json:
         group = None if container is None else container.description
         value = {**verify.as_json(blocks, found, request, group), "status": status, "others": others}

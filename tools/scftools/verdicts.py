@@ -135,18 +135,12 @@ class Report:
         return replace(self, skipped=()).printed
 
 
-def _example(lines: Sequence[str]) -> Verdict:
-    call = Call.read(lines[1]) if len(lines) > 3 else None
-    if call is None:
-        return Verdict(lines[0])
-    sides = [Answer.read(line.partition(" ")[2]) for line in lines[2:4]]
-    return Verdict(lines[0], call, *sides)
-
-
 def _verdict(lines: Sequence[str]) -> Verdict | None:
     word, _, rest = lines[0].partition(" ")
     if lines[0] in FAILS:
-        return _example(lines)
+        call = Call.read(lines[1]) if len(lines) > 3 else None
+        sides = [] if call is None else [Answer.read(line.partition(" ")[2]) for line in lines[2:4]]
+        return Verdict(lines[0], call, *sides)
     if lines[0] in (*HOLDS, UNFINISHED):
         return Verdict(lines[0])
     place = re.fullmatch("at ([0-9]+)", rest)

@@ -176,10 +176,6 @@ def blocks(found: Inspection, request: Request | SavedRequest) -> list[Block]:
     return sorted(made, key=lambda it: client.rank(it.status))
 
 
-def worst(made: Sequence[Block]) -> int:
-    return made[0].status
-
-
 def of_threads(stack: Stack, found: Inspection) -> Iterator[str]:
     """Which threads have a stack: a line for each process."""
     for process, threads in stack.threads.items():
@@ -225,7 +221,7 @@ def as_json(made: Sequence[Block], found: Inspection, request: Request | SavedRe
         dict[str, object]:
     """The same as `lines`, as one object, with the container: the verdict is that of the worst stack."""
     scope = request.scope or next((it.scope for it in made if it.report is not None), verdicts.NATIVE)
-    return {"status": worst(made), "scope": scope, "verdict": made[0].verdict, "container": container,
+    return {"status": made[0].status, "scope": scope, "verdict": made[0].verdict, "container": container,
             "stacks": [_block_json(block, found, request) for block in made],
             "passed_over": [{"process": process, "why": why} for process, why in found.passed_over.items()],
             "asked_again": [{"process": process, "thread": thread} for process, thread in found.asked_again]}
