@@ -13,8 +13,8 @@ import time
 from collections import Counter
 from collections.abc import Callable, Iterable, Sequence
 
-from . import (bundles, client, compare, container_files, engines, machine, newer, other_abis, output,
-               program, units, verdicts, verify)
+from . import (bundles, client, compare, container_files, engines, hold, machine, newer, other_abis, output, program,
+               units, verdicts, verify)
 from .compare import Comparison
 from .container_files import Described
 from .filters import Filter
@@ -433,7 +433,7 @@ def _look_again(kernel: Kernel, snapshot: Snapshot, rows: Iterable[Row], options
     time.sleep(TO_CONFINE)
     for number in early:
         snapshot.forget(number)
-    machine.read_more(kernel, snapshot, early, options.is_forced, machine.why_no_filters(kernel))
+    machine.read_more(kernel, snapshot, early, options.is_forced, hold.why_no_filters(kernel))
     return True
 
 

@@ -125,9 +125,6 @@ class Comparison:
         return first[0], replace(found, skipped=_in_all(it.skipped for _, it in reports),
                                  architectures=_in_all(it.architectures for _, it in reports))
 
-    def alone(self, one: Filter, scope: str) -> Report:
-        return self._run(scope, [one.data], self.relation)[1]
-
     def _reports_on(self, name: str, scope: Sequence[str], relation: str) -> Iterator[Report]:
         """scf's reports on the syscalls of one of the architectures, with a stub those on both sides of its numbers.
         Raises Refusal."""
@@ -173,7 +170,7 @@ def responsible(comparison: Comparison, report: Report, scope: str) -> Iterator[
         yield from ((name, f"the filter is {name}") for name in faulty_filters(comparison.filters, report.fault))
     elif report.verdict and report.verdict.word == UNDECIDED:
         for one in comparison.filters:
-            verdict = comparison.alone(one, scope).verdict
+            verdict = replace(comparison, filters=[one]).run(scope)[1].verdict
             if verdict and verdict.word == UNDECIDED:
                 yield one.name, f"alone, {one.name} is undecided at {verdict.at}"
 

@@ -51,20 +51,19 @@ def called(thread: int, process: int) -> str:
     return f"process {process}" if thread == process else f"thread {thread} of process {process}"
 
 
-def require_rights(kernel: Kernel) -> None:
-    """Raises Unreadable if this tool can't read filters, before any process is stopped."""
+def why_no_filters(kernel: Kernel) -> str | None:
+    """Why this tool can read no filters at all, or None if it can."""
     if os.uname().machine != "x86_64" or struct.calcsize("P") != 8:
-        raise Unreadable("processes can only be inspected on x86-64, and with a 64-bit Python")
+        return "processes can only be inspected on x86-64, and with a 64-bit Python"
     if not kernel.is_proc_ours():
-        raise Unreadable("/proc isn't mounted, or isn't of this tool's PID namespace")
+        return "/proc isn't mounted, or isn't of this tool's PID namespace"
     own = kernel.status_of(os.getpid())
     if own.get("Seccomp", "0") != "0":
-        raise Unreadable("this tool runs under a filter itself, so the kernel shows it none: run it outside of "
-                         "containers")
-    held = int(own.get("CapEff", "0"), 16)
-    if not held >> CAP_SYS_ADMIN & 1:
-        raise Unreadable("the kernel shows filters only to a process with CAP_SYS_ADMIN: run this as root, outside of "
-                         "containers")
+        return "this tool runs under a filter itself, so the kernel shows it none: run it outside of containers"
+    if not int(own.get("CapEff", "0"), 16) >> CAP_SYS_ADMIN & 1:
+        return ("the kernel shows filters only to a process with CAP_SYS_ADMIN: run this as root, outside of "
+                "containers")
+    return None
 
 
 def is_sure(since: float, count: int, is_zombie: bool) -> bool:

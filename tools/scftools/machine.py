@@ -16,7 +16,7 @@ import time
 from collections.abc import Callable, Iterable, Iterator
 
 from . import child, processes
-from .hold import PF_KTHREAD, Unreadable, require_rights
+from .hold import PF_KTHREAD, Unreadable, why_no_filters
 from .processes import Kernel, Stack
 from .ptrace import contents
 from .restart import Restarts
@@ -186,15 +186,6 @@ def _read_in_child(kernel: Kernel, numbers: list[int], is_forced: bool) -> Snaps
                 stuck[int.from_bytes(shared[:], "little")] = ("the kernel makes a tracer wait, as for a thread that "
                                                               "executes a program")
     return Snapshot(unread={it: stuck.get(it, "the kernel makes a tracer wait for other processes") for it in numbers})
-
-
-def why_no_filters(kernel: Kernel) -> str | None:
-    """Why this tool can read no filters at all, or None if it can."""
-    try:
-        require_rights(kernel)
-        return None
-    except Unreadable as why:
-        return str(why)
 
 
 def _left_out(kernel: Kernel, why: str | None) -> list[str]:

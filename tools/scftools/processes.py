@@ -14,7 +14,7 @@ from . import child, output, program
 from .child import Interrupted
 from .containers import Container, container_of
 from .filters import Filter
-from .hold import Ended, Hold, Unreadable, Waiting, called, require_rights, stack_of
+from .hold import Ended, Hold, Unreadable, Waiting, called, stack_of, why_no_filters
 from .ptrace import Kernel
 from .restart import Restarts
 from .values import Any, dataclass, field
@@ -118,7 +118,9 @@ def read_threads(kernel: Kernel, listed: Callable[[], dict[int, int]], patience:
                  is_forced: bool = False, restarts: Restarts | None = None) -> Inspection:
     """Stops all threads that are listed, reads what each has, and lets them run on. `restarts` is that of an earlier
     call, if there was one."""
-    require_rights(kernel)
+    why = why_no_filters(kernel)
+    if why is not None:
+        raise Unreadable(why)
     with Hold(kernel, listed, patience, is_forced, restarts) as hold:
         while True:
             hold.stop_all()

@@ -221,17 +221,9 @@ def of_stack(filters: Sequence[Filter], settings: Settings, threads: Stack | Non
 
 
 def of_process(found: Inspection, settings: Settings) -> list[Block]:
-    """A block for each distinct stack of a process, the worst first; a fault of all stacks is reported once."""
-    blocks = []
-    for stack in found.stacks:
-        if stack.filters:
-            blocks.append(of_stack(stack.named, settings, stack))
-            if blocks[-1].is_of_all:
-                break
-        else:
-            # strict mode allows four syscalls, and isn't a filter
-            blocks.append(Block(program.UNKNOWN if stack.is_strict else program.NEGATIVE, threads=stack))
-    return sorted(blocks, key=lambda it: client.rank(it.status))
+    """The blocks of a process's stacks."""
+    return verify.blocks_of(found, lambda it: of_stack(it.named, settings, it),
+                            lambda it, status: Block(status, threads=it))
 
 
 def _of_refusal(block: Block) -> Iterator[str]:

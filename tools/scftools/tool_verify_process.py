@@ -91,7 +91,7 @@ def request_of(options, kernel):
     if options.runtime is None:
         return verify.Request(profile_inputs.read(options.profile, is_runtimes=True).data, *settings)
     applied = runtimes.read(options.profile, options.runtime, setting_of(options, kernel))
-    return verify.Request.of_runtime(applied, *settings)
+    return verify.Request(applied.data, *settings, applied)
 
 
 def main():

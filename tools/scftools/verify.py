@@ -3,7 +3,7 @@ and the threads that have it."""
 from __future__ import annotations
 
 import json
-from collections.abc import Iterator, Sequence
+from collections.abc import Callable, Iterator, Sequence
 
 from . import client, compare, engines, filters, newer, output, profiles, program, runtimes, stack_comparison, verdicts
 from .compare import Comparison
@@ -60,11 +60,6 @@ class Request:
     relation: str = verdicts.SAME
     applied: AppliedProfile | None = None
 
-    @classmethod
-    def of_runtime(cls, applied: AppliedProfile, table: Table, scope: str | None, relation: str) -> Request:
-        """The settings for a profile as a runtime applies it."""
-        return cls(applied.data, table, scope, relation, applied)
-
     @property
     def remarks(self) -> list[str]:
         """Notes on the profile as its runtime applies it."""
@@ -119,7 +114,8 @@ def request_of(config: dict[str, Any], runtime: str | None, keeps_first: bool, t
     its profile names unless a scope is given."""
     try:
         if runtime is not None:
-            return Request.of_runtime(runtimes.applied(config, runtime), table, scope, relation)
+            applied = runtimes.applied(config, runtime)
+            return Request(applied.data, table, scope, relation, applied)
         text = json.dumps(config)
         if keeps_first:
             profile, _ = engines.resolve(config, engines.Setting((), (0, 0), False), lambda _: None, True)
@@ -164,16 +160,22 @@ class SavedRequest:
         return stack_comparison.as_json(block.comparison, block.report, block.scope, block.status)
 
 
-def blocks(found: Inspection, request: Request | SavedRequest) -> list[Block]:
-    """A block for each distinct stack, the worst first; a fault of all stacks is reported once."""
-    made: list[Block] = []
+def blocks_of(found: Inspection, judge: Callable[[Stack], Any], unfiltered: Callable[[Stack, int], Any]) -> list[Any]:
+    """A block for each distinct stack, the worst first, of one without filters by its status; a fault of all stacks is
+    reported once."""
+    made: list[Any] = []
     for stack in found.stacks:
         if not stack.filters:
             # strict mode allows four syscalls, which no profile can express
-            made.append(Block(stack, program.UNKNOWN if stack.is_strict else program.NEGATIVE))
+            made.append(unfiltered(stack, program.UNKNOWN if stack.is_strict else program.NEGATIVE))
         elif not any(block.is_of_all for block in made):
-            made.append(request.judge(stack))
+            made.append(judge(stack))
     return sorted(made, key=lambda it: client.rank(it.status))
+
+
+def blocks(found: Inspection, request: Request | SavedRequest) -> list[Block]:
+    """The blocks of stacks that are compared."""
+    return blocks_of(found, request.judge, Block)
 
 
 def of_threads(stack: Stack, found: Inspection) -> Iterator[str]:

@@ -480,7 +480,7 @@ class Stub(unittest.TestCase):
         self.assertEqual(applied.stub, {it: self.BOUNDS[it] for it in JUDGED if it in names})
         data = client.compile_profile(applied.data, tables.of_profile(applied.data, tables.read(None)))
         rows = [(JUDGED[it].number, it == "SCMP_ARCH_X32", first) for it, first in bounds.items()]
-        request = verify.Request.of_runtime(applied, tables.read(None), None, verdicts.SAME)
+        request = verify.Request(applied.data, tables.read(None), None, verdicts.SAME, applied)
 
         class Stack:
             named = [Filter("it", with_stub(data, rows))]
