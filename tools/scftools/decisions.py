@@ -17,7 +17,7 @@ from .profiles import Origin
 from .reasons import Reason
 from .refusals import faulty_filters
 from .tables import Table, Tables
-from .values import dataclass, replace
+from .values import Any, dataclass, replace
 from .verdicts import FOR_OTHER_ABI, UNDETERMINED, Decision
 from .words import Parser
 
@@ -132,7 +132,7 @@ def _lines_of(name: str) -> Iterator[list[str]]:
             yield words
 
 
-def _rest_of(options: object, numbering: Numbering) -> tuple[tuple[str, str], ...]:
+def _rest_of(options: Any, numbering: Numbering) -> tuple[tuple[str, str], ...]:
     """The given fields of a record beside its number."""
     texts = {name: getattr(options, name) for name in OPTIONS[1:] if getattr(options, name) is not None}
     for name, text in texts.items():
@@ -140,22 +140,22 @@ def _rest_of(options: object, numbering: Numbering) -> tuple[tuple[str, str], ..
     return tuple(texts.items())
 
 
-def one_query(options: object, table: Table) -> Query | None:
+def one_query(options: Any, table: Table) -> Query | None:
     """The record that a command line gives, or None."""
-    number, numbering = getattr(options, "nr"), Numbering(table, getattr(options, "arch"))
+    number, numbering = options.nr, Numbering(table, options.arch)
     rest = _rest_of(options, numbering)
     if number is None and not rest:
         return None
     return Query((("nr", numbering.number_of("0" if number is None else number)), *rest))
 
 
-def queries(options: object, table: Table) -> list[Query]:
+def queries(options: Any, table: Table) -> list[Query]:
     """The records that a command line gives, in order."""
-    numbering = Numbering(table, getattr(options, "arch"))
+    numbering = Numbering(table, options.arch)
     rest = _rest_of(options, numbering)
-    found = [Query((("nr", numbering.number_of(text)), *rest)) for text in getattr(options, "nr")]
-    if getattr(options, "calls_from") is not None:
-        for number, *arguments in _lines_of(getattr(options, "calls_from")):
+    found = [Query((("nr", numbering.number_of(text)), *rest)) for text in options.nr]
+    if options.calls_from is not None:
+        for number, *arguments in _lines_of(options.calls_from):
             own = tuple(zip(OPTIONS[3:], map(numbering.argument, arguments)))
             left = tuple(pair for pair in rest if pair[0] not in dict(own))
             found.append(Query((("nr", numbering.number_of(number)), *left, *own)))
@@ -269,17 +269,17 @@ def of_profile(profile: bytes, query: Query, judged: Tables, origins: Sequence[O
                  lambda: reasons.as_json(reason, profile, call, origins))
 
 
-def print_replies(those: Sequence[Query], answer: Callable[[Query], Reply], table: Table, is_json: bool) -> int:
-    """Prints the reply to each query; returns the worst status."""
+def print_replies(options: Any, table: Table, answer: Callable[[Query], Reply]) -> int:
+    """Prints the reply to each query of a command line; returns the worst status."""
     statuses, found = [], []
-    for query in those:
+    for query in queries(options, table):
         reply = answer(query)
         statuses.append(reply.status)
-        if is_json:
+        if options.json:
             found.append(reply.as_json(table))
             continue
         output.put_lines(reply.lines)
         output.put_lines(output.notes(reply.notes(table)))
-    if is_json:
+    if options.json:
         output.put_json({"status": client.worst(statuses), "calls": found})
     return client.worst(statuses)

@@ -12,7 +12,6 @@ from . import bundles, client, entries, filters, listing, verdicts
 from .answers import ACTIONS, ALLOW, Answer
 from .calls import Call
 from .client import Refusal
-from .entries import Condition, Entry
 from .events import Event, Outcome
 from .filters import LOAD_WORD, RETURN_CONSTANT, instruction
 from .trials import Trial
@@ -21,7 +20,6 @@ from .verdicts import SAME, Verdict
 
 FITS, CONTRADICTS, UNKNOWN = "fits", "contradicts", "unknown"
 WORD = (1 << 64) - 1
-EQUAL = "SCMP_CMP_EQ"
 # The offset of the first argument in struct seccomp_data (linux/seccomp.h).
 ARGUMENTS = 16
 
@@ -68,8 +66,7 @@ class Stack:
         can't be compared."""
         if not answer.is_of_profiles:
             return None
-        conditions = tuple(Condition(index, EQUAL, value, 0) for index, value in values.items())
-        profile = entries.profile_of(ALLOW, [Entry(0, ("it",), answer, conditions)])
+        profile = entries.profile_on(ALLOW, values, answer)
         exact = [(index, WORD, value) for index, value in values.items()]
         only = [filters.only_on(it, number, exact, ALLOW.word) for it in self.data]
         if any(len(it) > filters.LONGEST * filters.INSTRUCTION.size for it in only):

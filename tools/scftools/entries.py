@@ -70,6 +70,12 @@ def profile_of(default: Answer, entries: Iterable[Entry], architectures: Iterabl
                        "syscalls": [it.as_json() for it in entries if it.names]}).encode()
 
 
+def profile_on(default: Answer, values: dict[int, int], answer: Answer, architectures: Iterable[str] = ()) -> bytes:
+    """The text of a profile that answers so the calls of `it` with these arguments, and all else by default."""
+    conditions = tuple(Condition(index, "SCMP_CMP_EQ", value, 0) for index, value in values.items())
+    return profile_of(default, [Entry(0, ("it",), answer, conditions)], architectures)
+
+
 class Object(dict):
     """A JSON object, and the names of repeated members; a null member is absent."""
 

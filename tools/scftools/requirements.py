@@ -16,7 +16,7 @@ from .architectures import JUDGED, NATIVE, Architecture, of_machine
 from .calls import Call
 from .client import Refusal
 from .engines import KEPT
-from .entries import Condition, Entry, Object
+from .entries import Object
 from .profiles import ALLOWING
 from .reasons import Reason
 from .strace import Seen
@@ -187,9 +187,8 @@ class Judge:
     def _verdict(self, traced: TracedCall, values: dict[int, int], default: Answer, answer: Answer,
                  relation: str) -> Verdict:
         """What scf says of the filter beside a profile that gives the calls with these arguments an answer."""
-        conditions = tuple(Condition(index, EQUAL, value, 0) for index, value in values.items())
         one = traced.architecture.oci
-        beside = entries.profile_of(default, [Entry(0, ("it",), answer, conditions)], [one])
+        beside = entries.profile_on(default, values, answer, [one])
         table = Tables({one: Table(b"it %d\n" % traced.number)})
         return verdicts.compared([self.filter], beside, table, ["--architectures", relation]).verdict
 

@@ -31,8 +31,7 @@ def main():
     options = parser.parse_args()
     parser.one_standard_input([options.profile, options.table, options.calls_from])
     table = tables.read(options.table)
-    calls = decisions.queries(options, table)
     profile = profile_inputs.read(options.profile, options.caps)
     judged = tables.of_profile(profile.data, table, options.native)
     return decisions.print_replies(
-        calls, lambda call: decisions.of_profile(profile.data, call, judged, profile.origins), table, options.json)
+        options, table, lambda call: decisions.of_profile(profile.data, call, judged, profile.origins))

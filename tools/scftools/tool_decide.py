@@ -31,6 +31,5 @@ def main():
     options = parser.parse_args()
     parser.one_standard_input([*options.filters, options.table, options.calls_from])
     table = tables.read(options.table)
-    calls = decisions.queries(options, table)
     stack = filters.read_stack(options.filters)
-    return decisions.print_replies(calls, lambda call: decisions.of_stack(stack, call, table), table, options.json)
+    return decisions.print_replies(options, table, lambda call: decisions.of_stack(stack, call, table))
