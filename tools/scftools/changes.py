@@ -13,13 +13,12 @@ from .client import Refusal
 from .explanation import MORE_SPLITS, join_names
 from .filters import Filter
 from .profiles import STUB, Origin
-from .questions import checked
 from .reasons import Reason
 from .stack_comparison import StackComparison
 from .tables import Table, Tables
 from .values import dataclass, field, replace
 from .verdicts import (ALL, DIFFERS, LESS, MORE, NO_LESS, NO_MORE, SAME, UNDECIDED, UNFINISHED, NamedCall, Report,
-                       Verdict)
+                       Verdict, checked)
 
 OLD, NEW = "old", "new"
 # The new profile is more permissive, stricter, or only gives another answer; or scf can't decide.
@@ -141,7 +140,7 @@ class ProfilePair:
                           else self._stacks.run(self.whole, relation))
         if report.fault is not None:
             raise Refusal(report.fault.line, status, (NEW, self.sides[NEW].source.data))
-        return checked(status, report, self.whole)
+        return checked(status, report)
 
     def left_out_beside(self, compared: Report) -> dict[str, Report]:
         """What scf leaves out of each profile; of the new one a report on the comparison with it says so."""

@@ -117,7 +117,7 @@ def _proved(filters: Sequence[bytes], kind: Kind) -> Known | None:
         verdict = Asker(filters, kind.of).of_numbers(IS_DENIED, 0, kind.last - kind.of.first)
     except client.Refusal:
         return None
-    if verdict is None or not verdict.holds and (verdict.call is None or verdict.filters is None):
+    if not verdict.holds and (verdict.call is None or verdict.filters is None):
         return None
     return Known(kind, () if verdict.holds else ((verdict.call, verdict.filters),))
 

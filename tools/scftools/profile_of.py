@@ -379,7 +379,7 @@ def _allowed(request: Request, one: Architecture) -> Iterator[str]:
     """A line if scf doesn't prove that the filters deny every syscall of an architecture."""
     # no syscall has a number from NO_CALL on
     verdict = Asker(request.data, one).of_numbers(IS_DENIED, 0, min(one.last, NO_CALL - 1) - one.first)
-    if verdict is None or verdict.holds:
+    if verdict.holds:
         return
     said = "undecided whether any syscall is allowed"
     if verdict.call is not None and verdict.filters is not None:

@@ -10,7 +10,7 @@ from __future__ import annotations
 import json
 from collections.abc import Iterator, Sequence
 
-from . import bundles, client, program, verdicts
+from . import bundles, client, verdicts
 from .answers import ALLOW, KILL_PROCESS, X32, Answer
 from .architectures import JUDGED, NATIVE, Architecture
 from .calls import Call
@@ -42,15 +42,6 @@ IS_DENIED, IS_ALLOWED = Question(NO_MORE, NOTHING), Question(NO_LESS, EVERYTHING
 IS_NEVER_ALLOWED, IS_NEVER_DENIED = (Question(relation, Answer("TRACE", 0)) for relation in (NO_MORE, NO_LESS))
 
 
-def checked(status: int, report: Report, scope: str) -> Report:
-    """Checks that a report was parsed completely, since the relation is taken to hold for a syscall without a line."""
-    verdict = report.verdict
-    expected = None if verdict is None else 0 if verdict.holds else 1 if verdict.fails else program.UNKNOWN
-    if status != expected or (scope == CALLS and len(report.calls) != len(report.lines) - 1):
-        raise program.ToolError(f"scf ended with status {status} and unexpected output", program.IO_ERROR)
-    return report
-
-
 @dataclass(frozen=True)
 class Asker:
     """Filters, oldest first, and the architecture whose syscalls are asked about. A number is one of its table."""
@@ -58,20 +49,12 @@ class Asker:
     filters: Sequence[bytes]
     architecture: Architecture = JUDGED[NATIVE]
 
-    def _done(self, profile: bytes, table: bytes, words: Sequence[str], relation: str) -> client.Run:
-        given = bundles.of_comparison(self.filters, profile, Tables({self.architecture.oci: Table(table)}))
-        return client.compare([*words, *RELATIONS[relation]], given)
+    def _asked(self, profile: bytes, relation: str, words: Sequence[str], table: bytes = b"") -> Report:
+        judged = Tables({self.architecture.oci: Table(table)})
+        return verdicts.compared(self.filters, profile, judged, [*words, *RELATIONS[relation]])
 
     def _profile_of(self, question: Question) -> bytes:
         return question.answer.as_profile([self.architecture.oci]) or b""
-
-    def _asked(self, profile: bytes, relation: str, words: Sequence[str], table: bytes = b"",
-               scope: str = "") -> Report:
-        done = self._done(profile, table, [*SCOPES[LISTED], *words], relation)
-        report = verdicts.report(done.text)
-        if report.fault is not None:
-            raise client.Refusal(done.line, done.status)
-        return checked(done.status, report, scope)
 
     @property
     def looks_at_pointer(self) -> bool:
@@ -79,25 +62,28 @@ class Asker:
 
     def of_calls(self, profile: bytes, relation: str, table: bytes) -> Report:
         """The report on each syscall in a table, beside what a profile answers to it. Raises Refusal."""
-        return self._asked(profile, relation, SCOPES[CALLS], table, CALLS).on(self.architecture)
+        return self._asked(profile, relation, [*SCOPES[LISTED], *SCOPES[CALLS]], table).on(self.architecture)
 
     def of_named(self, question: Question, table: bytes) -> Report:
         """The report on each syscall in a table."""
         return self.of_calls(self._profile_of(question), question.relation, table)
 
-    def of_numbers(self, question: Question, first: int, last: int) -> Verdict | None:
+    def of_numbers(self, question: Question, first: int, last: int) -> Verdict:
         """The verdict on all syscalls with numbers from `first` to `last`, with a complete record as example."""
         added = self.architecture.first
-        words = [f"--nr-from={added + first}", f"--nr-to={added + last}"]
+        words = [*SCOPES[LISTED], f"--nr-from={added + first}", f"--nr-to={added + last}"]
         return self._asked(self._profile_of(question), question.relation, words).verdict
 
     def of_rest(self, names: Sequence[str], table: bytes, is_foreign: bool = False) -> Verdict | None:
         """The verdict on whether every syscall is denied but those with these names; on request of all architectures,
-        though these names are x86-64's."""
+        though these names are x86-64's. None if scf refuses so many names."""
         entries = [{"names": names, "action": "SCMP_ACT_ALLOW"}] if names else []
         profile = json.dumps({"defaultAction": "SCMP_ACT_KILL_PROCESS", "architectures": [self.architecture.oci],
                               "syscalls": entries}).encode()
-        return verdicts.report(self._done(profile, table, SCOPES[ALL if is_foreign else LISTED], NO_MORE).text).verdict
+        try:
+            return self._asked(profile, NO_MORE, SCOPES[ALL if is_foreign else LISTED], table).verdict
+        except client.Refusal:
+            return None
 
     def decided(self, call: Call) -> Answer | None:
         """What the filters answer to a record."""

@@ -9,7 +9,7 @@ from __future__ import annotations
 import re
 from collections.abc import Callable, Sequence
 
-from . import bundles, client
+from . import bundles, client, program
 from .answers import Answer
 from .architectures import NATIVE as X86_64
 from .architectures import Architecture
@@ -201,13 +201,22 @@ def report(text: str, profile_names: Sequence[str] | None = None, is_known: Call
                   tuple(skipped), tuple(architectures))
 
 
-def compared(filters: Sequence[bytes], profile: bytes, tables: Tables, words: Sequence[str]) -> Report:
-    """scf's report on filters compared with a profile by these options. Raises Refusal if it has no verdict."""
-    done = client.compare(words, bundles.of_comparison(filters, profile, tables))
-    found = report(done.text)
-    if found.verdict is None:
-        raise Refusal(found.lines[0] if found.lines else "", done.status)
+def checked(status: int, found: Report, is_by_call: bool = False) -> Report:
+    """A report with a verdict; raises Refusal if it has a fault instead, and ToolError if it isn't parsed completely,
+    since the relation is taken to hold for a syscall without a line."""
+    if found.fault is not None:
+        raise Refusal(found.fault.line, status)
+    verdict = found.verdict
+    expected = None if verdict is None else 0 if verdict.holds else 1 if verdict.fails else program.UNKNOWN
+    if status != expected or is_by_call and len(found.calls) != len(found.lines) - 1:
+        raise program.ToolError(f"scf ended with status {status} and unexpected output", program.IO_ERROR)
     return found
+
+
+def compared(filters: Sequence[bytes], profile: bytes, tables: Tables, words: Sequence[str]) -> Report:
+    """scf's report on filters compared with a profile by these options, `checked`."""
+    done = client.compare(words, bundles.of_comparison(filters, profile, tables))
+    return checked(done.status, report(done.text), "--calls" in words)
 
 
 @dataclass(frozen=True)
