@@ -3,12 +3,12 @@ from __future__ import annotations
 
 from collections.abc import Iterator, Sequence
 
-from . import bundles, client, compare, explanation, listing, output, refusals, verdicts
+from . import bundles, client, compare, explanation, filters, listing, output, refusals, tables, verdicts
 from .compare import ALL, CALLS, NATIVE
 from .filters import Filter, looks_at_pointer
 from .listing import Giver
 from .tables import Table
-from .values import dataclass
+from .values import Any, dataclass
 from .verdicts import DIFFERS, RELATIONS, SAME, SCOPES, Report, Verdict
 
 
@@ -135,10 +135,12 @@ def as_json(comparison: StackComparison, report: Report, scope: str, status: int
     return found
 
 
-def tell(comparison: StackComparison, scope: str, is_json: bool) -> int:
-    """Prints the comparison, as lines or as JSON, and returns its exit status."""
+def tell(options: Any) -> int:
+    """Prints the comparison of a command line's `filters` and those `beside` them, and returns its exit status."""
+    left, right = filters.read_stack(options.filters), filters.read_stack(options.beside)
+    comparison, scope = StackComparison(left, right, tables.read(options.table), options.relation), options.scope or ALL
     status, report = comparison.run(scope)
-    if is_json:
+    if options.json:
         output.put_json(as_json(comparison, report, scope, status))
         return status
     output.put_explained(report.printed, added(comparison, report, scope))

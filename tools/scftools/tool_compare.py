@@ -82,18 +82,12 @@ def write_page(options, comparison, report, scope):
     output.replace_file(options.html, page)
 
 
-def compare_stacks(options):
-    from . import stack_comparison  # pylint: disable=import-outside-toplevel
-
-    one, other = filters.read_stack(options.filters), filters.read_stack(options.beside)
-    comparison = stack_comparison.StackComparison(one, other, tables.read(options.table), options.relation)
-    return stack_comparison.tell(comparison, options.scope or compare.ALL, options.json)
-
-
 def main():
     options = read_words()
     if options.beside is not None:
-        return compare_stacks(options)
+        from . import stack_comparison  # pylint: disable=import-outside-toplevel
+
+        return stack_comparison.tell(options)
     stack, profile = filters.read_stack(options.filters), profile_inputs.read(options.profile, options.caps)
     comparison = compare.Comparison(stack, profile.data, tables.read(options.table), options.relation,
                                     profile.origins, is_native=options.scope == compare.NATIVE)

@@ -17,7 +17,7 @@ Examples:
     scf diff old.bpf new.bpf
     scf diff --no-less old.bpf new.bpf
 """
-from . import compare, filters, stack_comparison, tables, words
+from . import stack_comparison, words
 
 
 def main():
@@ -25,10 +25,8 @@ def main():
     parser.scope("only x86-64 syscalls")
     parser.relation("only check that nothing is {} than NEW", words.OF_DISPOSITION)
     parser.add("--limit", "--splits", "--table", "--json")
-    parser.add_argument("old", metavar="OLD", help="a raw filter; - is standard input")
-    parser.add_argument("new", metavar="NEW", help="another one")
+    parser.add_argument("filters", metavar="OLD", nargs=1, help="a raw filter; - is standard input")
+    parser.add_argument("beside", metavar="NEW", nargs=1, help="another one")
     options = parser.parse_args()
-    parser.one_standard_input([options.old, options.new, options.table])
-    comparison = stack_comparison.StackComparison([filters.read(options.old)], [filters.read(options.new)],
-                                                  tables.read(options.table), options.relation)
-    return stack_comparison.tell(comparison, options.scope or compare.ALL, options.json)
+    parser.one_standard_input([*options.filters, *options.beside, options.table])
+    return stack_comparison.tell(options)
