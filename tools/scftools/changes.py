@@ -12,7 +12,8 @@ from .calls import Call
 from .client import Refusal
 from .explanation import MORE_SPLITS, join_names
 from .filters import Filter
-from .profiles import STUB, Origin
+from .profile_inputs import ProfileInput
+from .profiles import STUB
 from .reasons import Reason
 from .stack_comparison import StackComparison
 from .tables import Table, Tables
@@ -38,16 +39,6 @@ HEADINGS = {MORE: "syscalls for which the new profile is more permissive",
 MOST_LISTED = 20
 
 
-@dataclass(frozen=True)
-class Source:
-    """A profile; and of one as a runtime applies it, where its entries stand in the user's, and for each architecture
-    the least number that runc answers with ENOSYS."""
-
-    data: bytes
-    origins: Sequence[Origin] | None = None
-    stub: dict[str, int] = field(default_factory=dict)
-
-
 def _some(holder: dict[str, object], *names: str) -> dict[str, object]:
     return {name: holder[name] for name in names if name in holder}
 
@@ -56,7 +47,7 @@ class Side:
     """A profile, the tables that it is judged by, and its entries by their syscalls, so that scf can be asked about one
     without the other entries."""
 
-    def __init__(self, name: str, source: Source, judged: Tables) -> None:
+    def __init__(self, name: str, source: ProfileInput, judged: Tables) -> None:
         self.name, self.source, self.judged = name, source, judged
         self.top = entries.read(source.data)
         self.indices: dict[str, dict[int, str]] = {}
@@ -89,7 +80,7 @@ class Side:
         found = reasons.of(data, self.judged, call.words())
         return found if found.entry is None or places is None else replace(found, entry=places[found.entry])
 
-    def with_stub_origin(self) -> Source:
+    def with_stub_origin(self) -> ProfileInput:
         """The profile with an origin for what the stub answers."""
         source = self.source
         return replace(source, origins=[*(source.origins or ()), STUB]) if source.stub else source
@@ -187,7 +178,7 @@ class Changes:
     # the least number without a name, if the defaults differ, which answer all such numbers
     unnamed: Change | None
     # of each side
-    sources: dict[str, Source]
+    sources: dict[str, ProfileInput]
     skipped: dict[str, tuple[str, ...]]
     architectures: dict[str, tuple[str, ...]]
     # of each side the OCI names of those that only this side is judged for
@@ -266,7 +257,7 @@ def _whole(pair: ProfilePair, same: Verdict, relation: str) -> Verdict:
     return Verdict(relation) if found.holds else replace(found, word=FAILED[relation]) if found.fails else found
 
 
-def of_profiles(old: Source, new: Source, table: Table, relation: str, is_native: bool = False) -> Changes:
+def of_profiles(old: ProfileInput, new: ProfileInput, table: Table, relation: str, is_native: bool = False) -> Changes:
     """What changes from one profile to another."""
     pair = ProfilePair({name: Side(name, source, tables.of_profile(source.data, table, is_native))
                         for name, source in ((OLD, old), (NEW, new))}, table, is_native)
@@ -283,7 +274,7 @@ def of_profiles(old: Source, new: Source, table: Table, relation: str, is_native
                    {name: [it for it in side.judged.of if it not in both] for name, side in pair.sides.items()})
 
 
-def _by(reason: Reason, source: Source) -> str:
+def _by(reason: Reason, source: ProfileInput) -> str:
     """What gives an answer: an entry, by its index in the user's profile, or something else."""
     index = reasons.index_of(reason, source.origins)
     if index == STUB.index:
@@ -291,7 +282,7 @@ def _by(reason: Reason, source: Source) -> str:
     return "foreign" if reason.is_foreign else "default" if index is None else f"entry {index}"
 
 
-def line_of(change: Change, sources: dict[str, Source]) -> str:
+def line_of(change: Change, sources: dict[str, ProfileInput]) -> str:
     """The line of a change: number, names, kind, an example, and for each profile its answer and what gives it."""
     shown = (str(change.number), ",".join(change.names), change.kind)
     words = [change.architecture.marked(" ".join(filter(None, shown)))]

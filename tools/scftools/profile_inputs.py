@@ -11,7 +11,7 @@ from collections.abc import Sequence
 from . import engines, filters, inputs, profiles, program
 from .engines import Refused
 from .profiles import DerivedProfile, Origin
-from .values import Any, Pattern, dataclass
+from .values import Any, Pattern, dataclass, field
 
 # What `podman inspect`, `docker inspect` and `crictl inspect` print, by members that they have.
 OF_PODMAN, OF_DOCKER, OF_CRI = b'"OCIConfigPath"', b'"HostConfig"', b'"runtimeSpec"'
@@ -130,10 +130,12 @@ def spec_of(data: bytes) -> bytes | None:
 
 @dataclass(frozen=True)
 class ProfileInput:
-    """A profile for scf; of one that was resolved, where its entries stand in the file."""
+    """A profile for scf; of one that was resolved, where its entries stand in the file; and as a runtime applies it,
+    for each architecture the least number that runc answers with ENOSYS."""
 
     data: bytes
     origins: Sequence[Origin] | None = None
+    stub: dict[str, int] = field(default_factory=dict)
 
 
 def _refuse_others(data: bytes, label: str) -> None:

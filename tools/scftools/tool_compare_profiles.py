@@ -56,9 +56,9 @@ def resolved(path, options):
         if options.runtime is not None:
             found = runtimes.applied(value, options.runtime, options.setting)
             notes += [*engines.at_most(found.notes), *found.remarks]
-            return changes.Source(found.data, found.origins, found.stub), notes
+            return profile_inputs.ProfileInput(found.data, found.origins, found.stub), notes
         profile, origins = engines.resolve(value, options.setting, notes.append, options.keep_first)
-        return changes.Source(engines.to_bytes(profile), origins), notes
+        return profile_inputs.ProfileInput(engines.to_bytes(profile), origins), notes
     except engines.Refused as why:
         raise program.ToolError(f"{path}: {why}", program.NEGATIVE) from why
 
@@ -66,7 +66,7 @@ def resolved(path, options):
 def both(options):
     """Both profiles; what an engine or a runtime leaves out of one alone is printed."""
     if options.runtime is None and not options.keep_first and not runtimes.is_engines(options):
-        return [changes.Source(profile_inputs.read(path, is_runtimes=True).data) for path in (options.old, options.new)]
+        return [profile_inputs.read(path, is_runtimes=True) for path in (options.old, options.new)]
     (old, of_old), (new, of_new) = resolved(options.old, options), resolved(options.new, options)
     for side, notes, others in ((changes.OLD, of_old, set(of_new)), (changes.NEW, of_new, set(of_old))):
         for note in notes:

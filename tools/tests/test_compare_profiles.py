@@ -15,6 +15,7 @@ import kernel_profiles  # noqa: E402
 from kernel_profiles import answer_of  # noqa: E402
 from scftools import changes, tables  # noqa: E402
 from scftools.calls import Call  # noqa: E402
+from scftools.profile_inputs import ProfileInput  # noqa: E402
 
 ALLOW, ERRNO = "SCMP_ACT_ALLOW", "SCMP_ACT_ERRNO"
 NOT_40 = [{"index": 0, "value": 40, "op": "SCMP_CMP_NE"}]
@@ -413,7 +414,7 @@ class RandomProfiles(unittest.TestCase):
             new = self.changed(random_of, old)
             if random_of.random() < 0.2:
                 new = kernel_profiles.random_profile(random_of)
-            found = changes.of_profiles(changes.Source(old), changes.Source(new), table, "same")
+            found = changes.of_profiles(ProfileInput(old), ProfileInput(new), table, "same")
             kinds = {}
             for change in found.calls:
                 kinds.setdefault(change.number, set()).add(change.kind)
