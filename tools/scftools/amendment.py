@@ -74,7 +74,7 @@ class Search:
     def _changed(self, taken_out: list[int], added: list[dict[str, object]],
                  conditions: list[dict[str, object]]) -> Amendment:
         """A change, which isn't proved yet."""
-        known = self.trial.table.names_of(self.number)
+        known = self.trial.tables.native.names_of(self.number)
         found, gone = [], []
         for index, entry in enumerate(self.top.get("syscalls", [])):
             if index not in taken_out:
@@ -139,7 +139,7 @@ class Search:
             yield from self._of_entry(reason.entry)
         if not conditions:
             naming = [index for index, entry in enumerate(self.top.get("syscalls", []))
-                      if any(self.trial.table.number_of(it) == self.number for it in entry["names"])]
+                      if any(self.trial.tables.number_of(it) == self.number for it in entry["names"])]
             if self.top["defaultAction"] == ALLOW:
                 yield self._changed(naming, [], conditions)
             yield from self._with(naming, conditions)
@@ -152,7 +152,7 @@ class Search:
 def amendments(profile: bytes, event: Event, reason: Reason, trial: Trial) -> Iterator[Amendment]:
     """The changes that allow the calls with the known arguments of an event, and then all that the entry denies. There
     are none if the syscall is of another ABI, or has no name in the table."""
-    names = trial.table.names_of(event.call.number) if event.call.is_native else []
+    names = trial.tables.native.names_of(event.call.number) if event.call.is_native else []
     if not names or reason.is_foreign or reason.answer is None or reason.answer.allows:
         return
     top = entries.read(profile)

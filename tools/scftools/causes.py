@@ -56,7 +56,7 @@ class Inputs:
 
     @property
     def table(self) -> Table:
-        return self.trial.table
+        return self.trial.tables.native
 
     @property
     def judged(self) -> Tables:

@@ -17,7 +17,7 @@ from .findings import MOST, Finding, Owners, listed
 from .questions import IS_ALLOWED
 from .reasons import Reason
 from .tables import Tables
-from .trials import JointTrial
+from .trials import Trial
 from .values import dataclass
 
 LOW = (1 << 32) - 1
@@ -109,19 +109,19 @@ def of_conditions(found: Sequence[Entry], judged: Tables) -> Iterator[Finding]:
             yield from _of_argument(entry, place, one, kinds[one.index], greatest)
 
 
-def _not_covered(trial: JointTrial, its: Mapping[str, Sequence[Entry]]) -> Iterator[str]:
+def _not_covered(trial: Trial, its: Mapping[str, Sequence[Entry]]) -> Iterator[str]:
     """The names of syscalls of which scf doesn't prove that each call, on each architecture, meets one of some
     entries."""
     allowed = [it.allowing([name]) for name, entries_of in its.items() for it in entries_of]
     for one in map(trial.only, trial.tables.of):
-        numbers = {name: one.table.number_of(name) for name in its if one.table.number_of(name) is not None}
+        numbers = {name: one.tables.number_of(name) for name in its if one.tables.has(name)}
         calls = "".join(f"{name} {number}\n" for name, number in numbers.items()).encode()
         report = one.report([IS_ALLOWED.filter], one.profile_of(DENIES, allowed), calls, "--calls", "--no-more")
         left_out = {it.number for it in report.calls}
         yield from (name for name, number in numbers.items() if number in left_out)
 
 
-def of_unions(trial: JointTrial, found: Sequence[Entry]) -> Iterator[Finding]:
+def of_unions(trial: Trial, found: Sequence[Entry]) -> Iterator[Finding]:
     """Entries with conditions and one answer that together cover every call of a syscall: they were meant to hold all
     at once, and one of them is enough."""
     having: dict[tuple[str, Answer], list[Entry]] = {}

@@ -14,7 +14,7 @@ from .calls import Call
 from .entries import Entry, where_met
 from .findings import Owners
 from .tables import Tables
-from .trials import JointTrial, Trial
+from .trials import Trial
 from .values import dataclass, replace
 from .verdicts import MORE, SAME, Verdict
 
@@ -56,7 +56,7 @@ class Search:
     """The entries of a profile, its filter for all architectures that are judged, and the names of entries that are
     still kept."""
 
-    def __init__(self, trial: JointTrial, data: bytes, default: Answer, entries: Sequence[Entry]):
+    def __init__(self, trial: Trial, data: bytes, default: Answer, entries: Sequence[Entry]):
         self.trial, self.filter, self.default = trial, data, default
         self.entries = {it.place: it for it in entries}
         self.looks = LOOKS
@@ -187,7 +187,7 @@ def _pairs(entries: Sequence[Entry], judged: Tables) -> Iterator[tuple[Entry, En
             yield from ((other, entry, name, on) for other, on in others.values())
 
 
-def conflicts(trial: JointTrial, entries: Sequence[Entry], most: int) -> Iterator[Conflict]:
+def conflicts(trial: Trial, entries: Sequence[Entry], most: int) -> Iterator[Conflict]:
     """Entries that conflict, each two once, at most so many of them."""
     seen: set[tuple[int, int]] = set()
     for count, (first, second, name, on) in enumerate(_pairs(entries, trial.tables)):

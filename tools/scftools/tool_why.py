@@ -154,7 +154,7 @@ def read(options, files, table):
 def main():
     options = read_words()
     table = tables.read(options.table)
-    files = read_files(options.words, trials.Trial(table), options.caps, options.native)
+    files = read_files(options.words, trials.Trial(tables.native_alone(table.data)), options.caps, options.native)
     found, files = read(options, files, table)
     report = causes.Report(found, [causes.of(event, count, files) for event, count in found.events.values()])
     if options.pid is not None:

@@ -5,15 +5,15 @@ from collections.abc import Iterable, Sequence
 
 from . import client, entries, verdicts
 from .answers import Answer
-from .architectures import JUDGED, NATIVE, Architecture
+from .architectures import JUDGED, Architecture
 from .entries import Entry
 from .tables import Table, Tables
 from .values import dataclass
-from .verdicts import UNFINISHED, Report, Verdict
+from .verdicts import Report, Verdict
 
 
 @dataclass
-class JointTrial:
+class Trial:
     """Runs of scf's compiler and comparison with the tables of some architectures; counts the comparisons."""
 
     tables: Tables
@@ -21,7 +21,12 @@ class JointTrial:
 
     def only(self, name: str) -> Trial:
         """The same with the table of one of the architectures, by its OCI name."""
-        return Trial(self.tables.of[name], JUDGED[name])
+        return Trial(self.tables.only(name))
+
+    @property
+    def architecture(self) -> Architecture:
+        """The architecture, where it is only one."""
+        return JUDGED[next(iter(self.tables.of))]
 
     def profile_of(self, default: Answer, found: Iterable[Entry]) -> bytes:
         """The text of a profile for the architectures, without entries that have no names."""
@@ -37,16 +42,8 @@ class JointTrial:
 
     def verdict(self, filters: Sequence[bytes], profile: bytes, *words: str) -> Verdict:
         """scf's verdict on filters compared with a profile."""
-        return self._report(filters, profile, self.tables, words).verdict or Verdict(UNFINISHED)
-
-
-class Trial(JointTrial):
-    """The same with the table of one architecture."""
-
-    def __init__(self, table: Table, architecture: Architecture = JUDGED[NATIVE]):
-        super().__init__(Tables({architecture.oci: table}))
-        self.table, self.architecture = table, architecture
+        return self._report(filters, profile, self.tables, words).verdict
 
     def report(self, filters: Sequence[bytes], profile: bytes, table: bytes, *words: str) -> Report:
-        """scf's report on filters compared with a profile, by another table of the architecture."""
+        """scf's report on filters compared with a profile, by another table of the only architecture."""
         return self._report(filters, profile, Tables({self.architecture.oci: Table(table)}), words)

@@ -106,7 +106,7 @@ class Watch:
         self.trial, self.ask, self.data, self.reading, self.is_read = trial, ask, data, reading, is_read
         calls = [(name, it.conditions) for name, it in dangerous().items()]
         calls += [it for one in NEEDED for it in (*one.users, (one.name, ()))]
-        numbers = {name: trial.table.number_of(name) for name, _ in calls}
+        numbers = {name: trial.tables.number_of(name) for name, _ in calls}
         self.numbers = {name: number for name, number in numbers.items() if number is not None}
         watched = [Entry(0, (name,), DELEGATES, conditions) for name, conditions in calls if name in self.numbers]
         self.allowed = self._compare(watched, "--no-more")
@@ -181,7 +181,7 @@ class Watch:
             tuple[Answer, str, int | None] | None:
         """The denial of a newer syscall by which libc doesn't call the older one, which is allowed; None if there is
         none."""
-        numbers = [self.trial.table.number_of(name) for name in (newer, older)]
+        numbers = [self.trial.tables.number_of(name) for name in (newer, older)]
         if None in numbers or not self._may_keep_from(numbers[0], numbers[1], first_arguments):
             return None
         answer, where, entry = self.answer(self.reading.call(numbers[0]))
@@ -219,7 +219,7 @@ def _allowed(name: str, danger: Dangerous, watch: Watch, owners: Owners) -> Find
     arguments = [it & watch.trial.architecture.greatest for it in call.arguments]
     entry, shown = watch.deciding(name, arguments), list(map(hex, arguments))
     some = "" if how == ALWAYS else f" with some arguments, such as {' '.join(shown)},"
-    called = owners.named(" or ".join(watch.trial.table.names_of(number)), number)
+    called = owners.named(" or ".join(watch.trial.tables.native.names_of(number)), number)
     return Finding("dangerous-call", f"{called} is allowed{some} {_by(entry)}: {danger.reason}{owners.also}",
                    {**more, "is_always": how == ALWAYS, "arguments": shown, "entry": entry, **owners.as_json()})
 

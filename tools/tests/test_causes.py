@@ -698,7 +698,7 @@ class Exceptions(Causes):
 
     def test_they_answer_so(self):
         conditions = ((0, (1 << 64) - 1, 0x100000010), (2, 0xFFFFFFFF, 9), (5, 0xF0, 0x37))
-        stack = [Stack([made(ret(ERRNO | 1), SOCKET, conditions, TRAP)], Trial(TABLE))
+        stack = [Stack([made(ret(ERRNO | 1), SOCKET, conditions, TRAP)], Trial(tables.native_alone(TABLE.data)))
                  for made in (filters.with_exception, filters.only_on)]
         for number, first, third, last in ((SOCKET, 0x100000010, 9, 0x30), (SOCKET, 0x100000010, 1 << 32 | 9, 0x13F),
                                            (SOCKET, 0x10, 9, 0x30), (SOCKET, 0x100000010, 8, 0x30),
