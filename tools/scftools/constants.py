@@ -70,12 +70,6 @@ def numbers_on(architecture: str) -> dict[str, int]:
     return {} if unlike is None else {name: number for name, number in numbers().items() if name not in unlike}
 
 
-def _nearest(name: str) -> str:
-    """What a message says of the constant most like a name."""
-    near = tables.most_like(name.upper(), numbers())
-    return f"; the nearest is {near}" if near else ""
-
-
 def number_of(name: str, architecture: str) -> int:
     """The number of a constant on the architecture of this OCI name; raises ToolError if it isn't known."""
     known = _unlike().get(architecture)
@@ -84,7 +78,9 @@ def number_of(name: str, architecture: str) -> int:
         raise program.ToolError(f"constants are known for x86-64, i386, x32, aarch64 and arm: for {shown}, give the "
                               f"number of '{name}'")
     if name not in numbers():
-        raise program.ToolError(f"no constant is known by the name '{name}'{_nearest(name)}")
+        near = tables.most_like(name.upper(), numbers())
+        raise program.ToolError(f"no constant is known by the name '{name}'"
+                                + (f"; the nearest is {near}" if near else ""))
     if name in known:
         raise program.ToolError(f"{name} isn't the same on {shown} as on x86-64: give its number")
     return numbers()[name]

@@ -378,7 +378,7 @@ class Resolver:
         entry = members_of(one, self.setting)
         why = why_left_out(entry, self.setting, f"entry {at}")
         made = None if why else self.entry_of(entry, f"entry {at}")
-        origin = Origin(at, names_of(entry))
+        origin = Origin(at, excerpts([entry["name"]] if entry.get("name") else entry.get("names", [])))
         if made is None:
             self.note(f"{origin.describe()} left out: {why or 'it has no name'}")
             return []
@@ -413,11 +413,6 @@ def resolve(value: Any, setting: Setting, tell: Callable[[str], None],
     if resolver.notes > MAX_NOTES:
         tell(f"{resolver.notes - MAX_NOTES} more such lines")
     return profile, resolver.origins
-
-
-def names_of(entry: dict[str, Any]) -> str:
-    """The first names of an entry."""
-    return excerpts([entry["name"]] if entry.get("name") else entry.get("names", []))
 
 
 def capabilities_of(text: str) -> list[str]:

@@ -81,17 +81,15 @@ class Search:
         self.looks -= len(others)
         return self.looks <= 0 or bool(where_met([entry.conditions], [it.conditions for it in others], call[:1]))
 
-    def _is_doubtful(self, entry: Entry, name: str) -> bool:
-        """Whether no syscall is found that only this entry answers by this name, and differently than the default."""
-        return entry.answer == self.default or not any(self._is_alone(entry, call) for call in self._syscalls(name))
-
     def _doubtful(self) -> list[Named]:
-        """What may be without effect together: whole entries first, then names of others, from the last on."""
+        """What may be without effect together, since no syscall is found that only an entry answers by a name, and
+        differently than the default: whole entries first, then names of others, from the last on."""
         found: list[Named] = []
         for is_whole in (True, False):
             for entry in reversed(self.entries.values()):
                 names = [it for it in entry.names if (entry.place, it) not in self.gone]
-                doubtful = [(entry.place, it) for it in names if self._is_doubtful(entry, it)]
+                doubtful = [(entry.place, it) for it in names if entry.answer == self.default or
+                            not any(self._is_alone(entry, call) for call in self._syscalls(it))]
                 if len(doubtful) == len(entry.names) or not is_whole:
                     found += doubtful
                     self.gone.update(doubtful)

@@ -132,13 +132,15 @@ class Restarts:
         return None if answer is None else answer.disposition
 
     def answer(self, filters: tuple[bytes, ...], call: Call) -> Answer | None:
-        """What filters answer to a syscall; if they test only its number, scf is run once for it."""
+        """What filters answer to a syscall, None where scf can't tell; if they test only its number, scf is run once
+        for it."""
         general = Call(call.number, call.architecture)
         if (filters, general) not in self.are_by_number:
             self.are_by_number[filters, general] = all(is_by_number(data, general) for data in filters)
         key = filters, general if self.are_by_number[filters, general] else call
         if key not in self.answers:
-            self.answers[key] = answer_of(filters, key[1])
+            printed = run(["decide", *key[1].words()], bundles.of_stack(filters))
+            self.answers[key] = verdicts.decision(printed).answer
         return self.answers[key]
 
 
@@ -148,11 +150,6 @@ def run(words: Sequence[str], given: bytes) -> str:
         return client.run(words, given, may_build=False).text
     except (program.ToolError, OSError):
         return ""
-
-
-def answer_of(filters: tuple[bytes, ...], call: Call) -> Answer | None:
-    """What filters answer to a call, or None where scf can't tell."""
-    return verdicts.decision(run(["decide", *call.words()], bundles.of_stack(filters))).answer
 
 
 def is_by_number(data: bytes, call: Call) -> bool:

@@ -259,12 +259,6 @@ class _Application:
                             f"{self.native}")
         return [self.native, *names]
 
-    def stub_of(self, default: Answer) -> dict[str, int]:
-        """By architecture the least number that runc's stub answers (findLastSyscalls of patchbpf), if it has one."""
-        if self.runtime.program != RUNC or default.action in WITHOUT_STUB:
-            return {}
-        return {name: self.greatest[name] + 1 for name in JUDGED if self.greatest.get(name)}
-
     def tell_unknown(self) -> None:
         if self.library is None:
             self.remarks.append("there is no libseccomp.so.2 here, so it is unknown which names the runtime's doesn't "
@@ -293,8 +287,11 @@ class _Application:
                              for it in rules]
         self.tell_unknown()
         handed, places = multiplexed.with_rules(found)
+        has_stub = self.runtime.program == RUNC and default.action not in WITHOUT_STUB
+        # (findLastSyscalls of patchbpf)
+        stub = {name: self.greatest[name] + 1 for name in JUDGED if has_stub and self.greatest.get(name)}
         return AppliedProfile(self.runtime, found, handed, [rules[it].origin for it in places], self.remarks,
-                              self.notes, self.stub_of(default))
+                              self.notes, stub)
 
 
 def _number_in_tables(name: str, architecture: str) -> int | None:

@@ -192,12 +192,6 @@ def modes_of(own: str) -> dict[str, str]:
     return next(it for it in MACHINES if own in it.values())
 
 
-def number_of(name: str, table: Table) -> int | None:
-    """The number of a syscall by its name in a log; strace prints one without a name as `syscall_0x1c3`."""
-    without_name = re.fullmatch("syscall_0x([1-9a-f][0-9a-f]{0,7})", name)
-    return int(without_name[1], 16) if without_name else table.number_of(name)
-
-
 @dataclass
 class Seen:
     """How often something stands in logs, and in which line of which one first; 0 is no line."""
@@ -282,8 +276,12 @@ class Log:
         return True
 
     def number_of(self, architecture: str, name: str) -> int | None:
-        """The number of a syscall in the table of an architecture."""
-        return number_of(name, self.tables[architecture]) if architecture in self.tables else None
+        """The number of a syscall in the table of an architecture; strace prints one without a name as
+        `syscall_0x1c3`."""
+        if architecture not in self.tables:
+            return None
+        without_name = re.fullmatch("syscall_0x([1-9a-f][0-9a-f]{0,7})", name)
+        return int(without_name[1], 16) if without_name else self.tables[architecture].number_of(name)
 
     def _numbered(self, architecture: str, name: str) -> dict[str, int]:
         """The syscalls that strace prints by a name, and their numbers: on i386 it prints what socketcall and ipc do by

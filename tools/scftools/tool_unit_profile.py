@@ -42,13 +42,6 @@ def read_words():
     return options
 
 
-def settings_of(options, reader):
-    if options.unit is not None:
-        return units.settings_in(units.shown_by_systemctl([options.unit])[0], options.unit, reader)
-    return units.Settings(reader.assigned(options.set), units.refusal_of(options.errno or ""),
-                          units.architectures_of(options.architectures or ""), reader.assigned(options.log or (), None))
-
-
 def main():
     options = read_words()
     reader = units.Reader(units.all_groups, program.say)
@@ -58,7 +51,12 @@ def main():
         except program.ToolError as why:
             program.say(f"names that libseccomp doesn't know can't be left out, as systemd may do: {why}")
     try:
-        settings = settings_of(options, reader)
+        if options.unit is not None:
+            settings = units.settings_in(units.shown_by_systemctl([options.unit])[0], options.unit, reader)
+        else:
+            settings = units.Settings(reader.assigned(options.set), units.refusal_of(options.errno or ""),
+                                      units.architectures_of(options.architectures or ""),
+                                      reader.assigned(options.log or (), None))
         reader.tell_unknown()
         text = units.profile_of(settings)
     except units.SettingError as why:
