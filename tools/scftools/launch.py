@@ -1,4 +1,4 @@
-"""Starts a tool: each program tools/NAME is the same five lines, which start the module tool_NAME.
+"""Starts a tool: each program tools/NAME is the same few lines, which start the module tool_NAME.
 
 The tools run as root, so nothing is imported from the user's environment, folders or site packages: Python's options -I
 and -S see to that, and the import path gets the tools' own folder by its real name.

@@ -180,6 +180,14 @@ class Tools(Case):
         self.assertEqual(self.said("compare", one, other, "--beside", both), (0, ["same"]))
         self.assertEqual(self.said("compare", both, "--beside", other, one), (0, ["same"]))
 
+    def test_filters_beside_themselves(self):
+        """Splits don't decide whether two free words are equal, but a stack answers as itself."""
+        equal = load(16) + insn(0x07, 0) + load(24) + insn(0x1D, 0, 0, 1) + ret(ALLOW) + ret(EPERM)
+        paths = [self.file(f"{at}.bpf", it) for at, it in enumerate((equal, filter_of([READ, WRITE]), equal))]
+        for option, (holds, _, _) in RELATIONS.items():
+            self.assertEqual(self.said("diff", *option.split(), "--splits=0", paths[0], paths[2]), (0, [holds]))
+        self.assertEqual(self.said("compare", *paths[:2], "--beside", paths[2], paths[1]), (0, ["same"]))
+
     def test_json(self):
         one, other = self.file("1.bpf", filter_of([READ])), self.file("2.bpf", filter_of([WRITE]))
         found = json.loads(self.run_tool("diff", "--json", one, other)[1])
