@@ -619,6 +619,9 @@ class Beside(Case):
         for name in ("by an argument", "a stack"):
             self.assertEqual(self.pairs(name, name)[:2], (0, []))
         found = stack_surfaces.of_surfaces(*(of([UNKNOWN], table=FEW) for _ in range(2)))
+        self.assertEqual((found.status, found.pairs), (0, ()))
+        # one more filter, which allows all, changes no answer, but the filters aren't the same
+        found = stack_surfaces.of_surfaces(*(of(it, table=FEW) for it in ([UNKNOWN], [UNKNOWN, ret(ALLOW)])))
         self.assertEqual((found.status, [pair.number for pair in found.pairs]), (4, [0, 1, 2]))
         self.assertEqual(stack_surfaces.of_surfaces(of([SQUARE]), of([SQUARE])).pairs, ())
         found = stack_surfaces.of_surfaces(of([BY_SQUARE]), of([BY_SQUARE]))
