@@ -13,7 +13,7 @@ from .verdicts import Fault, Report
 
 
 # What to do where scf is undecided.
-MORE_SPLITS = "not known: try more splits, --splits N"
+MORE_SPLITS = "not known: allow more splits and steps, --splits N --limit N"
 
 
 def join_names(names: Sequence[str]) -> str:

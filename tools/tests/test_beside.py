@@ -188,6 +188,17 @@ class Tools(Case):
             self.assertEqual(self.said("diff", *option.split(), "--splits=0", paths[0], paths[2]), (0, [holds]))
         self.assertEqual(self.said("compare", *paths[:2], "--beside", paths[2], paths[1]), (0, ["same"]))
 
+    def test_more_splits_and_steps(self):
+        """Two halves are added, in one order and in the other."""
+        one, other = (self.file(f"{at}.bpf", load(it[0]) + insn(0x54, 0xFFFF) + insn(0x07, 0) + load(it[1])
+                                + insn(0x54, 0xFFFF) + insn(0x0C, 0) + jeq(0x1234, 0, 1) + ret(ALLOW) + ret(EPERM))
+                      for at, it in enumerate(((16, 24), (24, 16))))
+        status, lines = self.said("diff", one, other)
+        self.assertEqual((status, lines[0], lines[-1]), (
+            4, "undecided at 7", "# not known: allow more splits and steps, --splits N --limit N"))
+        self.assertEqual(self.said("diff", "--splits=10000000", one, other)[0], 4)
+        self.assertEqual(self.said("diff", "--splits=10000000", "--limit=100000000", one, other), (0, ["same"]))
+
     def test_json(self):
         one, other = self.file("1.bpf", filter_of([READ])), self.file("2.bpf", filter_of([WRITE]))
         found = json.loads(self.run_tool("diff", "--json", one, other)[1])

@@ -178,7 +178,8 @@ class Compare(Case):
     def test_undecided(self):
         for words in self.of_each(UNKNOWN_ZERO + jeq(0, 1, 0) + ret(EPERM) + ret(ALLOW)):
             status, out, _ = self.run_tool(*words, "--limit=100000")
-            self.assertEqual((status, out.count("\n# not known: try more splits, --splits N\n")), (4, 1), out)
+            self.assertEqual((status, out.count("\n# not known: allow more splits and steps, --splits N --limit N\n")),
+                             (4, 1), out)
             self.assertRegex(out, r"^undecided at [0-9]+\n# Runs of a filter end at this instruction")
 
     def test_splits(self):

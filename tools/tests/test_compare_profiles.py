@@ -249,7 +249,7 @@ esac
             "differs", "more 0, less 0, otherwise 0, undecided 1",
             "# syscalls that are undecided: 1",
             "1 write undecided args 0x1 0x0 0x0 0x0 0x0 0x0 old ALLOW entry 0 new ALLOW entry 0"]))
-        self.assertEqual(out.count("\n# not known: try more splits, --splits N\n"), 1)
+        self.assertEqual(out.count("\n# not known: allow more splits and steps, --splits N --limit N\n"), 1)
         status, out, _ = self.run_words([os.path.join(tree, "tools", "compare-profiles"), "--no-more", given, given])
         self.assertEqual((status, out.split("\n")[0]), (4, "undecided at 3".partition(" ")[0]))
 
