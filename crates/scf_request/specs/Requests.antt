@@ -68,7 +68,8 @@ HasFlags rows request = Unit {0}
 pub record IsRequest (asked : Option (List ℕ × List Row)) (request : Request) : Type 0 where
   pub rows : List Row
   pub command : asked ≡ Some (command_word (command_and_numbers request).0, rows)
-  pub numbers : map Some (command_and_numbers request).1 ≡ map (number_in rows) (options_of (command_and_numbers request).0)
+  pub numbers : map Some (command_and_numbers request).1
+      ≡ map (number_in rows) (options_of (command_and_numbers request).0)
   pub flags : HasFlags rows request
 
 -- What a command's word and the values of its options ask for, or why they don't: the first option of the command
