@@ -39,7 +39,7 @@ WORDS = (
      "      --a3 <NUMBER>    Argument 3 [default: 0]\n"
      "      --a4 <NUMBER>    Argument 4 [default: 0]\n"
      "      --a5 <NUMBER>    Argument 5 [default: 0]\n"
-     "      --path           Also the places of the instructions on the way\n"
+     "      --path           Also the indices of the instructions on the way\n"
      "  -h, --help           Print help\n", 0),
     (["compare", "--help"],
      "Compares a bundle of filters, a profile and a table\n"

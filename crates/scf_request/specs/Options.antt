@@ -104,7 +104,7 @@ one_of without (one ∷ other ∷ more) = None
 abbrev pub choice_in : {A : Type 0} → List Row → A × List (List ℕ × A) → Option A
 choice_in rows group = one_of group.0 (chosen_of rows group.1)
 
--- the flag of native calls
+-- the flag of x86-64 syscalls
 abbrev pub native_flag : List ℕ
 native_flag = codes "native"
 

@@ -75,7 +75,7 @@ fn define_check<'a>(alloc: Global) -> Result<Command<'a>, AllocError>
 fn define_run<'a>(alloc: Global) -> Result<Command<'a>, AllocError>
     ensures { IfOk result (λ command. app_of command ≡ definition_of Run) }
 {
-    let path = "Also the places of the instructions on the way";
+    let path = "Also the indices of the instructions on the way";
     command_with(alloc, "run", "Runs a filter on a call", &call_options())?.arg(flag_argument(
         alloc, PATH_FLAG, path,
     ))
