@@ -1,8 +1,8 @@
 /* A plain interpreter of classic BPF over a seccomp record, to compare the speed of scf's machine with: one switch over
    the codes. Its checks are two: a division by the index register asks whether that is 0, and a code that isn't one of
-   the 41 ends the process. Places, scratch indices, offsets of loads, constant divisors and constant shifts are taken as
-   a checker has left them, and the filter's last instruction as a return; so it is run only on filters that `scf check`
-   accepts.
+   the 41 ends the process. Jump targets, scratch indices, offsets of loads, constant divisors and constant shifts are
+   taken as a checker has left them, and the filter's last instruction as a return; so it is run only on filters that
+   `scf check` accepts.
 
    It reads a filter on standard input and runs it TIMES times (once if no argument says so) on call 0 of x86-64, each
    time with another instruction pointer, and prints the answer of the last run and the steps of all: what the program
@@ -20,9 +20,9 @@ struct insn {
 static struct insn program[4096];
 
 __attribute__((noinline)) static uint32_t run(const uint32_t *words, uint32_t *steps) {
-    uint32_t a = 0, x = 0, scratch[16] = {0}, place = 0, count = 0;
+    uint32_t a = 0, x = 0, scratch[16] = {0}, pc = 0, count = 0;
     for (;;) {
-        const struct insn *i = &program[place++];
+        const struct insn *i = &program[pc++];
         count++;
         switch (i->code) {
         case 0x20: a = words[i->k / 4]; break;
@@ -56,15 +56,15 @@ __attribute__((noinline)) static uint32_t run(const uint32_t *words, uint32_t *s
         case 0xa4: a ^= i->k; break;
         case 0xac: a ^= x; break;
         case 0x84: a = -a; break;
-        case 0x05: place += i->k; break;
-        case 0x15: place += a == i->k ? i->jt : i->jf; break;
-        case 0x1d: place += a == x ? i->jt : i->jf; break;
-        case 0x25: place += a > i->k ? i->jt : i->jf; break;
-        case 0x2d: place += a > x ? i->jt : i->jf; break;
-        case 0x35: place += a >= i->k ? i->jt : i->jf; break;
-        case 0x3d: place += a >= x ? i->jt : i->jf; break;
-        case 0x45: place += a & i->k ? i->jt : i->jf; break;
-        case 0x4d: place += a & x ? i->jt : i->jf; break;
+        case 0x05: pc += i->k; break;
+        case 0x15: pc += a == i->k ? i->jt : i->jf; break;
+        case 0x1d: pc += a == x ? i->jt : i->jf; break;
+        case 0x25: pc += a > i->k ? i->jt : i->jf; break;
+        case 0x2d: pc += a > x ? i->jt : i->jf; break;
+        case 0x35: pc += a >= i->k ? i->jt : i->jf; break;
+        case 0x3d: pc += a >= x ? i->jt : i->jf; break;
+        case 0x45: pc += a & i->k ? i->jt : i->jf; break;
+        case 0x4d: pc += a & x ? i->jt : i->jf; break;
         case 0x06: *steps = count; return i->k;
         case 0x16: *steps = count; return a;
         case 0x07: x = a; break;

@@ -239,27 +239,27 @@ class Run:
         self.answers: dict[int | None, Shares] = {}
         self._states: list[dict[State, Shares]] = [{} for _ in insns]
 
-    def _reach(self, place: int, state: State, arguments: int, numbers: int) -> None:
+    def _reach(self, index: int, state: State, arguments: int, numbers: int) -> None:
         if arguments and numbers:
-            self._states[place].setdefault(state, Shares()).add(self.machine.sets, arguments, numbers)
+            self._states[index].setdefault(state, Shares()).add(self.machine.sets, arguments, numbers)
 
     def _answer(self, word: Word, arguments: int, numbers: int) -> None:
         for value, those, of_numbers in self.machine.values(word, arguments, numbers):
             if those and of_numbers:
                 self.answers.setdefault(value, Shares()).add(self.machine.sets, those, of_numbers)
 
-    def _test(self, place: int, state: State, arguments: int, numbers: int) -> None:
-        insn, sets = self.insns[place], self.machine.sets
+    def _test(self, index: int, state: State, arguments: int, numbers: int) -> None:
+        insn, sets = self.insns[index], self.machine.sets
         where, those = self.machine.test(state.a, insn.code & 0xF0, state.x if insn.code & BY_X else insn.k)
-        if_true, if_false = insn.targets(place)
+        if_true, if_false = insn.targets(index)
         self._reach(if_true, state, sets.both(arguments, where), numbers & those)
         if those == self.machine.every:
             self._reach(if_false, state, sets.without(arguments, where), numbers)
         else:
             self._reach(if_false, state, arguments, numbers & ~those)
 
-    def _compute(self, place: int, state: State, arguments: int, numbers: int) -> None:
-        insn, machine = self.insns[place], self.machine
+    def _compute(self, index: int, state: State, arguments: int, numbers: int) -> None:
+        insn, machine = self.insns[index], self.machine
         operation, value = insn.code & 0xF0, state.x if insn.code & BY_X else insn.k
         if operation == DIV:
             where, those = machine.test(value, JEQ, 0)
@@ -268,7 +268,7 @@ class Run:
                 arguments = machine.sets.without(arguments, where)
             else:
                 numbers &= ~those
-        self._reach(place + 1, replace(state, a=machine.compute(operation, state.a, value)), arguments, numbers)
+        self._reach(index + 1, replace(state, a=machine.compute(operation, state.a, value)), arguments, numbers)
 
     def _move(self, insn: Instruction, state: State) -> State:
         """The state after a load, a store or a move."""
@@ -289,20 +289,20 @@ class Run:
     def run(self) -> dict[int | None, Shares]:
         """For each answer the arguments and numbers that get it; None is an answer that isn't followed."""
         self._reach(0, State(), ALL, self.machine.every)
-        for place, insn in enumerate(self.insns):
-            for state, shares in self._states[place].items():
+        for index, insn in enumerate(self.insns):
+            for state, shares in self._states[index].items():
                 for arguments, numbers in shares.items():
                     if insn.kind == RETURNS:
                         self._answer(state.a if insn.code == RETURN_A else insn.k, arguments, numbers)
                     elif insn.code == JUMP:
-                        self._reach(place + 1 + insn.k, state, arguments, numbers)
+                        self._reach(index + 1 + insn.k, state, arguments, numbers)
                     elif insn.kind == JUMPS:
-                        self._test(place, state, arguments, numbers)
+                        self._test(index, state, arguments, numbers)
                     elif insn.kind == ALU:
-                        self._compute(place, state, arguments, numbers)
+                        self._compute(index, state, arguments, numbers)
                     else:
-                        self._reach(place + 1, self._move(insn, state), arguments, numbers)
-            self._states[place] = {}
+                        self._reach(index + 1, self._move(insn, state), arguments, numbers)
+            self._states[index] = {}
         return self.answers
 
 

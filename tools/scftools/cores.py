@@ -36,7 +36,7 @@ class Layout:
 
     header: struct.Struct
     segment: struct.Struct
-    places: tuple[int, int]
+    offsets: tuple[int, int]
     process: int
     registers: tuple[int, struct.Struct, tuple[str, ...]]
     union: tuple[int, struct.Struct]
@@ -82,7 +82,7 @@ def notes_of(data: bytes, layout: Layout) -> Iterator[tuple[int, memoryview]]:
             raise refused("is cut, or its program headers stand too far behind")
         fields = layout.segment.unpack_from(data, at + index * size)
         if fields[0] == NOTES:
-            yield from _notes_in(data, fields[layout.places[0]], fields[layout.places[1]])
+            yield from _notes_in(data, fields[layout.offsets[0]], fields[layout.offsets[1]])
 
 
 def _notes_in(data: bytes, at: int, size: int) -> Iterator[tuple[int, memoryview]]:
@@ -100,8 +100,8 @@ def _notes_in(data: bytes, at: int, size: int) -> Iterator[tuple[int, memoryview
 
 def _signal(note: bytes, layout: Layout) -> tuple[int, int, int, int]:
     """The data, the address, the number and the architecture; raises ToolError for another signal than a filter's."""
-    place, union = layout.union
-    if len(note) < place + union.size:
+    offset, union = layout.union
+    if len(note) < offset + union.size:
         raise refused("has a note of the signal that is cut")
     signal, data, code = struct.unpack_from("<iii", note)
     if signal != SIGSYS:
@@ -109,7 +109,7 @@ def _signal(note: bytes, layout: Layout) -> tuple[int, int, int, int]:
     if code != SYS_SECCOMP:
         raise refused("is of a SIGSYS that is no filter's: " + (
             "it is of syscall user dispatch" if code == SYS_USER_DISPATCH else f"a process sent it (si_code {code})"))
-    address, number, architecture = union.unpack_from(note, place)
+    address, number, architecture = union.unpack_from(note, offset)
     return data & 0xFFFF, address, number & 0xFFFFFFFF, architecture
 
 
@@ -124,11 +124,11 @@ def event_of(data: bytes) -> Event:
     if SIGINFO not in found:
         raise refused("has no note of the signal (NT_SIGINFO)")
     answered, pointer, number, architecture = _signal(found[SIGINFO], layout)
-    place, registers, names = layout.registers
+    offset, registers, names = layout.registers
     status = found.get(PRSTATUS, b"")
     arguments, process = (None,) * 6, None
-    if len(status) >= place + registers.size and architecture in ARGUMENTS:
-        values = dict(zip(names, registers.unpack_from(status, place)))
+    if len(status) >= offset + registers.size and architecture in ARGUMENTS:
+        values = dict(zip(names, registers.unpack_from(status, offset)))
         mask = 0xFFFFFFFF if architecture == I386 else 0xFFFFFFFFFFFFFFFF
         arguments = tuple((values[it] & mask,) for it in ARGUMENTS[architecture])
         process = struct.unpack_from("<i", status, layout.process)[0]

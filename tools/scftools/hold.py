@@ -320,7 +320,7 @@ class Hold:
         return Unreadable(f"threads came and went for {self.patience:g} seconds, faster than they can be stopped")
 
 
-def why_no_filter(kernel: Kernel, thread: int, process: int, place: int, error: OSError) -> str:
+def why_no_filter(kernel: Kernel, thread: int, process: int, index: int, error: OSError) -> str:
     if error.errno == errno.EACCES:
         return ("the kernel shows filters only to a process with CAP_SYS_ADMIN that has no filter of its own: run this "
                 "as root, outside of containers")
@@ -329,12 +329,12 @@ def why_no_filter(kernel: Kernel, thread: int, process: int, place: int, error: 
     if error.errno in (errno.EIO, errno.ENOSYS):
         return f"this kernel doesn't show filters: {error.strerror}"
     if error.errno == errno.EMEDIUMTYPE:
-        return (f"filter {place} of {called(thread, process)} isn't kept as classic BPF, so the kernel can't show "
+        return (f"filter {index} of {called(thread, process)} isn't kept as classic BPF, so the kernel can't show "
                 f"it")
-    return f"filter {place} of {called(thread, process)} can't be read: {error.strerror}"
+    return f"filter {index} of {called(thread, process)} can't be read: {error.strerror}"
 
 
-def filter_at(kernel: Kernel, thread: int, process: int, place: int) -> bytes | None:
+def filter_at(kernel: Kernel, thread: int, process: int, index: int) -> bytes | None:
     """The bytes of the filter with this index, 0 being the oldest, or None behind the newest.
 
     ptrace(2) says that 0 is the newest; the kernel counts from the oldest (get_nth_filter in kernel/seccomp.c). The
@@ -344,23 +344,23 @@ def filter_at(kernel: Kernel, thread: int, process: int, place: int) -> bytes | 
 
     room = ctypes.create_string_buffer(LONGEST * INSTRUCTION.size)
     try:
-        count = kernel.ptrace(PTRACE_SECCOMP_GET_FILTER, thread, place, None)
+        count = kernel.ptrace(PTRACE_SECCOMP_GET_FILTER, thread, index, None)
         if count <= LONGEST:
-            again = kernel.ptrace(PTRACE_SECCOMP_GET_FILTER, thread, place, room)
+            again = kernel.ptrace(PTRACE_SECCOMP_GET_FILTER, thread, index, room)
     except OSError as error:
         if error.errno == errno.ENOENT:
             return None
         if error.errno == errno.ESRCH:
             raise Ended(thread) from error
         mode = kernel.status_of(thread).get("Seccomp")
-        if error.errno == errno.EINVAL and place == 0 and mode in ("0", "1"):
+        if error.errno == errno.EINVAL and index == 0 and mode in ("0", "1"):
             return None
-        raise Unreadable(why_no_filter(kernel, thread, process, place, error)) from error
+        raise Unreadable(why_no_filter(kernel, thread, process, index, error)) from error
     if count > LONGEST:
-        raise Unreadable(f"filter {place} of {called(thread, process)} has {count} instructions, more than a filter "
+        raise Unreadable(f"filter {index} of {called(thread, process)} has {count} instructions, more than a filter "
                          f"may have")
     if again != count:
-        raise Unreadable(f"filter {place} of {called(thread, process)} changed its length from {count} to {again} "
+        raise Unreadable(f"filter {index} of {called(thread, process)} changed its length from {count} to {again} "
                          f"while it was read")
     return room.raw[:count * INSTRUCTION.size]
 

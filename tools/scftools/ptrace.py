@@ -171,16 +171,16 @@ class Kernel:
         """The PID namespace of a process and those around it that this tool may see, the innermost first."""
         found = []
         try:
-            place = os.open(f"/proc/{process}/ns/pid", os.O_RDONLY | os.O_CLOEXEC)
+            namespace = os.open(f"/proc/{process}/ns/pid", os.O_RDONLY | os.O_CLOEXEC)
         except OSError:
             return found
         while True:
-            status = os.fstat(place)
+            status = os.fstat(namespace)
             found.append((status.st_dev, status.st_ino))
             try:
-                around = fcntl.ioctl(place, NS_GET_PARENT)
+                around = fcntl.ioctl(namespace, NS_GET_PARENT)
             except OSError:
                 return found
             finally:
-                os.close(place)
-            place = around
+                os.close(namespace)
+            namespace = around
