@@ -8,7 +8,6 @@ pub mod Halves
 pub mod BitSlices
 pub mod KnownBits
 pub mod Numbered
-pub mod Orders
 pub mod Relations
 pub mod Rules
 pub mod Saturated

@@ -127,7 +127,7 @@ fn greatest(bits: Bits) -> u32
 
 /// The known bits of `first & second`.
 #[tactic(auto, using(crate::proofs::KnownBits::and_laws))]
-fn and_bits(first: Bits, second: Bits) -> Bits
+pub(crate) fn and_bits(first: Bits, second: Bits) -> Bits
     ensures within { bit_and result.value result.mask ≡ result.value }
     ensures stands { (x y : ℕ) → HasBits first x → HasBits second y → HasBits result (bit_and x y) }
     ensures folded { FixesNumber first → FixesNumber second → FixesNumber result }
@@ -174,7 +174,7 @@ fn known_count(bits: Bits) -> Option<u32>
 
 /// The known bits of `bits << count`.
 #[tactic(auto, using(crate::proofs::KnownBits::left_laws))]
-fn left_bits(bits: Bits, count: u32) -> Bits
+pub(crate) fn left_bits(bits: Bits, count: u32) -> Bits
     requires { count < 32 }
     ensures within { bit_and result.value result.mask ≡ result.value }
     ensures stands { (x : ℕ) → HasBits bits x → HasBits result (x * 2 ^ count % 2 ^ 32) }
@@ -186,7 +186,7 @@ fn left_bits(bits: Bits, count: u32) -> Bits
 
 /// The known bits of `bits >> count`.
 #[tactic(auto, using(crate::proofs::KnownBits::right_laws))]
-fn right_bits(bits: Bits, count: u32) -> Bits
+pub(crate) fn right_bits(bits: Bits, count: u32) -> Bits
     requires { count < 32 }
     ensures within { bit_and result.value result.mask ≡ result.value }
     ensures stands { (x : ℕ) → x < 2 ^ 32 → HasBits bits x → HasBits result (x / 2 ^ count) }

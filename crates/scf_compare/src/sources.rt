@@ -48,11 +48,13 @@ impl Sources {
         is_moved: false,
     };
 
-    /// Bits of one word.
-    pub(crate) fn of(word: u8, bits: u32) -> Sources {
+    /// Bits of one word, shifted to the right and then to the left.
+    pub(crate) fn of(word: u8, bits: u32, right: u32, left: u32) -> Sources {
         Sources {
             first_bits: bits,
             first: word,
+            lowered: right.saturating_sub(left).min(u32::BITS) as u8,
+            is_moved: right != left,
             ..Sources::NONE
         }
     }

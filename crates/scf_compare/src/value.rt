@@ -66,7 +66,7 @@ impl Value {
             → Abstracts other words v
             → Abstracts result words (value_computed arithmetic a v) }
     {
-        match self.bit_slice_computed(arithmetic, other) {
+        match self.bit_slice_result(arithmetic, other) {
             Some(value) => value,
             None => self
                 .in_bits(facts)
@@ -75,8 +75,10 @@ impl Value {
         }
     }
 
-    /// The abstract result of `self op other`, if it is that of a bit slice and a constant.
-    fn bit_slice_computed(self, arithmetic: Arithmetic, other: Value) -> Option<Value>
+    /// The abstract result of `self op other`, if one of them is a bit slice, the other a constant, and the result a bit
+    /// slice or a constant.
+    #[tactic(auto, using(crate::proofs::Bits::commutative))]
+    fn bit_slice_result(self, arithmetic: Arithmetic, other: Value) -> Option<Value>
         requires value { IsValue self }
         requires other { IsValue other }
         ensures value { IfSome result IsValue }
@@ -84,12 +86,23 @@ impl Value {
             → Abstracts other words v
             → Abstracts value words (value_computed arithmetic a v)) }
     {
-        match (self, other) {
-            (Value::Slice(bit_slice), Value::Known(v)) => bit_slice_result(
-                arithmetic, bit_slice, v,
-            ),
-            (Value::Known(a), Value::Slice(bit_slice)) if is_commutative(arithmetic) => {
-                bit_slice_result(arithmetic, bit_slice, a)
+        match (arithmetic, self, other) {
+            (Arithmetic::And, Value::Slice(bit_slice), Value::Known(v))
+            | (Arithmetic::And, Value::Known(v), Value::Slice(bit_slice)) => {
+                Some(Value::Slice(bit_slice.and(v)))
+            }
+            (Arithmetic::Lsh, Value::Slice(bit_slice), Value::Known(v)) if v < 32 => {
+                Some(bit_slice.shifted_left(v))
+            }
+            (Arithmetic::Rsh, Value::Slice(bit_slice), Value::Known(v)) if v < 32 => {
+                Some(bit_slice.shifted_right(v))
+            }
+            (Arithmetic::Mul, Value::Slice(bit_slice), Value::Known(v))
+            | (Arithmetic::Mul, Value::Known(v), Value::Slice(bit_slice)) => {
+                Some(bit_slice.shifted_left(exponent_of(v)?))
+            }
+            (Arithmetic::Div, Value::Slice(bit_slice), Value::Known(v)) => {
+                Some(bit_slice.shifted_right(exponent_of(v)?))
             }
             _ => None,
         }
@@ -199,37 +212,6 @@ fn open_test(test: Test, first: Computed, second: Computed) -> OpenTest {
     OpenTest {
         sources,
         is_order: is_order || sources.is_lowered(),
-    }
-}
-
-/// Whether the operation is commutative.
-#[tactic(auto, using(crate::proofs::Bits::commutative))]
-fn is_commutative(arithmetic: Arithmetic) -> bool
-    ensures { IsTrue result → (a v : ℕ) → value_computed arithmetic a v ≡ value_computed arithmetic v a }
-{
-    match arithmetic {
-        Arithmetic::Add | Arithmetic::Mul | Arithmetic::And | Arithmetic::Or | Arithmetic::Xor =>
-            true,
-        Arithmetic::Sub | Arithmetic::Div | Arithmetic::Lsh | Arithmetic::Rsh => false,
-    }
-}
-
-/// The abstract result of an operation on a bit slice and a constant, if that is a bit slice or a constant.
-fn bit_slice_result(arithmetic: Arithmetic, bit_slice: BitSlice, v: u32) -> Option<Value>
-    requires { IsBitSlice bit_slice }
-    ensures value { IfSome result IsValue }
-    ensures stands { IfSome result (λ value. (words : List ℕ)
-        → Abstracts value words (value_computed arithmetic (bit_slice_value bit_slice words) v)) }
-{
-    match arithmetic {
-        Arithmetic::And => Some(Value::Slice(bit_slice.and(v))),
-        Arithmetic::Or => Some(Value::Slice(bit_slice.or(v))),
-        Arithmetic::Xor => Some(Value::Slice(bit_slice.xor(v))),
-        Arithmetic::Lsh if v < 32 => Some(bit_slice.shifted_left(v)),
-        Arithmetic::Rsh if v < 32 => Some(bit_slice.shifted_right(v)),
-        Arithmetic::Mul => Some(bit_slice.shifted_left(exponent_of(v)?)),
-        Arithmetic::Div => Some(bit_slice.shifted_right(exponent_of(v)?)),
-        _ => None,
     }
 }
 

@@ -1,13 +1,10 @@
 -- What an instruction that goes on does to what is known.
 use Rattle.scf_compare.proofs.Common.{◌≡◌, ℕ, Bool, true, false, Option, None, Some, refl, subst, arith, Register, State, Fault, Goes, unless, loads, sets, word_below, Describes}
-use Rattle.scf_compare.proofs.BitSlices.{of_whole_word}
 use Rattle.scf_compare.proofs.registers.KnownRegisters.apply.Goals as goal
 
 pub returns-in-LoadWord-clause-describes : goal.returns-in-LoadWord-clause-describes
 returns-in-LoadWord-clause-describes g c = λ words s t w allowed d e.
-    let word = c.of_word-word.ensures in
-    let loaded = of_whole_word c.of_word-word.result words _ word.whole word.word (word_below words w _) in
-    grind (arith, c.set.ensures.describes words s _ d loaded)
+    grind (arith, c.set.ensures.describes words s _ d (c.of_word-word.ensures.number words w))
 
 pub returns-in-LoadLength-clause-describes : goal.returns-in-LoadLength-clause-describes
 returns-in-LoadLength-clause-describes g c = λ words s t w allowed d e.
