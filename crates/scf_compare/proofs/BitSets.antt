@@ -4,7 +4,6 @@ use Rattle.std.proofs.lemmas.Nat.{pow_below}
 use Rattle.std.proofs.lemmas.Nat.Bits.{bit_at-trailing_ones}
 use Rattle.std.specs.Int.{trailing_ones}
 use Rattle.scf_facts.proofs.Common.{IsPowerOfTwo, and_pow, one_shl, w32}
-use Rattle.scf_compare.proofs.Bits.{whole_word}
 use Rattle.std.proofs.lemmas.List.Sums.{sum_by-set}
 use Rattle.std.proofs.lemmas.Nat.{or_disjoint}
 use Rattle.std.specs.Int.Bits.{or_zero_r}
@@ -65,10 +64,6 @@ lowest_lacking mask more =
       rw (← or_disjoint mask (2 ^ trailing_ones w32 mask) apart)
           (or_lt 32 mask (2 ^ trailing_ones w32 mask) (omega arith) (pow_below _ 32 lowest.0)),
     )
-
--- a word under all of its bits is the word
-pub whole_bits : (x m v : ℕ) → x < 2 ^ 32 → m ≡ 2 ^ 32 - 1 → bit_and x m ≡ v → v ≡ x
-whole_bits x m v fits whole has = sym (whole_word x fits ∙ rw whole at has)
 
 -- a mask and a bit that it lacks fit 32 bits together
 pub room_for : (mask bit : ℕ) → mask < 2 ^ 32 → bit < 2 ^ 32 → bit_and mask bit ≡ 0 → mask + bit < 2 ^ 32

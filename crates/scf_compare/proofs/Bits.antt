@@ -1,6 +1,6 @@
 -- Words under masks.
 use Rattle.std.proofs.Math.Nat.{div-le_self}
-use Rattle.scf_compare.proofs.Common.{add_comm, and_comm, mul_comm, or_comm, xor_comm, ◌%◌, Arithmetic, Add, Sub, Mul, Div, Or, And, Lsh, Rsh, Xor, value_computed, and_le_l, or_lt, same_from_bits, xor_lt, ◌≡◌, ◌≢◌, ℕ, ◌<◌, ◌≤◌, ◌^◌, true, false, eqb, leb, List, sym, ◌∙◌, arith, bit_and, slice_index, eq-eqb, eqb-true, and_mask, bit_at_and, bit_at_or, bit_at_xor, bit_at-lt, bit_at-zero, mod-eq_of_lt, IsWords, word_below}
+use Rattle.scf_compare.proofs.Common.{add_comm, and_comm, mul_comm, or_comm, xor_comm, ◌%◌, Arithmetic, Add, Sub, Mul, Div, Or, And, Lsh, Rsh, Xor, value_computed, and_le_l, or_lt, same_from_bits, xor_lt, ◌≡◌, ◌≢◌, ℕ, ◌-◌, ◌<◌, ◌≤◌, ◌^◌, true, false, eqb, leb, List, sym, ◌∙◌, arith, bit_and, slice_index, eq-eqb, eqb-true, and_mask, bit_at_and, bit_at_or, bit_at_xor, bit_at-lt, bit_at-zero, mod-eq_of_lt, IsWords, word_below}
 
 -- what each bit is of numbers that are joined
 pub ruleset each_bit = (bit_at_and, bit_at_or, bit_at_xor, bit_at-lt, bit_at-zero)
@@ -8,6 +8,10 @@ pub ruleset each_bit = (bit_at_and, bit_at_or, bit_at_xor, bit_at-lt, bit_at-zer
 -- a word under all of its bits is the word
 pub whole_word : (x : ℕ) → x < 2 ^ 32 → x ≡ bit_and x 4294967295
 whole_word x h = sym (and_mask x 32 ∙ mod-eq_of_lt h)
+
+-- all of its bits fix a word
+pub fixed : (x m v : ℕ) → x < 2 ^ 32 → m ≡ 2 ^ 32 - 1 → bit_and x m ≡ v → v ≡ x
+fixed x m v fits whole has = sym (whole_word x fits ∙ rw whole at has)
 
 -- ---- what an atom's answer about a whole word means
 

@@ -86,7 +86,7 @@ pub use Rattle.scf_compare.specs.internal.Frontier.{AreExact, GivesLearned, IsAh
 pub use Rattle.scf_compare.specs.internal.BitSlices.{IsWhole, bit_slice_value}
 pub use Rattle.scf_compare.specs.internal.Laws.{paths_count, scaled_costs, side_size_counts, spread_counts}
 pub use Rattle.scf_compare.specs.internal.NumberedProfiles.{IsNumbered, NumberedProfile}
-pub use Rattle.scf_compare.specs.internal.KnownBits.{IsLowMask}
+pub use Rattle.scf_compare.specs.internal.KnownBits.{IsLowEnd}
 pub use Rattle.scf_compare.specs.internal.Profiles.{IsAtCondition, IsAtRule, IsFrom, numbers_size, own_conditions, own_rules, size_behind}
 pub use Rattle.scf_compare.specs.internal.Stacks.{IsStackLeaf, filter_at, stack_is_node, stack_is_plain, stack_reaches, stack_size}
 pub use Rattle.scf_compare.specs.internal.Stages.{GoesOver, IsTaken, LeadsTo, finding_of_all}

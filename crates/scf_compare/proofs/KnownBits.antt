@@ -1,7 +1,7 @@
 -- What is known bit by bit of results, and of the least and the greatest.
-use Rattle.scf_compare.proofs.Common.{◌≡◌, ◌≢◌, ℕ, ◌+◌, ◌-◌, ◌*◌, ◌/◌, ◌%◌, ◌<◌, ◌≤◌, ◌^◌, eqb, refl, sym, ap, ◌∙◌, arith, bit_and, bit_or, bit_xor, inl, inr, Bits, HasBits, IsLowMask, add-mod, and_comm, and_le_l, and_le_r, and_mask, and_mod, and_self, and_shr, and_twice, at_bit, bit_at, bit_at-trailing_ones, bit_at_not, bit_at_ones, bit_at_ones_above, cases_eq, cases_lt, div-mul-le_self, eq-eqb, kept, le-div, le_or_l, mod-mod-pow, mul-le-mul, mul-le-mul_left, mul-mod, mul-mod_left, ne_eqb, one_shl, ones_shl, or_low_ones, or_lt, or_zero_r, part_of, pow_mono, same_from_bits, same_from_bits_below, same_from_xor, shr_le, shr_mono, trailing_le, trailing_of_zero, trailing_ones, w32, xor_lt, xor_self}
+use Rattle.scf_compare.proofs.Common.{◌≡◌, ◌≢◌, ℕ, ◌+◌, ◌-◌, ◌*◌, ◌/◌, ◌%◌, ◌<◌, ◌≤◌, ◌^◌, eqb, refl, sym, ap, ◌∙◌, arith, bit_and, bit_or, bit_xor, inl, inr, Bits, HasBits, IsLowEnd, add-mod, and_comm, and_le_l, and_le_r, and_mask, and_mod, and_self, and_shr, and_twice, at_bit, bit_at, bit_at-trailing_ones, bit_at_not, bit_at_ones, bit_at_ones_above, cases_eq, cases_lt, div-mul-le_self, eq-eqb, kept, le-div, le_or_l, mod-eq_of_lt, mod-mod-pow, mul-le-mul, mul-le-mul_left, mul-mod, mul-mod_left, ne_eqb, one_shl, ones_shl, or_low_ones, or_lt, or_zero_r, part_of, pow_mono, pow_pos, same_from_bits, same_from_bits_below, same_from_xor, shr_le, shr_mono, trailing_le, trailing_of_zero, trailing_ones, w32, xor_lt, xor_self}
 use Rattle.scf_compare.proofs.BitSlices.{and_scaled}
-use Rattle.scf_compare.proofs.Bits.{each_bit, whole_word}
+use Rattle.scf_compare.proofs.Bits.{each_bit, fixed, whole_word}
 
 -- ---- results bit by bit
 
@@ -82,148 +82,80 @@ same_by_xor x y = elim (cases_eq x y) [
 
 -- ---- the low end
 
--- a number has the low bits of its value, as far as these are known
-low_kept : (x m v k mask : ℕ) → mask ≡ 2 ^ k - 1 → bit_and m mask ≡ mask → bit_and x m ≡ v → x % 2 ^ k ≡ v % 2 ^ k
-low_kept x m v k mask low known e =
-    let same : bit_and x mask ≡ bit_and v mask = part_of x m v mask (bit_and v mask) known refl e in
-    sym (and_mask x k) ∙ rw low at same ∙ and_mask v k
+-- the low bits of a mask that both have are known of a number by the first
+low_kept : (x m n v k : ℕ) → bit_and x m ≡ v → bit_and (bit_and m n) (2 ^ k - 1) ≡ 2 ^ k - 1 → v % 2 ^ k ≡ x % 2 ^ k
+low_kept x m n v k e known =
+    rw (← and_mask v k, ← and_mask x k)
+    (same_from_bits _ _ (λ i. grind (arith, each_bit, at_bit i e, at_bit i known)))
 
-low_same : (p q k mask : ℕ) → k ≤ 32 → mask ≡ 2 ^ k - 1 → p % 2 ^ k ≡ q % 2 ^ k
-    → bit_and (p % 2 ^ 32) mask ≡ bit_and (q % 2 ^ 32) mask
-low_same p q k mask within low e =
-    rw (low, and_mask (p % 2 ^ 32) k, and_mask (q % 2 ^ 32) k, low_bits p k within, low_bits q k within) e
+module _ (x y m n v w : ℕ) (first : bit_and x m ≡ v) (second : bit_and y n ≡ w) where
+  first_low : (k : ℕ) → bit_and (bit_and m n) (2 ^ k - 1) ≡ 2 ^ k - 1 → v % 2 ^ k ≡ x % 2 ^ k
+  first_low k known = low_kept x m n v k first known
 
-negated : (x y : ℕ) → y < 2 ^ 32 → (x + 2 ^ 32 - y) % 2 ^ 32 ≡ (x + (2 ^ 32 - 1) * y) % 2 ^ 32
-negated x y fits = omega arith
+  second_low : (k : ℕ) → bit_and (bit_and m n) (2 ^ k - 1) ≡ 2 ^ k - 1 → w % 2 ^ k ≡ y % 2 ^ k
+  second_low k known = low_kept y n m w k second (rw (and_comm n m) known)
 
-module _ (first second : Bits) (mask : ℕ) (low : IsLowMask first second mask) (x y : ℕ)
-    (of_x : HasBits first x) (of_y : HasBits second y) where
-  first_low : x % 2 ^ low.count ≡ first.value % 2 ^ low.count
-  first_low = low_kept x first.mask first.value low.count mask low.low low.known_first of_x
+  pub sum_low : IsLowEnd (bit_and m n) (v + w) (x + y)
+  sum_low = λ k within known.
+      cc (first_low k known, second_low k known, add-mod x y (2 ^ k), add-mod v w (2 ^ k))
 
-  second_low : y % 2 ^ low.count ≡ second.value % 2 ^ low.count
-  second_low = low_kept y second.mask second.value low.count mask low.low low.known_second of_y
+  pub product_low : IsLowEnd (bit_and m n) (v * w) (x * y)
+  product_low = λ k within known.
+      cc (first_low k known, second_low k known, mul-mod x y (2 ^ k), mul-mod v w (2 ^ k))
 
-  pub sum_low : bit_and ((x + y) % 2 ^ 32) mask ≡ bit_and ((first.value + second.value) % 2 ^ 32) mask
-  sum_low =
-      let m = 2 ^ low.count in
-      low_same (x + y) (first.value + second.value) low.count mask low.within low.low
-      (cc (first_low, second_low, add-mod x y m, add-mod first.value second.value m))
-
-  pub product_low : bit_and (x * y % 2 ^ 32) mask ≡ bit_and (first.value * second.value % 2 ^ 32) mask
-  product_low =
-      let m = 2 ^ low.count in
-      low_same (x * y) (first.value * second.value) low.count mask low.within low.low
-      (cc (first_low, second_low, mul-mod x y m, mul-mod first.value second.value m))
-
-  pub difference_low : y < 2 ^ 32 → second.value < 2 ^ 32 → bit_and ((x + 2 ^ 32 - y) % 2 ^ 32) mask
-      ≡ bit_and ((first.value + (2 ^ 32 - second.value)) % 2 ^ 32) mask
-  difference_low fits below =
-      let m = 2 ^ low.count in
-      let minus = 2 ^ 32 - 1 in
-      let v = first.value in
-      let w = second.value in
-      let value : (v + (2 ^ 32 - w)) % 2 ^ 32 ≡ (v + minus * w) % 2 ^ 32 = omega arith in
-      let same : (x + minus * y) % m ≡ (v + minus * w) % m =
-      cc (first_low, second_low, add-mod x (minus * y) m, add-mod v (minus * w) m, mul-mod minus y m, mul-mod minus w m) in
-      rw (negated x y fits, value) (low_same (x + minus * y) (v + minus * w) low.count mask low.within low.low same)
-
--- ---- the mask of the low end
-
-each_one : (a i : ℕ) → a < 2 ^ 32 → i < trailing_ones w32 a → i < 32 → bit_at a i ≡ 1
-each_one a i fits below within = elim (cases_eq a (2 ^ 32 - 1)) [
-  | inl most ↦ rw most (bit_at_ones 32 i within)
-  | inr less ↦ (bit_at-trailing_ones w32 a (omega arith)).2 i below
+-- the low bits that a mask has
+low_ones : (m k : ℕ) → m < 2 ^ 32 → k ≡ trailing_ones w32 m → (k ≤ 32) × (bit_and m (2 ^ k - 1) ≡ 2 ^ k - 1)
+low_ones m k fits count = elim (cases_eq m (2 ^ 32 - 1)) [
+  | inl most ↦
+      let all : k ≡ 32 = count ∙ ap (trailing_ones w32) most ∙ trailing_of_zero 32 in
+      (omega arith, rw (all, most) (and_self (2 ^ 32 - 1)))
+  | inr less ↦
+      let (within, _, each) = bit_at-trailing_ones w32 m (omega arith) in (
+        omega arith,
+        same_from_bits _ _ (λ i. elim (cases_lt i k) [
+          | inl below ↦ grind (arith, each_bit, each i (omega arith), bit_at_ones k i below)
+          | inr past ↦ grind (arith, each_bit, bit_at_ones_above k i past)
+        ]),
+      )
 ]
 
--- the low bits that are set in two numbers at once are set in the first
-ones_of_both : (a b k : ℕ) → ((i : ℕ) → i < k → bit_at (bit_and a b) i ≡ 1) → bit_and a (2 ^ k - 1) ≡ 2 ^ k - 1
-ones_of_both a b k each = same_from_bits _ _ (λ i. elim (cases_lt i k) [
-  | inl below ↦ grind (arith, each_bit, each i below, bit_at_ones k i below)
-  | inr past ↦ grind (arith, each_bit, bit_at_ones_above k i past)
-])
+pub low_end : (m a b k : ℕ) → m < 2 ^ 32 → k ≡ trailing_ones w32 m → IsLowEnd m a b
+    → bit_and (b % 2 ^ 32) ((1 * 2 ^ k % 2 ^ 64 - 1) % 2 ^ 32) ≡ bit_and (a % 2 ^ 32) ((1 * 2 ^ k % 2 ^ 64 - 1) % 2 ^ 32)
+low_end m a b k fits count same =
+    let (within, known) = low_ones m k fits count in
+    let below : k < 64 = omega arith in
+    let ones : 2 ^ k - 1 < 2 ^ 32 = omega (arith, pow_mono within, pow_pos k) in
+    rw (one_shl k 64 below, mod-eq_of_lt ones, and_mask (b % 2 ^ 32) k, and_mask (a % 2 ^ 32) k, low_bits b k within, low_bits a k within)
+    (sym (same k within known))
 
-pub low_ones : (first second : Bits) (k mask : ℕ) → first.mask < 2 ^ 32
-    → k ≡ trailing_ones w32 (bit_and first.mask second.mask) → mask ≡ 2 ^ k - 1 → IsLowMask first second mask
-low_ones first second k mask fits count low =
-    let both = bit_and first.mask second.mask in
-    let both_fits : both < 2 ^ 32 = omega (arith, and_le_l first.mask second.mask) in
-    let within : k ≤ 32 = omega (arith, trailing_le 32 (2 ^ 32 - 1 - both), count) in
-    let each = λ (i : ℕ) (below : i < k). each_one both i both_fits (omega (arith, count)) (omega arith) in
-    record {
-      count = k;
-      within = within;
-      low = low;
-      known_first = rw low (ones_of_both first.mask second.mask k each);
-      known_second = rw low (ones_of_both second.mask first.mask k (λ i below. rw and_comm (each i below)));
-    }
+-- ---- differences
 
-pub low_ones_below : (first second : Bits) (k : ℕ) → first.mask < 2 ^ 32
-    → k ≡ trailing_ones w32 (bit_and first.mask second.mask) → k ≢ 32
-    → IsLowMask first second (1 * 2 ^ k % 2 ^ 32 - 1)
-low_ones_below first second k fits count less =
-    let both = bit_and first.mask second.mask in
-    let both_fits : both < 2 ^ 32 = omega (arith, and_le_l first.mask second.mask) in
-    let below : k < 32 = omega (arith, trailing_le 32 (2 ^ 32 - 1 - both), count) in
-    low_ones first second k (1 * 2 ^ k % 2 ^ 32 - 1) fits count (ap (λ n. n - 1) (one_shl k 32 below))
+pub inverted_known : (x m v : ℕ) → x < 2 ^ 32 → v < 2 ^ 32 → bit_and x m ≡ v
+    → bit_and (2 ^ 32 - 1 - x) m ≡ bit_and (2 ^ 32 - 1 - v) m
+inverted_known x m v fits fits_v e = same_from_bits_below 32 _ _ (omega (arith, and_le_l (2 ^ 32 - 1 - x) m))
+    (omega (arith, and_le_l (2 ^ 32 - 1 - v) m))
+    (λ i below. grind (arith, each_bit, at_bit i e, bit_at_not w32 x i fits below, bit_at_not w32 v i fits_v below))
 
--- ---- results of operands that are known
-
--- a mask that has all bits of a word has them beside others
-pub whole_or : (m p : ℕ) → m ≡ 2 ^ 32 - 1 → p < 2 ^ 32 → bit_or m p ≡ 2 ^ 32 - 1
-whole_or m p whole fits =
-    let most : bit_or m p < 2 ^ 32 = or_lt 32 m p (omega arith) fits in
-    omega (arith, most, le_or_l m p)
-
-pub xor_whole : (m n : ℕ) → m ≡ 2 ^ 32 - 1 → n ≡ 2 ^ 32 - 1 → bit_and m n ≡ 2 ^ 32 - 1
-xor_whole m n whole also = rw (whole, also) (and_self (2 ^ 32 - 1))
-
-module _ (m n v w : ℕ) (whole : m ≡ 2 ^ 32 - 1) (also : n ≡ 2 ^ 32 - 1) (fits_v : v < 2 ^ 32) (fits_w : w < 2 ^ 32) where
-  pub and_whole : bit_or (bit_and m n) (bit_or (bit_xor m v) (bit_xor n w)) ≡ 2 ^ 32 - 1
-  and_whole = whole_or (bit_and m n) (bit_or (bit_xor m v) (bit_xor n w)) (xor_whole m n whole also)
-      (or_lt 32 (bit_xor m v) (bit_xor n w) (xor_lt 32 m v (omega arith) fits_v) (xor_lt 32 n w (omega arith) fits_w))
-
-  pub or_whole : bit_or (bit_and m n) (bit_or v w) ≡ 2 ^ 32 - 1
-  or_whole = whole_or (bit_and m n) (bit_or v w) (xor_whole m n whole also) (or_lt 32 v w fits_v fits_w)
-
-pub left_whole : (m k : ℕ) → m ≡ 2 ^ 32 - 1 → k < 32
-    → bit_or (m * 2 ^ k % 2 ^ 32) (1 * 2 ^ k % 2 ^ 32 - 1) ≡ 2 ^ 32 - 1
-left_whole m k whole below =
-    let within : k ≤ 32 = omega arith in
-    let high = 2 ^ 32 - 2 ^ k in
-    rw (whole, ones_shl 32 k within, one_shl k 32 below)
-    (omega (arith, or_low_ones 32 k within high (and_self high), pow_mono within))
-
-pub right_whole : (m k : ℕ) → m ≡ 2 ^ 32 - 1
-    → bit_or (m / 2 ^ k) (2 ^ 32 - 1 - (2 ^ 32 - 1) / 2 ^ k) ≡ 2 ^ 32 - 1
-right_whole m k whole =
-    let ones = (2 ^ 32 - 1) / 2 ^ k in
-    let few : ones < 2 ^ 32 = omega (arith, shr_le (2 ^ 32 - 1) k) in
-    let rest = 2 ^ 32 - 1 - ones in
-    rw whole (same_from_bits_below 32 (bit_or ones rest) (2 ^ 32 - 1) (or_lt 32 ones rest few (omega arith)) (omega arith)
-    (λ i index. grind (arith, each_bit, bit_at_not w32 ones i few index, bit_at_ones 32 i index)))
-
-pub greatest_one : (m v : ℕ) → m ≡ 2 ^ 32 - 1 → bit_or v (2 ^ 32 - 1 - m) ≡ v
-greatest_one m v whole = rw whole (or_zero_r v)
-
-pub whole_count : (m n k : ℕ) → m ≡ 2 ^ 32 - 1 → n ≡ 2 ^ 32 - 1 → k ≡ trailing_ones w32 (bit_and m n) → k ≡ 32
-whole_count m n k whole also e =
-    e ∙ ap (λ a. trailing_ones w32 a) (xor_whole m n whole also) ∙ trailing_of_zero 32
+pub difference : (x y : ℕ) → x < 2 ^ 32 → y < 2 ^ 32
+    → (x + 2 ^ 32 - y) % 2 ^ 32 ≡ 2 ^ 32 - 1 - (2 ^ 32 - 1 - x + y) % 2 ^ 32
+difference x y fits_x fits_y = omega arith
 
 -- ---- what functions cite
 
-pub ruleset greatest_laws = (within_greatest, le_or_l, greatest_one)
+pub ruleset result_laws = (fixed, whole_word, difference)
 
-pub ruleset and_laws = (and_known, and_twice, and_whole)
+pub ruleset greatest_laws = (within_greatest, le_or_l)
 
-pub ruleset or_laws = (or_known, and_twice, or_whole)
+pub ruleset and_laws = (and_known, and_twice)
 
-pub ruleset xor_laws = (xor_known, and_twice, xor_whole)
+pub ruleset or_laws = (or_known, and_twice)
 
-pub ruleset left_laws = (left_known, left_clears, and_twice, left_whole)
+pub ruleset xor_laws = (xor_known, and_twice)
 
-pub ruleset right_laws = (right_known, right_clears, and_twice, right_whole)
+pub ruleset left_laws = (left_known, left_clears, and_twice)
 
-pub ruleset sum_laws = (and_twice, whole_or)
+pub ruleset right_laws = (right_known, right_clears, and_twice)
 
-pub ruleset low_laws = (low_ones_below, whole_count)
+pub ruleset inverted_laws = (inverted_known, and_twice)
+
+pub ruleset end_laws = (low_end, and_twice)

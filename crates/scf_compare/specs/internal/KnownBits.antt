@@ -1,6 +1,5 @@
 -- What is known bit by bit of results.
-use Rattle.std.specs.Prelude.{◌≡◌, ◌≢◌, ◌-◌, ◌<◌, ◌≤◌, ◌^◌, ℕ, bit_and}
-use Rattle.scf_facts.specs.declared.bits.Bits.{Bits}
+use Rattle.std.specs.Prelude.{◌≡◌, ◌≢◌, ◌%◌, ◌-◌, ◌<◌, ◌≤◌, ◌^◌, ℕ, bit_and}
 use Rattle.scf_insn.specs.declared.operation.Arithmetic.{Arithmetic}
 use Rattle.scf_insn.specs.declared.operation.Arithmetic.TheVariants.{Div, Lsh, Rsh}
 
@@ -11,10 +10,6 @@ HasResult Lsh v = v < 32
 HasResult Rsh v = v < 32
 HasResult arithmetic v = Unit {0}
 
--- a mask has the bits from 0 up to some bit, all of which are known of both operands
-pub record IsLowMask (first second : Bits) (mask : ℕ) : Type 0 where
-  pub count : ℕ
-  pub within : count ≤ 32
-  pub low : mask ≡ 2 ^ count - 1
-  pub known_first : bit_and first.mask mask ≡ mask
-  pub known_second : bit_and second.mask mask ≡ mask
+-- two numbers agree in as many low bits as the mask has from bit 0 on
+abbrev pub IsLowEnd : ℕ → ℕ → ℕ → Type 0
+IsLowEnd mask a b = (k : ℕ) → k ≤ 32 → bit_and mask (2 ^ k - 1) ≡ 2 ^ k - 1 → a % 2 ^ k ≡ b % 2 ^ k

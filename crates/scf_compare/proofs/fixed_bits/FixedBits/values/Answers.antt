@@ -1,6 +1,6 @@
 use Rattle.std.proofs.lemmas.Grind.{same_number_lists}
 use Rattle.scf_compare.proofs.Common.{arith, ◌∙◌, word_below}
-use Rattle.scf_compare.proofs.BitSets.{whole_bits}
+use Rattle.scf_compare.proofs.Bits.{fixed}
 use Rattle.scf_compare.proofs.fixed_bits.FixedBits.values.Goals as goal
 
 pub returns : goal.returns
@@ -8,4 +8,4 @@ returns c = λ words is_words whole have.
     let loop = c.loop-index in
     same_number_lists loop.values words (omega (arith, loop.invariant.count, is_words.count)) (λ k lt.
     loop.invariant.each k (omega (arith, loop.invariant.count))
-    ∙ whole_bits _ _ _ (word_below words is_words k) (whole k (omega (arith, loop.invariant.count))) (have k))
+    ∙ fixed _ _ _ (word_below words is_words k) (whole k (omega (arith, loop.invariant.count))) (have k))
