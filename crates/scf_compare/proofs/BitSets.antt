@@ -1,21 +1,11 @@
 -- The bits that splits have fixed.
 use Rattle.std.specs.Prelude.{slice_set}
-use Rattle.std.proofs.lemmas.Nat.{pow_below}
-use Rattle.std.proofs.lemmas.Nat.Bits.{bit_at-trailing_ones}
-use Rattle.std.specs.Int.{trailing_ones}
-use Rattle.scf_facts.proofs.Common.{IsPowerOfTwo, and_pow, one_shl, w32}
+use Rattle.std.proofs.lemmas.Nat.{or_disjoint, pow_below}
 use Rattle.std.proofs.lemmas.List.Sums.{sum_by-set}
-use Rattle.std.proofs.lemmas.Nat.{or_disjoint}
-use Rattle.std.specs.Int.Bits.{or_zero_r}
-use Rattle.scf_facts.proofs.MaskLaws.{in_joined, joined, under_power}
-use Rattle.scf_facts.specs.declared.bits.Bits.{Bits}
-use Rattle.scf_facts.specs.Bits.{HasBits}
-use Rattle.scf_compare.proofs.Common.{◌≡◌, ◌∙◌, ◌+◌, ◌*◌, ◌%◌, ◌<◌, ◌-◌, ◌^◌, ℕ, List, arith, bit_and, bit_or, common_steps, eq-eqb, eqb, false, inl, inr, length, or_lt, refl, slice_index, sym}
+use Rattle.scf_facts.proofs.Common.{IsPowerOfTwo, and_pow}
+use Rattle.scf_facts.proofs.MaskLaws.{under_power}
+use Rattle.scf_compare.proofs.Common.{Bits, HasBits, trailing_ones, bit_at-trailing_ones, one_shl, w32, le_or_l, pow_pos, ◌≡◌, ◌+◌, ◌*◌, ◌%◌, ◌<◌, ◌≤◌, ◌-◌, ◌^◌, ℕ, List, arith, bit_and, bit_or, common_steps, eq-eqb, eqb, false, inl, inr, length, or_lt, refl, slice_index}
 use Rattle.scf_compare.specs.internal.FixedBits.{HaveBits, bits_at, lacking}
-
--- a number with some bits and further ones has both
-pub more_bits : (x k a m v : ℕ) → bit_and x k ≡ a → bit_and x m ≡ v → bit_and x (bit_or k m) ≡ bit_or a v
-more_bits x k a m v p q = let both = in_joined x k a m v p q in (joined x k a m v both.0 both.1).1 (p, q)
 
 -- a number that doesn't have a bit lacks it
 pub lacks_bit : (x m : ℕ) → IsPowerOfTwo m → eqb (bit_and x m) m ≡ false → bit_and x m ≡ 0
@@ -28,27 +18,32 @@ lacks_bit x m one lacks = elim (under_power x m one) [
 pub power_at : (index : ℕ) → index < 32 → IsPowerOfTwo (1 * 2 ^ index % 2 ^ 32)
 power_at index lt = (index, one_shl index 32 lt)
 
--- a number with some bits that lacks a further one has both
-pub no_more_bits : (x k a m : ℕ) → IsPowerOfTwo m → bit_and x k ≡ a → eqb (bit_and x m) m ≡ false
-    → bit_and x (bit_or k m) ≡ a
-no_more_bits x k a m one p lacks = more_bits x k a m 0 p (lacks_bit x m one lacks) ∙ or_zero_r a
-
 -- what is fixed of one word changes
 pub have_set : (fixed : List Bits) (word : ℕ) (new : Bits) (words : List ℕ) → word < length fixed
     → HaveBits fixed words → HasBits new (slice_index words word) → HaveBits (slice_set fixed word new) words
 have_set fixed word new words lt have this = λ k. grind (arith, common_steps, have k, this)
 
--- one more bit of a word leaves less to fix
-pub lacking_less : (fixed : List Bits) (word m v : ℕ) → word < length fixed → 0 < m
-    → bit_and (bits_at fixed word).mask m ≡ 0 → (bits_at fixed word).mask + m < 2 ^ 32
-    → lacking (slice_set fixed word (record { mask = bit_or (bits_at fixed word).mask m; value = v })) < lacking fixed
-lacking_less fixed word m v lt some apart fits =
-    let none : Bits = record { mask = 0; value = 0 } in
-    let new : Bits = record { mask = bit_or (bits_at fixed word).mask m; value = v } in
+-- more bits of a word leave no more to fix
+pub lacking_bits : (fixed : List Bits) (word : ℕ) (new : Bits) (m : ℕ) → word < length fixed
+    → new.mask ≡ bit_or (bits_at fixed word).mask m → lacking (slice_set fixed word new) ≤ lacking fixed
+lacking_bits fixed word new m lt more =
     omega (
       arith,
-      sum_by-set (λ bits. 2 ^ 32 - 1 - bits.mask) fixed word new none lt,
+      sum_by-set (λ bits. 2 ^ 32 - 1 - bits.mask) fixed word new (record { mask = 0; value = 0 }) lt,
+      le_or_l (bits_at fixed word).mask m,
+    )
+
+-- one more bit leaves less
+pub lacking_bit : (fixed : List Bits) (word : ℕ) (new : Bits) (m : ℕ) → word < length fixed
+    → new.mask ≡ bit_or (bits_at fixed word).mask m → IsPowerOfTwo m → bit_and (bits_at fixed word).mask m ≡ 0
+    → (bits_at fixed word).mask + m < 2 ^ 32 → lacking (slice_set fixed word new) < lacking fixed
+lacking_bit fixed word new m lt more one apart fits =
+    omega (
+      arith,
+      sum_by-set (λ bits. 2 ^ 32 - 1 - bits.mask) fixed word new (record { mask = 0; value = 0 }) lt,
       or_disjoint (bits_at fixed word).mask m apart,
+      one.1,
+      pow_pos one.0,
     )
 
 -- the lowest bit that a mask lacks

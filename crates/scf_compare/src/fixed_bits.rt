@@ -1,13 +1,15 @@
 //! The bits of the sixteen words of a record that splits have fixed.
 
-ghost use Rattle.std.specs.Prelude.{◌≡◌, ◌≢◌, ◌+◌, ◌-◌, ◌<◌, ◌≤◌, ◌^◌, ℕ, List, IfSome, IfNone, IsTrue, bit_and};
+ghost use Rattle.std.specs.Prelude.{◌≡◌, ◌≢◌, ◌+◌, ◌-◌, ◌<◌, ◌≤◌, ◌^◌, ℕ, List, IfSome, IfNone, slice_index};
 ghost use Rattle.std.specs.Int.{IsPowerOfTwo};
 ghost use Rattle.scf_insn.specs.Words.{IsWords};
 ghost use Rattle.scf_facts.specs.Atoms.{atom_answer};
+ghost use Rattle.scf_facts.specs.Bits.{HasBits};
 ghost use Rattle.scf_compare.specs.internal.FixedBits.{AreWhole, HaveBits, IsOpenBit, bit_is_set, bits_at, lacking};
 
+use crate::known_bits::told_bits;
 use crate::sources::OpenTest;
-use scf_facts::{Atom, Bits, Tell, WordFacts};
+use scf_facts::{Atom, Bits, WordFacts};
 
 /// A bit of one of the sixteen words: its mask, which has no other bit.
 #[derive(Clone, Copy)]
@@ -31,6 +33,20 @@ impl WordBit {
             word: self.word,
             mask: self.mask,
             value: self.mask,
+        }
+    }
+
+    /// The bit with its value.
+    #[tactic(auto, using(crate::proofs::BitSets::lacks_bit))]
+    pub(crate) fn as_bits(self, is_set: bool) -> Bits
+        requires { IsPowerOfTwo self.mask }
+        ensures mask { result.mask ≡ self.mask }
+        ensures stands { (words : List ℕ) → atom_answer (bit_is_set self.word self.mask) words ≡ is_set
+            → HasBits result (slice_index words self.word) }
+    {
+        Bits {
+            mask: self.mask,
+            value: if is_set { self.mask } else { 0 },
         }
     }
 }
@@ -58,7 +74,7 @@ impl FixedBits {
     }
 
     /// Fixes a bit that isn't fixed yet.
-    #[tactic(auto, using(crate::proofs::BitSets::have_set, crate::proofs::BitSets::more_bits))]
+    #[tactic(auto, using(crate::proofs::BitSets::have_set, crate::proofs::BitSets::lacking_bit))]
     pub(crate) fn fix(&mut self, bit: WordBit, is_set: bool)
         requires { IsOpenBit self.old.words bit }
         ensures have { (words : List ℕ) → HaveBits self.old.words words
@@ -68,21 +84,35 @@ impl FixedBits {
             → bits_at self.new.words index ≡ bits_at self.old.words index }
     {
         let word = bit.word as usize;
-        let Bits { mask, value } = self.words[word];
-        self.words[word] = Bits {
-            mask: mask | bit.mask,
-            value: if is_set { value | bit.mask } else { value },
-        };
+        self.words[word] = self.words[word].union(bit.as_bits(is_set));
+    }
+
+    /// Fixes the bits of a word that the store knows.
+    #[tactic(auto, using(crate::proofs::BitSets::have_set, crate::proofs::BitSets::lacking_bits))]
+    fn fix_known<F: WordFacts>(&mut self, facts: &F, word: u8)
+        requires { word < 16 }
+        ensures have { (words : List ℕ) → F.allows facts.now (F.level facts.now) words
+            → HaveBits self.old.words words → HaveBits self.new.words words }
+        ensures less { lacking self.new.words ≤ lacking self.old.words }
+        ensures others { (index : ℕ) → index ≢ word
+            → bits_at self.new.words index ≡ bits_at self.old.words index }
+    {
+        let known = told_bits(facts, word);
+        let word = word as usize;
+        self.words[word] = self.words[word].union(known);
     }
 
     /// The lowest bit of a word that isn't fixed.
     fn lowest_open(&self, word: u8) -> Option<WordBit>
         requires { word < 16 }
         ensures open { IfSome result (IsOpenBit self.now.words) }
-        ensures word { IfSome result (λ bit. bit.word ≡ word) }
         ensures none { IfNone result ((bits_at self.now.words word).mask ≡ 2 ^ 32 - 1) }
     {
-        let mask = lowest_lacking(self.words[word as usize].mask)?;
+        let fixed = self.words[word as usize].mask;
+        if fixed == u32::MAX {
+            return None;
+        }
+        let mask = 1 << fixed.trailing_ones();
         Some(WordBit { word, mask })
     }
 
@@ -100,12 +130,18 @@ impl FixedBits {
         ensures none { IfNone result (AreWhole self.new.words) }
     {
         if let Some(test) = test {
-            if let Some(bit) = self.next_bit_for(facts, test) {
+            for word in 0..16 {
+                if test.sources.bits_of(word) != 0 {
+                    self.fix_known(facts, word);
+                }
+            }
+            if let Some(bit) = self.open_bit_of(test) {
                 return Some(bit);
             }
         }
         for word in 0..16 {
-            if let Some(bit) = self.next_bit_of(facts, word) {
+            self.fix_known(facts, word);
+            if let Some(bit) = self.lowest_open(word) {
                 return Some(bit);
             }
         }
@@ -114,11 +150,9 @@ impl FixedBits {
 
     /// The next bit on which an open test depends, if any isn't fixed: for an order the highest one, since the leading
     /// bits decide most orders, and else the lowest one, since sums and products are known from the low end.
-    fn next_bit_for<F: WordFacts>(&mut self, facts: &F, test: OpenTest) -> Option<WordBit>
-        ensures have { (words : List ℕ) → F.allows facts.now (F.level facts.now) words
-            → HaveBits self.old.words words → HaveBits self.new.words words }
-        ensures less { lacking self.new.words ≤ lacking self.old.words }
-        ensures open { IfSome result (IsOpenBit self.new.words) }
+    #[tactic(auto, using(crate::proofs::BitSets::power_at, crate::proofs::BitSets::room_for))]
+    fn open_bit_of(&self, test: OpenTest) -> Option<WordBit>
+        ensures { IfSome result (IsOpenBit self.now.words) }
     {
         for position in 0..u32::BITS {
             let index = if test.is_order {
@@ -128,79 +162,12 @@ impl FixedBits {
             };
             let mask = 1 << index;
             for word in 0..16 {
-                if test.sources.bits_of(word) & mask != 0 {
-                    if let Some(bit) = self.open_bit(facts, WordBit { word, mask }) {
-                        return Some(bit);
-                    }
+                let is_fixed = self.words[word as usize].mask & mask != 0;
+                if !is_fixed && test.sources.bits_of(word) & mask != 0 {
+                    return Some(WordBit { word, mask });
                 }
             }
         }
         None
     }
-
-    /// A bit, if it isn't fixed and the store doesn't know it. If the store knows it, it is fixed.
-    fn open_bit<F: WordFacts>(&mut self, facts: &F, bit: WordBit) -> Option<WordBit>
-        requires word { bit.word < 16 }
-        requires one { IsPowerOfTwo bit.mask }
-        ensures others { (index : ℕ) → index ≢ bit.word
-            → bits_at self.new.words index ≡ bits_at self.old.words index }
-        ensures have { (words : List ℕ) → F.allows facts.now (F.level facts.now) words
-            → HaveBits self.old.words words → HaveBits self.new.words words }
-        ensures less { lacking self.new.words ≤ lacking self.old.words }
-        ensures open { IfSome result (IsOpenBit self.new.words) }
-    {
-        if !lacks(self.words[bit.word as usize].mask, bit.mask) {
-            return None;
-        }
-        match facts.tell(bit.is_set()) {
-            Tell::Always => self.fix(bit, true),
-            Tell::Never => self.fix(bit, false),
-            Tell::Maybe => return Some(bit),
-        }
-        None
-    }
-
-    /// The next bit of a word to split on, if any isn't fixed. Bits that the store knows are fixed on the way.
-    fn next_bit_of<F: WordFacts>(&mut self, facts: &F, word: u8) -> Option<WordBit>
-        requires { word < 16 }
-        ensures others { (index : ℕ) → index ≢ word
-            → bits_at self.new.words index ≡ bits_at self.old.words index }
-        ensures have { (words : List ℕ) → F.allows facts.now (F.level facts.now) words
-            → HaveBits self.old.words words → HaveBits self.new.words words }
-        ensures less { lacking self.new.words ≤ lacking self.old.words }
-        ensures open { IfSome result (IsOpenBit self.new.words) }
-        ensures none { IfNone result ((bits_at self.new.words word).mask ≡ 2 ^ 32 - 1) }
-    {
-        for _count in 0..u32::BITS {
-            let lowest = self.lowest_open(word)?;
-            if let Some(bit) = self.open_bit(facts, lowest) {
-                return Some(bit);
-            }
-        }
-        self.lowest_open(word)
-    }
-}
-
-/// The lowest bit that a mask lacks.
-#[tactic(auto, using(crate::proofs::BitSets::lowest_lacking))]
-fn lowest_lacking(mask: u32) -> Option<u32>
-    ensures one { IfSome result IsPowerOfTwo }
-    ensures apart { IfSome result (λ bit. bit_and mask bit ≡ 0) }
-    ensures fits { IfSome result (λ bit. mask + bit < 2 ^ 32) }
-    ensures none { IfNone result (mask ≡ 2 ^ 32 - 1) }
-{
-    if mask == u32::MAX {
-        None
-    } else {
-        Some(1 << mask.trailing_ones())
-    }
-}
-
-/// Whether a mask lacks a bit.
-#[tactic(auto, using(crate::proofs::BitSets::room_for))]
-fn lacks(mask: u32, bit: u32) -> bool
-    ensures apart { IsTrue result → bit_and mask bit ≡ 0 }
-    ensures fits { IsTrue result → mask + bit < 2 ^ 32 }
-{
-    mask & bit == 0
 }

@@ -13,6 +13,7 @@ use scf_machine::{compute, holds_of};
 
 /// The bits that a word has in every list that the store allows: those that the store knows at once, and those that it
 /// tells one by one.
+#[tactic(auto, using(crate::proofs::BitSets::power_at))]
 pub(crate) fn told_bits<F: WordFacts>(facts: &F, word: u8) -> Bits
     requires { word < 16 }
     ensures { (words : List ℕ) → F.allows facts.now (F.level facts.now) words
@@ -24,8 +25,8 @@ pub(crate) fn told_bits<F: WordFacts>(facts: &F, word: u8) -> Bits
         if bits.mask & mask == 0 {
             let bit = WordBit { word, mask };
             bits = match facts.tell(bit.is_set()) {
-                Tell::Always => bits.union(Bits { mask, value: mask }),
-                Tell::Never => bits.union(Bits { mask, value: 0 }),
+                Tell::Always => bits.union(bit.as_bits(true)),
+                Tell::Never => bits.union(bit.as_bits(false)),
                 Tell::Maybe => bits,
             };
         }

@@ -7,5 +7,12 @@ invariant-loop-word g l = record {
   have : (words : List ℕ) → g.F.WordFacts.allows l.facts (g.F.WordFacts.level l.facts) words
       → HaveBits l.fn.self.words words → HaveBits l.self.words words;
   less : lacking l.self.words ≤ lacking l.fn.self.words;
+}
+
+abbrev pub invariant-loop-word-2 : goal.invariant-loop-word-2
+invariant-loop-word-2 g l = record {
+  have : (words : List ℕ) → g.F.WordFacts.allows l.facts (g.F.WordFacts.level l.facts) words
+      → HaveBits l.fn.self.words words → HaveBits l.self.words words;
+  less : lacking l.self.words ≤ lacking l.fn.self.words;
   whole : (index : ℕ) → index < l.word → (bits_at l.self.words index).mask ≡ 2 ^ 32 - 1;
 }

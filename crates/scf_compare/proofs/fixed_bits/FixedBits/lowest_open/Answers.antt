@@ -1,0 +1,10 @@
+use Rattle.scf_compare.proofs.Common.{arith}
+use Rattle.scf_compare.proofs.BitSets.{lowest_lacking}
+use Rattle.scf_compare.specs.internal.FixedBits.{bits_at}
+use Rattle.scf_compare.proofs.fixed_bits.FixedBits.lowest_open.Goals as goal
+
+pub returns-clause-open : goal.returns-clause-open
+returns-clause-open c = rw c.trailing_ones-mask.ensures (
+    let (one, unfixed, fits) = lowest_lacking (bits_at c.args.self.now.words c.args.word).mask (omega arith) in
+    record { word = c.requires; one = one; unfixed = unfixed; fits = fits }
+    )
