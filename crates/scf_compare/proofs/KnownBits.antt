@@ -44,18 +44,6 @@ pub right_known : (x m v k : ℕ) → bit_and x m ≡ v
     → bit_and (x / 2 ^ k) (m / 2 ^ k) ≡ bit_and (v / 2 ^ k) (m / 2 ^ k)
 right_known x m v k e = sym (and_shr x m k) ∙ ap (λ n. n / 2 ^ k) (kept x m v e) ∙ and_shr v m k
 
--- and no high bit set
-pub right_clears : (x k : ℕ) → x < 2 ^ 32 → bit_and (x / 2 ^ k) (2 ^ 32 - 1 - (2 ^ 32 - 1) / 2 ^ k) ≡ 0
-right_clears x k fits =
-    let ones = (2 ^ 32 - 1) / 2 ^ k in
-    let below : x / 2 ^ k ≤ ones = shr_mono k (omega arith) in
-    let few : ones < 2 ^ 32 = omega (arith, shr_le (2 ^ 32 - 1) k) in
-    let within : bit_and (x / 2 ^ k) ones ≡ x / 2 ^ k =
-    sym (and_shr x (2 ^ 32 - 1) k) ∙ ap (λ n. n / 2 ^ k) (sym (whole_word x fits)) in
-    let rest = 2 ^ 32 - 1 - ones in
-    same_from_bits_below 32 (bit_and (x / 2 ^ k) rest) 0 (omega (arith, and_le_r (x / 2 ^ k) rest)) (omega arith)
-    (λ i index. grind (arith, each_bit, at_bit i within, bit_at_not w32 ones i few index))
-
 -- ---- the least and the greatest
 
 pub value_least : (x m v : ℕ) → bit_and x m ≡ v → v ≤ x
@@ -154,7 +142,7 @@ pub ruleset xor_laws = (xor_known, and_twice)
 
 pub ruleset left_laws = (left_known, left_clears, and_twice)
 
-pub ruleset right_laws = (right_known, right_clears, and_twice)
+pub ruleset right_laws = (right_known, and_twice)
 
 pub ruleset inverted_laws = (inverted_known, and_twice)
 

@@ -206,7 +206,7 @@ pub(crate) fn right_bits(bits: Bits, count: u32) -> Bits
     ensures stands { (x : ℕ) → x < 2 ^ 32 → HasBits bits x → HasBits result (x / 2 ^ count) }
 {
     let shifted = Bits::of(bits.value >> count, bits.mask >> count);
-    shifted.union(Bits::of(0, !(u32::MAX >> count)))
+    shifted.union(Bits::between(0, u32::MAX >> count))
 }
 
 /// The known bits of `!x`, given those of `x`.

@@ -8,7 +8,6 @@ ghost use Rattle.scf_machine.specs.Machine.{
   start,
   sets,
   stores,
-  value_of,
   operand_of,
   operand_in_computation,
   effect,
@@ -47,18 +46,6 @@ impl KnownRegisters {
             x: Value::Known(0),
             scratch: [Value::Computed(Computed::UNKNOWN); BPF_MEMWORDS],
             open,
-        }
-    }
-
-    fn get(&self, register: Register) -> Value
-        requires { AreValues self.now }
-        ensures value { IsValue result }
-        ensures stands { (words : List ℕ) (s : State) → Describes self.now words s
-            → Abstracts result words (value_of register s) }
-    {
-        match register {
-            Register::A => self.a,
-            Register::X => self.x,
         }
     }
 
@@ -182,14 +169,9 @@ impl KnownRegisters {
                 self.set(register, Value::Known(SECCOMP_DATA_LEN as u32))
             }
             Operation::LoadConstant(register) => self.set(register, Value::Known(insn.k)),
-            Operation::LoadScratch(register) => {
-                let value = self.scratch[insn.k as usize];
-                self.set(register, value)
-            }
-            Operation::StoreScratch(register) => {
-                let value = self.get(register);
-                self.store(insn.k as u8, value)
-            }
+            Operation::LoadScratch(register) => self.set(register, self.scratch[insn.k as usize]),
+            Operation::StoreScratch(Register::A) => self.store(insn.k as u8, self.a),
+            Operation::StoreScratch(Register::X) => self.store(insn.k as u8, self.x),
             Operation::Compute(arithmetic, operand) => {
                 let value = self.operand_in_computation(facts, arithmetic, operand, insn);
                 let computed = self.a.computed(facts, arithmetic, value);
@@ -199,14 +181,8 @@ impl KnownRegisters {
                 let negated = Value::Known(0).computed(facts, Arithmetic::Sub, self.a);
                 self.set(Register::A, negated)
             }
-            Operation::CopyToIndex => {
-                let value = self.a;
-                self.set(Register::X, value)
-            }
-            Operation::CopyToAccumulator => {
-                let value = self.x;
-                self.set(Register::A, value)
-            }
+            Operation::CopyToIndex => self.set(Register::X, self.a),
+            Operation::CopyToAccumulator => self.set(Register::A, self.x),
             Operation::Jump
             | Operation::JumpIf(..)
             | Operation::ReturnConstant

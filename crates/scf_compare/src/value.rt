@@ -219,11 +219,8 @@ fn open_test(test: Test, first: Computed, second: Computed) -> OpenTest {
 fn exponent_of(v: u32) -> Option<u32>
     ensures { IfSome result (λ count. (count < 32) × (v ≡ 2 ^ count)) }
 {
-    if v == 0 {
-        return None;
-    }
     let count = v.trailing_zeros();
-    if v == 1 << count { Some(count) } else { None }
+    (count < u32::BITS && v == 1 << count).then_some(count)
 }
 
 /// The decision of a test of a bit slice against a constant.

@@ -1,5 +1,5 @@
 -- What an instruction that goes on does to what is known.
-use Rattle.scf_compare.proofs.Common.{◌≡◌, ℕ, Bool, true, false, Option, None, Some, refl, subst, arith, Register, State, Fault, Goes, unless, loads, sets, word_below, Describes}
+use Rattle.scf_compare.proofs.Common.{◌≡◌, ℕ, Bool, true, false, Option, None, Some, refl, subst, arith, Register, State, Fault, Goes, unless, loads, sets, Describes}
 use Rattle.scf_compare.proofs.registers.KnownRegisters.apply.Goals as goal
 
 pub returns-in-LoadWord-clause-describes : goal.returns-in-LoadWord-clause-describes
@@ -28,9 +28,13 @@ returns-in-LoadScratch-clause-describes g c = λ words s t w allowed d. rw c.in-
     subst (Describes c.set-in-LoadScratch.new.self words) same
     (c.set-in-LoadScratch.ensures.describes words s value d stored))
 
-pub returns-in-StoreScratch-clause-describes : goal.returns-in-StoreScratch-clause-describes
-returns-in-StoreScratch-clause-describes g c = λ words s t w allowed d e.
-    let store = c.store.ensures.describes words s _ d (c.get-value.ensures.stands words s d) in grind arith
+pub returns-in-StoreScratch-A-clause-describes : goal.returns-in-StoreScratch-A-clause-describes
+returns-in-StoreScratch-A-clause-describes g c = λ words s t w allowed d e.
+    let store = c.store.ensures.describes words s _ d d.a in grind arith
+
+pub returns-in-StoreScratch-X-clause-describes : goal.returns-in-StoreScratch-X-clause-describes
+returns-in-StoreScratch-X-clause-describes g c = λ words s t w allowed d e.
+    let store = c.store-in-StoreScratch-X.ensures.describes words s _ d d.x in grind arith
 
 pub returns-in-Compute-clause-describes : goal.returns-in-Compute-clause-describes
 returns-in-Compute-clause-describes g c = λ words s t w allowed d e.
