@@ -1,8 +1,9 @@
 //! Bit slices: what a filter takes of one word of the record by masks and shifts.
 
-ghost use Rattle.std.specs.Prelude.{◌≡◌, ◌==◌, ◌↔◌, ◌*◌, ◌/◌, ◌%◌, ◌<◌, ◌^◌, ℕ, List, IsTrue, bit_and, nat_lt};
+ghost use Rattle.std.specs.Prelude.{◌≡◌, ◌==◌, ◌-◌, ◌*◌, ◌/◌, ◌%◌, ◌<◌, ◌^◌, ℕ, List, IsTrue, bit_and, nat_lt};
 ghost use Rattle.std.specs.Prelude.{slice_index};
 ghost use Rattle.scf_facts.specs.Bits.{HasBits};
+ghost use Rattle.scf_facts.specs.HighMask.{IsHighMask};
 ghost use Rattle.scf_insn.specs.SimpleMask.{IsSimpleMask};
 ghost use Rattle.scf_insn.specs.Words.{IsWords};
 ghost use Rattle.scf_compare.specs.internal.BitSlices.{IsBitSlice, IsWhole, bit_slice_value};
@@ -39,13 +40,6 @@ impl BitSlice {
             right: 0,
             left: 0,
         }
-    }
-
-    /// Whether this is the whole word.
-    pub(crate) fn is_whole(self) -> bool
-        ensures { IsTrue result ↔ IsWhole self }
-    {
-        self.mask == u32::MAX && self.right == 0 && self.left == 0
     }
 
     /// The known bits of the slice, given those of its word, and the bits of the word on which it depends.
@@ -144,12 +138,13 @@ impl BitSlice {
         ensures asks { IsTestDecision result }
         ensures decides { (words : List ℕ) → IsWords words
             → Decides result words (nat_lt v (bit_slice_value self words)) }
+        ensures plain { IsWhole self → IsPlainDecision result }
     {
         let value = v >> self.left;
         if value > self.mask >> self.right {
             return Decision::Known(false);
         }
-        if !is_high_mask(self.mask) {
+        if !has_high_bits(self.mask) {
             return Decision::Open(OpenTest::NONE);
         }
         let atom = Atom::Gt {
@@ -158,4 +153,12 @@ impl BitSlice {
         };
         Decision::Asks(atom, true)
     }
+}
+
+/// Whether a mask has all bits from one on, and none before it.
+fn has_high_bits(mask: u32) -> bool
+    ensures high { IsTrue result → IsHighMask mask }
+    ensures all { mask ≡ 2 ^ 32 - 1 → IsTrue result }
+{
+    mask == u32::MAX || is_high_mask(mask)
 }

@@ -123,11 +123,7 @@ impl KnownRegisters {
         match computed.number() {
             Some(number) => Some(Answer(number)),
             None => {
-                let sources = computed.sources;
-                self.note_open(Decision::Open(OpenTest {
-                    sources,
-                    is_order: sources.is_lowered(),
-                }));
+                self.note_open(Decision::Open(OpenTest::of(computed.sources, false)));
                 None
             }
         }

@@ -34,6 +34,14 @@ impl OpenTest {
         sources: Sources::NONE,
         is_order: false,
     };
+
+    /// The test of a value, which is an order or isn't.
+    pub(crate) fn of(sources: Sources, is_order: bool) -> OpenTest {
+        OpenTest {
+            sources,
+            is_order: is_order || sources.lowered > 0,
+        }
+    }
 }
 
 impl Sources {
@@ -90,11 +98,6 @@ impl Sources {
         }
     }
 
-    /// Whether the leading bits decide a test of the value: that of a quotient or of a shift to the right.
-    pub(crate) fn is_lowered(self) -> bool {
-        self.lowered > 0
-    }
-
     /// Without the bits of the first two words that change none of these bits of the value.
     pub(crate) fn changing(self, bits: u32) -> Sources {
         let mask = if self.is_moved {
@@ -115,27 +118,17 @@ impl Sources {
     }
 
     /// These bits and further ones of one word. Of a third word all bits are taken.
-    fn with(self, word: u8, bits: u32) -> Sources {
-        if bits == 0 {
-            self
-        } else if self.first_bits == 0 || self.first == word {
-            Sources {
-                first_bits: self.first_bits | bits,
-                first: word,
-                ..self
-            }
+    fn with(mut self, word: u8, bits: u32) -> Sources {
+        if self.first_bits == 0 || self.first == word {
+            self.first = word;
+            self.first_bits |= bits;
         } else if self.second_bits == 0 || self.second == word {
-            Sources {
-                second_bits: self.second_bits | bits,
-                second: word,
-                ..self
-            }
-        } else {
-            Sources {
-                others: self.others | 1 << (word % 16),
-                ..self
-            }
+            self.second = word;
+            self.second_bits |= bits;
+        } else if bits != 0 {
+            self.others |= 1 << (word % 16);
         }
+        self
     }
 
     /// The bits of a word that may matter.
@@ -143,16 +136,7 @@ impl Sources {
         if self.others >> (word % 16) & 1 != 0 {
             return u32::MAX;
         }
-        let first = if self.first == word {
-            self.first_bits
-        } else {
-            0
-        };
-        let second = if self.second == word {
-            self.second_bits
-        } else {
-            0
-        };
-        first | second
+        let of = |index: u8, bits: u32| if index == word { bits } else { 0 };
+        of(self.first, self.first_bits) | of(self.second, self.second_bits)
     }
 }

@@ -209,10 +209,7 @@ fn open_test(test: Test, first: Computed, second: Computed) -> OpenTest {
             (common.sources, common.bits.mask & 0xff == 0xff)
         }
     };
-    OpenTest {
-        sources,
-        is_order: is_order || sources.is_lowered(),
-    }
+    OpenTest::of(sources, is_order)
 }
 
 /// The exponent, if `v` is a power of two.
@@ -231,16 +228,9 @@ fn decide_bit_slice(bit_slice: BitSlice, test: Test, v: u32) -> Decision
         → Decides result words (holds test (bit_slice_value bit_slice words) v) }
     ensures plain { IsWhole bit_slice → (test ≡ Test.CommonBit → IsSimpleMask v) → IsPlainDecision result }
 {
-    let word = bit_slice.word;
     match test {
         Test::Equal => bit_slice.is(v),
         Test::CommonBit => bit_slice.and(v).is(0).negated(),
-        Test::Greater if bit_slice.is_whole() => {
-            Decision::Asks(Atom::Gt { word, value: v }, true)
-        }
-        Test::GreaterOrEqual if bit_slice.is_whole() => {
-            Decision::Asks(Atom::Ge { word, value: v }, true)
-        }
         Test::Greater => bit_slice.is_above(v),
         Test::GreaterOrEqual if v == 0 => Decision::Known(true),
         Test::GreaterOrEqual => bit_slice.is_above(v - 1),
