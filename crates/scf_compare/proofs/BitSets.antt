@@ -36,7 +36,7 @@ lacking_bits fixed word new m lt more =
 -- one more bit leaves less
 pub lacking_bit : (fixed : List Bits) (word : ℕ) (new : Bits) (m : ℕ) → word < length fixed
     → new.mask ≡ bit_or (bits_at fixed word).mask m → IsPowerOfTwo m → bit_and (bits_at fixed word).mask m ≡ 0
-    → (bits_at fixed word).mask + m < 2 ^ 32 → lacking (slice_set fixed word new) < lacking fixed
+    → new.mask < 2 ^ 32 → lacking (slice_set fixed word new) < lacking fixed
 lacking_bit fixed word new m lt more one apart fits =
     omega (
       arith,
@@ -48,18 +48,7 @@ lacking_bit fixed word new m lt more one apart fits =
 
 -- the lowest bit that a mask lacks
 pub lowest_lacking : (mask : ℕ) → mask + 1 < 2 ^ 32
-    → let bit = 1 * 2 ^ trailing_ones w32 mask % 2 ^ 32 in
-    IsPowerOfTwo bit × (bit_and mask bit ≡ 0) × (mask + bit < 2 ^ 32)
+    → let bit = 1 * 2 ^ trailing_ones w32 mask % 2 ^ 32 in IsPowerOfTwo bit × (bit_and mask bit ≡ 0)
 lowest_lacking mask more =
-    let lowest = bit_at-trailing_ones w32 mask more in
-    let apart : bit_and mask (2 ^ trailing_ones w32 mask) ≡ 0 = rw (and_pow mask, lowest.1) (omega arith) in
-    rw (one_shl _ 32 lowest.0) (
-      (trailing_ones w32 mask, refl),
-      apart,
-      rw (← or_disjoint mask (2 ^ trailing_ones w32 mask) apart)
-          (or_lt 32 mask (2 ^ trailing_ones w32 mask) (omega arith) (pow_below _ 32 lowest.0)),
-    )
-
--- a mask and a bit that it lacks fit 32 bits together
-pub room_for : (mask bit : ℕ) → mask < 2 ^ 32 → bit < 2 ^ 32 → bit_and mask bit ≡ 0 → mask + bit < 2 ^ 32
-room_for mask bit fits fits_bit apart = rw (← or_disjoint mask bit apart) (or_lt 32 mask bit fits fits_bit)
+    let (below, unset, _) = bit_at-trailing_ones w32 mask more in
+    rw (one_shl _ 32 below) ((trailing_ones w32 mask, refl), rw (and_pow mask, unset) (omega arith))

@@ -57,7 +57,7 @@ impl FixedBits {
         ensures { (words : List ℕ) → HaveBits result.words words }
     {
         FixedBits {
-            words: [Bits { mask: 0, value: 0 }; 16],
+            words: [Bits::NONE; 16],
         }
     }
 
@@ -150,7 +150,7 @@ impl FixedBits {
 
     /// The next bit on which an open test depends, if any isn't fixed: for an order the highest one, since the leading
     /// bits decide most orders, and else the lowest one, since sums and products are known from the low end.
-    #[tactic(auto, using(crate::proofs::BitSets::power_at, crate::proofs::BitSets::room_for))]
+    #[tactic(auto, using(crate::proofs::BitSets::power_at))]
     fn open_bit_of(&self, test: OpenTest) -> Option<WordBit>
         ensures { IfSome result (IsOpenBit self.now.words) }
     {

@@ -161,6 +161,7 @@ impl Value {
     }
 
     /// The decision by what is asked of words of the record.
+    #[tactic(auto, using(std::proofs::lemmas::Nat::and_comm))]
     fn decide_by_atoms(self, test: Test, other: Value) -> Decision
         requires value { IsValue self }
         requires other { IsValue other }
@@ -176,7 +177,12 @@ impl Value {
         match (self, other) {
             (Value::Known(a), Value::Known(v)) => Decision::Known(holds_of(test, a, v)),
             (Value::Slice(bit_slice), Value::Known(v)) => decide_bit_slice(bit_slice, test, v),
-            (Value::Known(a), Value::Slice(bit_slice)) => decide_turned(a, test, bit_slice),
+            (Value::Known(a), Value::Slice(bit_slice)) => match test {
+                Test::Equal => decide_bit_slice(bit_slice, Test::Equal, a),
+                Test::CommonBit => decide_bit_slice(bit_slice, Test::CommonBit, a),
+                Test::Greater => decide_bit_slice(bit_slice, Test::GreaterOrEqual, a).negated(),
+                Test::GreaterOrEqual => decide_bit_slice(bit_slice, Test::Greater, a).negated(),
+            },
             _ => Decision::Open(OpenTest::NONE),
         }
     }
@@ -234,21 +240,5 @@ fn decide_bit_slice(bit_slice: BitSlice, test: Test, v: u32) -> Decision
         Test::Greater => bit_slice.is_above(v),
         Test::GreaterOrEqual if v == 0 => Decision::Known(true),
         Test::GreaterOrEqual => bit_slice.is_above(v - 1),
-    }
-}
-
-/// The decision of a test of the constant `a` against a bit slice.
-#[tactic(auto, using(std::proofs::lemmas::Nat::and_comm))]
-fn decide_turned(a: u32, test: Test, bit_slice: BitSlice) -> Decision
-    requires { IsBitSlice bit_slice }
-    ensures asks { IsTestDecision result }
-    ensures decides { (words : List ℕ) → IsWords words
-        → Decides result words (holds test a (bit_slice_value bit_slice words)) }
-{
-    match test {
-        Test::Equal => decide_bit_slice(bit_slice, Test::Equal, a),
-        Test::CommonBit => decide_bit_slice(bit_slice, Test::CommonBit, a),
-        Test::Greater => decide_bit_slice(bit_slice, Test::GreaterOrEqual, a).negated(),
-        Test::GreaterOrEqual => decide_bit_slice(bit_slice, Test::Greater, a).negated(),
     }
 }

@@ -24,7 +24,6 @@ pub record IsOpenBit (fixed : List Bits) (bit : WordBit) : Type 0 where
   pub word : bit.word < 16
   pub one : IsPowerOfTwo bit.mask
   pub unfixed : bit_and (bits_at fixed bit.word).mask bit.mask ≡ 0
-  pub fits : (bits_at fixed bit.word).mask + bit.mask < 2 ^ 32
 
 -- whether a word has a bit
 abbrev pub bit_is_set : ℕ → ℕ → Atom

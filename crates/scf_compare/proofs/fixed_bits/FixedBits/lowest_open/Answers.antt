@@ -4,7 +4,6 @@ use Rattle.scf_compare.specs.internal.FixedBits.{bits_at}
 use Rattle.scf_compare.proofs.fixed_bits.FixedBits.lowest_open.Goals as goal
 
 pub returns-clause-open : goal.returns-clause-open
-returns-clause-open c = rw c.trailing_ones-mask.ensures (
-    let (one, unfixed, fits) = lowest_lacking (bits_at c.args.self.now.words c.args.word).mask (omega arith) in
-    record { word = c.requires; one = one; unfixed = unfixed; fits = fits }
-    )
+returns-clause-open c =
+    let (one, unfixed) = lowest_lacking (bits_at c.args.self.now.words c.args.word).mask (omega arith) in
+    rw c.trailing_ones-mask.ensures (record { word = c.requires; one = one; unfixed = unfixed })
