@@ -1,10 +1,10 @@
 -- The bits that splits have fixed.
 use Rattle.std.specs.Prelude.{slice_set}
-use Rattle.std.proofs.lemmas.Nat.{or_disjoint, pow_below}
+use Rattle.std.proofs.lemmas.Nat.{or_disjoint}
 use Rattle.std.proofs.lemmas.List.Sums.{sum_by-set}
 use Rattle.scf_facts.proofs.Common.{IsPowerOfTwo, and_pow}
 use Rattle.scf_facts.proofs.MaskLaws.{under_power}
-use Rattle.scf_compare.proofs.Common.{Bits, HasBits, trailing_ones, bit_at-trailing_ones, one_shl, w32, le_or_l, pow_pos, ◌≡◌, ◌+◌, ◌*◌, ◌%◌, ◌<◌, ◌≤◌, ◌-◌, ◌^◌, ℕ, List, arith, bit_and, bit_or, common_steps, eq-eqb, eqb, false, inl, inr, length, or_lt, refl, slice_index}
+use Rattle.scf_compare.proofs.Common.{Bits, HasBits, trailing_ones, bit_at-trailing_ones, one_shl, w32, le_or_l, pow_pos, ◌≡◌, ◌+◌, ◌*◌, ◌%◌, ◌<◌, ◌≤◌, ◌-◌, ◌^◌, ℕ, List, arith, bit_and, bit_or, common_steps, eq-eqb, eqb, false, inl, inr, length, refl, slice_index}
 use Rattle.scf_compare.specs.internal.FixedBits.{HaveBits, bits_at, lacking}
 
 -- a number that doesn't have a bit lacks it

@@ -1,5 +1,5 @@
 -- Bit slices, bit by bit.
-use Rattle.scf_compare.proofs.Common.{word_below, ◌≡◌, ◌≢◌, ℕ, ◌+◌, ◌-◌, ◌*◌, ◌/◌, ◌%◌, ◌<◌, ◌≤◌, ◌^◌, ◌↔◌, true, false, eqb, refl, sym, ap, ◌∙◌, arith, bit_and, nat_lt, eq-eqb, eqb-true, and_zero_r, and_shr, and_block, and_comm, and_le_l, and_le_r, and_assoc, and_mask, shl-shr, shr-shr, shr_le, pow-add, pow_pos, div-add-mod', div-eq_of_lt, div-lt_iff_lt-mul, div-mul-le_self, div-one, le-div_iff_mul-le, le-ltb, lt_of_mul-lt-mul_right, mod-eq_of_lt, mod-le, mod-lt, mul-le-mul_left, mul-lt-mul_of_pos_right, mul-mod_left, pow_mono, shr_mono, ne_eqb, beyond_mask, of_multiple, one_more}
+use Rattle.scf_compare.proofs.Common.{word_below, ◌≡◌, ◌≢◌, ℕ, ◌+◌, ◌-◌, ◌*◌, ◌/◌, ◌%◌, ◌<◌, ◌≤◌, ◌^◌, ◌↔◌, true, false, eqb, refl, sym, ap, ◌∙◌, arith, bit_and, nat_lt, eq-eqb, eqb-true, and_zero_r, and_shr, and_block, and_comm, and_le_l, and_le_r, and_assoc, and_mask, shl-shr, shr-shr, shr_le, pow-add, pow_pos, div-add-mod', div-eq_of_lt, div-lt_iff_lt-mul, div-mul-le_self, div-one, le-div_iff_mul-le, le-ltb, lt_of_mul-lt-mul_right, mod-eq_of_lt, mod-le, mod-lt, mul-le-mul_left, mul-lt-mul_of_pos_right, mul-mod_left, pow_mono, shr_mono, ne_eqb, beyond_mask, of_multiple, one_more, cases_lt, inl, inr}
 use Rattle.scf_compare.proofs.Bits.{whole_word}
 
 -- ---- masks and shifts
@@ -17,11 +17,11 @@ under_mask y t m = grind (arith, and_comm, shifted_back)
 pub and_scaled : (x m k : ℕ) → bit_and x m * 2 ^ k ≡ bit_and (x * 2 ^ k) (m * 2 ^ k)
 and_scaled x m k = grind (arith, under_mask x k (m * 2 ^ k), shl-shr m k)
 
-scaled : (y j k : ℕ) → y * 2 ^ j * 2 ^ k ≡ y * 2 ^ (j + k)
+pub scaled : (y j k : ℕ) → y * 2 ^ j * 2 ^ k ≡ y * 2 ^ (j + k)
 scaled y j k = grind (arith, pow-add)
 
 -- the low 32 bits of a number
-low_word : (x : ℕ) → x % 2 ^ 32 ≡ bit_and x 4294967295
+pub low_word : (x : ℕ) → x % 2 ^ 32 ≡ bit_and x 4294967295
 low_word x = sym (and_mask x 32)
 
 -- the number of a bit slice has 32 bits
@@ -51,37 +51,25 @@ slice_and w m v r l fits =
 
 -- ---- shifts
 
--- a bit slice shifted to the right by no more than it was shifted to the left
-pub right_within : (w m r l k : ℕ) → m / 2 ^ r * 2 ^ l < 2 ^ 32 → k ≤ l
-    → bit_and w m / 2 ^ r * 2 ^ l / 2 ^ k ≡ bit_and (bit_and w m / 2 ^ r * 2 ^ (l - k)) 4294967295
-right_within w m r l k fits least =
-    let y = bit_and w m / 2 ^ r in
-    let shifted : y * 2 ^ l / 2 ^ k ≡ y * 2 ^ (l - k) = grind (arith, scaled y (l - k) k, shl-shr (y * 2 ^ (l - k)) k) in
-    shifted ∙ whole_word _ (omega (arith, shifted, number_fits w m r l fits, shr_le (y * 2 ^ l) k))
+pub none_right : (w m r l : ℕ) → m < 2 ^ 32 → 32 ≤ r → bit_and w m / 2 ^ r * 2 ^ l % 2 ^ 32 ≡ 0
+none_right w m r l fits far = grind (arith, div-eq_of_lt, and_le_r w m, pow_mono far)
 
--- and by more
-past : (x r l k : ℕ) → l ≤ k → x / 2 ^ r * 2 ^ l / 2 ^ k ≡ x / 2 ^ (r + (k - l)) * 2 ^ 0
-past x r l k more =
-    grind (arith, shr-shr (x / 2 ^ r * 2 ^ l) l (k - l), shl-shr (x / 2 ^ r) l, shr-shr x r (k - l))
+pub none_left : (y l : ℕ) → 32 ≤ l → y * 2 ^ l % 2 ^ 32 ≡ 0
+none_left y l far =
+    let whole : l - 32 + 32 ≡ l = omega arith in
+    rw (← whole, ← scaled) (mul-mod_left (y * 2 ^ (l - 32)) (2 ^ 32))
 
-pub right_past : (w m r l k : ℕ) → m / 2 ^ r * 2 ^ l < 2 ^ 32 → l ≤ k
-    → bit_and w m / 2 ^ r * 2 ^ l / 2 ^ k ≡ bit_and (bit_and w m / 2 ^ (r + (k - l)) * 2 ^ 0) 4294967295
-right_past w m r l k fits more =
-    let shifted = past (bit_and w m) r l k more in
-    shifted
-    ∙ whole_word _ (omega (arith, shifted, number_fits w m r l fits, shr_le (bit_and w m / 2 ^ r * 2 ^ l) k))
+-- a shift to the right takes back what it can of a shift to the left
+past : (x r l k : ℕ) → x / 2 ^ r * 2 ^ l / 2 ^ k ≡ x / 2 ^ (r + (k - l)) * 2 ^ (l - k)
+past x r l k = elim (cases_lt k l) [
+  | inl less ↦ grind (arith, scaled (x / 2 ^ r) (l - k) k, shl-shr (x / 2 ^ r * 2 ^ (l - k)) k)
+  | inr more ↦ grind (arith, shr-shr (x / 2 ^ r * 2 ^ l) l (k - l), shl-shr (x / 2 ^ r) l, shr-shr x r (k - l))
+]
 
-pub right_none : (w m r l k : ℕ) → m < 2 ^ 32 → l ≤ k → 32 ≤ r + (k - l) → bit_and w m / 2 ^ r * 2 ^ l / 2 ^ k ≡ 0
-right_none w m r l k fits more far =
-    grind (arith, past (bit_and w m) r l k more, div-eq_of_lt, and_le_r w m, pow_mono far)
-
-pub left_within : (y l k : ℕ) → y * 2 ^ l * 2 ^ k % 2 ^ 32 ≡ bit_and (y * 2 ^ (l + k)) 4294967295
-left_within y l k = rw scaled (low_word (y * 2 ^ (l + k)))
-
-pub left_none : (y l k : ℕ) → 32 ≤ l + k → y * 2 ^ l * 2 ^ k % 2 ^ 32 ≡ 0
-left_none y l k far =
-    let whole : l + k - 32 + 32 ≡ l + k = omega arith in
-    rw (scaled, ← whole, ← scaled) (mul-mod_left (y * 2 ^ (l + k - 32)) (2 ^ 32))
+pub right_shift : (w m r l k : ℕ) → m / 2 ^ r * 2 ^ l < 2 ^ 32
+    → bit_and w m / 2 ^ r * 2 ^ l / 2 ^ k ≡ bit_and w m / 2 ^ (r + (k - l)) * 2 ^ (l - k) % 2 ^ 32
+right_shift w m r l k fits =
+    grind (arith, past, mod-eq_of_lt, number_fits w m r l fits, shr_le (bit_and w m / 2 ^ r * 2 ^ l) k)
 
 -- ---- tests against a number
 
@@ -162,9 +150,7 @@ pub ruleset whole_laws = (whole_word, word_below, div-one)
 
 pub ruleset and_laws = (mask_whole, mask_fits, slice_and, div-one, and_comm, whole_word)
 
-pub ruleset right_laws = (right_within, right_past, right_none)
-
-pub ruleset left_laws = (left_within, left_none)
+pub ruleset shift_laws = (low_word, none_right, none_left)
 
 pub ruleset equal_laws = (slice_is, slice_isnt, slice_below)
 

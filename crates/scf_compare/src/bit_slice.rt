@@ -72,43 +72,48 @@ impl BitSlice {
         }
     }
 
-    /// `self >> count`: 0 if no bit of the word remains.
-    #[tactic(auto, using(crate::proofs::BitSlices::right_laws))]
+    /// `self >> count`.
+    #[tactic(auto, using(crate::proofs::BitSlices::right_shift))]
     pub(crate) fn shifted_right(self, count: u32) -> Value
         requires bit_slice { IsBitSlice self }
         requires count { count < 32 }
         ensures value { IsValue result }
         ensures stands { (words : List ℕ) → Abstracts result words (bit_slice_value self words / 2 ^ count) }
     {
-        if count <= self.left {
-            let left = self.left - count;
-            return Value::Slice(BitSlice { left, ..self }.and(u32::MAX));
-        }
-        let right = self.right + (count - self.left);
-        if right >= 32 {
-            return Value::Known(0);
-        }
-        let shifted = BitSlice {
-            right,
-            left: 0,
-            ..self
-        };
-        Value::Slice(shifted.and(u32::MAX))
+        self.with_shifts(
+            self.right + count.saturating_sub(self.left),
+            self.left.saturating_sub(count),
+        )
     }
 
-    /// `self << count`: 0 if no bit of the word remains.
-    #[tactic(auto, using(crate::proofs::BitSlices::left_laws))]
+    /// `self << count`.
+    #[tactic(auto, using(crate::proofs::BitSlices::scaled))]
     pub(crate) fn shifted_left(self, count: u32) -> Value
         requires bit_slice { IsBitSlice self }
         requires count { count < 32 }
         ensures value { IsValue result }
         ensures stands { (words : List ℕ) → Abstracts result words (bit_slice_value self words * 2 ^ count % 2 ^ 32) }
     {
-        let left = self.left + count;
-        if left >= 32 {
+        self.with_shifts(self.right, self.left + count)
+    }
+
+    /// `(word & mask) >> right << left`: 0 if no bit of the word remains.
+    #[tactic(auto, using(crate::proofs::BitSlices::shift_laws))]
+    fn with_shifts(self, right: u32, left: u32) -> Value
+        requires { self.word < 16 }
+        ensures value { IsValue result }
+        ensures stands { (words : List ℕ) → Abstracts result words
+            (bit_and (slice_index words self.word) self.mask / 2 ^ right * 2 ^ left % 2 ^ 32) }
+    {
+        if right >= u32::BITS || left >= u32::BITS {
             return Value::Known(0);
         }
-        Value::Slice(BitSlice { left, ..self }.and(u32::MAX))
+        let shifted = BitSlice {
+            right,
+            left,
+            ..self
+        };
+        Value::Slice(shifted.and(u32::MAX))
     }
 
     /// The test `self == v`, as an atom about its word.

@@ -1,5 +1,5 @@
 -- Bits of the sixteen words that splits have fixed.
-use Rattle.std.specs.Prelude.{◌≡◌, ◌+◌, ◌-◌, ◌<◌, ◌^◌, ℕ, List, bit_and, slice_index, slice_index_or, sum_by}
+use Rattle.std.specs.Prelude.{◌≡◌, ◌-◌, ◌<◌, ◌^◌, ℕ, List, bit_and, slice_index, slice_index_or, sum_by}
 use Rattle.std.specs.Int.{IsPowerOfTwo}
 use Rattle.scf_facts.specs.declared.atom.Atom.{Atom}
 use Rattle.scf_facts.specs.declared.atom.Atom.TheVariants.{Eq}
