@@ -23,28 +23,13 @@ pub have_set : (fixed : List Bits) (word : ℕ) (new : Bits) (words : List ℕ) 
     → HaveBits fixed words → HasBits new (slice_index words word) → HaveBits (slice_set fixed word new) words
 have_set fixed word new words lt have this = λ k. grind (arith, common_steps, have k, this)
 
--- more bits of a word leave no more to fix
-pub lacking_bits : (fixed : List Bits) (word : ℕ) (new : Bits) (m : ℕ) → word < length fixed
-    → new.mask ≡ bit_or (bits_at fixed word).mask m → lacking (slice_set fixed word new) ≤ lacking fixed
-lacking_bits fixed word new m lt more =
-    omega (
-      arith,
-      sum_by-set (λ bits. 2 ^ 32 - 1 - bits.mask) fixed word new (record { mask = 0; value = 0 }) lt,
-      le_or_l (bits_at fixed word).mask m,
-    )
+-- what is left to fix changes with one word
+pub lacking_set : (fixed : List Bits) (word : ℕ) (new : Bits) → word < length fixed
+    → lacking (slice_set fixed word new) + (2 ^ 32 - 1 - (bits_at fixed word).mask) ≡ lacking fixed + (2 ^ 32 - 1 - new.mask)
+lacking_set fixed word new lt =
+    omega (arith, sum_by-set (λ bits. 2 ^ 32 - 1 - bits.mask) fixed word new (record { mask = 0; value = 0 }) lt)
 
--- one more bit leaves less
-pub lacking_bit : (fixed : List Bits) (word : ℕ) (new : Bits) (m : ℕ) → word < length fixed
-    → new.mask ≡ bit_or (bits_at fixed word).mask m → IsPowerOfTwo m → bit_and (bits_at fixed word).mask m ≡ 0
-    → new.mask < 2 ^ 32 → lacking (slice_set fixed word new) < lacking fixed
-lacking_bit fixed word new m lt more one apart fits =
-    omega (
-      arith,
-      sum_by-set (λ bits. 2 ^ 32 - 1 - bits.mask) fixed word new (record { mask = 0; value = 0 }) lt,
-      or_disjoint (bits_at fixed word).mask m apart,
-      one.1,
-      pow_pos one.0,
-    )
+pub ruleset fixings = (have_set, lacking_set, le_or_l, or_disjoint, pow_pos)
 
 -- the lowest bit that a mask lacks
 pub lowest_lacking : (mask : ℕ) → mask + 1 < 2 ^ 32

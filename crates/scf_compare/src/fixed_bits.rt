@@ -74,7 +74,7 @@ impl FixedBits {
     }
 
     /// Fixes a bit that isn't fixed yet.
-    #[tactic(auto, using(crate::proofs::BitSets::have_set, crate::proofs::BitSets::lacking_bit))]
+    #[tactic(auto, using(crate::proofs::BitSets::fixings))]
     pub(crate) fn fix(&mut self, bit: WordBit, is_set: bool)
         requires { IsOpenBit self.old.words bit }
         ensures have { (words : List ℕ) → HaveBits self.old.words words
@@ -88,7 +88,7 @@ impl FixedBits {
     }
 
     /// Fixes the bits of a word that the store knows.
-    #[tactic(auto, using(crate::proofs::BitSets::have_set, crate::proofs::BitSets::lacking_bits))]
+    #[tactic(auto, using(crate::proofs::BitSets::fixings))]
     fn fix_known<F: WordFacts>(&mut self, facts: &F, word: u8)
         requires { word < 16 }
         ensures have { (words : List ℕ) → F.allows facts.now (F.level facts.now) words

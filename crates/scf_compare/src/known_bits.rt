@@ -256,25 +256,18 @@ fn quotient_bits(first: Bits, second: Bits) -> Bits
 }
 
 /// The known bits modulo 2^32 of a number `least..=greatest` that has the low bits of `least`, from bit 0 up to the first
-/// one that the mask lacks.
+/// one that the mask lacks: these, and the leading bits that all such numbers have, unless only some of them wrap.
 #[tactic(auto, using(crate::proofs::KnownBits::end_laws))]
 fn both_ends(mask: u32, least: u64, greatest: u64) -> Bits
     ensures within { bit_and result.value result.mask ≡ result.value }
     ensures stands { (n : ℕ) → least ≤ n → n ≤ greatest → IsLowEnd mask least n → HasBits result (n % 2 ^ 32) }
 {
     let low = low_half((1 << mask.trailing_ones()) - 1);
-    Bits::of(low_half(least), low).union(high_end(least, greatest))
-}
-
-/// The leading bits that the numbers `least..=greatest` have in common modulo 2^32: none if only some of them wrap.
-fn high_end(least: u64, greatest: u64) -> Bits
-    ensures within { bit_and result.value result.mask ≡ result.value }
-    ensures common { (n : ℕ) → least ≤ n → n ≤ greatest → HasBits result (n % 2 ^ 32) }
-{
+    let low_end = Bits::of(low_half(least), low);
     if least >> 32 != greatest >> 32 {
-        return Bits::NONE;
+        return low_end;
     }
-    Bits::between(low_half(least), low_half(greatest))
+    low_end.union(Bits::between(low_half(least), low_half(greatest)))
 }
 
 /// The low 32 bits of a number.

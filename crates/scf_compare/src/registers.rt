@@ -3,16 +3,8 @@
 ghost use Rattle.std.specs.Prelude.{◌≡◌, ℕ, ◌+◌, ◌<◌, List, IfSome};
 ghost use Rattle.scf_insn.specs.Kernel.{bpf_memwords};
 ghost use Rattle.scf_insn.specs.Words.{IsWords};
-ghost use Rattle.scf_machine.specs.Machine.{
-  State,
-  start,
-  sets,
-  stores,
-  operand_of,
-  operand_in_computation,
-  effect,
-  Goes,
-};
+ghost use Rattle.scf_machine.specs.Machine.{State, start, sets, stores, operand_of, operand_in_computation};
+ghost use Rattle.scf_machine.specs.Machine.{effect, Goes};
 ghost use Rattle.scf_compare.specs.internal.ControlFlow.{UsesScratch};
 ghost use Rattle.scf_compare.specs.internal.Values.{IsValue, Abstracts, IsPlainValue, AreValues, Describes};
 
