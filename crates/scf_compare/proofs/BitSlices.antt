@@ -92,11 +92,8 @@ slice_is w m r l v fits whole least stays =
     let back = same_shifted_back v l stays in
     let same = under_whole w m r whole in
     rw (shifted_fits m (v / 2 ^ l) r fits whole least) (
-      λ is. eq-eqb _ _ (sym same ∙ ap (λ n. n * 2 ^ r) (sym (shl-shr y l) ∙ ap (λ n. n / 2 ^ l) (eqb-true _ _ is))),
-      λ is.
-          let of_word : y * 2 ^ r ≡ v / 2 ^ l * 2 ^ r = same ∙ eqb-true _ _ is in
-          let number : y ≡ v / 2 ^ l = sym (shl-shr y r) ∙ ap (λ n. n / 2 ^ r) of_word ∙ shl-shr (v / 2 ^ l) r in
-          eq-eqb _ _ (ap (λ n. n * 2 ^ l) number ∙ back),
+      λ is. eq-eqb _ _ (let number = eqb-true _ _ is in grind (arith, same, shl-shr y l)),
+      λ is. eq-eqb _ _ (let word = eqb-true _ _ is in grind (arith, same, back, shl-shr y r, shl-shr (v / 2 ^ l) r)),
     )
 
 -- no number that has a bit past the mask

@@ -42,15 +42,8 @@ low_bits a = and_mask a 5
 -- a computation on 32-bit numbers has a 32-bit result
 pub computed_fits : (arithmetic : Arithmetic) (a v : ℕ) → a < 2 ^ 32 → v < 2 ^ 32
     → value_computed arithmetic a v < 2 ^ 32
-computed_fits Add a v h k = omega arith
-computed_fits Sub a v h k = omega arith
-computed_fits Mul a v h k = omega arith
-computed_fits Div a v h k = omega (arith, div-le_self a v)
-computed_fits Or a v h k = or_lt 32 a v h k
-computed_fits And a v h k = omega (arith, and_le_l a v)
-computed_fits Lsh a v h k = omega arith
-computed_fits Rsh a v h k = omega (arith, div-le_self a (2 ^ v))
-computed_fits Xor a v h k = xor_lt 32 a v h k
+computed_fits arithmetic a v h k =
+    grind (arith, div-le_self a, and_le_l a v, or_lt 32 a v h k, xor_lt 32 a v h k, value_computed)
 
 -- the computations in which the order of the operands makes no difference
 pub ruleset commutative = (add_comm, and_comm, mul_comm, or_comm, xor_comm)

@@ -19,14 +19,9 @@ module _ (x y m v n w : ℕ) (first : bit_and x m ≡ v) (second : bit_and y n �
 
 -- ---- shifts
 
-shifted_under : (x m k : ℕ) → bit_and (x * 2 ^ k % 2 ^ 32) (m * 2 ^ k % 2 ^ 32) ≡ bit_and x m * 2 ^ k % 2 ^ 32
-shifted_under x m k =
-    sym (and_mod (x * 2 ^ k) (m * 2 ^ k) 32) ∙ ap (λ n. n % 2 ^ 32) (sym (and_scaled x m k))
-
 pub left_known : (x m v k : ℕ) → bit_and x m ≡ v
     → bit_and (x * 2 ^ k % 2 ^ 32) (m * 2 ^ k % 2 ^ 32) ≡ bit_and (v * 2 ^ k % 2 ^ 32) (m * 2 ^ k % 2 ^ 32)
-left_known x m v k e =
-    shifted_under x m k ∙ ap (λ n. n * 2 ^ k % 2 ^ 32) (kept x m v e) ∙ sym (shifted_under v m k)
+left_known x m v k e = rw (← and_mod, ← and_mod, ← and_scaled, ← and_scaled, ← kept x m v e) refl
 
 -- the low bits of a number modulo 2^32 are those of the number
 low_bits : (n k : ℕ) → k ≤ 32 → n % 2 ^ 32 % 2 ^ k ≡ n % 2 ^ k
@@ -42,7 +37,7 @@ left_clears x k within =
 
 pub right_known : (x m v k : ℕ) → bit_and x m ≡ v
     → bit_and (x / 2 ^ k) (m / 2 ^ k) ≡ bit_and (v / 2 ^ k) (m / 2 ^ k)
-right_known x m v k e = sym (and_shr x m k) ∙ ap (λ n. n / 2 ^ k) (kept x m v e) ∙ and_shr v m k
+right_known x m v k e = rw (← and_shr, ← and_shr, ← kept x m v e) refl
 
 -- ---- the least and the greatest
 
@@ -63,10 +58,7 @@ quotient_grows a b c d least most some =
 -- ---- zero
 
 pub same_by_xor : (x y : ℕ) → eqb (bit_xor x y) 0 ≡ eqb x y
-same_by_xor x y = elim (cases_eq x y) [
-  | inl same ↦ rw (same, xor_self y) (sym (eq-eqb y y refl))
-  | inr other ↦ ne_eqb _ _ (λ e. other (same_from_xor x y e)) ∙ sym (ne_eqb x y other)
-]
+same_by_xor x y = grind (arith, cases_eq x y, xor_self, same_from_xor x y, eq-eqb, ne_eqb)
 
 -- ---- the low end
 
@@ -77,19 +69,16 @@ low_kept x m n v k e known =
     (same_from_bits _ _ (λ i. grind (arith, each_bit, at_bit i e, at_bit i known)))
 
 module _ (x y m n v w : ℕ) (first : bit_and x m ≡ v) (second : bit_and y n ≡ w) where
-  first_low : (k : ℕ) → bit_and (bit_and m n) (2 ^ k - 1) ≡ 2 ^ k - 1 → v % 2 ^ k ≡ x % 2 ^ k
-  first_low k known = low_kept x m n v k first known
-
   second_low : (k : ℕ) → bit_and (bit_and m n) (2 ^ k - 1) ≡ 2 ^ k - 1 → w % 2 ^ k ≡ y % 2 ^ k
   second_low k known = low_kept y n m w k second (rw (and_comm n m) known)
 
   pub sum_low : IsLowEnd (bit_and m n) (v + w) (x + y)
   sum_low = λ k within known.
-      cc (first_low k known, second_low k known, add-mod x y (2 ^ k), add-mod v w (2 ^ k))
+      cc (low_kept x m n v k first known, second_low k known, add-mod x y (2 ^ k), add-mod v w (2 ^ k))
 
   pub product_low : IsLowEnd (bit_and m n) (v * w) (x * y)
   product_low = λ k within known.
-      cc (first_low k known, second_low k known, mul-mod x y (2 ^ k), mul-mod v w (2 ^ k))
+      cc (low_kept x m n v k first known, second_low k known, mul-mod x y (2 ^ k), mul-mod v w (2 ^ k))
 
 -- the low bits that a mask has
 low_ones : (m k : ℕ) → m < 2 ^ 32 → k ≡ trailing_ones w32 m → (k ≤ 32) × (bit_and m (2 ^ k - 1) ≡ 2 ^ k - 1)
@@ -131,6 +120,10 @@ difference x y fits_x fits_y = omega arith
 -- ---- what functions cite
 
 pub ruleset result_laws = (fixed, whole_word, difference)
+
+pub ruleset outcome_laws = (fixed, and_le_l)
+
+pub ruleset quotient_laws = (quotient_grows, value_least)
 
 pub ruleset greatest_laws = (within_greatest, le_or_l)
 

@@ -90,7 +90,7 @@ fn is_count(bits: Bits) -> bool
 }
 
 /// The outcome of the test of a value against another, if their known bits decide it: always, if all are known.
-#[tactic(auto, using(crate::proofs::Bits::fixed))]
+#[tactic(auto, using(crate::proofs::KnownBits::outcome_laws))]
 pub(crate) fn known_outcome(test: Test, first: Bits, second: Bits) -> Option<bool>
     ensures stands { (x y : ℕ) → x < 2 ^ 32 → y < 2 ^ 32 → HasBits first x → HasBits second y
         → IfSome result (λ outcome. holds test x y ≡ outcome) }
@@ -241,6 +241,7 @@ fn product_bits(first: Bits, second: Bits) -> Bits
 }
 
 /// The known bits of `first / second`: none if the divisor may be 0.
+#[tactic(auto, using(crate::proofs::KnownBits::quotient_laws))]
 fn quotient_bits(first: Bits, second: Bits) -> Bits
     ensures within { bit_and result.value result.mask ≡ result.value }
     ensures stands { (x y : ℕ) → x < 2 ^ 32 → y < 2 ^ 32 → HasBits first x → HasBits second y
