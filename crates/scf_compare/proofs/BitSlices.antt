@@ -1,6 +1,7 @@
 -- Bit slices, bit by bit.
 use Rattle.scf_compare.proofs.Common.{word_below, ◌≡◌, ◌≢◌, ℕ, ◌+◌, ◌-◌, ◌*◌, ◌/◌, ◌%◌, ◌<◌, ◌≤◌, ◌^◌, ◌↔◌, true, false, eqb, refl, sym, ap, ◌∙◌, arith, bit_and, nat_lt, eq-eqb, eqb-true, and_zero_r, and_shr, and_block, and_comm, and_le_l, and_le_r, and_assoc, and_mask, shl-shr, shr-shr, shr_le, pow-add, pow_pos, div-add-mod', div-eq_of_lt, div-lt_iff_lt-mul, div-mul-le_self, div-one, le-div_iff_mul-le, le-ltb, lt_of_mul-lt-mul_right, mod-eq_of_lt, mod-le, mod-lt, mul-le-mul_left, mul-lt-mul_of_pos_right, mul-mod_left, pow_mono, shr_mono, ne_eqb, beyond_mask, of_multiple, one_more, cases_lt, inl, inr}
 use Rattle.scf_compare.proofs.Bits.{whole_word}
+use Rattle.scf_facts.specs.HighMask.{IsHighMask}
 
 -- ---- masks and shifts
 
@@ -105,41 +106,36 @@ slice_isnt w m r l v past =
 pub slice_below : (y l v : ℕ) → v < 2 ^ 32 → v / 2 ^ l * 2 ^ l % 2 ^ 32 ≢ v → eqb (y * 2 ^ l) v ≡ false
 slice_below y l v fits lost = ne_eqb _ _ (λ same. grind (arith, same, shl-shr y l, mod-eq_of_lt fits))
 
--- where the mask has all bits from the `k`th on
-module _ (w m r l k : ℕ) (below : w < 2 ^ 32) (within : k < 32) (high : m ≡ 2 ^ 32 - 2 ^ k)
-    (whole : m / 2 ^ r * 2 ^ r ≡ m) where
-  -- the order with a number is that of the word's part from the bit on with the number, shifted back
-  above_quotient : (v : ℕ) → (v < bit_and w m / 2 ^ r * 2 ^ l) ↔ (v / 2 ^ l * 2 ^ r < w / 2 ^ k * 2 ^ k)
-  above_quotient v =
-      let bits = under_whole w m r whole ∙ of_multiple w m k within high below in
-      grind (arith, bits, div-lt_iff_lt-mul, lt_of_mul-lt-mul_right, mul-lt-mul_of_pos_right, pow_pos)
+-- where the mask has all bits from the `k`th on, the order of a bit slice with a number is that of the word's part from
+-- the bit on with the number, shifted back
+above_quotient : (w m r l k v : ℕ) → w < 2 ^ 32 → k < 32 → m ≡ 2 ^ 32 - 2 ^ k → m / 2 ^ r * 2 ^ r ≡ m
+    → (v < bit_and w m / 2 ^ r * 2 ^ l) ↔ (v / 2 ^ l * 2 ^ r < w / 2 ^ k * 2 ^ k)
+above_quotient w m r l k v below within high whole =
+    let bits = under_whole w m r whole ∙ of_multiple w m k within high below in
+    grind (arith, bits, div-lt_iff_lt-mul, lt_of_mul-lt-mul_right, mul-lt-mul_of_pos_right, pow_pos)
 
-  -- and that of the word with the last number that has the same such part
-  above_last : (n : ℕ) → (n < w / 2 ^ k * 2 ^ k) ↔ (n / 2 ^ k * 2 ^ k + (2 ^ k - 1) < w)
-  above_last n = grind (arith, div-lt_iff_lt-mul, le-div_iff_mul-le, one_more, pow_pos)
+-- and that of the word with the last number that has the same such part
+above_last : (w k n : ℕ) → (n < w / 2 ^ k * 2 ^ k) ↔ (n / 2 ^ k * 2 ^ k + (2 ^ k - 1) < w)
+above_last w k n = grind (arith, div-lt_iff_lt-mul, le-div_iff_mul-le, one_more, pow_pos)
 
-  pub slice_above : (v : ℕ) → m < 2 ^ 32 → v / 2 ^ l ≤ m / 2 ^ r
-      → (nat_lt v (bit_and w m / 2 ^ r * 2 ^ l) ≡ true)
-      ↔ (nat_lt (bit_and (v / 2 ^ l * 2 ^ r % 2 ^ 32) m + (2 ^ 32 - 1 - m)) w ≡ true)
-  slice_above v fits least =
-      grind (
-        arith,
-        above_quotient v,
-        above_last (v / 2 ^ l * 2 ^ r),
-        of_multiple (v / 2 ^ l * 2 ^ r) m k within high,
-        beyond_mask m k within high,
-        shifted_fits m (v / 2 ^ l) r fits whole least,
-        mod-lt,
-        mod-eq_of_lt,
-      )
+pub slice_above : (w m r l v : ℕ) → w < 2 ^ 32 → IsHighMask m → m < 2 ^ 32 → m / 2 ^ r * 2 ^ r ≡ m → v / 2 ^ l ≤ m / 2 ^ r
+    → (nat_lt v (bit_and w m / 2 ^ r * 2 ^ l) ≡ true)
+    ↔ (nat_lt (bit_and (v / 2 ^ l * 2 ^ r % 2 ^ 32) m + (2 ^ 32 - 1 - m)) w ≡ true)
+slice_above w m r l v below (k, within, high) fits whole least =
+    grind (
+      arith,
+      above_quotient w m r l k v below within high whole,
+      above_last w k (v / 2 ^ l * 2 ^ r),
+      of_multiple (v / 2 ^ l * 2 ^ r) m k within high,
+      beyond_mask m k within high,
+      shifted_fits m (v / 2 ^ l) r fits whole least,
+      mod-lt,
+      mod-eq_of_lt,
+    )
 
 pub slice_not_above : (w m r l v : ℕ) → m / 2 ^ r < v / 2 ^ l → nat_lt v (bit_and w m / 2 ^ r * 2 ^ l) ≡ false
 slice_not_above w m r l v past =
-    le-ltb _ _ (omega (
-      arith,
-      div-mul-le_self v (2 ^ l),
-      mul-le-mul_left (2 ^ l) (let least : bit_and w m / 2 ^ r ≤ v / 2 ^ l = omega (arith, shr_mono r (and_le_r w m)) in least),
-    ))
+    grind (arith, le-ltb, le-div_iff_mul-le, pow_pos, shr_mono r (and_le_r w m))
 
 -- ---- what functions cite
 
@@ -151,4 +147,4 @@ pub ruleset shift_laws = (low_word, none_right, none_left)
 
 pub ruleset equal_laws = (slice_is, slice_isnt, slice_below)
 
-pub ruleset order_laws = (slice_not_above)
+pub ruleset order_laws = (slice_above, slice_not_above, word_below)
