@@ -81,16 +81,13 @@ under_whole w m r whole = grind (arith, shifted_back w (m / 2 ^ r) r, shl-shr)
 shifted_fits : (m u r : ℕ) → m < 2 ^ 32 → m / 2 ^ r * 2 ^ r ≡ m → u ≤ m / 2 ^ r → u * 2 ^ r % 2 ^ 32 ≡ u * 2 ^ r
 shifted_fits m u r fits whole least = mod-eq_of_lt (omega (arith, mul-le-mul_left (2 ^ r) least))
 
--- a number shifted to the right and back, that stays, was a multiple
-same_shifted_back : (v l : ℕ) → v / 2 ^ l * 2 ^ l % 2 ^ 32 ≡ v → v / 2 ^ l * 2 ^ l ≡ v
-same_shifted_back v l e = omega (arith, e, div-mul-le_self v (2 ^ l), mod-le (v / 2 ^ l * 2 ^ l) (2 ^ 32))
-
 pub slice_is : (w m r l v : ℕ) → m < 2 ^ 32 → m / 2 ^ r * 2 ^ r ≡ m → v / 2 ^ l ≤ m / 2 ^ r
     → v / 2 ^ l * 2 ^ l % 2 ^ 32 ≡ v
     → (eqb (bit_and w m / 2 ^ r * 2 ^ l) v ≡ true) ↔ (eqb (bit_and w m) (v / 2 ^ l * 2 ^ r % 2 ^ 32) ≡ true)
 slice_is w m r l v fits whole least stays =
     let y = bit_and w m / 2 ^ r in
-    let back = same_shifted_back v l stays in
+    let back : v / 2 ^ l * 2 ^ l ≡ v =
+    omega (arith, stays, div-mul-le_self v (2 ^ l), mod-le (v / 2 ^ l * 2 ^ l) (2 ^ 32)) in
     let same = under_whole w m r whole in
     rw (shifted_fits m (v / 2 ^ l) r fits whole least) (
       λ is. eq-eqb _ _ (let number = eqb-true _ _ is in grind (arith, same, shl-shr y l)),

@@ -21,7 +21,8 @@ module _ (x y m v n w : ℕ) (first : bit_and x m ≡ v) (second : bit_and y n �
 
 pub left_known : (x m v k : ℕ) → bit_and x m ≡ v
     → bit_and (x * 2 ^ k % 2 ^ 32) (m * 2 ^ k % 2 ^ 32) ≡ bit_and (v * 2 ^ k % 2 ^ 32) (m * 2 ^ k % 2 ^ 32)
-left_known x m v k e = rw (← and_mod, ← and_mod, ← and_scaled, ← and_scaled, ← kept x m v e) refl
+left_known x m v k e =
+    rw (← and_mod (x * 2 ^ k) (m * 2 ^ k) 32, ← and_mod, ← and_scaled x m k, ← and_scaled, ← kept x m v e) refl
 
 -- the low bits of a number modulo 2^32 are those of the number
 low_bits : (n k : ℕ) → k ≤ 32 → n % 2 ^ 32 % 2 ^ k ≡ n % 2 ^ k
@@ -37,7 +38,7 @@ left_clears x k within =
 
 pub right_known : (x m v k : ℕ) → bit_and x m ≡ v
     → bit_and (x / 2 ^ k) (m / 2 ^ k) ≡ bit_and (v / 2 ^ k) (m / 2 ^ k)
-right_known x m v k e = rw (← and_shr, ← and_shr, ← kept x m v e) refl
+right_known x m v k e = rw (← and_shr x m k, ← and_shr, ← kept x m v e) refl
 
 -- ---- the least and the greatest
 
@@ -87,13 +88,9 @@ low_ones m k fits count = elim (cases_eq m (2 ^ 32 - 1)) [
       let all : k ≡ 32 = count ∙ ap (trailing_ones w32) most ∙ trailing_of_zero 32 in
       (omega arith, rw (all, most) (and_self (2 ^ 32 - 1)))
   | inr less ↦
-      let (within, _, each) = bit_at-trailing_ones w32 m (omega arith) in (
-        omega arith,
-        same_from_bits _ _ (λ i. elim (cases_lt i k) [
-          | inl below ↦ grind (arith, each_bit, each i (omega arith), bit_at_ones k i below)
-          | inr past ↦ grind (arith, each_bit, bit_at_ones_above k i past)
-        ]),
-      )
+      let (within, _, each) = bit_at-trailing_ones w32 m (omega arith) in
+      let ones = λ (i : ℕ). cases_lt i k in
+      (omega arith, same_from_bits _ _ (λ i. grind (arith, each_bit, ones i, each i, bit_at_ones k i, bit_at_ones_above k i)))
 ]
 
 pub low_end : (m a b k : ℕ) → m < 2 ^ 32 → k ≡ trailing_ones w32 m → IsLowEnd m a b

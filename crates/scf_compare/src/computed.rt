@@ -70,10 +70,11 @@ impl Computed {
         let bits = known_result(arithmetic, self.bits, other.bits);
         let joined = self.sources.and(other.sources);
         let sources = match arithmetic {
-            Arithmetic::Add | Arithmetic::Sub | Arithmetic::Mul | Arithmetic::Lsh =>
-                joined.raised(),
-            Arithmetic::Div => joined.lowered_by(u32::BITS),
-            Arithmetic::Rsh => joined.lowered_by(other.number().unwrap_or(u32::BITS)),
+            Arithmetic::Add | Arithmetic::Sub | Arithmetic::Mul | Arithmetic::Lsh => joined.moved(
+                0,
+            ),
+            Arithmetic::Div => joined.moved(u32::BITS),
+            Arithmetic::Rsh => joined.moved(other.number().unwrap_or(u32::BITS)),
             Arithmetic::And | Arithmetic::Or | Arithmetic::Xor => joined,
         };
         Computed {

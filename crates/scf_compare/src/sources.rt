@@ -80,17 +80,9 @@ impl Sources {
         }
     }
 
-    /// Those of a value whose bits have moved to higher ones: of a sum, a difference, a product or a shift to the left.
-    pub(crate) fn raised(self) -> Sources {
-        Sources {
-            is_moved: true,
-            ..self
-        }
-    }
-
-    /// Those of the value shifted to the right by so many bits.
-    pub(crate) fn lowered_by(self, count: u32) -> Sources {
-        let lowered = u32::from(self.lowered) + count.min(u32::BITS);
+    /// Those of a value whose bits may have moved, to the right by at most so many bits.
+    pub(crate) fn moved(self, right: u32) -> Sources {
+        let lowered = u32::from(self.lowered) + right.min(u32::BITS);
         Sources {
             lowered: lowered.min(u32::BITS) as u8,
             is_moved: true,
@@ -103,10 +95,7 @@ impl Sources {
         let mask = if self.is_moved {
             let highest = u32::BITS.saturating_sub(bits.leading_zeros());
             let count = highest + u32::from(self.lowered);
-            if count >= u32::BITS {
-                return self;
-            }
-            !(u32::MAX << count)
+            !u32::MAX.checked_shl(count).unwrap_or(0)
         } else {
             bits
         };
