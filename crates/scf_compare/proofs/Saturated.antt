@@ -12,16 +12,14 @@ pub conditions_step : (conditions : List Condition) (index behind : ℕ) → 0 <
     → conditions_size (drop (index - 1) conditions) behind
     ≡ 3 + 2 * conditions_size (drop index conditions) behind + 2 * behind
 conditions_step conditions index behind some within =
-    let here = slice_get-get_or conditions (index - 1) no_condition (omega arith) in
-    grind (arith, conditions_more conditions (index - 1) _ behind here)
+    grind (arith, conditions_more conditions (index - 1), slice_get-get_or conditions (index - 1) no_condition)
 
 -- the rules from one on, by those behind it
 pub rules_step : (rules : List Rule) (index : ℕ) (r : Rule) → 0 < index → index ≤ length rules
     → r ≡ get_or rules (index - 1) r
     → rules_size (drop (index - 1) rules) ≡ conditions_size r.conditions (rules_size (drop index rules))
 rules_step rules index r some within is =
-    let here = slice_get_read rules (length rules) (index - 1) r refl (omega arith) is in
-    grind (arith, rules_more rules (index - 1) r here)
+    grind (arith, rules_more rules (index - 1) r, slice_get_read rules (length rules) (index - 1) r refl)
 
 pub conditions_added : (size fails twice first second third x behind : ℕ) → size ≡ saturated x
     → fails ≡ saturated behind → twice ≡ saturated (fails + fails) → first ≡ saturated (size + size)
