@@ -35,15 +35,8 @@ pub ruleset whole_words = (whole_word, word_below, word_is)
 
 -- ---- bits that are known
 
--- the low five bits
-pub low_bits : (a : ℕ) → bit_and a 31 ≡ a % 32
-low_bits a = and_mask a 5
-
 -- a computation on 32-bit numbers has a 32-bit result
 pub computed_fits : (arithmetic : Arithmetic) (a v : ℕ) → a < 2 ^ 32 → v < 2 ^ 32
     → value_computed arithmetic a v < 2 ^ 32
 computed_fits arithmetic a v h k =
     grind (arith, div-le_self a, and_le_l a v, or_lt 32 a v h k, xor_lt 32 a v h k, value_computed)
-
--- the computations in which the order of the operands makes no difference
-pub ruleset commutative = (add_comm, and_comm, mul_comm, or_comm, xor_comm)

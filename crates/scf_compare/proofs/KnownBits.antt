@@ -122,18 +122,8 @@ pub ruleset outcome_laws = (fixed, and_le_l)
 
 pub ruleset quotient_laws = (quotient_grows, value_least)
 
+pub ruleset bit_laws = (and_known, or_known, xor_known, left_known, left_clears, right_known, inverted_known, and_twice)
+
 pub ruleset greatest_laws = (within_greatest, le_or_l)
-
-pub ruleset and_laws = (and_known, and_twice)
-
-pub ruleset or_laws = (or_known, and_twice)
-
-pub ruleset xor_laws = (xor_known, and_twice)
-
-pub ruleset left_laws = (left_known, left_clears, and_twice)
-
-pub ruleset right_laws = (right_known, and_twice)
-
-pub ruleset inverted_laws = (inverted_known, and_twice)
 
 pub ruleset end_laws = (low_end, and_twice)

@@ -43,11 +43,7 @@ impl Computed {
     pub(crate) fn number(self) -> Option<u32>
         ensures { (x : ℕ) → IsComputedNumber self x → IfSome result (λ number. x ≡ number) }
     {
-        if self.bits.mask == u32::MAX {
-            Some(self.bits.value)
-        } else {
-            None
-        }
+        (self.bits.mask == u32::MAX).then_some(self.bits.value)
     }
 
     /// As a value: a constant if all its bits are known.

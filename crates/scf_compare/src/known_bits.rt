@@ -156,7 +156,7 @@ fn greatest(bits: Bits) -> u32
 }
 
 /// The known bits of `first & second`.
-#[tactic(auto, using(crate::proofs::KnownBits::and_laws))]
+#[tactic(auto, using(crate::proofs::KnownBits::bit_laws))]
 pub(crate) fn and_bits(first: Bits, second: Bits) -> Bits
     ensures within { bit_and result.value result.mask ≡ result.value }
     ensures stands { (x y : ℕ) → HasBits first x → HasBits second y → HasBits result (bit_and x y) }
@@ -169,7 +169,7 @@ pub(crate) fn and_bits(first: Bits, second: Bits) -> Bits
 }
 
 /// The known bits of `first | second`.
-#[tactic(auto, using(crate::proofs::KnownBits::or_laws))]
+#[tactic(auto, using(crate::proofs::KnownBits::bit_laws))]
 fn or_bits(first: Bits, second: Bits) -> Bits
     ensures within { bit_and result.value result.mask ≡ result.value }
     ensures stands { (x y : ℕ) → HasBits first x → HasBits second y → HasBits result (bit_or x y) }
@@ -179,7 +179,7 @@ fn or_bits(first: Bits, second: Bits) -> Bits
 }
 
 /// The known bits of `first ^ second`.
-#[tactic(auto, using(crate::proofs::KnownBits::xor_laws))]
+#[tactic(auto, using(crate::proofs::KnownBits::bit_laws))]
 fn xor_bits(first: Bits, second: Bits) -> Bits
     ensures within { bit_and result.value result.mask ≡ result.value }
     ensures stands { (x y : ℕ) → HasBits first x → HasBits second y → HasBits result (bit_xor x y) }
@@ -188,7 +188,7 @@ fn xor_bits(first: Bits, second: Bits) -> Bits
 }
 
 /// The known bits of `bits << count`.
-#[tactic(auto, using(crate::proofs::KnownBits::left_laws))]
+#[tactic(auto, using(crate::proofs::KnownBits::bit_laws))]
 pub(crate) fn left_bits(bits: Bits, count: u32) -> Bits
     requires { count < 32 }
     ensures within { bit_and result.value result.mask ≡ result.value }
@@ -199,7 +199,7 @@ pub(crate) fn left_bits(bits: Bits, count: u32) -> Bits
 }
 
 /// The known bits of `bits >> count`.
-#[tactic(auto, using(crate::proofs::KnownBits::right_laws))]
+#[tactic(auto, using(crate::proofs::KnownBits::bit_laws))]
 pub(crate) fn right_bits(bits: Bits, count: u32) -> Bits
     requires { count < 32 }
     ensures within { bit_and result.value result.mask ≡ result.value }
@@ -210,7 +210,7 @@ pub(crate) fn right_bits(bits: Bits, count: u32) -> Bits
 }
 
 /// The known bits of `!x`, given those of `x`.
-#[tactic(auto, using(crate::proofs::KnownBits::inverted_laws))]
+#[tactic(auto, using(crate::proofs::KnownBits::bit_laws))]
 fn inverted(bits: Bits) -> Bits
     ensures within { bit_and result.value result.mask ≡ result.value }
     ensures stands { (x : ℕ) → x < 2 ^ 32 → HasBits bits x → HasBits result (2 ^ 32 - 1 - x) }
