@@ -142,6 +142,4 @@ pub ruleset and_laws = (mask_whole, mask_fits, slice_and, div-one, and_comm, who
 
 pub ruleset shift_laws = (low_word, none_right, none_left)
 
-pub ruleset equal_laws = (slice_is, slice_isnt, slice_below)
-
-pub ruleset order_laws = (slice_above, slice_not_above, word_below)
+pub ruleset test_laws = (slice_is, slice_isnt, slice_below, slice_above, slice_not_above, word_below)

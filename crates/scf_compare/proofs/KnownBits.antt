@@ -118,12 +118,4 @@ difference x y fits_x fits_y = omega arith
 
 pub ruleset result_laws = (fixed, whole_word, difference)
 
-pub ruleset outcome_laws = (fixed, and_le_l)
-
-pub ruleset quotient_laws = (quotient_grows, value_least)
-
-pub ruleset bit_laws = (and_known, or_known, xor_known, left_known, left_clears, right_known, inverted_known, and_twice)
-
-pub ruleset greatest_laws = (within_greatest, le_or_l)
-
-pub ruleset end_laws = (low_end, and_twice)
+pub ruleset bit_laws = (and_known, or_known, xor_known, left_known, left_clears, right_known, inverted_known, low_end, and_twice)

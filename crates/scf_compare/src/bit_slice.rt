@@ -117,7 +117,7 @@ impl BitSlice {
     }
 
     /// The test `self == v`, as an atom about its word.
-    #[tactic(auto, using(crate::proofs::BitSlices::equal_laws))]
+    #[tactic(auto, using(crate::proofs::BitSlices::test_laws))]
     pub(crate) fn is(self, v: u32) -> Decision
         requires { IsBitSlice self }
         ensures asks { IsTestDecision result }
@@ -137,7 +137,7 @@ impl BitSlice {
     }
 
     /// The test `self > v`, as an atom about its word, if the mask has all bits of the word from one on.
-    #[tactic(auto, using(crate::proofs::BitSlices::order_laws))]
+    #[tactic(auto, using(crate::proofs::BitSlices::test_laws))]
     pub(crate) fn is_above(self, v: u32) -> Decision
         requires { IsBitSlice self }
         ensures asks { IsTestDecision result }

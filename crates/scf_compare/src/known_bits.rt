@@ -90,7 +90,7 @@ fn is_count(bits: Bits) -> bool
 }
 
 /// The outcome of the test of a value against another, if their known bits decide it: always, if all are known.
-#[tactic(auto, using(crate::proofs::KnownBits::outcome_laws))]
+#[tactic(auto, using(crate::proofs::Bits::fixed, std::proofs::lemmas::Nat::and_le_l))]
 pub(crate) fn known_outcome(test: Test, first: Bits, second: Bits) -> Option<bool>
     ensures stands { (x y : ℕ) → x < 2 ^ 32 → y < 2 ^ 32 → HasBits first x → HasBits second y
         → IfSome result (λ outcome. holds test x y ≡ outcome) }
@@ -147,7 +147,7 @@ fn is_above(first: Bits, second: Bits) -> Option<bool>
 }
 
 /// The greatest value with these bits. The least one is `bits.value`.
-#[tactic(auto, using(crate::proofs::KnownBits::greatest_laws))]
+#[tactic(auto, using(crate::proofs::KnownBits::within_greatest, std::proofs::lemmas::Nat::le_or_l))]
 fn greatest(bits: Bits) -> u32
     ensures least { bits.value ≤ result }
     ensures most { (x : ℕ) → x < 2 ^ 32 → HasBits bits x → x ≤ result }
@@ -241,7 +241,7 @@ fn product_bits(first: Bits, second: Bits) -> Bits
 }
 
 /// The known bits of `first / second`: none if the divisor may be 0.
-#[tactic(auto, using(crate::proofs::KnownBits::quotient_laws))]
+#[tactic(auto, using(crate::proofs::KnownBits::quotient_grows, crate::proofs::KnownBits::value_least))]
 fn quotient_bits(first: Bits, second: Bits) -> Bits
     ensures within { bit_and result.value result.mask ≡ result.value }
     ensures stands { (x y : ℕ) → x < 2 ^ 32 → y < 2 ^ 32 → HasBits first x → HasBits second y
@@ -258,7 +258,7 @@ fn quotient_bits(first: Bits, second: Bits) -> Bits
 
 /// The known bits modulo 2^32 of a number `least..=greatest` that has the low bits of `least`, from bit 0 up to the first
 /// one that the mask lacks: these, and the leading bits that all such numbers have, unless only some of them wrap.
-#[tactic(auto, using(crate::proofs::KnownBits::end_laws))]
+#[tactic(auto, using(crate::proofs::KnownBits::bit_laws))]
 fn both_ends(mask: u32, least: u64, greatest: u64) -> Bits
     ensures within { bit_and result.value result.mask ≡ result.value }
     ensures stands { (n : ℕ) → least ≤ n → n ≤ greatest → IsLowEnd mask least n → HasBits result (n % 2 ^ 32) }
