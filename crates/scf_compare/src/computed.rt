@@ -1,6 +1,6 @@
 //! Computed values of which only single bits may be known.
 
-ghost use Rattle.std.specs.Prelude.{◌≡◌, ◌<◌, ◌^◌, ℕ, List, IfSome};
+ghost use Rattle.std.specs.Prelude.{◌≡◌, ◌<◌, ℕ, List, IfSome};
 ghost use Rattle.scf_machine.specs.Machine.{value_computed};
 ghost use Rattle.scf_compare.specs.internal.Values.{Abstracts, IsComputedNumber, IsValue};
 

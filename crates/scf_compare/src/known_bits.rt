@@ -1,6 +1,6 @@
 //! Known bits: what is known bit by bit of the operands of a computation or a test, and of its outcome.
 
-ghost use Rattle.std.specs.Prelude.{◌≡◌, ◌==◌, ◌≢◌, ◌<◌, ◌≤◌, ◌^◌, ◌-◌, ◌*◌, ◌/◌, ◌%◌, ◌+◌, ℕ, Bool, not, bit_and};
+ghost use Rattle.std.specs.Prelude.{◌≡◌, ◌==◌, ◌<◌, ◌≤◌, ◌^◌, ◌-◌, ◌*◌, ◌/◌, ◌%◌, ◌+◌, ℕ, Bool, not, bit_and};
 ghost use Rattle.std.specs.Prelude.{List, IfSome, IsSome, IsTrue, ◌↔◌, bit_or, bit_xor, nat_lt, slice_index};
 ghost use Rattle.scf_facts.specs.Bits.{FixesNumber, HasBits};
 ghost use Rattle.scf_machine.specs.Machine.{holds, value_computed};

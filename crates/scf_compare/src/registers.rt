@@ -1,6 +1,6 @@
 //! What is known of the registers and scratch words on a path through a filter.
 
-ghost use Rattle.std.specs.Prelude.{◌≡◌, ℕ, ◌+◌, ◌<◌, List, IfSome};
+ghost use Rattle.std.specs.Prelude.{◌≡◌, ℕ, ◌<◌, List, IfSome};
 ghost use Rattle.scf_insn.specs.Kernel.{bpf_memwords};
 ghost use Rattle.scf_insn.specs.Words.{IsWords};
 ghost use Rattle.scf_machine.specs.Machine.{State, start, sets, stores, operand_of, operand_in_computation};
