@@ -112,13 +112,11 @@ impl KnownRegisters {
             → IfSome result (λ answer. s.a ≡ answer.0) }
     {
         let computed = self.a.in_bits(facts);
-        match computed.number() {
-            Some(number) => Some(Answer(number)),
-            None => {
-                self.note_open(Decision::Open(OpenTest::of(computed.sources, false)));
-                None
-            }
+        if let Some(number) = computed.number() {
+            return Some(Answer(number));
         }
+        self.note_open(Decision::Open(OpenTest::of(computed.sources, false)));
+        None
     }
 
     /// Notes a test that is open, if it is the first one on the path.
@@ -128,10 +126,8 @@ impl KnownRegisters {
         ensures describes { (words : List ℕ) (s : State) → Describes self.old words s → Describes self.new words s }
         ensures accumulator { self.new.a ≡ self.old.a }
     {
-        if let Decision::Open(test) = decision
-            && self.open.is_none()
-        {
-            self.open = Some(test);
+        if let Decision::Open(test) = decision {
+            self.open = self.open.or(Some(test));
         }
     }
 
