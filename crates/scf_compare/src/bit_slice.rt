@@ -56,7 +56,7 @@ impl BitSlice {
         }
     }
 
-    /// `self & v`. The shifts may lose bits of the mask.
+    /// `self & v`. The shifts of `self` may lose bits of its mask; those of the result don't.
     #[tactic(auto, using(crate::proofs::BitSlices::and_laws))]
     pub(crate) fn and(self, v: u32) -> BitSlice
         requires word { self.word < 16 }
@@ -97,7 +97,7 @@ impl BitSlice {
         self.with_shifts(self.right, self.left + count)
     }
 
-    /// `(word & mask) >> right << left`: 0 if no bit of the word remains.
+    /// The same bits of the word with other shifts, modulo 2^32: 0 if none of them remains.
     #[tactic(auto, using(crate::proofs::BitSlices::shift_laws))]
     fn with_shifts(self, right: u32, left: u32) -> Value
         requires { self.word < 16 }

@@ -35,7 +35,7 @@ impl OpenTest {
         is_order: false,
     };
 
-    /// The test of a value, which is an order or isn't.
+    /// A test with these sources. That of a quotient or of a shift to the right is decided as an order is.
     pub(crate) fn of(sources: Sources, is_order: bool) -> OpenTest {
         OpenTest {
             sources,
