@@ -1,6 +1,7 @@
 -- Open branches, as one is opened and one is taken.
-use Rattle.scf_compare.proofs.Common.{◌≡◌, ℕ, zero, suc, ◌+◌, ◌<◌, ◌≤◌, ◌↔◌, ◌⊎◌, inl, inr, List, [], ◌∷◌, ◌++◌, length, refl, sym, ap, ◌∙◌, arith, length-append, Some, IsTrue, slice_get, slice_get_within, sum_by-append, AreWordsIn, Store, IsSameLevel, Frontier, Compared, GivesLearned, LearnsExactly, IsOpenBranch, IsInBranch, IsFrontier, AreExact, open_size, IsTaken, Tree}
+use Rattle.scf_compare.proofs.Common.{◌≡◌, ℕ, zero, suc, ◌+◌, ◌<◌, ◌≤◌, ◌↔◌, ◌⊎◌, inl, inr, List, [], ◌∷◌, ◌++◌, length, refl, sym, ap, ◌∙◌, arith, length-append, Option, None, Some, true, false, cases_Bool, Atom, Branch, LeadsTo, atom_answer, IsTrue, slice_get, slice_get_within, sum_by-append, AreWordsIn, Store, IsSameLevel, Frontier, Compared, GivesAnswer, LearnsExactly, IsInBranch, IsFrontier, AreExact, open_size, IsTaken, Tree}
 use Rattle.scf_compare.specs.declared.frontier.OpenBranch.{OpenBranch}
+use Rattle.scf_compare.specs.internal.Trees.{GoesEither, IsAsked, KeepsAsked}
 
 -- ---- indices in a list with one more at its end
 
@@ -30,63 +31,88 @@ pub size_more : {F K N : Type 0} (tree : K → Tree N) (fewer more : Frontier F 
     → open_size tree more ≡ open_size tree fewer + (tree b.known).size b.node
 size_more tree fewer more b h = grind (arith, sum_by-append)
 
--- A branch was opened, and more may have been learned since.
+-- A branch was opened, and the answer yes was learned.
 pub record HasOpened {F K N : Type 0} (store : Store F) (old new : Frontier F K N) (b : OpenBranch K N) : Type 0 where
   pub branches : new.branches.items ≡ old.branches.items ++ b ∷ []
   pub marks : store.level new.facts ≡ store.level old.facts + 1
   pub levels : (index : ℕ) → index ≤ store.level old.facts
       → IsSameLevel store.allows store.is_exact old.facts index new.facts index
-  pub fewer : (words : List ℕ) → store.allows new.facts (store.level new.facts) words
-      → store.allows old.facts (store.level old.facts) words
+  pub known : (words : List ℕ)
+      → store.allows new.facts (store.level new.facts) words
+      ↔ (store.allows old.facts (store.level old.facts) words × GivesAnswer b.asked true words)
+  pub exact : LearnsExactly b.asked true → IsTrue (store.is_exact old.facts (store.level old.facts))
+      → IsTrue (store.is_exact new.facts (store.level new.facts))
 
-module _ {F K N : Type 0} (store : Store F) (tree : K → Tree N) (scope : List ℕ → Type 0) (old new : Frontier F K N)
-    (b : OpenBranch K N) (f : IsFrontier store tree scope old) (opened : HasOpened store old new b) where
-  -- words in a branch are still in it
-  pub still_in_branch : (words : List ℕ) → IsInBranch store tree old words → IsInBranch store tree new words
-  still_in_branch words h =
-      let within = slice_get_within old.branches.items h.index h.branch h.stands in
-      record {
-        index = h.index;
-        branch = h.branch;
-        stands = rw opened.branches (index_before old.branches.items b h.index h.branch h.stands);
-        allowed = grind (arith, f.marks, within, opened.levels h.index, h.allowed);
-        given = h.given;
-        reached = h.reached;
-      }
+-- words that go either way give one of the answers, and come on with it
+either : (atom : Option Atom) (words : List ℕ) (first second : Type 0) → GoesEither atom words first second
+    → (GivesAnswer atom true words × first) ⊎ (GivesAnswer atom false words × second)
+either None words first second (inl one) = inl (tt, one)
+either None words first second (inr other) = inr (tt, other)
+either (Some atom) words first second goes = grind (arith, cases_Bool (atom_answer atom words))
 
-  -- and those that were allowed are in the new one, where they give what it learns and come to its node
-  pub in_opened : (words : List ℕ) → store.allows old.facts (store.level old.facts) words → GivesLearned b.learned words
-      → (tree b.known).reaches b.node words → IsInBranch store tree new words
-  in_opened words allowed given reached = record {
-    index = length old.branches.items;
-    branch = b;
-    stands = rw opened.branches (index_last old.branches.items b);
-    allowed = rw (← f.marks) (((opened.levels (store.level old.facts) (omega arith)).0 words).1 allowed);
-    given = given;
-    reached = reached;
-  }
+-- where an atom is asked that keeps facts exact, each answer does, and the words come on with theirs
+by_answer : (atom : Option Atom) → KeepsAsked atom
+    → LearnsExactly atom true × LearnsExactly atom false
+    × ((words : List ℕ) (first second : Type 0) → GoesEither atom words first second
+    → (GivesAnswer atom true words → first) × (GivesAnswer atom false words → second))
+by_answer None keeps = absurd keeps
+by_answer (Some atom) keeps = (keeps.0, keeps.1, λ words first second goes. goes)
 
-  pub frontier_opened : IsOpenBranch tree b → IsFrontier store tree scope new
-  frontier_opened is_branch =
-      let more = length_more old.branches.items new.branches.items b opened.branches in
-      record {
-        marks = omega (arith, opened.marks, f.marks);
-        branches = λ index branch stands.
-            let cases = index_cases old.branches.items b index branch (rw opened.branches at stands) in
-            grind (arith, cases, f.branches index branch, is_branch);
+pub opened : {F K N : Type 0} (store : Store F) (compared : Compared) (tree : K → Tree N) (old new : Frontier F K N)
+    (known : K) (atom : Option Atom) (if_true if_false : N)
+    → IsFrontier store tree (AreWordsIn compared) old
+    → IsAsked atom × (tree known).is_node if_true × (tree known).is_node if_false
+    → HasOpened store old new (record { known = known; node = if_false; asked = atom })
+    → LeadsTo store compared tree old new (tree known) (Branch atom if_true if_false) if_true
+opened {K = K} {N = N} store compared tree old new known atom if_true if_false f proper h =
+    let b : OpenBranch K N = record { known = known; node = if_false; asked = atom } in
+    let more = length_more old.branches.items new.branches.items b h.branches in
+    let cases = λ (index : ℕ) (branch : OpenBranch K N) (stands : slice_get new.branches.items index ≡ Some branch).
+    index_cases old.branches.items b index branch (rw h.branches at stands) in
+    record {
+      frontier = record {
+        marks = omega (arith, h.marks, f.marks);
+        branches = λ index branch stands. grind (arith, cases index branch stands, f.branches index branch);
         within = λ level up_to words allowed.
-            let now = f.within (store.level old.facts) in
-            grind (arith, more, now, opened.levels level, opened.fewer words, f.within level);
-      }
-
-  pub exact_opened : AreExact store tree old → IsTrue (store.is_exact old.facts (store.level old.facts))
-      → LearnsExactly b.learned → (tree b.known).is_plain b.node
-      → ((words : List ℕ) → store.allows old.facts (store.level old.facts) words → GivesLearned b.learned words
-      → (tree b.known).reaches b.node words)
-      → AreExact store tree new
-  exact_opened are exact keeps plain reached = λ index branch stands.
-      let cases = index_cases old.branches.items b index branch (rw opened.branches at stands) in
-      grind (arith, cases, f.marks, opened.levels index, are index branch, reached)
+            grind (arith, more, f.within (store.level old.facts), h.levels level, h.known words, f.within level);
+      };
+      node = proper.1;
+      words = λ words ahead. elim ahead [
+        | inl inside ↦
+            let within = slice_get_within old.branches.items inside.index inside.branch inside.stands in
+            inl (record {
+              index = inside.index;
+              branch = inside.branch;
+              stands = rw h.branches (index_before old.branches.items b inside.index inside.branch inside.stands);
+              allowed = grind (arith, f.marks, within, h.levels inside.index, inside.allowed);
+              given = inside.given;
+              reached = inside.reached;
+            })
+        | inr at ↦ elim (either atom words _ _ at.1) [
+          | inl met ↦ inr ((h.known words).1 (at.0, met.0), met.1)
+          | inr unmet ↦ inl (record {
+            index = length old.branches.items;
+            branch = b;
+            stands = rw h.branches (index_last old.branches.items b);
+            allowed = rw (← f.marks) (((h.levels (store.level old.facts) (omega arith)).0 words).1 at.0);
+            given = unmet.0;
+            reached = unmet.1;
+          })
+        ]
+      ];
+      size = omega (arith, size_more tree old new b h.branches);
+      exact = λ all.
+          let by = by_answer atom all.plain.0 in
+          let comes = λ (words : List ℕ) (allowed : store.allows old.facts (store.level old.facts) words).
+          by.2 words _ _ (all.reached words allowed) in
+          record {
+            branches = λ index branch stands.
+                grind (arith, cases index branch stands, f.marks, h.levels index, all.branches index branch, comes, by.1);
+            facts = h.exact by.0 all.facts;
+            plain = all.plain.1;
+            reached = λ words allowed. let was = (h.known words).0 allowed in (comes words was.0).0 was.1;
+          };
+    }
 
 -- The newest branch was taken: its mark was undone, and what leads into it was learned.
 pub record HasTaken {F K N : Type 0} (store : Store F) (old new : Frontier F K N) (b : OpenBranch K N) : Type 0 where
@@ -96,8 +122,8 @@ pub record HasTaken {F K N : Type 0} (store : Store F) (old new : Frontier F K N
       → IsSameLevel store.allows store.is_exact old.facts index new.facts index
   pub known : (words : List ℕ)
       → store.allows new.facts (store.level new.facts) words
-      ↔ (store.allows old.facts (store.level new.facts) words × GivesLearned b.learned words)
-  pub exact : LearnsExactly b.learned → IsTrue (store.is_exact old.facts (store.level new.facts))
+      ↔ (store.allows old.facts (store.level new.facts) words × GivesAnswer b.asked false words)
+  pub exact : LearnsExactly b.asked false → IsTrue (store.is_exact old.facts (store.level new.facts))
       → IsTrue (store.is_exact new.facts (store.level new.facts))
 
 pub taken : {F K N : Type 0} (store : Store F) (compared : Compared) (tree : K → Tree N) (old new : Frontier F K N)

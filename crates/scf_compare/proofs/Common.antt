@@ -82,7 +82,7 @@ pub use Rattle.scf_compare.specs.declared.verdict.Verdict.{Verdict}
 pub use Rattle.scf_compare.specs.internal.Leaves.{AreWordsIn, IsFirstUndecided, IsSideLeaf, KnowsBoth, Tells, WereSeen, side_leaves}
 pub use Rattle.scf_compare.specs.internal.Filters.{ComesTo, EndsWith, IsFilterEnd, IsStepOf, filter_size, filter_tree}
 pub use Rattle.scf_compare.specs.internal.ControlFlow.{IsInside, UsesScratch, control_flow_at, size_of_flow}
-pub use Rattle.scf_compare.specs.internal.Frontier.{AreExact, GivesLearned, IsAhead, IsOpenBranch, IsExact, IsFrontier, IsInBranch, LearnsExactly, open_size}
+pub use Rattle.scf_compare.specs.internal.Frontier.{AreExact, GivesAnswer, IsAhead, IsOpenBranch, IsExact, IsFrontier, IsInBranch, LearnsExactly, open_size}
 pub use Rattle.scf_compare.specs.internal.BitSlices.{IsWhole, bit_slice_value}
 pub use Rattle.scf_compare.specs.internal.Laws.{paths_count, scaled_costs, side_size_counts, spread_counts}
 pub use Rattle.scf_compare.specs.internal.NumberedProfiles.{IsNumbered, NumberedProfile}

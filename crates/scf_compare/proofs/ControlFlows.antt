@@ -13,7 +13,7 @@ module _ (insns : List Insn) (index : ℕ) (i : Insn) (operation : Operation) (v
   fine_at : IsFine (length insns) index i operation
   fine_at = grind (arith, fine_of, slice_get_within)
 
-  pub inside_at : IsInside (length insns) (control_flow_at operation i index)
+  pub inside_at : IsInside index (length insns) (control_flow_at operation i index)
   inside_at = grind (arith, fine_at, not_last)
 
   pub load_fits : operation ≡ LoadWord → i.k < 64
@@ -67,22 +67,11 @@ size_in_flow : (insns : List Insn) (index : ℕ) (i : Insn) (operation : Operati
     ≡ size_of_flow (control_flow_at operation i index) (tree_size insns)
 size_in_flow insns index i operation = grind (arith, size_later insns (suc index))
 
--- the indices that an instruction goes on to are further on
-abbrev pub IsForward : ℕ → ControlFlow → Type 0
-IsForward index (FallThrough next) = index < next
-IsForward index (Jump target) = index < target
-IsForward index (ConditionalJump test operand if_true if_false) = (index < if_true) × (index < if_false)
-IsForward index (DivideByIndex next) = index < next
-IsForward index ReturnConstant = Unit {0}
-IsForward index ReturnAccumulator = Unit {0}
-
 -- the size at an index, by how its instruction goes on
-pub size_by_flow : {insns : List Insn} {index : ℕ} {i : Insn} {operation : Operation}
-    → Stands insns index i operation
-    → (tree_size insns index ≡ size_of_flow (control_flow_at operation i index) (tree_size insns))
-    × IsForward index (control_flow_at operation i index)
-size_by_flow {insns = insns} {index = index} {i = i} {operation = operation} stands =
-    (rw (size_here insns index i stands.here, stands.known) (size_in_flow insns index i operation), grind arith)
+pub size_by_flow : (insns : List Insn) (index : ℕ) (i : Insn) (operation : Operation) → Stands insns index i operation
+    → tree_size insns index ≡ size_of_flow (control_flow_at operation i index) (tree_size insns)
+size_by_flow insns index i operation stands =
+    rw (size_here insns index i stands.here, stands.known) (size_in_flow insns index i operation)
 
 -- ---- plain programs
 

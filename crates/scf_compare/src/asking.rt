@@ -1,4 +1,4 @@
-//! Questions about whole words.
+//! Questions about whole words, and about the syscall number.
 
 ghost use Rattle.std.specs.Prelude.{◌≡◌, ◌-◌, ◌^◌};
 
@@ -12,5 +12,15 @@ pub(crate) fn word_is(word: u8, value: u32) -> Atom
         word,
         mask: u32::MAX,
         value,
+    }
+}
+
+/// The atom `nr >= first`.
+pub(crate) fn number_from(first: u32) -> Atom
+    ensures { result ≡ Atom.Ge 0 first }
+{
+    Atom::Ge {
+        word: 0,
+        value: first,
     }
 }

@@ -74,19 +74,18 @@ pub fn compare_sides<F: WordFacts>(
         → IfOk result (IsFindingDecided (AllRelated (compared_sides by over left.now right.now))
         limit.steps (effort_of_sides left.now right.now)) }
 {
-    let mut taken = 0;
-    let mut budget = limit;
-    let finding = compare_counted::<F>(
+    let mut left_over = limit.steps;
+    let mut left_below = limit.steps;
+    compare_sides_within::<F>(
         alloc,
         left,
         right,
         over,
         by,
-        limit.steps,
-        &mut budget,
-        &mut taken,
-    )?;
-    Ok(finding)
+        limit,
+        &mut left_over,
+        &mut left_below,
+    )
 }
 
 /// Compares as `compare_sides` does, in at most the `left_over` steps that several comparisons share, and below splits

@@ -1,8 +1,9 @@
 //! Control flow: where an instruction leads.
 
-ghost use Rattle.std.specs.Prelude.{◌≡◌, length};
+ghost use Rattle.std.specs.Prelude.{◌≡◌, ◌<◌, length};
+ghost use Rattle.scf_compare.specs.Paths.{tree_size};
 ghost use Rattle.scf_machine.specs.Rules.{IsValidList, Stands};
-ghost use Rattle.scf_compare.specs.internal.ControlFlow.{control_flow_at, IsInside};
+ghost use Rattle.scf_compare.specs.internal.ControlFlow.{IsInside, control_flow_at, size_of_flow};
 
 use scf_insn::{Arithmetic, Insn, Operand, Operation, Test};
 
@@ -24,12 +25,32 @@ pub(crate) enum ControlFlow {
 }
 
 impl ControlFlow {
+    /// The instruction at an index, its operation, and where it leads.
+    #[tactic(auto, using(crate::proofs::ControlFlows::operations))]
+    pub(crate) fn at(insns: &[Insn], index: usize) -> (Insn, Operation, ControlFlow)
+        requires index { index < length insns.now }
+        requires valid { IsValidList insns.now }
+        ensures stands { Stands insns.now index result.0 result.1 }
+        ensures control_flow { control_flow_at result.1 result.0 index ≡ result.2 }
+        ensures inside { IsInside index (length insns.now) result.2 }
+        ensures size { tree_size insns.now index ≡ size_of_flow result.2 (tree_size insns.now) }
+    {
+        let insn = insns[index];
+        match insn.operation() {
+            Some(operation) => (
+                insn,
+                operation,
+                ControlFlow::of(insns, index, insn, operation),
+            ),
+            None => unreachable!(),
+        }
+    }
+
     /// Where the instruction with this index and this operation leads.
-    pub(crate) fn of(insns: &[Insn], index: usize, insn: Insn, operation: Operation) -> ControlFlow
+    fn of(insns: &[Insn], index: usize, insn: Insn, operation: Operation) -> ControlFlow
         requires valid { IsValidList insns.now }
         requires stands { Stands insns.now index insn operation }
-        ensures control_flow { result ≡ control_flow_at operation insn index }
-        ensures inside { IsInside (length insns.now) result }
+        ensures { result ≡ control_flow_at operation insn index }
     {
         let _ = insns;
         match operation {

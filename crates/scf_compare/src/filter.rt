@@ -4,7 +4,7 @@ ghost use Rattle.std.specs.Prelude.{◌≡◌, ◌<◌, ℕ, List, length};
 ghost use Rattle.scf_insn.specs.Words.{IsWords};
 ghost use Rattle.scf_machine.specs.Machine.{RunsSafely};
 ghost use Rattle.scf_machine.specs.Plain.{IsPlainProgram};
-ghost use Rattle.scf_machine.specs.Rules.{IsValidList, Stands};
+ghost use Rattle.scf_machine.specs.Rules.{IsValidList};
 ghost use Rattle.scf_compare.specs.Paths.{tree_size};
 ghost use Rattle.scf_compare.specs.internal.Filters.{IsStepOf, leaves_of_filter, filter_is_node, filter_is_plain};
 ghost use Rattle.scf_compare.specs.internal.Filters.{filter_reaches, filter_size, filter_tree};
@@ -18,7 +18,7 @@ use crate::sources::OpenTest;
 use crate::step::Step;
 use crate::value::{Decision, Value};
 use scf_facts::WordFacts;
-use scf_insn::{Answer, Insn, Operation, Test};
+use scf_insn::{Answer, Insn, Test};
 use scf_machine::Program;
 
 /// An instruction index, or the leaf of a division by 0.
@@ -64,7 +64,7 @@ pub(crate) fn step_in_filter<F: WordFacts>(
 }
 
 /// The step from the instruction at an index, and what is known of the registers after it.
-#[tactic(auto, using(crate::proofs::ControlFlows::operations))]
+#[tactic(auto, using(crate::proofs::ControlFlows::load_fits, crate::proofs::ControlFlows::scratch_fits))]
 fn step_at<F: WordFacts>(
     insns: &[Insn],
     facts: &F,
@@ -79,32 +79,8 @@ fn step_at<F: WordFacts>(
         (λ words. IsWords words × F.allows facts.now (F.level facts.now) words)
         (filter_tree insns.now registers.old) (FilterNode.At index) (filter_tree insns.now registers.new) result }
 {
-    let insn = insns[index];
-    match insn.operation() {
-        Some(operation) => step_of(insns, facts, index, insn, operation, registers),
-        None => unreachable!(),
-    }
-}
-
-/// The step from an instruction with this operation.
-#[tactic(auto, using(crate::proofs::ControlFlows::load_fits, crate::proofs::ControlFlows::scratch_fits))]
-fn step_of<F: WordFacts>(
-    insns: &[Insn],
-    facts: &F,
-    index: usize,
-    insn: Insn,
-    operation: Operation,
-    registers: &mut KnownRegisters,
-) -> Step<FilterNode, SideLeaf>
-    requires stands { Stands insns.now index insn operation }
-    requires valid { IsValidList insns.now }
-    requires safe { (words : List ℕ) → RunsSafely insns.now words }
-    requires values { AreValues registers.old }
-    ensures { IsStep (leaves_of_filter insns.now)
-        (λ words. IsWords words × F.allows facts.now (F.level facts.now) words)
-        (filter_tree insns.now registers.old) (FilterNode.At index) (filter_tree insns.now registers.new) result }
-{
-    match ControlFlow::of(insns, index, insn, operation) {
+    let (insn, operation, control_flow) = ControlFlow::at(insns, index);
+    match control_flow {
         ControlFlow::FallThrough(next) => {
             registers.apply(facts, insn, operation);
             Step::Next(FilterNode::At(next))

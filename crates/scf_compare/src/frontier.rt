@@ -1,11 +1,11 @@
 //! The open branches of a walk.
 
-ghost use Rattle.std.specs.Prelude.{◌≡◌, ◌+◌, ◌<◌, ◌≤◌, ◌↔◌, ◌++◌, ◌∷◌, [], ℕ, List, IsTrue, OnOk, IfOk};
+ghost use Rattle.std.specs.Prelude.{◌≡◌, ◌<◌, ◌↔◌, [], ℕ, List, IsTrue, OnOk, IfOk};
 ghost use Rattle.scf_facts.specs.Levels.{IsSameLevel};
 ghost use Rattle.scf_compare.specs.internal.Leaves.{AreWordsIn, IsLeaf};
-ghost use Rattle.scf_compare.specs.internal.Frontier.{GivesLearned, LearnsOfWords, LearnsExactly, IsFrontier};
+ghost use Rattle.scf_compare.specs.internal.Frontier.{GivesAnswer, LearnsExactly, IsFrontier};
 ghost use Rattle.scf_compare.specs.internal.Stages.{IsBranchTaken, LeadsTo};
-ghost use Rattle.scf_compare.specs.internal.Trees.{IsProper};
+ghost use Rattle.scf_compare.specs.internal.Trees.{IsAsked, IsProper};
 
 use crate::comparison::Comparison;
 use crate::finding::Finding;
@@ -14,12 +14,12 @@ use scf_facts::{Atom, Tell, WordFacts};
 use scf_insn::Memory;
 use std::alloc::Global;
 
-/// A branch that is still to be explored: its node, what is known there, and the answer to learn when it is entered.
+/// A branch that is still to be explored: its node, what is known there, and the atom that is false in it, if any is.
 #[derive(Drop)]
 pub(crate) struct OpenBranch<K, N> {
     pub(crate) known: K,
     pub(crate) node: N,
-    pub(crate) learned: Option<(Atom, bool)>,
+    pub(crate) asked: Option<Atom>,
 }
 
 /// Where a walk is after a step.
@@ -53,47 +53,25 @@ impl<F: WordFacts, K: Copy, N: Drop> Frontier<F, K, N> {
             branches: Vec::new(alloc),
         }
     }
-
-    /// Opens a branch at the current state of the store.
-    pub(crate) fn branch_out(
-        &mut self,
-        known: K,
-        node: N,
-        learned: Option<(Atom, bool)>,
-    ) -> Result<(), Memory>
-        ensures branches { OnOk result (
-            self.new.branches.items
-            ≡ self.old.branches.items ++ record { known = known; node = node; learned = learned } ∷ []) }
-        ensures marks { OnOk result (F.level self.new.facts ≡ F.level self.old.facts + 1) }
-        ensures known { OnOk result (
-            IsSameLevel F.allows F.is_exact
-            self.old.facts (F.level self.old.facts) self.new.facts (F.level self.old.facts + 1)) }
-        ensures at_marks { OnOk result ((index : ℕ) → index ≤ F.level self.old.facts
-            → IsSameLevel F.allows F.is_exact self.old.facts index self.new.facts index) }
-    {
-        self.facts.mark()?;
-        self.branches.push(OpenBranch {
-            known,
-            node,
-            learned,
-        })?;
-        Ok(())
-    }
 }
 
-/// Learns an answer, if there is one.
-fn learn_answer<F: WordFacts>(facts: &mut F, learned: Option<(Atom, bool)>) -> Result<(), Memory>
-    requires { LearnsOfWords learned }
+/// Learns an answer to what is asked, if anything is.
+fn learn_answer<F: WordFacts>(
+    facts: &mut F,
+    asked: Option<Atom>,
+    answer: bool,
+) -> Result<(), Memory>
+    requires { IsAsked asked }
     ensures marks { F.level facts.new ≡ F.level facts.old }
     ensures at_marks { (index : ℕ) → index < F.level facts.old
         → IsSameLevel F.allows F.is_exact facts.old index facts.new index }
     ensures learned { OnOk result ((words : List ℕ) → F.allows facts.new (F.level facts.old) words
-        ↔ (F.allows facts.old (F.level facts.old) words × GivesLearned learned words)) }
-    ensures exact { OnOk result (LearnsExactly learned
+        ↔ (F.allows facts.old (F.level facts.old) words × GivesAnswer asked answer words)) }
+    ensures exact { OnOk result (LearnsExactly asked answer
         → IsTrue (F.is_exact facts.old (F.level facts.old)) → IsTrue (F.is_exact facts.new (F.level facts.old))) }
 {
-    match learned {
-        Some((atom, answer)) => facts.learn(atom, answer),
+    match asked {
+        Some(atom) => facts.learn(atom, answer),
         None => Ok(()),
     }
 }
@@ -113,7 +91,7 @@ pub(crate) fn take_branch<C: Comparison, F: WordFacts>(
         return Ok(Stage::AllSeen);
     };
     frontier.facts.undo();
-    learn_answer(&mut frontier.facts, branch.learned)?;
+    learn_answer(&mut frontier.facts, branch.asked, false)?;
     *known = branch.known;
     Ok(Stage::At(branch.node))
 }
@@ -137,19 +115,20 @@ pub(crate) fn ask<C: Comparison, F: WordFacts>(
         frontier.old frontier.new (C.tree comparison.now known.now) step) }
 {
     let _ = comparison;
-    match atom {
-        None => {
-            frontier.branch_out(*known, if_false, None)?;
-            Ok(if_true)
+    let question = atom;
+    if let Some(asked) = question {
+        match frontier.facts.tell(asked) {
+            Tell::Always => return Ok(if_true),
+            Tell::Never => return Ok(if_false),
+            Tell::Maybe => {}
         }
-        Some(atom) => match frontier.facts.tell(atom) {
-            Tell::Always => Ok(if_true),
-            Tell::Never => Ok(if_false),
-            Tell::Maybe => {
-                frontier.branch_out(*known, if_false, Some((atom, false)))?;
-                frontier.facts.learn(atom, true)?;
-                Ok(if_true)
-            }
-        },
     }
+    frontier.facts.mark()?;
+    frontier.branches.push(OpenBranch {
+        known: *known,
+        node: if_false,
+        asked: atom,
+    })?;
+    learn_answer(&mut frontier.facts, atom, true)?;
+    Ok(if_true)
 }

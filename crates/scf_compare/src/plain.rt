@@ -1,7 +1,7 @@
 //! Plain programs.
 
 ghost use Rattle.std.specs.Prelude.{◌↔◌, IsTrue};
-ghost use Rattle.scf_machine.specs.Plain.{IsPlainProgram, IsPlainInsn, IsPlainOperation};
+ghost use Rattle.scf_machine.specs.Plain.{IsPlainProgram, IsPlainInsn};
 
 use scf_insn::{Insn, Operand, Operation, Test, is_simple_mask};
 use scf_machine::Program;
@@ -18,17 +18,8 @@ fn is_plain_insn(insn: Insn) -> bool
     ensures { IsTrue result ↔ IsPlainInsn insn }
 {
     match insn.operation() {
-        Some(operation) => is_plain_operation(operation, insn),
-        None => false,
-    }
-}
-
-fn is_plain_operation(operation: Operation, insn: Insn) -> bool
-    ensures { IsTrue result ↔ IsPlainOperation operation insn }
-{
-    match operation {
-        Operation::LoadWord | Operation::Jump | Operation::ReturnConstant => true,
-        Operation::JumpIf(test, Operand::Constant) => {
+        Some(Operation::LoadWord | Operation::Jump | Operation::ReturnConstant) => true,
+        Some(Operation::JumpIf(test, Operand::Constant)) => {
             test != Test::CommonBit || is_simple_mask(insn.k)
         }
         _ => false,

@@ -1,7 +1,7 @@
 //! A profile as a tree of questions about the words of a call record.
 
-ghost use Rattle.std.specs.Prelude.{◌≡◌, ◌≢◌, ◌<◌, ◌≤◌, ℕ, List, All, Contains, Some, IsTrue, length, take, drop};
-ghost use Rattle.std.specs.Prelude.{slice_get, slice_index};
+ghost use Rattle.std.specs.Prelude.{◌≡◌, ◌≢◌, ◌<◌, ◌≤◌, ℕ, List, All, Contains, Some, length, take, drop};
+ghost use Rattle.std.specs.Prelude.{slice_get};
 ghost use Rattle.scf_insn.specs.Architectures.{argument_in};
 ghost use Rattle.scf_insn.specs.Words.{IsWords, call_of};
 ghost use Rattle.scf_profile.specs.declared.condition.Condition.{Condition};
@@ -16,13 +16,13 @@ ghost use Rattle.scf_compare.specs.internal.Profiles.{own_conditions, own_rules,
 ghost use Rattle.scf_compare.specs.internal.Profiles.{profile_size, profile_tree, size_behind, size_of_rest};
 ghost use Rattle.scf_compare.specs.internal.Trees.{IsStep};
 
-use crate::asking::word_is;
+use crate::asking::{number_from, word_is};
 use crate::by_number::ByNumber;
 use crate::question::{ConditionPart, Successor, question_of};
 use crate::side_tree::{SideLeaf, SideTree};
 use crate::sources::OpenTest;
 use crate::step::Step;
-use scf_facts::{Atom, Tell, WordFacts};
+use scf_facts::{Tell, WordFacts};
 use scf_insn::{Answer, CallRecord};
 use scf_profile::{FOREIGN_ANSWER, Rule};
 
@@ -116,24 +116,18 @@ impl ByNumber<'_> {
                 ProfileNode::Answer(FOREIGN_ANSWER),
             ),
             ProfileNode::First => Step::Branch(
-                Some(Atom::Ge {
-                    word: 0,
-                    value: architecture.first(),
-                }),
+                Some(number_from(architecture.first())),
                 self.at_last(),
                 ProfileNode::Answer(FOREIGN_ANSWER),
             ),
             ProfileNode::Last => Step::Branch(
-                Some(Atom::Ge {
-                    word: 0,
-                    value: architecture.last() + 1,
-                }),
+                Some(number_from(architecture.last() + 1)),
                 ProfileNode::Answer(FOREIGN_ANSWER),
                 ProfileNode::Number(0),
             ),
             ProfileNode::Number(index) => self.ask_number(facts, index),
             ProfileNode::Condition(at, part) => self.ask_condition(at, part),
-            ProfileNode::Answer(answer) => Step::Leaf(SideLeaf::of_profile(answer)),
+            ProfileNode::Answer(answer) => Step::Leaf(SideLeaf::of_no_filter(answer)),
         }
     }
 
@@ -178,20 +172,21 @@ impl ByNumber<'_> {
         let numbers = self.numbers();
         let from = self.first_possible(facts, index);
         if from >= numbers.len() {
-            return Step::Leaf(SideLeaf::of_profile(default_answer));
+            return Step::Leaf(SideLeaf::of_no_filter(default_answer));
         }
         let own = &numbers[from];
-        if is_known_below(facts, own.number) {
-            return Step::Leaf(SideLeaf::of_profile(default_answer));
+        match facts.tell(number_from(own.number)) {
+            Tell::Never => Step::Leaf(SideLeaf::of_no_filter(default_answer)),
+            Tell::Always | Tell::Maybe => Step::Branch(
+                Some(word_is(0, own.number)),
+                self.next_rule(from, 0),
+                ProfileNode::Number(from + 1),
+            ),
         }
-        Step::Branch(
-            Some(word_is(0, own.number)),
-            self.next_rule(from, 0),
-            ProfileNode::Number(from + 1),
-        )
     }
 
     /// Index of the first syscall number that the record may still have, given that none before `index` is its number.
+    /// From 0 on that is the greatest number that the record's is known to be at least, by binary search, or 0.
     fn first_possible<F: WordFacts>(&self, facts: &F, index: usize) -> usize
         ensures later { index ≤ result }
         ensures possible { (words : List ℕ) → IsWords words
@@ -202,15 +197,6 @@ impl ByNumber<'_> {
         if index > 0 {
             return index;
         }
-        self.least_known(facts)
-    }
-
-    /// Index of the greatest number that the record's is known to be at least, by binary search, or 0.
-    fn least_known<F: WordFacts>(&self, facts: &F) -> usize
-        ensures { (words : List ℕ) → IsWords words
-            → F.allows facts.now (F.level facts.now) words
-            → IsFrom result self.now.numbers (call_of words) }
-    {
         let numbers = self.numbers();
         let mut least = 0;
         let mut first = 0;
@@ -218,11 +204,7 @@ impl ByNumber<'_> {
         while first < last {
             let middle = first + (last - first) / 2;
             let own = &numbers[middle];
-            let from = Atom::Ge {
-                word: 0,
-                value: own.number,
-            };
-            match facts.tell(from) {
+            match facts.tell(number_from(own.number)) {
                 Tell::Always => {
                     least = middle;
                     first = middle + 1;
@@ -345,17 +327,4 @@ impl ByNumber<'_> {
             Successor::Then(part) => ProfileNode::Condition(at, part),
         }
     }
-}
-
-/// Whether the store knows that the syscall number is below a value.
-fn is_known_below<F: WordFacts>(facts: &F, number: u32) -> bool
-    ensures { IsTrue result → (words : List ℕ) → IsWords words
-        → F.allows facts.now (F.level facts.now) words
-        → slice_index words 0 < number }
-{
-    let from = Atom::Ge {
-        word: 0,
-        value: number,
-    };
-    matches!(facts.tell(from), Tell::Never)
 }

@@ -1,11 +1,11 @@
 //! The scope of a comparison.
 
-ghost use Rattle.std.specs.Prelude.{◌≡◌, ◌≤◌, ◌↔◌, ℕ, List, IsTrue, IfOk, slice_index};
+ghost use Rattle.std.specs.Prelude.{◌≡◌, ◌↔◌, ℕ, List, IsTrue, IfOk, slice_index};
 ghost use Rattle.scf_insn.specs.Words.{IsWords};
 ghost use Rattle.scf_profile.specs.Scope.{IsInScope};
 ghost use Rattle.scf_compare.specs.internal.ScopeWords.{AreWordsOf};
 
-use crate::asking::word_is;
+use crate::asking::{number_from, word_is};
 use scf_facts::{Atom, WordFacts};
 use scf_insn::kernel::AUDIT_ARCH_X86_64;
 use scf_insn::{Architecture, CallRecord, Memory};
@@ -29,18 +29,14 @@ pub(crate) fn facts_of<F: WordFacts>(alloc: Global, scope: Scope) -> Result<F, M
             Ok(of_call)
         }
         Scope::Numbers { first, last } => {
-            let native: F = facts_of_architecture(alloc, Architecture::X8664)?;
-            within_numbers(native, first, last)
+            facts_of_numbers(alloc, Architecture::X8664, first, last)
         }
         Scope::Of(architecture) => facts_of_architecture(alloc, architecture),
         Scope::NumbersOf {
             architecture,
             first,
             last,
-        } => {
-            let own: F = facts_of_architecture(alloc, architecture)?;
-            within_numbers(own, first, last)
-        }
+        } => facts_of_numbers(alloc, architecture, first, last),
     }
 }
 
@@ -76,20 +72,14 @@ fn facts_of_architecture<F: WordFacts>(
         → F.allows facts 0 words ↔ AreWordsOf (Scope.Of architecture) words) }
     ensures exact { IfOk result (λ facts. IsTrue F.starts_exact → IsTrue (F.is_exact facts 0)) }
 {
-    let reaches_first = Atom::Ge {
-        word: 0,
-        value: architecture.first(),
-    };
+    let reaches_first = number_from(architecture.first());
     let last = architecture.last();
     let mut facts: F = facts_of_audit(alloc, architecture.audit())?;
     facts.learn(reaches_first, true)?;
     if last == u32::MAX {
         return Ok(facts);
     }
-    let passes_last = Atom::Ge {
-        word: 0,
-        value: last + 1,
-    };
+    let passes_last = number_from(last + 1);
     facts.learn(passes_last, false)?;
     Ok(facts)
 }
@@ -107,25 +97,24 @@ fn facts_of_audit<F: WordFacts>(alloc: Global, audit: u32) -> Result<F, Memory>
     Ok(facts)
 }
 
-/// The store that allows, of the words that a store without marks allows, those with a syscall number from `first` to
-/// `last`.
-fn within_numbers<F: WordFacts>(facts: F, first: u32, last: u32) -> Result<F, Memory>
-    requires { F.level facts ≡ 0 }
-    ensures unmarked { IfOk result (λ kept. F.level kept ≡ 0) }
-    ensures kept { IfOk result (λ kept. (words : List ℕ) → F.allows kept 0 words
-        ↔ (F.allows facts 0 words × (first ≤ slice_index words 0) × (slice_index words 0 ≤ last))) }
-    ensures exact { IfOk result (λ kept. IsTrue (F.is_exact facts 0) → IsTrue (F.is_exact kept 0)) }
+/// A store that allows exactly the words of an architecture's records with a syscall number from `first` to `last`.
+fn facts_of_numbers<F: WordFacts>(
+    alloc: Global,
+    architecture: Architecture,
+    first: u32,
+    last: u32,
+) -> Result<F, Memory>
+    ensures unmarked { IfOk result (λ facts. F.level facts ≡ 0) }
+    ensures scope { IfOk result (λ facts. (words : List ℕ)
+        → F.allows facts 0 words ↔ AreWordsOf (Scope.NumbersOf architecture first last) words) }
+    ensures exact { IfOk result (λ facts. IsTrue F.starts_exact → IsTrue (F.is_exact facts 0)) }
 {
-    let reaches_first = Atom::Ge {
-        word: 0,
-        value: first,
-    };
-    let passes_last = Atom::Gt {
+    let is_past_last = Atom::Gt {
         word: 0,
         value: last,
     };
-    let mut kept = facts;
-    kept.learn(reaches_first, true)?;
-    kept.learn(passes_last, false)?;
-    Ok(kept)
+    let mut facts: F = facts_of_architecture(alloc, architecture)?;
+    facts.learn(number_from(first), true)?;
+    facts.learn(is_past_last, false)?;
+    Ok(facts)
 }

@@ -19,8 +19,8 @@ pub(crate) struct SideLeaf {
 }
 
 impl SideLeaf {
-    /// A leaf of a profile's tree.
-    pub(crate) fn of_profile(answer: Answer) -> SideLeaf
+    /// A leaf of a profile's tree, or of a stack without filters.
+    pub(crate) fn of_no_filter(answer: Answer) -> SideLeaf
         ensures { result ≡ record { answer = Some answer; at = 0 } }
     {
         SideLeaf {

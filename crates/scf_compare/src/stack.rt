@@ -4,13 +4,11 @@ ghost use Rattle.std.specs.Prelude.{◌≡◌, ◌+◌, ◌<◌, ℕ, List, All,
 ghost use Rattle.scf_insn.specs.Words.{IsWords};
 ghost use Rattle.scf_insn.specs.declared.insn.Insn.{Insn};
 ghost use Rattle.scf_machine.specs.Machine.{RunAnswers};
-ghost use Rattle.scf_machine.specs.Plain.{IsPlainProgram};
 ghost use Rattle.scf_machine.specs.Precedence.{StackAnswers};
-ghost use Rattle.scf_compare.specs.Effort.{stack_paths};
 ghost use Rattle.scf_compare.specs.Sides.{stack_behavior};
-ghost use Rattle.scf_compare.specs.internal.Leaves.{KnowsAnswer, SideTells};
-ghost use Rattle.scf_compare.specs.internal.Stacks.{IsOlder, IsStackLeaf, OlderTells, leaves_of_stack, filter_at};
-ghost use Rattle.scf_compare.specs.internal.Stacks.{stack_is_node, stack_is_plain, stack_reaches, stack_size, stack_tree};
+ghost use Rattle.scf_compare.specs.internal.Leaves.{KnowsAnswer, SideTells, side_leaves};
+ghost use Rattle.scf_compare.specs.internal.Stacks.{IsOlder, IsStackLeaf, OlderTells, filter_at};
+ghost use Rattle.scf_compare.specs.internal.Stacks.{stack_is_node, stack_tree};
 ghost use Rattle.scf_compare.specs.internal.Trees.{IsStep};
 
 use crate::filter::{FilterNode, start_in_filter, step_in_filter};
@@ -47,8 +45,13 @@ impl SideTree for StackSide<'_> {
 
     ghost tree = { λ side. stack_tree side.filters.now };
 
+    #[tactic(auto, using(crate::proofs::Rules::some_of))]
     fn start(&self) -> (KnownRegisters, StackNode) {
-        start_of(self.filters)
+        if self.filters.is_empty() {
+            return (KnownRegisters::at_start(None), Empty);
+        }
+        let (known, node) = start_in_filter(filter_of(self.filters, 0), None);
+        (known, At(0, None, node))
     }
 
     fn step<F: WordFacts>(
@@ -57,7 +60,10 @@ impl SideTree for StackSide<'_> {
         known: &mut KnownRegisters,
         node: StackNode,
     ) -> Step<StackNode, SideLeaf> {
-        step_in_stack(self.filters, facts, known, node)
+        match node {
+            Empty => Step::Leaf(SideLeaf::of_no_filter(Answer::new(Action::Allow, 0))),
+            At(index, older, node) => step_from(self.filters, facts, known, index, older, node),
+        }
     }
 
     fn open_test(&self, known: &KnownRegisters) -> Option<OpenTest> {
@@ -74,42 +80,6 @@ impl SideTree for StackSide<'_> {
     ghost counts = { λ side. stack_node_counts side.filters.now };
 
     ghost size_counts = { λ side. paths_count side.filters.now };
-}
-
-/// The root of the stack's tree, and what is known there.
-#[tactic(auto, using(crate::proofs::Rules::some_of))]
-fn start_of(filters: &[Program]) -> (KnownRegisters, StackNode)
-    ensures node { stack_is_node filters.now result.0 result.1 }
-    ensures reached { (words : List ℕ) → stack_reaches filters.now result.0 result.1 words }
-    ensures size { stack_size filters.now result.1 ≡ stack_paths filters.now }
-    ensures plain { All IsPlainProgram filters.now → stack_is_plain filters.now result.0 result.1 }
-{
-    if filters.is_empty() {
-        return (KnownRegisters::at_start(None), Empty);
-    }
-    let (known, node) = start_in_filter(filter_of(filters, 0), None);
-    (known, At(0, None, node))
-}
-
-/// The step from a node of the stack, and what is known of the registers after it.
-fn step_in_stack<F: WordFacts>(
-    filters: &[Program],
-    facts: &F,
-    registers: &mut KnownRegisters,
-    node: StackNode,
-) -> Step<StackNode, SideLeaf>
-    requires { stack_is_node filters.now registers.old node }
-    ensures { IsStep (leaves_of_stack filters.now)
-        (λ words. IsWords words × F.allows facts.now (F.level facts.now) words)
-        (stack_tree filters.now registers.old) node (stack_tree filters.now registers.new) result }
-{
-    match node {
-        Empty => Step::Leaf(SideLeaf {
-            answer: Some(Answer::new(Action::Allow, 0)),
-            at: 0,
-        }),
-        At(index, older, node) => step_from(filters, facts, registers, index, older, node),
-    }
 }
 
 /// The filter at an index.
@@ -160,7 +130,7 @@ fn step_from<F: WordFacts>(
     begun: FilterNode,
 ) -> Step<StackNode, SideLeaf>
     requires { stack_is_node filters.now registers.old (StackNode.At first decided begun) }
-    ensures { IsStep (leaves_of_stack filters.now)
+    ensures { IsStep (side_leaves (stack_behavior filters.now))
         (λ words. IsWords words × F.allows facts.now (F.level facts.now) words)
         (stack_tree filters.now registers.old) (StackNode.At first decided begun)
         (stack_tree filters.now registers.new) result }

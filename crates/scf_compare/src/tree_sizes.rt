@@ -1,7 +1,7 @@
 //! The effort of a comparison.
 
 ghost use Rattle.std.specs.Prelude.{◌≡◌, ◌<◌, ◌≤◌, ℕ, length, slice_index};
-ghost use Rattle.scf_machine.specs.Rules.{IsValidList, Stands};
+ghost use Rattle.scf_machine.specs.Rules.{IsValidList};
 ghost use Rattle.scf_compare.specs.Effort.{conditions_size, rules_size, spread, stack_paths, effort_of};
 ghost use Rattle.scf_compare.specs.Effort.{effort_of_stack, saturated};
 ghost use Rattle.scf_compare.specs.Paths.{tree_size};
@@ -9,8 +9,8 @@ ghost use Rattle.scf_compare.specs.Sides.{behavior_of, effort_of_sides};
 
 use crate::control_flow::ControlFlow;
 use crate::side::Side;
+use scf_insn::Insn;
 use scf_insn::kernel::BPF_MAXINSNS;
-use scf_insn::{Insn, Operation};
 use scf_machine::{FilterStack, Program};
 use scf_profile::{Condition, Profile, Rule};
 
@@ -91,7 +91,6 @@ fn fill_sizes(insns: &[Insn], sizes: &mut [u64])
 }
 
 /// The size of the tree of paths from an index, given those from all later ones.
-#[tactic(auto, using(crate::proofs::ControlFlows::operations))]
 fn size_at(insns: &[Insn], index: usize, sizes: &[u64]) -> u64
     requires valid { IsValidList insns.now }
     requires index { index < length insns.now }
@@ -101,24 +100,8 @@ fn size_at(insns: &[Insn], index: usize, sizes: &[u64]) -> u64
         → slice_index sizes.now at ≡ saturated (tree_size insns.now at) }
     ensures { result ≡ saturated (tree_size insns.now index) }
 {
-    let insn = insns[index];
-    match insn.operation() {
-        Some(operation) => size_of(insns, index, insn, operation, sizes),
-        None => unreachable!(),
-    }
-}
-
-/// The size of the tree of paths from an instruction with this operation.
-fn size_of(insns: &[Insn], index: usize, insn: Insn, operation: Operation, sizes: &[u64]) -> u64
-    requires valid { IsValidList insns.now }
-    requires stands { Stands insns.now index insn operation }
-    requires room { length insns.now ≤ length sizes.now }
-    requires later { (at : ℕ) → index < at
-        → at < length insns.now
-        → slice_index sizes.now at ≡ saturated (tree_size insns.now at) }
-    ensures { result ≡ saturated (tree_size insns.now index) }
-{
-    match ControlFlow::of(insns, index, insn, operation) {
+    let (_, _, control_flow) = ControlFlow::at(insns, index);
+    match control_flow {
         ControlFlow::FallThrough(next) => sizes[next].saturating_add(1),
         ControlFlow::Jump(target) => sizes[target].saturating_add(1),
         ControlFlow::ConditionalJump(_, _, if_true, if_false) => sizes[if_true]

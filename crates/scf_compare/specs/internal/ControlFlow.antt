@@ -23,14 +23,15 @@ UsesScratch (LoadScratch r) = Unit {0}
 UsesScratch (StoreScratch r) = Unit {0}
 UsesScratch _ = ⊥
 
--- the indices that it goes on to are below a length
-abbrev pub IsInside : ℕ → ControlFlow → Type 0
-IsInside len (FallThrough next) = next < len
-IsInside len (Jump target) = target < len
-IsInside len (ConditionalJump test operand if_true if_false) = (if_true < len) × (if_false < len)
-IsInside len (DivideByIndex next) = next < len
-IsInside len ReturnConstant = Unit {0}
-IsInside len ReturnAccumulator = Unit {0}
+-- the indices that it goes on to are above its own and below a length
+abbrev pub IsInside : ℕ → ℕ → ControlFlow → Type 0
+IsInside index len (FallThrough next) = (index < next) × (next < len)
+IsInside index len (Jump target) = (index < target) × (target < len)
+IsInside index len (ConditionalJump test operand if_true if_false) =
+    (index < if_true) × (if_true < len) × (index < if_false) × (if_false < len)
+IsInside index len (DivideByIndex next) = (index < next) × (next < len)
+IsInside index len ReturnConstant = Unit {0}
+IsInside index len ReturnAccumulator = Unit {0}
 
 -- the size of the tree of paths where an instruction goes on so
 abbrev pub size_of_flow : ControlFlow → (ℕ → ℕ) → ℕ

@@ -1,12 +1,9 @@
 -- Laws that the trees are given with.
-use Rattle.std.specs.Prelude.{◌+◌, ◌*◌, ◌<◌, ◌≤◌, ℕ, List, [], ◌∷◌, Option, Some, drop}
+use Rattle.std.specs.Prelude.{◌+◌, ◌*◌, ◌<◌, ◌≤◌, ℕ, List, [], ◌∷◌, Option, drop}
 use Rattle.std.proofs.Common.{zero, suc, arith}
 use Rattle.std.proofs.Math.Nat.{mul-le-mul_left, one-le-pow}
 use Rattle.scf_insn.specs.declared.insn.Insn.{Insn}
-use Rattle.scf_insn.specs.declared.operation.Operand.TheVariants.{Index}
-use Rattle.scf_insn.specs.declared.operation.Arithmetic.TheVariants.{Div}
 use Rattle.scf_insn.specs.declared.operation.Operation.{Operation}
-use Rattle.scf_insn.specs.declared.operation.Operation.TheVariants.{Compute, Jump as Jumps, JumpIf, ReturnConstant as ReturnsConstant, ReturnAccumulator as ReturnsAccumulator}
 use Rattle.scf_insn.specs.Codes.{operation_of}
 use Rattle.scf_compare.specs.declared.filter.FilterNode.{FilterNode}
 use Rattle.scf_compare.specs.declared.filter.FilterNode.TheVariants.{At, Stopped}
@@ -18,11 +15,7 @@ use Rattle.scf_compare.specs.declared.stack.StackNode.{StackNode}
 use Rattle.scf_compare.specs.declared.stack.StackNode.TheVariants.{Empty, At as InStack}
 use Rattle.scf_compare.specs.internal.Stacks.{filter_at, stack_tree}
 use Rattle.scf_compare.specs.declared.profile.ProfileNode.{ProfileNode}
-use Rattle.scf_compare.specs.declared.profile.ProfileNode.TheVariants.{Architecture, First, Last, Number, Condition as OfCondition, Answer as Answers}
-use Rattle.scf_compare.specs.declared.question.ConditionPart.{ConditionPart}
-use Rattle.scf_compare.specs.declared.question.ConditionPart.TheVariants.{High, Above, Low}
 use Rattle.scf_profile.specs.declared.rule.Rule.{Rule}
-use Rattle.scf_compare.specs.internal.Conditions.{part_size}
 use Rattle.scf_compare.specs.Effort.{spread, stack_paths}
 use Rattle.scf_compare.specs.internal.Profiles.{profile_tree}
 use Rattle.scf_compare.specs.internal.Filters.{filter_size, filter_tree}
@@ -50,12 +43,7 @@ scaled_counts a scale h s =
     omega arith
 
 insn_counts : (operation : Option Operation) (i : Insn) (later : List ℕ) → 0 < size_of_insn operation i later
-insn_counts (Some Jumps) i later = omega arith
-insn_counts (Some (JumpIf test operand)) i later = omega arith
-insn_counts (Some (Compute Div Index)) i later = omega arith
-insn_counts (Some ReturnsConstant) i later = omega arith
-insn_counts (Some ReturnsAccumulator) i later = omega arith
-insn_counts operation i later = omega arith
+insn_counts operation i later = grind arith
 
 pub index_counts : (insns : List Insn) (index : ℕ) → 0 < tree_size insns index
 unfolding tree_sizes
@@ -83,19 +71,9 @@ stack_node_counts filters registers (InStack index older node) =
     let behind = drop (index + 1) filters in
     scaled_counts (filter_size here node) (stack_paths behind) (node_counts here registers node) (paths_count behind)
 
-part_counts : (part : ConditionPart) (holds fails : ℕ) → 0 < part_size part holds fails
-part_counts High holds fails = omega arith
-part_counts Above holds fails = omega arith
-part_counts Low holds fails = omega arith
-
 -- each node of a profile's tree counts
 pub profile_node_counts : (s : NumberedProfile) (node : ProfileNode) → 0 < (profile_tree s).size node
-profile_node_counts s Architecture = omega arith
-profile_node_counts s First = omega arith
-profile_node_counts s Last = omega arith
-profile_node_counts s (Number index) = omega arith
-profile_node_counts s (OfCondition at part) = part_counts part _ _
-profile_node_counts s (Answers answer) = omega arith
+profile_node_counts s node = grind arith
 
 pub spread_counts : (rules : List Rule) → 0 < spread rules
 spread_counts rules = omega arith

@@ -9,9 +9,9 @@ use Rattle.scf_compare.specs.declared.registers.KnownRegisters.{KnownRegisters}
 use Rattle.scf_compare.specs.declared.stack.StackNode.{StackNode}
 use Rattle.scf_compare.specs.declared.stack.StackNode.TheVariants.{Empty, At}
 use Rattle.scf_compare.specs.Effort.{stack_paths}
-use Rattle.scf_compare.specs.internal.Leaves.{KnowsAnswer, SideTells, filter_leaves}
+use Rattle.scf_compare.specs.internal.Leaves.{KnowsAnswer, SideTells}
 use Rattle.scf_compare.specs.internal.Filters.{IsFilterEnd, filter_is_node, filter_reaches, filter_size, filter_is_plain}
-use Rattle.scf_compare.specs.internal.Trees.{Leaves, Tree}
+use Rattle.scf_compare.specs.internal.Trees.{Tree}
 
 -- the filter at an index of a stack
 abbrev pub filter_at : List (List Insn) → ℕ → List Insn
@@ -61,6 +61,3 @@ stack_tree filters registers = record {
   size = stack_size filters;
   is_plain = stack_is_plain filters registers;
 }
-
-abbrev pub leaves_of_stack : List (List Insn) → Leaves SideLeaf
-leaves_of_stack filters = filter_leaves (IsStackLeaf filters) (StackAnswers filters)

@@ -1,6 +1,6 @@
 -- The steps of the filter that is asked are steps of the stack, and at its leaves the next one begins.
 use Rattle.scf_compare.proofs.Common.{[], ◌+◌, ◌*◌, ◌<◌, ◌≤◌, ℕ, List, length, drop, arith, take_all, mul-le-mul_left, Insn, stack_paths, filter_size, paths_count, filter_at}
-use Rattle.scf_compare.proofs.Stacks.{is_stack_leaf, paths_from}
+use Rattle.scf_compare.proofs.Stacks.{is_stack_leaf, paths_from, side_leaf}
 use Rattle.scf_compare.specs.internal.Laws.{scaled_counts}
 use Rattle.scf_compare.proofs.stack.step_from.Goals as goal
 
@@ -19,8 +19,8 @@ returns-then-index-filters g c =
     let so_far = c.loop-next.invariant in
     let past : length filters ≤ index + 1 = omega (arith, c.if-index-filters.true) in
     record {
-      proper = c.decided_at-decided.ensures.leaf filters index so_far.node.2
-          (is_stack_leaf filters index c.in-Leaf.leaf so_far.node.0 step.proper);
+      proper = side_leaf filters c.decided_at-decided.result (c.decided_at-decided.ensures.leaf filters index so_far.node.2
+          (is_stack_leaf filters index c.in-Leaf.leaf so_far.node.0 step.proper));
       leads = λ words w r.
           let before = so_far.reaches words w r in
           rw (take_all (index + 1) filters past)

@@ -1,5 +1,5 @@
 use Rattle.scf_compare.proofs.Common.{◌≢◌, refl, arith, rules, take_all, call_of}
-use Rattle.scf_compare.proofs.Bits.{word_is, word_isnt}
+use Rattle.scf_compare.proofs.Bits.{below, word_is, word_isnt}
 use Rattle.scf_compare.proofs.Rules.{all_more, read_at}
 use Rattle.scf_compare.proofs.Numbered.{from_above, of_no_number, own_kept, sizes_from}
 use Rattle.scf_compare.proofs.by_number.ByNumber.ask_number.Goals as goal
@@ -7,27 +7,27 @@ use Rattle.scf_compare.proofs.by_number.ByNumber.ask_number.Goals as goal
 pub returns-then-from-numbers : goal.returns-then-from-numbers
 returns-then-from-numbers g c = grind (arith, of_no_number, take_all, c.first_possible-from.ensures.possible)
 
-pub returns-then-is_known_below : goal.returns-then-is_known_below
-returns-then-is_known_below g c =
+pub returns-in-Never : goal.returns-in-Never
+returns-in-Never g c =
     let s = c.args.self.now in
     let numbered = c.numbers-numbers.ensures.numbered in
     let from = c.first_possible-from.result in
     let own = c.index-numbers-from.result in
     let here = read_at _ s.numbers from own c.numbers-numbers.ensures.numbers c.if-from-numbers.false
     c.index-numbers-from.is in
-    rw c.of_profile-then-is_known_below.ensures (record {
+    rw c.of_no_filter-in-Never.ensures (record {
       proper = (refl, tt);
       leads = λ words given r. rw (c.default_answer-default_answer.ensures, c.profile.ensures)
           (of_no_number s (call_of words) numbered r.0
           (from_above s.numbers s.profile.rules numbered.numbers (call_of words) from own here
           (c.first_possible-from.ensures.possible words given.0 given.1 r.1)
-          (c.if-is_known_below.ensures refl words given.0 given.1)));
+          (below _ _ (rw c.number_from.ensures at (c.tell.ensures.law_never c.in-Never.is words given.1)))));
       costs = omega arith;
       plain = λ plain. refl;
     })
 
-pub returns : goal.returns
-returns g c =
+pub returns-in-Always : goal.returns-in-Always
+returns-in-Always g c =
     let s = c.args.self.now in
     let from = c.first_possible-from.result in
     let own = c.index-numbers-from.result in

@@ -1,27 +1,27 @@
 -- The successors of an instruction follow the runs that come to it, and their sizes are within its size.
-use Rattle.scf_compare.proofs.Common.{IsPlainValue, refl, sym, subst, ◌∙◌, arith, rules, common_steps, IfSome_then, Answer, RunAnswers, filter_tree}
-use Rattle.scf_compare.proofs.ControlFlows.{plain_flow, size_by_flow}
+use Rattle.scf_compare.proofs.Common.{IsPlainValue, refl, subst, ◌∙◌, arith, rules, common_steps, IfSome_then, Answer, RunAnswers, filter_tree}
+use Rattle.scf_compare.proofs.ControlFlows.{plain_flow}
 use Rattle.scf_compare.proofs.Successors.{comes_noted, leads, step_leads}
-use Rattle.scf_compare.proofs.filter.step_of.Goals as goal
+use Rattle.scf_compare.proofs.filter.step_at.Goals as goal
 
 pub returns-in-FallThrough : goal.returns-in-FallThrough
 returns-in-FallThrough g c = record {
   proper = search rules;
   leads = λ words w r.
-      leads c.requires.stands r (c.requires.safe words) _ (sym c.of.ensures.control_flow ∙ c.in-FallThrough.is) _
+      leads c.at-operation.ensures.stands r (c.requires.safe words) _ (c.at-operation.ensures.control_flow ∙ c.in-FallThrough.is) _
       (λ t. c.apply.ensures.describes words r.state t w.0 w.1 r.describes);
-  costs = omega (arith, (rw (sym c.of.ensures.control_flow ∙ c.in-FallThrough.is) at (size_by_flow c.requires.stands)).0);
+  costs = omega (arith, rw c.in-FallThrough.is at c.at-operation.ensures.size);
   plain = λ plain.
       let loads =
-      rw (sym c.of.ensures.control_flow ∙ c.in-FallThrough.is) at (plain_flow _ _ _ _ plain.0 c.requires.stands) in
+      rw (c.at-operation.ensures.control_flow ∙ c.in-FallThrough.is) at (plain_flow _ _ _ _ plain.0 c.at-operation.ensures.stands) in
       (plain.0, c.apply.ensures.plain loads);
 }
 
 pub returns-in-Jump : goal.returns-in-Jump
 returns-in-Jump g c = record {
   proper = search rules;
-  leads = λ words w r. leads c.requires.stands r (c.requires.safe words) _ (sym c.of.ensures.control_flow ∙ c.in-Jump.is);
-  costs = omega (arith, (rw (sym c.of.ensures.control_flow ∙ c.in-Jump.is) at (size_by_flow c.requires.stands)).0);
+  leads = λ words w r. leads c.at-operation.ensures.stands r (c.requires.safe words) _ (c.at-operation.ensures.control_flow ∙ c.in-Jump.is);
+  costs = omega (arith, rw c.in-Jump.is at c.at-operation.ensures.size);
   plain = search rules;
 }
 
@@ -29,9 +29,9 @@ pub returns-then-if_true-if_false : goal.returns-then-if_true-if_false
 returns-then-if_true-if_false g c = record {
   proper = search rules;
   leads = λ words w r.
-      let on = leads c.requires.stands r (c.requires.safe words) _ (sym c.of.ensures.control_flow ∙ c.in-ConditionalJump.is) in
+      let on = leads c.at-operation.ensures.stands r (c.requires.safe words) _ (c.at-operation.ensures.control_flow ∙ c.in-ConditionalJump.is) in
       grind (arith, common_steps, on);
-  costs = omega (arith, (rw (sym c.of.ensures.control_flow ∙ c.in-ConditionalJump.is) at (size_by_flow c.requires.stands)).0);
+  costs = omega (arith, rw c.in-ConditionalJump.is at c.at-operation.ensures.size);
   plain = search rules;
 }
 
@@ -39,19 +39,19 @@ pub returns-else-if_true-if_false : goal.returns-else-if_true-if_false
 returns-else-if_true-if_false g c = record {
   proper = search rules;
   leads = λ words w r.
-      let on = leads c.requires.stands r (c.requires.safe words) _ (sym c.of.ensures.control_flow ∙ c.in-ConditionalJump.is) in
+      let on = leads c.at-operation.ensures.stands r (c.requires.safe words) _ (c.at-operation.ensures.control_flow ∙ c.in-ConditionalJump.is) in
       let operand = c.operand.ensures.stands words r.state r.describes in
       let decides = c.decide-decision.ensures.decides words r.state.a _ w.0 w.1 r.describes.a operand in
       let noted = c.note_open.ensures.describes words in
       step_leads (filter_tree c.args.insns.now c.note_open.new.self) _ words c.decide-decision.result _ _
       c.step_by.result _ c.step_by.ensures decides (λ holds. comes_noted noted (on.0 holds))
       (λ holds. comes_noted noted (on.1 holds));
-  costs = grind (arith, size_by_flow c.requires.stands);
+  costs = grind (arith, c.at-operation.ensures.size);
   plain = λ plain.
       let branch =
-      rw (sym c.of.ensures.control_flow ∙ c.in-ConditionalJump.is) at (plain_flow _ _ _ _ plain.0 c.requires.stands) in
+      rw (c.at-operation.ensures.control_flow ∙ c.in-ConditionalJump.is) at (plain_flow _ _ _ _ plain.0 c.at-operation.ensures.stands) in
       let decided =
-      c.decide-decision.ensures.plain c.args.insn.k plain.1 (c.operand.ensures.constant branch.0) branch.1 in
+      c.decide-decision.ensures.plain c.at-operation.result.0.k plain.1 (c.operand.ensures.constant branch.0) branch.1 in
       let accumulator : IsPlainValue c.note_open.new.self.a = rw c.note_open.ensures.accumulator plain.1 in
       grind (arith, common_steps, c.step_by.ensures);
 }
@@ -61,16 +61,16 @@ returns-in-DivideByIndex g c = record {
   proper = search rules;
   leads = λ words w r.
       let on =
-      leads c.requires.stands r (c.requires.safe words) _ (sym c.of.ensures.control_flow ∙ c.in-DivideByIndex.is) _
+      leads c.at-operation.ensures.stands r (c.requires.safe words) _ (c.at-operation.ensures.control_flow ∙ c.in-DivideByIndex.is) _
       (λ t. c.apply-in-DivideByIndex.ensures.describes words r.state t w.0 w.1
       (c.note_open-in-DivideByIndex.ensures.describes words r.state r.describes)) in
       step_leads (filter_tree c.args.insns.now c.apply-in-DivideByIndex.new.self) _ words
       c.decide-decision-in-DivideByIndex.result _ _ c.step_by-in-DivideByIndex.result _
       c.step_by-in-DivideByIndex.ensures
       (c.decide-decision-in-DivideByIndex.ensures.decides words r.state.x 0 w.0 w.1 r.describes.x refl) on.0 on.1;
-  costs = grind (arith, size_by_flow c.requires.stands);
+  costs = grind (arith, c.at-operation.ensures.size);
   plain = λ plain.
-      let divides = plain_flow _ _ _ _ plain.0 c.requires.stands in
+      let divides = plain_flow _ _ _ _ plain.0 c.at-operation.ensures.stands in
       grind (arith, common_steps, divides);
 }
 
@@ -78,8 +78,8 @@ pub returns-in-ReturnConstant : goal.returns-in-ReturnConstant
 returns-in-ReturnConstant g c = record {
   proper = search rules;
   leads = λ words w r.
-      leads c.requires.stands r (c.requires.safe words) _ (sym c.of.ensures.control_flow ∙ c.in-ReturnConstant.is);
-  costs = omega (arith, (rw (sym c.of.ensures.control_flow ∙ c.in-ReturnConstant.is) at (size_by_flow c.requires.stands)).0);
+      leads c.at-operation.ensures.stands r (c.requires.safe words) _ (c.at-operation.ensures.control_flow ∙ c.in-ReturnConstant.is);
+  costs = omega (arith, rw c.in-ReturnConstant.is at c.at-operation.ensures.size);
   plain = search rules;
 }
 
@@ -88,11 +88,11 @@ returns-in-ReturnAccumulator g c = record {
   proper = search rules;
   leads = λ words w r.
       let answered =
-      leads c.requires.stands r (c.requires.safe words) _ (sym c.of.ensures.control_flow ∙ c.in-ReturnAccumulator.is) in
+      leads c.at-operation.ensures.stands r (c.requires.safe words) _ (c.at-operation.ensures.control_flow ∙ c.in-ReturnAccumulator.is) in
       IfSome_then c.answer.result (c.answer.ensures words r.state w.1 r.describes)
       (λ (answer : Answer) same. subst (RunAnswers c.args.insns.now words) same answered);
-  costs = omega (arith, (rw (sym c.of.ensures.control_flow ∙ c.in-ReturnAccumulator.is) at (size_by_flow c.requires.stands)).0);
+  costs = omega (arith, rw c.in-ReturnAccumulator.is at c.at-operation.ensures.size);
   plain = λ plain.
-      let returns = plain_flow _ _ _ _ plain.0 c.requires.stands in
+      let returns = plain_flow _ _ _ _ plain.0 c.at-operation.ensures.stands in
       grind (arith, common_steps, returns);
 }

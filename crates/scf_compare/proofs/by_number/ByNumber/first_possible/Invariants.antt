@@ -1,5 +1,5 @@
 use Rattle.scf_compare.proofs.Common.{◌-◌, ◌≤◌, ℕ, List, length, IsFrom, IsWords, call_of}
-use Rattle.scf_compare.proofs.by_number.ByNumber.least_known.Given as goal
+use Rattle.scf_compare.proofs.by_number.ByNumber.first_possible.Given as goal
 
 abbrev pub invariant-loop-first : goal.invariant-loop-first
 invariant-loop-first g l = record {

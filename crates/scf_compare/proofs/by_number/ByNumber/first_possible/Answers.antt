@@ -2,7 +2,7 @@ use Rattle.scf_compare.proofs.Common.{◌+◌, ◌-◌, ◌/◌, ◌<◌, length
 use Rattle.scf_compare.proofs.Bits.{at_least}
 use Rattle.scf_compare.proofs.Rules.{read_at}
 use Rattle.scf_compare.proofs.Numbered.{from_number}
-use Rattle.scf_compare.proofs.by_number.ByNumber.least_known.Goals as goal
+use Rattle.scf_compare.proofs.by_number.ByNumber.first_possible.Goals as goal
 
 pub loop-first-preserved-in-Always : goal.loop-first-preserved-in-Always
 loop-first-preserved-in-Always g c =
@@ -18,5 +18,6 @@ loop-first-preserved-in-Always g c =
       told = λ words w allowed.
           from_number numbers rules are (call_of words) middle own
           (read_at numbers numbers middle own refl inside c.index-numbers-middle.is)
-          (at_least (slice_index words 0) own.number (c.tell.ensures.law_always c.in-Always.is words allowed));
+          (at_least (slice_index words 0) own.number
+          (rw c.number_from.ensures at (c.tell.ensures.law_always c.in-Always.is words allowed)));
     }
