@@ -1,7 +1,8 @@
 -- Open branches, as one is opened and one is taken.
-use Rattle.scf_compare.proofs.Common.{◌≡◌, ℕ, zero, suc, ◌+◌, ◌<◌, ◌≤◌, ◌↔◌, ◌⊎◌, inl, inr, List, [], ◌∷◌, ◌++◌, length, refl, sym, ap, ◌∙◌, arith, length-append, Option, None, Some, true, false, cases_Bool, Atom, Branch, LeadsTo, atom_answer, IsTrue, slice_get, slice_get_within, sum_by-append, AreWordsIn, Store, IsSameLevel, Frontier, Compared, GivesAnswer, LearnsExactly, IsInBranch, IsFrontier, AreExact, open_size, IsTaken, Tree}
+use Rattle.scf_compare.proofs.Common.{◌≡◌, ℕ, zero, suc, ◌+◌, ◌<◌, ◌≤◌, ◌↔◌, ◌⊎◌, inl, inr, List, [], ◌∷◌, ◌++◌, length, refl, ap, ◌∙◌, arith, length-append, Option, None, Some, true, false, cases_Bool, Atom, Branch, GoesOver, WereSeen, Which, atom_answer, IsTrue, slice_get, slice_get_within, sum_by-append, AreWordsIn, Store, IsSameLevel, Frontier, Compared, GivesAnswer, LearnsExactly, IsInBranch, IsFrontier, AreExact, open_size, Tree}
 use Rattle.scf_compare.specs.declared.frontier.OpenBranch.{OpenBranch}
-use Rattle.scf_compare.specs.internal.Trees.{GoesEither, IsAsked, KeepsAsked}
+use Rattle.scf_compare.specs.internal.Trees.{GoesEither, IsStep, KeepsAsked}
+use Rattle.scf_compare.specs.internal.Leaves.{pair_leaves}
 
 -- ---- indices in a list with one more at its end
 
@@ -61,10 +62,12 @@ by_answer (Some atom) keeps = (keeps.0, keeps.1, λ words first second goes. goe
 pub opened : {F K N : Type 0} (store : Store F) (compared : Compared) (tree : K → Tree N) (old new : Frontier F K N)
     (known : K) (atom : Option Atom) (if_true if_false : N)
     → IsFrontier store tree (AreWordsIn compared) old
-    → IsAsked atom × (tree known).is_node if_true × (tree known).is_node if_false
     → HasOpened store old new (record { known = known; node = if_false; asked = atom })
-    → LeadsTo store compared tree old new (tree known) (Branch atom if_true if_false) if_true
-opened {K = K} {N = N} store compared tree old new known atom if_true if_false f proper h =
+    → (here : Tree N) (from : N) (found : Option (Which × ℕ))
+    → IsStep (pair_leaves compared) (store.allows old.facts (store.level old.facts)) here from (tree known)
+    (Branch atom if_true if_false)
+    → GoesOver store compared tree old new here from (tree known) found if_true
+opened {K = K} {N = N} store compared tree old new known atom if_true if_false f h here from found step =
     let b : OpenBranch K N = record { known = known; node = if_false; asked = atom } in
     let more = length_more old.branches.items new.branches.items b h.branches in
     let cases = λ (index : ℕ) (branch : OpenBranch K N) (stands : slice_get new.branches.items index ≡ Some branch).
@@ -72,12 +75,12 @@ opened {K = K} {N = N} store compared tree old new known atom if_true if_false f
     record {
       frontier = record {
         marks = omega (arith, h.marks, f.marks);
-        branches = λ index branch stands. grind (arith, cases index branch stands, f.branches index branch);
+        branches = λ index branch stands. grind (arith, cases index branch stands, f.branches index branch, step.proper);
         within = λ level up_to words allowed.
             grind (arith, more, f.within (store.level old.facts), h.levels level, h.known words, f.within level);
       };
-      node = proper.1;
-      words = λ words ahead. elim ahead [
+      node = step.proper.1;
+      words = λ words ahead. inr (elim ahead [
         | inl inside ↦
             let within = slice_get_within old.branches.items inside.index inside.branch inside.stands in
             inl (record {
@@ -88,7 +91,7 @@ opened {K = K} {N = N} store compared tree old new known atom if_true if_false f
               given = inside.given;
               reached = inside.reached;
             })
-        | inr at ↦ elim (either atom words _ _ at.1) [
+        | inr at ↦ elim (either atom words _ _ (step.leads words at.0 at.1)) [
           | inl met ↦ inr ((h.known words).1 (at.0, met.0), met.1)
           | inr unmet ↦ inl (record {
             index = length old.branches.items;
@@ -99,17 +102,18 @@ opened {K = K} {N = N} store compared tree old new known atom if_true if_false f
             reached = unmet.1;
           })
         ]
-      ];
-      size = omega (arith, size_more tree old new b h.branches);
+      ]);
+      size = omega (arith, size_more tree old new b h.branches, step.costs);
       exact = λ all.
-          let by = by_answer atom all.plain.0 in
+          let plain = step.plain all.plain in
+          let by = by_answer atom plain.0 in
           let comes = λ (words : List ℕ) (allowed : store.allows old.facts (store.level old.facts) words).
-          by.2 words _ _ (all.reached words allowed) in
+          by.2 words _ _ (step.leads words allowed (all.reached words allowed)) in
           record {
             branches = λ index branch stands.
-                grind (arith, cases index branch stands, f.marks, h.levels index, all.branches index branch, comes, by.1);
+                grind (arith, cases index branch stands, f.marks, h.levels index, all.branches index branch, comes, by.1, plain.2);
             facts = h.exact by.0 all.facts;
-            plain = all.plain.1;
+            plain = plain.1;
             reached = λ words allowed. let was = (h.known words).0 allowed in (comes words was.0).0 was.1;
           };
     }
@@ -127,9 +131,15 @@ pub record HasTaken {F K N : Type 0} (store : Store F) (old new : Frontier F K N
       → IsTrue (store.is_exact new.facts (store.level new.facts))
 
 pub taken : {F K N : Type 0} (store : Store F) (compared : Compared) (tree : K → Tree N) (old new : Frontier F K N)
-    (b : OpenBranch K N) → IsFrontier store tree (AreWordsIn compared) old → HasTaken store old new b
-    → IsTaken store compared tree old new (tree b.known) b.node
-taken {K = K} {N = N} store compared tree old new b f h =
+    (b : OpenBranch K N)
+    → IsFrontier store tree (AreWordsIn compared) old
+    → HasTaken store old new b
+    → (here : Tree N) (from : N) (found : Option (Which × ℕ))
+    → ((words : List ℕ) → store.allows old.facts (store.level old.facts) words → here.reaches from words
+    → WereSeen compared found words)
+    → 1 ≤ here.size from
+    → GoesOver store compared tree old new here from (tree b.known) found b.node
+taken {K = K} {N = N} store compared tree old new b f h here from found seen costs =
     let more = length_more new.branches.items old.branches.items b h.branches in
     let marks : store.level new.facts ≡ length new.branches.items = omega (arith, f.marks, h.marks) in
     let last : slice_get old.branches.items (store.level new.facts) ≡ Some b =
@@ -144,29 +154,31 @@ taken {K = K} {N = N} store compared tree old new b f h =
         within = λ level up_to words allowed. grind (arith, more, f.within level, h.known words, h.levels level);
       };
       node = (f.branches (store.level new.facts) b last).node;
-      words = λ words inside.
-          elim (index_cases new.branches.items b inside.index inside.branch (rw h.branches at inside.stands)) [
-            | inl at ↦
-                let lower : inside.index < store.level new.facts = omega (arith, at.0, marks) in
-                inl (record {
-                  index = inside.index;
-                  branch = inside.branch;
-                  stands = at.1;
-                  allowed = ((h.levels inside.index lower).0 words).1 inside.allowed;
-                  given = inside.given;
-                  reached = inside.reached;
-                })
-            | inr at ↦ inr (grind (arith, marks, h.known words))
-          ];
-      size = sym (size_more tree new old b h.branches);
-      exact = λ are.
-          let here = are (store.level new.facts) b last in
+      words = λ words ahead. elim ahead [
+        | inl inside ↦ inr (elim (index_cases new.branches.items b inside.index inside.branch (rw h.branches at inside.stands)) [
+          | inl at ↦
+              let lower : inside.index < store.level new.facts = omega (arith, at.0, marks) in
+              inl (record {
+                index = inside.index;
+                branch = inside.branch;
+                stands = at.1;
+                allowed = ((h.levels inside.index lower).0 words).1 inside.allowed;
+                given = inside.given;
+                reached = inside.reached;
+              })
+          | inr at ↦ inr (grind (arith, marks, h.known words))
+        ])
+        | inr at ↦ inl (seen words at.0 at.1)
+      ];
+      size = omega (arith, size_more tree new old b h.branches, costs);
+      exact = λ all.
+          let newest = all.branches (store.level new.facts) b last in
           record {
             branches = λ index branch stands.
                 let within = slice_get_within new.branches.items index branch stands in
-                grind (arith, marks, within, h.levels index, are index branch (before index branch stands));
-            facts = h.exact here.keeps here.facts;
-            plain = here.plain;
-            reached = λ words allowed. let known = (h.known words).0 allowed in here.reached words known.0 known.1;
+                grind (arith, marks, within, h.levels index, all.branches index branch (before index branch stands));
+            facts = h.exact newest.keeps newest.facts;
+            plain = newest.plain;
+            reached = λ words allowed. let known = (h.known words).0 allowed in newest.reached words known.0 known.1;
           };
     }

@@ -60,12 +60,8 @@ undecided_below NoLimit steps left side at leaves = absurd leaves
 pub settled_below : (compared : Compared) (splits : Splits) (steps left count : ℕ) (finding : Finding)
     → IsSettled compared count finding → LeavesSteps splits (Some finding) steps left
     → LeavesStepsBelow splits steps steps finding left
-settled_below compared (AtMost most) steps left count (Holds taken) is leaves =
-    record { taken = steps - left; are = omega arith; rest = omega arith }
-settled_below compared (AtMost most) steps left count (Fails call first second) is leaves =
-    record { taken = steps - left; are = omega arith; rest = omega arith }
-settled_below compared (AtMost most) steps left count (Undecided side at) is leaves = absurd is
-settled_below compared (AtMost most) steps left count Unfinished is leaves = absurd is
+settled_below compared (AtMost most) steps left count finding is leaves =
+    record { taken = steps - left; are = grind arith; rest = omega arith }
 settled_below compared NoLimit steps left count finding is leaves = record { taken = 0; are = refl; rest = omega arith }
 
 -- without a second walk

@@ -89,6 +89,6 @@ pub use Rattle.scf_compare.specs.internal.NumberedProfiles.{IsNumbered, Numbered
 pub use Rattle.scf_compare.specs.internal.KnownBits.{IsLowEnd}
 pub use Rattle.scf_compare.specs.internal.Profiles.{IsAtCondition, IsAtRule, IsFrom, numbers_size, own_conditions, own_rules, size_behind}
 pub use Rattle.scf_compare.specs.internal.Stacks.{IsStackLeaf, filter_at, stack_is_node, stack_is_plain, stack_reaches, stack_size}
-pub use Rattle.scf_compare.specs.internal.Stages.{GoesOver, IsTaken, LeadsTo, finding_of_all}
+pub use Rattle.scf_compare.specs.internal.Stages.{GoesOver, finding_of_all}
 pub use Rattle.scf_compare.specs.internal.Trees.{Costs, GoesOn, StaysPlain, Tree}
 pub use Rattle.scf_compare.specs.internal.Values.{Decides, Describes, IsPlainValue}

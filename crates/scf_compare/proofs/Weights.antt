@@ -2,12 +2,9 @@
 use Rattle.std.proofs.Math.Nat.{one-le-pow, pow-le-pow_right}
 use Rattle.std.proofs.lemmas.Grind.{pow_more}
 use Rattle.scf_facts.specs.declared.bits.Bits.{Bits}
-use Rattle.scf_compare.proofs.Common.{◌≡◌, ◌+◌, ◌-◌, ◌*◌, ◌<◌, ◌≤◌, ◌^◌, ℕ, List, arith, mul-le-mul_left, scaled_costs, Compared}
+use Rattle.scf_compare.proofs.Common.{◌≡◌, ◌+◌, ◌-◌, ◌*◌, ◌<◌, ◌≤◌, ◌^◌, ℕ, List, arith, mul-le-mul_left, scaled_costs}
 use Rattle.scf_compare.specs.internal.FixedBits.{lacking}
-use Rattle.scf_compare.specs.internal.Settling.{IsSettled, weight}
-use Rattle.scf_compare.specs.internal.Stages.{IsFound}
-use Rattle.scf_compare.specs.declared.finding.Finding.{Finding}
-use Rattle.scf_compare.specs.declared.finding.Finding.TheVariants.{Fails, Holds, Undecided, Unfinished}
+use Rattle.scf_compare.specs.internal.Settling.{weight}
 
 pub weight_counts : (effort lacks : ℕ) → 0 < (2 * effort + 1) ^ lacks
 weight_counts effort lacks = one-le-pow lacks (2 * effort + 1) (omega arith)
@@ -53,12 +50,3 @@ weighs_less effort size more fewer less counts =
     let within : weight effort more ≤ weight effort fewer = pow-le-pow_right (omega arith) less in
     let all : weight effort fewer * 1 ≤ weight effort fewer * size = mul-le-mul_left (weight effort fewer) counts in
     omega arith
-
--- a difference that was found decides
-pub found_settles : (compared : Compared) (steps : ℕ) (finding : Finding) → IsFound compared finding
-    → IsSettled compared steps finding
-found_settles compared steps (Holds taken) found =
-    absurd (omega (arith, (found.within 0 0).0, found.counted 0 1 (omega arith)))
-found_settles compared steps (Fails call left right) found = found
-found_settles compared steps (Undecided side at) found = absurd (omega (arith, found.within 0 0))
-found_settles compared steps Unfinished found = absurd (omega (arith, found.within 0 0))

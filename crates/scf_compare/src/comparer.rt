@@ -281,6 +281,7 @@ fn compare_pair<F: WordFacts, L: SideTree, R: SideTree>(
 ///
 /// A store that starts exact decides plain programs and profiles: with a limit of at least the effort the verdict is
 /// `Same` exactly if both answer every call record alike, else `Differs`.
+#[tactic(auto, using(crate::proofs::Verdicts::on_the_left))]
 pub fn compare<F: WordFacts>(
     alloc: Global,
     program: &Program,
@@ -294,15 +295,11 @@ pub fn compare<F: WordFacts>(
         (SameAnswers (RunAnswers program.now) profile.now)
         limit (effort_of program.now profile.now)) }
 {
-    let filters = slice::from_ref(program);
-    compare_filters::<F>(
-        alloc,
-        filters,
-        profile,
-        Scope::All,
-        Relation::Same,
-        Limit::of_steps(limit),
-    )
+    let limit = Limit::of_steps(limit);
+    let filter = Side::Stack(slice::from_ref(program));
+    let profile = Side::Profile(profile);
+    let finding = compare_sides::<F>(alloc, &filter, &profile, Scope::All, Relation::Same, limit)?;
+    Ok(finding.verdict())
 }
 
 /// Compares a stack of filters with a profile over the records of a scope, in at most `limit` steps.
@@ -339,6 +336,7 @@ pub fn compare_stack<F: WordFacts>(
 ///
 /// `Same` says that the relation holds of the answers to every record of the scope; `Differs` shows one, with both
 /// answers, of which it doesn't hold. Everything else is as in `compare_stack`, which is the case of equal answers.
+#[tactic(auto, using(crate::proofs::Verdicts::on_the_left, crate::proofs::Verdicts::true_by))]
 pub fn compare_by<F: WordFacts>(
     alloc: Global,
     stack: &FilterStack,
@@ -357,31 +355,7 @@ pub fn compare_by<F: WordFacts>(
         (RelatedAnswersIn relation scope (StackAnswers stack.now) profile.now)
         limit.steps (effort_of_stack stack.now profile.now)) }
 {
-    let filters = stack.filters();
-    compare_filters::<F>(alloc, filters, profile, scope, relation, limit)
-}
-
-/// Compares filters, the oldest first, with a profile over the records of a scope by a relation.
-#[tactic(auto, using(crate::proofs::Verdicts::on_the_left, crate::proofs::Verdicts::true_by))]
-fn compare_filters<F: WordFacts>(
-    alloc: Global,
-    filters: &[Program],
-    profile: &Profile,
-    scope: Scope,
-    relation: Relation,
-    limit: Limit,
-) -> Result<Verdict, Memory>
-    ensures holds { IfOk result (IsTrueOfStackBy relation filters.now profile.now scope) }
-    ensures within { IfOk result (IsWithin limit.steps (effort_of_stack filters.now profile.now)) }
-    ensures decided { IsTrue F.starts_exact → All IsPlainProgram filters.now → IsPlainProfile profile.now
-        → IfOk result (IsDecided
-        (RelatedAnswersIn relation scope (StackAnswers filters.now) profile.now)
-        limit.steps (effort_of_stack filters.now profile.now)) }
-    ensures settled { limit.splits ≡ Splits.NoLimit → IfOk result (IsDecided
-        (RelatedAnswersIn relation scope (StackAnswers filters.now) profile.now)
-        limit.steps (effort_of_stack filters.now profile.now)) }
-{
-    let filters = Side::Stack(filters);
+    let filters = Side::Stack(stack.filters());
     let profile = Side::Profile(profile);
     let finding = compare_sides::<F>(alloc, &filters, &profile, scope, relation, limit)?;
     Ok(finding.verdict())

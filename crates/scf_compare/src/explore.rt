@@ -2,18 +2,11 @@
 
 ghost use Rattle.std.specs.Prelude.{◌≡◌, ◌↔◌, ℕ, List, IsTrue, false, IfOk, IfSome, IfNone, IsSome};
 ghost use Rattle.scf_insn.specs.Words.{IsRecord, words_of};
-ghost use Rattle.scf_compare.specs.Findings.{
-  AllRelated,
-  AreSteps,
-  IsFindingDecided,
-  IsFindingWithin,
-  IsTrueFinding,
-  WordsRelated,
-};
+ghost use Rattle.scf_compare.specs.Findings.{WordsRelated};
 ghost use Rattle.scf_compare.specs.internal.Leaves.{AreWordsIn, IsFirstUndecided, IsLeaf, IsUndecidedLeaf};
 ghost use Rattle.scf_compare.specs.internal.Leaves.{KnowsBoth, Tells};
 ghost use Rattle.scf_compare.specs.internal.Frontier.{IsFrontier, IsExact};
-ghost use Rattle.scf_compare.specs.internal.Stages.{DecidesIfKnown, IsFound, IsJudged, IsStageAfter, finding_of_all};
+ghost use Rattle.scf_compare.specs.internal.Stages.{IsExplored, IsFound, IsJudged, IsStageAfter, finding_of_all};
 
 use crate::comparison::{Comparison, PairLeaf};
 use crate::finding::{Finding, Which};
@@ -105,7 +98,7 @@ pub(crate) fn judge<C: Comparison, F: WordFacts>(
 
 /// One step of the walk from a node. A leaf is judged, and the newest open branch is taken. If the store doesn't decide
 /// the leaf, its side and instruction index are kept as the first undecided ones, unless there were some before.
-#[tactic(auto, using(crate::proofs::Stages::led, crate::proofs::Stages::after_branch))]
+#[tactic(auto, using(crate::proofs::Stages::passed))]
 fn advance<C: Comparison, F: WordFacts>(
     comparison: &C,
     frontier: &mut Frontier<F, C::Known, C::Node>,
@@ -122,7 +115,7 @@ fn advance<C: Comparison, F: WordFacts>(
         frontier.old frontier.new (C.tree comparison.now known.old) node (C.tree comparison.now known.new)
         first_undecided.new) }
     ensures index { IfSome first_undecided.new (IsFirstUndecided (C.compared comparison.now)) }
-    ensures first { IsSome first_undecided.old → first_undecided.new ≡ first_undecided.old }
+    ensures still { IsSome first_undecided.old → IsSome first_undecided.new }
     ensures exact { let here = C.tree comparison.now known.old in
         IsExact F.WordFacts (C.tree comparison.now) frontier.old (here.is_plain node) (here.reaches node)
         → first_undecided.new ≡ first_undecided.old }
@@ -165,15 +158,9 @@ pub(crate) fn explore<C: Comparison, F: WordFacts>(
     requires scope { (words : List ℕ) → F.allows facts 0 words ↔ AreWordsIn (C.compared comparison.now) words }
     requires reached { (words : List ℕ) → AreWordsIn (C.compared comparison.now) words
         → (C.tree comparison.now start).reaches root words }
-    ensures holds { IfOk result (IsTrueFinding (C.compared comparison.now)) }
-    ensures within { IfOk result (IsFindingWithin limit ((C.tree comparison.now start).size root)) }
-    ensures taken { IfOk result (λ finding.
-        AreSteps limit ((C.tree comparison.now start).size root) finding taken.new) }
-    ensures decided { let tree = C.tree comparison.now start in
-        IsTrue (F.is_exact facts 0) → tree.is_plain root
-        → IfOk result (IsFindingDecided (AllRelated (C.compared comparison.now)) limit (tree.size root)) }
-    ensures known { IfOk result (DecidesIfKnown (AllRelated (C.compared comparison.now)) limit
-        ((C.tree comparison.now start).size root)) }
+    ensures { let tree = C.tree comparison.now start in
+        IfOk result (IsExplored (C.compared comparison.now) (IsTrue (F.is_exact facts 0) × tree.is_plain root)
+        limit (tree.size root) taken.new) }
 {
     let mut frontier = Frontier::new(alloc, facts);
     let mut known = start;

@@ -1,14 +1,14 @@
 //! The open branches of a walk.
 
-ghost use Rattle.std.specs.Prelude.{◌≡◌, ◌<◌, ◌↔◌, [], ℕ, List, IsTrue, OnOk, IfOk};
+ghost use Rattle.std.specs.Prelude.{◌≡◌, ◌<◌, ◌↔◌, [], ℕ, Option, List, IsTrue, OnOk, IfOk};
 ghost use Rattle.scf_facts.specs.Levels.{IsSameLevel};
-ghost use Rattle.scf_compare.specs.internal.Leaves.{AreWordsIn, IsLeaf};
+ghost use Rattle.scf_compare.specs.internal.Leaves.{AreWordsIn, IsLeaf, WereSeen, pair_leaves};
 ghost use Rattle.scf_compare.specs.internal.Frontier.{GivesAnswer, LearnsExactly, IsFrontier};
-ghost use Rattle.scf_compare.specs.internal.Stages.{IsBranchTaken, LeadsTo};
-ghost use Rattle.scf_compare.specs.internal.Trees.{IsAsked, IsProper};
+ghost use Rattle.scf_compare.specs.internal.Stages.{GoesOver, IsStageAfter};
+ghost use Rattle.scf_compare.specs.internal.Trees.{IsAsked, IsProper, IsStep};
 
 use crate::comparison::Comparison;
-use crate::finding::Finding;
+use crate::finding::{Finding, Which};
 use crate::step::Step;
 use scf_facts::{Atom, Tell, WordFacts};
 use scf_insn::Memory;
@@ -76,15 +76,21 @@ fn learn_answer<F: WordFacts>(
     }
 }
 
-/// Goes on with the newest branch, if there is one: undoes to its mark, and learns the answer that leads into it.
+/// Goes on from a leaf, whose words were seen, with the newest branch, if there is one: undoes to its mark, and learns
+/// the answer that leads into it.
 pub(crate) fn take_branch<C: Comparison, F: WordFacts>(
     comparison: &C,
     frontier: &mut Frontier<F, C::Known, C::Node>,
     known: &mut C::Known,
 ) -> Result<Stage<C::Node>, Memory>
     requires { IsFrontier F.WordFacts (C.tree comparison.now) (AreWordsIn (C.compared comparison.now)) frontier.old }
-    ensures { IfOk result (IsBranchTaken F.WordFacts (C.compared comparison.now) (C.tree comparison.now)
-        frontier.old frontier.new (C.tree comparison.now known.new)) }
+    ensures { let compared = C.compared comparison.now in
+        let tree = C.tree comparison.now in
+        (before : C.Known) (from : C.Node) (found : Option (Which × ℕ))
+        → ((words : List ℕ) → F.allows frontier.old.facts (F.level frontier.old.facts) words
+        → (tree before).reaches from words → WereSeen compared found words)
+        → IfOk result (IsStageAfter F.WordFacts compared tree frontier.old frontier.new
+        (tree before) from (tree known.new) found) }
 {
     let _ = comparison;
     let Some(branch) = frontier.branches.pop() else {
@@ -110,9 +116,14 @@ pub(crate) fn ask<C: Comparison, F: WordFacts>(
         (AreWordsIn (C.compared comparison.now)) frontier.old }
     requires proper { let step = Step.Branch atom if_true if_false in
         IsProper (C.tree comparison.now known.now) (IsLeaf (C.compared comparison.now)) step }
-    ensures { let step = Step.Branch atom if_true if_false in
-        IfOk result (LeadsTo F.WordFacts (C.compared comparison.now) (C.tree comparison.now)
-        frontier.old frontier.new (C.tree comparison.now known.now) step) }
+    ensures { let compared = C.compared comparison.now in
+        let tree = C.tree comparison.now in
+        let given = F.allows frontier.old.facts (F.level frontier.old.facts) in
+        (before : C.Known) (from : C.Node) (found : Option (Which × ℕ))
+        → let step = Step.Branch atom if_true if_false in
+        IsStep (pair_leaves compared) given (tree before) from (tree known.now) step
+        → IfOk result (GoesOver F.WordFacts compared tree frontier.old frontier.new
+        (tree before) from (tree known.now) found) }
 {
     let _ = comparison;
     let question = atom;

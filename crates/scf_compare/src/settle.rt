@@ -92,7 +92,7 @@ fn restart<C: Comparison, F: WordFacts>(
 
 /// One step of the second walk, if the budget suffices. At a test that no atom decides, and at a leaf where the store
 /// doesn't decide the answers, it splits.
-#[tactic(auto, using(crate::proofs::Stages::led, crate::proofs::Stages::after_branch))]
+#[tactic(auto, using(crate::proofs::Stages::passed))]
 fn advance_again<C: Comparison, F: WordFacts>(
     settling: &Settling<'_, C>,
     frontier: &mut Frontier<F, C::Known, SettlingNode<C::Node>>,

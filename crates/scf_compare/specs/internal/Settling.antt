@@ -1,8 +1,8 @@
 -- The second walk of a comparison's tree, which begins at the root again with each split.
-use Rattle.std.specs.Prelude.{◌≡◌, ◌+◌, ◌*◌, ◌^◌, ℕ, List}
+use Rattle.std.specs.Prelude.{◌≡◌, ◌+◌, ◌*◌, ◌^◌, ◌⊎◌, ℕ, List}
 use Rattle.scf_facts.specs.declared.bits.Bits.{Bits}
 use Rattle.scf_compare.specs.declared.finding.Finding.{Finding}
-use Rattle.scf_compare.specs.declared.finding.Finding.TheVariants.{Holds, Fails, Undecided, Unfinished}
+use Rattle.scf_compare.specs.declared.finding.Finding.TheVariants.{Holds}
 use Rattle.scf_compare.specs.declared.settling.SettlingNode.{SettlingNode}
 use Rattle.scf_compare.specs.Findings.{AllRelated, Compared}
 use Rattle.scf_compare.specs.internal.FixedBits.{HaveBits, lacking}
@@ -31,9 +31,6 @@ pub record StartsAt {N : Type 0} (scope : List ℕ → Type 0) (tree : Tree N) (
   pub node : tree.is_node root
   pub reached : (words : List ℕ) → scope words → tree.reaches root words
 
--- what the second walk finds: it decides
+-- the second walk decides: it finds, after so many steps of the first one, that the relation holds, or a difference
 abbrev pub IsSettled : Compared → ℕ → Finding → Type 0
-IsSettled compared steps (Holds taken) = (taken ≡ steps) × AllRelated compared
-IsSettled compared steps (Fails call left right) = IsFound compared (Fails call left right)
-IsSettled compared steps (Undecided side at) = ⊥
-IsSettled compared steps Unfinished = ⊥
+IsSettled compared steps finding = ((finding ≡ Holds steps) × AllRelated compared) ⊎ IsFound compared finding

@@ -1,22 +1,26 @@
 use Rattle.std.proofs.Math.Nat.{mul-one}
-use Rattle.scf_compare.proofs.Common.{[], All-cons, All-nil, IfOk-weaker, IsPlainProgram}
-use Rattle.scf_compare.proofs.Verdicts.{true_alone, decided_same, same_alone, alone_same}
+use Rattle.scf_compare.proofs.Common.{[], ◌∷◌, All-cons, All-nil, IsPlainProgram, Same}
+use Rattle.scf_profile.specs.declared.scope.Scope.TheVariants.{All}
+use Rattle.scf_compare.proofs.Verdicts.{alone_same, decided_in, decided_same, same_alone, true_alone, true_by}
 use Rattle.scf_compare.proofs.comparer.compare.Goals as goal
 
 pub returns-clause-holds : goal.returns-clause-holds
 returns-clause-holds g c =
-    IfOk-weaker c.compare_filters.result _ _ (true_alone c.args.program.now c.args.profile.now)
-    (rw c.from_ref-filters.ensures.value at c.compare_filters.ensures.holds)
+    let program = c.args.program.now in
+    true_alone program c.args.profile.now c.verdict.result (true_by Same All (program ∷ []) c.args.profile.now
+    c.verdict.result (rw c.verdict.ensures (rw c.from_ref.ensures.value at c.in_ok-finding.ensures.holds)))
 
 pub returns-clause-within : goal.returns-clause-within
-returns-clause-within g c = rw (c.from_ref-filters.ensures.value, mul-one, c.of_steps.ensures) at c.compare_filters.ensures.within
+returns-clause-within g c =
+    rw c.verdict.ensures
+    (rw (c.from_ref.ensures.value, mul-one, c.of_steps-limit.ensures) at c.in_ok-finding.ensures.within)
 
 pub returns-clause-decided : goal.returns-clause-decided
-returns-clause-decided g c =
-    let decided = rw (c.from_ref-filters.ensures.value, mul-one, c.of_steps.ensures) at c.compare_filters.ensures.decided in
-    λ exact plain plain_profile.
-    IfOk-weaker c.compare_filters.result _ _
-    (λ verdict.
-    decided_same _ _ c.args.limit _ verdict (same_alone c.args.program.now c.args.profile.now)
-    (alone_same c.args.program.now c.args.profile.now))
-    (decided exact (All-cons IsPlainProgram c.args.program.now [] plain (All-nil IsPlainProgram)) plain_profile)
+returns-clause-decided g c = λ exact plain plain_profile.
+    let program = c.args.program.now in
+    let profile = c.args.profile.now in
+    let decided =
+    rw (c.from_ref.ensures.value, c.of_steps-limit.ensures, ← c.verdict.ensures) at c.in_ok-finding.ensures.decided in
+    rw mul-one at (decided_same _ _ c.args.limit _ c.verdict.result (same_alone program profile) (alone_same program profile)
+    (decided_in Same All (program ∷ []) profile c.args.limit _ c.verdict.result
+    (decided exact (All-cons IsPlainProgram program [] plain (All-nil IsPlainProgram)) plain_profile)))

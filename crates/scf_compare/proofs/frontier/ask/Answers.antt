@@ -3,12 +3,13 @@ use Rattle.scf_compare.proofs.Branches.{opened}
 use Rattle.scf_compare.proofs.frontier.ask.Goals as goal
 
 pub returns : goal.returns
-returns g c =
+returns g c = λ before from found.
+    let tree = g.C.Comparison.tree c.args.comparison.now in
     let marked = c.in_ok-mark.ensures in
     let learned = c.in_ok-learn_answer.ensures in
-    opened g.F.WordFacts (g.C.Comparison.compared c.args.comparison.now) (g.C.Comparison.tree c.args.comparison.now)
-    c.args.frontier.now (record { facts = c.learn_answer.new.facts; branches = c.push.new.self }) c.args.known.now
-    c.args.atom c.args.if_true c.args.if_false c.requires.frontier c.requires.proper
+    opened g.F.WordFacts (g.C.Comparison.compared c.args.comparison.now) tree c.args.frontier.now
+    (record { facts = c.learn_answer.new.facts; branches = c.push.new.self }) c.args.known.now
+    c.args.atom c.args.if_true c.args.if_false c.requires.frontier
     (record {
       branches = c.in_ok-push.ensures.items;
       marks = learned.marks ∙ marked.opened;
@@ -16,3 +17,4 @@ returns g c =
       known = λ words. grind (arith, marked.opened, marked.known, learned.marks, learned.learned words);
       exact = λ keeps was. grind (arith, marked.opened, marked.known, learned.marks, learned.exact keeps);
     })
+    (tree before) from found

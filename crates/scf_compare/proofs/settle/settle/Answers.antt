@@ -1,7 +1,6 @@
-use Rattle.scf_compare.proofs.Common.{arith, inl, inr, refl}
+use Rattle.scf_compare.proofs.Common.{None, arith, inl, inr, refl}
 use Rattle.scf_compare.proofs.Budgets.{after_turn}
 use Rattle.scf_compare.proofs.Stages.{all_related}
-use Rattle.scf_compare.proofs.Weights.{found_settles}
 use Rattle.scf_compare.proofs.settle.settle.Goals as goal
 
 pub loop-settling-preserved : goal.loop-settling-preserved
@@ -21,13 +20,14 @@ loop-settling-preserved g c =
 
 pub returns-in-Some-AllSeen-clause-settled : goal.returns-in-Some-AllSeen-clause-settled
 returns-in-Some-AllSeen-clause-settled g c =
-    let seen = rw (c.in-Some-AllSeen.is, c.in-Some-AllSeen.field-0-is) at c.in_ok-next.ensures.stage in (
+    let seen = rw (c.in-Some-AllSeen.is, c.in-Some-AllSeen.field-0-is) at c.in_ok-next.ensures.stage in
+    let compared = g.C.Comparison.compared c.args.comparison.now in
+    inl (
       refl,
-      all_related (g.C.Comparison.compared c.args.comparison.now) (λ words within.
-          elim (c.loop-settling.invariant.words words within) [ inl before ↦ before | inr ahead ↦ seen words ahead ]),
+      all_related compared None refl
+          (λ words within. grind (arith, c.loop-settling.invariant.words words within, seen words)),
     )
 
 pub returns-in-Some-Found-clause-settled : goal.returns-in-Some-Found-clause-settled
 returns-in-Some-Found-clause-settled g c =
-    found_settles (g.C.Comparison.compared c.args.comparison.now) c.args.steps c.in-Some-Found.finding
-    (rw (c.in-Some-Found.is, c.in-Some-Found.field-0-is) at c.in_ok-next.ensures.stage)
+    inr (rw (c.in-Some-Found.is, c.in-Some-Found.field-0-is) at c.in_ok-next.ensures.stage)
