@@ -9,45 +9,32 @@ use Rattle.scf_compare.specs.internal.Budgets.{IsSplitTaken, IsStepTaken, Leaves
 use Rattle.scf_compare.specs.internal.Settling.{IsSettled}
 
 pub at_first : (splits : Splits) (steps : ℕ) → LeavesSplits splits splits steps steps
-at_first (AtMost splits) steps = (omega arith, omega arith)
-at_first NoLimit steps = (refl, refl)
+at_first splits steps = grind arith
 
 -- a turn takes a step, and at most one split
 pub after_turn : (first last new : Splits) (steps now after : ℕ) → LeavesSplits first last steps now
     → IsStepTaken last true now after → (new ≡ last) ⊎ IsSplitTaken true last new → LeavesSplits first new steps after
-after_turn (AtMost a) (AtMost b) (AtMost c) steps now after so_far step split = grind arith
-after_turn (AtMost a) (AtMost b) NoLimit steps now after so_far step split = grind arith
-after_turn (AtMost a) NoLimit new steps now after so_far step split = absurd so_far
-after_turn NoLimit last new steps now after so_far step split = grind arith
+after_turn first last new steps now after so_far step split = grind arith
 
 pub at_end : (first last : Splits) (steps now after : ℕ) (finding : Finding) → LeavesSplits first last steps now
     → IsStepTaken last true now after → LeavesSteps first (Some finding) steps after
-at_end (AtMost a) (AtMost b) steps now after finding so_far step = omega arith
-at_end (AtMost a) NoLimit steps now after finding so_far step = absurd so_far
-at_end NoLimit last steps now after finding so_far step = grind arith
+at_end first last steps now after finding so_far step = grind arith
 
 pub no_step_left : (first last : Splits) (steps now after : ℕ) → LeavesSplits first last steps now
     → IsStepTaken last false now after → LeavesSteps first None steps after
-no_step_left (AtMost a) (AtMost b) steps now after so_far none = grind arith
-no_step_left (AtMost a) NoLimit steps now after so_far none = absurd so_far
-no_step_left NoLimit last steps now after so_far none = grind arith
+no_step_left first last steps now after so_far none = grind arith
 
 pub no_split_left : (first last : Splits) (steps now after : ℕ) → LeavesSplits first last steps now
     → IsStepTaken last true now after → last ≡ AtMost 0 → LeavesSteps first None steps after
-no_split_left (AtMost a) (AtMost b) steps now after so_far step none = grind arith
-no_split_left (AtMost a) NoLimit steps now after so_far step none = absurd so_far
-no_split_left NoLimit last steps now after so_far step none = grind arith
+no_split_left first last steps now after so_far step none = grind arith
 
 pub none_taken : (splits : Splits) (steps : ℕ) (finding : Finding) → LeavesSteps splits (Some finding) steps steps
-none_taken (AtMost most) steps finding = omega arith
-none_taken NoLimit steps finding = refl
+none_taken splits steps finding = grind arith
 
 pub ruleset walks = (at_end, no_step_left, no_split_left)
 
 pub none_left : (old new : Splits) → IsSplitTaken false old new → old ≡ AtMost 0
-none_left (AtMost old) (AtMost new) none = ap AtMost none.0
-none_left (AtMost old) NoLimit none = absurd none
-none_left NoLimit new none = absurd (let false_is_true = none.0 in cc)
+none_left old new none = grind arith
 
 -- ---- what a finding leaves of the steps
 
@@ -67,8 +54,4 @@ settled_below compared NoLimit steps left count finding is leaves = record { tak
 -- without a second walk
 pub unsplit_below : (splits : Splits) (steps : ℕ) (finding : Finding) → ((side : Which) (at : ℕ) → finding ≡ Undecided side at → ⊥)
     → LeavesStepsBelow splits steps steps finding steps
-unsplit_below (AtMost most) steps (Holds taken) is = record { taken = 0; are = omega arith; rest = omega arith }
-unsplit_below (AtMost most) steps (Fails call first second) is = record { taken = 0; are = omega arith; rest = omega arith }
-unsplit_below (AtMost most) steps (Undecided side at) is = absurd (is side at refl)
-unsplit_below (AtMost most) steps Unfinished is = record { taken = 0; are = refl; rest = omega arith }
-unsplit_below NoLimit steps finding is = record { taken = 0; are = refl; rest = omega arith }
+unsplit_below splits steps finding is = record { taken = 0; are = grind arith; rest = omega arith }

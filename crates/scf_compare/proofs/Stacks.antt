@@ -1,7 +1,9 @@
 -- The filters of a stack by their indices.
-use Rattle.scf_compare.proofs.Common.{IsSideLeaf, SideLeaf, stack_behavior, ◌≡◌, ℕ, ◌+◌, ◌*◌, ◌-◌, ◌<◌, ◌≤◌, List, [], ◌∷◌, length, take, drop, arith, Option, IfSome, slice_get-get_or, Answer, Insn, RunAnswers, StackAnswers, one_answers, stack_paths, tree_size, IsFilterEnd, IsStackLeaf, filter_at}
+use Rattle.scf_compare.proofs.Common.{EndsWith, IsSideLeaf, Operation, SideLeaf, control_flow_at, stack_behavior, ◌≡◌, ◌⊎◌, ℕ, ◌+◌, ◌*◌, ◌-◌, ◌<◌, ◌≤◌, List, [], ◌∷◌, length, take, drop, arith, Option, IfSome, slice_get-get_or, Answer, Insn, RunAnswers, StackAnswers, one_answers, stack_paths, tree_size, IsFilterEnd, IsStackLeaf, filter_at}
 use Rattle.scf_compare.proofs.Rules.{contains_here, drop_here}
-use Rattle.scf_compare.proofs.Verdicts.{stack_end_index}
+use Rattle.scf_insn.specs.declared.operation.Arithmetic.TheVariants.{Div}
+use Rattle.scf_insn.specs.declared.operation.Operand.TheVariants.{Index}
+use Rattle.scf_insn.specs.declared.operation.Operation.TheVariants.{Compute, ReturnConstant, ReturnAccumulator}
 
 -- an end of one of the filters is an end of the stack
 pub is_stack_leaf : (filters : List (List Insn)) (index : ℕ) (leaf : SideLeaf) → index < length filters
@@ -29,7 +31,13 @@ pub first_decides : (filters : List (List Insn)) (index : ℕ) (words : List ℕ
     → IfSome answer (λ a. StackAnswers (take (index + 1) filters) words a.0)
 first_decides filters index words answer inside first run = grind (arith, one_answers)
 
+-- where a run ends, one can end
+ending : (operation : Operation) (i : Insn) (at : ℕ) (answer : Option Answer)
+    → EndsWith (control_flow_at operation i at) i answer
+    → (operation ≡ ReturnConstant) ⊎ (operation ≡ ReturnAccumulator) ⊎ (operation ≡ Compute Div Index)
+ending operation i at answer ends = grind arith
+
 -- an end of one of the filters is a leaf of the stack as a side
 pub side_leaf : (filters : List (List Insn)) (leaf : SideLeaf) → IsStackLeaf filters leaf
     → IsSideLeaf (stack_behavior filters) leaf
-side_leaf filters leaf is = let index = stack_end_index filters leaf is in grind arith
+side_leaf filters leaf is = grind (arith, ending)

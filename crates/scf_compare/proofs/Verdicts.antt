@@ -1,9 +1,6 @@
 -- A finding on filters and a profile is a verdict on them.
-use Rattle.scf_compare.proofs.Common.{Finding, SideLeaf, ◌≡◌, ◌⊎◌, ℕ, zero, suc, List, Contains, sym, arith, Option, Answer, [], ◌∷◌, Insn, Operation, call_of-words_of, Profile, SameAnswers, RunAnswers, StackAnswers, one_answers, Relation, Scope, Verdict, RelatedAnswersIn, SameAnswersIn, CanEndAt, StackCanEndAt, IsTrueOf, IsTrueOfStackBy, IsDecided, AllRelated, IsTrueFinding, EndsWith, IsFilterEnd, control_flow_at, compared_in, finding_of, profile_behavior, stack_behavior, IsStackLeaf}
+use Rattle.scf_compare.proofs.Common.{Finding, ◌≡◌, ℕ, zero, suc, List, Contains, sym, arith, [], ◌∷◌, Insn, call_of-words_of, Profile, SameAnswers, RunAnswers, StackAnswers, one_answers, Relation, Scope, Verdict, RelatedAnswersIn, SameAnswersIn, CanEndAt, StackCanEndAt, IsTrueOf, IsTrueOfStackBy, IsDecided, AllRelated, IsTrueFinding, EndsWith, IsFilterEnd, control_flow_at, compared_in, finding_of, profile_behavior, stack_behavior, IsStackLeaf}
 use Rattle.scf_compare.specs.internal.Leaves.{IsOnTheLeft}
-use Rattle.scf_insn.specs.declared.operation.Arithmetic.TheVariants.{Div}
-use Rattle.scf_insn.specs.declared.operation.Operand.TheVariants.{Index}
-use Rattle.scf_insn.specs.declared.operation.Operation.TheVariants.{Compute, ReturnConstant, ReturnAccumulator}
 use Rattle.scf_profile.specs.declared.scope.Scope.TheVariants.{All}
 use Rattle.scf_profile.specs.declared.relation.Relation.TheVariants as relations
 
@@ -62,16 +59,3 @@ module _ (insns : List Insn) (p : Profile) where
   pub true_alone : (verdict : Verdict) → IsTrueOfStackBy relations.Same (insns ∷ []) p All verdict
       → IsTrueOf insns p verdict
   true_alone verdict h = grind (arith, one_answers, only, same_alone)
-
-ending : (operation : Operation) (i : Insn) (at : ℕ) (answer : Option Answer)
-    → EndsWith (control_flow_at operation i at) i answer
-    → (operation ≡ ReturnConstant) ⊎ (operation ≡ ReturnAccumulator) ⊎ (operation ≡ Compute Div Index)
-ending operation i at answer ends = grind arith
-
--- an end of a filter is an instruction where a run can end
-end_index : (insns : List Insn) (leaf : SideLeaf) → IsFilterEnd insns leaf → CanEndAt insns leaf.at
-end_index insns leaf is = grind (arith, ending)
-
-pub stack_end_index : (filters : List (List Insn)) (leaf : SideLeaf) → IsStackLeaf filters leaf
-    → StackCanEndAt filters leaf.at
-stack_end_index filters leaf is = grind (arith, end_index)

@@ -13,7 +13,6 @@ pub mod Leaves
 pub mod NumberedProfiles
 pub mod Pairs
 pub mod Profiles
-pub mod ScopeWords
 pub mod Settling
 pub mod Stacks
 pub mod Stages

@@ -2,7 +2,7 @@
 
 ghost use Rattle.scf_compare.specs.Findings.{compared_in};
 ghost use Rattle.scf_compare.specs.internal.Leaves.{IsSideLeaf, pair_leaves};
-ghost use Rattle.scf_compare.specs.internal.Pairs.{pair_known, pair_tree};
+ghost use Rattle.scf_compare.specs.internal.Pairs.{pair_tree};
 ghost use Rattle.scf_compare.specs.internal.Trees.{IsStep};
 
 use crate::comparison::{Comparison, PairLeaf};
@@ -113,7 +113,8 @@ impl<L: SideTree, R: SideTree> Pair<L, R> {
             let compared = compared_in pair.by pair.over (L.behavior pair.left) (R.behavior pair.right) in
             let tree = pair_tree compared (L.tree pair.left) (R.tree pair.right) in
             IsStep (pair_leaves compared) (F.allows facts.now (F.level facts.now))
-            (tree (pair_known left known.old)) (PairNode.AtRight leaf node) (tree (pair_known left known.new)) result }
+            (tree (record { left = left; right = known.old })) (PairNode.AtRight leaf node)
+            (tree (record { left = left; right = known.new })) result }
     {
         match decided_step(&self.right, facts, known, node) {
             Step::Next(next) => Step::Next(PairNode::AtRight(leaf, next)),

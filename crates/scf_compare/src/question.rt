@@ -79,15 +79,19 @@ fn ask(atom: Atom, if_true: Successor, if_false: Successor) -> Question
     }
 }
 
-/// The question of one part of a test about an argument whose low word has index `low`. The condition holds if the
-/// test's result is `expected`.
-fn ask_test(test: NumberTest, expected: bool, part: ConditionPart, low: u8) -> Question
-    requires { low < 15 }
-    ensures word { word_of result.atom ≡ word_asked part low }
-    ensures splits { (n : ℕ) → n < 2 ^ 64 → IsAtTest test part n → Splits (test, expected) part result n }
+/// The question of one part of a condition.
+#[tactic(auto, using(scf_profile::proofs::NumberTests::plain_of))]
+pub(crate) fn question_of(condition: Condition, part: ConditionPart) -> Question
+    requires { condition.index < seccomp_data_args }
+    ensures within { word_of result.atom < 16 }
+    ensures word { word_of result.atom ≡ word_asked part (2 * condition.index + 4) }
+    ensures splits { let test = test_of condition in
+        (n : ℕ) → n < 2 ^ 64 → IsAtTest test.0 part n → Splits test part result n }
     ensures costs { CostsAt part result }
-    ensures keeps { IsPlainTest test → KeepsEither result.atom }
+    ensures keeps { IsPlainCondition condition → KeepsEither result.atom }
 {
+    let (test, expected) = condition.test();
+    let low = 2 * condition.index + 4;
     let high = low + 1;
     let (met, unmet) = (Decided(expected), Decided(!expected));
     match (part, test) {
@@ -138,19 +142,4 @@ fn ask_test(test: NumberTest, expected: bool, part: ConditionPart, low: u8) -> Q
             ask(Atom::Ge { word: low, value }, met, unmet)
         }
     }
-}
-
-/// The question of one part of a condition.
-#[tactic(auto, using(scf_profile::proofs::NumberTests::plain_of))]
-pub(crate) fn question_of(condition: Condition, part: ConditionPart) -> Question
-    requires { condition.index < seccomp_data_args }
-    ensures within { word_of result.atom < 16 }
-    ensures word { word_of result.atom ≡ word_asked part (2 * condition.index + 4) }
-    ensures splits { let test = test_of condition in
-        (n : ℕ) → n < 2 ^ 64 → IsAtTest test.0 part n → Splits test part result n }
-    ensures costs { CostsAt part result }
-    ensures keeps { IsPlainCondition condition → KeepsEither result.atom }
-{
-    let (test, expected) = condition.test();
-    ask_test(test, expected, part, 2 * condition.index + 4)
 }

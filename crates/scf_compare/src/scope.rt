@@ -1,9 +1,9 @@
 //! The scope of a comparison.
 
 ghost use Rattle.std.specs.Prelude.{◌≡◌, ◌↔◌, ℕ, List, IsTrue, IfOk, slice_index};
-ghost use Rattle.scf_insn.specs.Words.{IsWords};
+ghost use Rattle.scf_insn.specs.Architectures.{IsOf};
+ghost use Rattle.scf_insn.specs.Words.{IsWords, call_of};
 ghost use Rattle.scf_profile.specs.Scope.{IsInScope};
-ghost use Rattle.scf_compare.specs.internal.ScopeWords.{AreWordsOf};
 
 use crate::asking::{number_from, word_is};
 use scf_facts::{Atom, WordFacts};
@@ -16,7 +16,8 @@ use std::alloc::Global;
 #[tactic(auto, using(crate::proofs::Bits::whole_words))]
 pub(crate) fn facts_of<F: WordFacts>(alloc: Global, scope: Scope) -> Result<F, Memory>
     ensures unmarked { IfOk result (λ facts. F.level facts ≡ 0) }
-    ensures scope { IfOk result (λ facts. (words : List ℕ) → F.allows facts 0 words ↔ AreWordsOf scope words) }
+    ensures scope { IfOk result (λ facts. (words : List ℕ)
+        → F.allows facts 0 words ↔ (IsWords words × IsInScope scope (call_of words))) }
     ensures exact { IfOk result (λ facts. IsTrue F.starts_exact → IsTrue (F.is_exact facts 0)) }
 {
     match scope {
@@ -69,7 +70,7 @@ fn facts_of_architecture<F: WordFacts>(
 ) -> Result<F, Memory>
     ensures unmarked { IfOk result (λ facts. F.level facts ≡ 0) }
     ensures scope { IfOk result (λ facts. (words : List ℕ)
-        → F.allows facts 0 words ↔ AreWordsOf (Scope.Of architecture) words) }
+        → F.allows facts 0 words ↔ (IsWords words × IsOf architecture (call_of words))) }
     ensures exact { IfOk result (λ facts. IsTrue F.starts_exact → IsTrue (F.is_exact facts 0)) }
 {
     let reaches_first = number_from(architecture.first());
@@ -106,7 +107,8 @@ fn facts_of_numbers<F: WordFacts>(
 ) -> Result<F, Memory>
     ensures unmarked { IfOk result (λ facts. F.level facts ≡ 0) }
     ensures scope { IfOk result (λ facts. (words : List ℕ)
-        → F.allows facts 0 words ↔ AreWordsOf (Scope.NumbersOf architecture first last) words) }
+        → F.allows facts 0 words
+        ↔ (IsWords words × IsInScope (Scope.NumbersOf architecture first last) (call_of words))) }
     ensures exact { IfOk result (λ facts. IsTrue F.starts_exact → IsTrue (F.is_exact facts 0)) }
 {
     let is_past_last = Atom::Gt {

@@ -67,27 +67,17 @@ fn paths_of_all(filters: &[Program]) -> u64
     product
 }
 
-/// The size of the tree of paths.
+/// The size of the tree of paths, from that of the last instruction on: jumps go forward.
 fn paths_of(insns: &[Insn]) -> u64
     requires { IsValidList insns.now }
     ensures { result ≡ saturated (tree_size insns.now 0) }
 {
     let mut sizes = [0; BPF_MAXINSNS];
-    fill_sizes(insns, &mut sizes);
-    sizes[0]
-}
-
-/// Computes the size of the tree of paths from each instruction, the last one first: jumps go forward.
-fn fill_sizes(insns: &[Insn], sizes: &mut [u64])
-    requires valid { IsValidList insns.now }
-    requires room { length insns.now ≤ length sizes.old }
-    ensures { (index : ℕ) → index < length insns.now
-        → slice_index sizes.new index ≡ saturated (tree_size insns.now index) }
-{
     for index in (0..insns.len()).rev() {
-        let size = size_at(insns, index, sizes);
+        let size = size_at(insns, index, &sizes);
         sizes[index] = size;
     }
+    sizes[0]
 }
 
 /// The size of the tree of paths from an index, given those from all later ones.

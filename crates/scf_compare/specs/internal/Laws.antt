@@ -54,8 +54,7 @@ index_counts (i ∷ insns) (suc index) = index_counts insns index
 -- each node of a filter's tree counts
 pub node_counts : (insns : List Insn) (registers : KnownRegisters) (node : FilterNode)
     → 0 < (filter_tree insns registers).size node
-node_counts insns registers (At index) = index_counts insns index
-node_counts insns registers (Stopped answer at) = omega arith
+node_counts insns registers node = grind (arith, index_counts)
 
 pub paths_count : (filters : List (List Insn)) → 0 < stack_paths filters
 paths_count [] = omega arith
@@ -67,9 +66,8 @@ pub stack_node_counts : (filters : List (List Insn)) (registers : KnownRegisters
     → 0 < (stack_tree filters registers).size node
 stack_node_counts filters registers Empty = omega arith
 stack_node_counts filters registers (InStack index older node) =
-    let here = filter_at filters index in
     let behind = drop (index + 1) filters in
-    scaled_counts (filter_size here node) (stack_paths behind) (node_counts here registers node) (paths_count behind)
+    scaled_counts _ (stack_paths behind) (node_counts (filter_at filters index) registers node) (paths_count behind)
 
 -- each node of a profile's tree counts
 pub profile_node_counts : (s : NumberedProfile) (node : ProfileNode) → 0 < (profile_tree s).size node
@@ -79,8 +77,7 @@ pub spread_counts : (rules : List Rule) → 0 < spread rules
 spread_counts rules = omega arith
 
 pub side_size_counts : (side : Side) → 0 < (behavior_of side).size
-side_size_counts (Stack filters) = paths_count filters.now
-side_size_counts (OfProfile p) = spread_counts p.now.rules
+side_size_counts side = grind (arith, paths_count, spread_counts)
 
 -- each node of a pair counts, where those of both sides do
 pub pair_counts : {K M A B : Type 0} (compared : Compared) (left : K → Tree A) (right : M → Tree B)

@@ -8,9 +8,6 @@ use Rattle.scf_compare.specs.Findings.{Compared}
 use Rattle.scf_compare.specs.internal.Leaves.{IsSideLeaf, KnowsAnswer, SideTells}
 use Rattle.scf_compare.specs.internal.Trees.{Tree}
 
-abbrev pub pair_known : {K M : Type 0} → K → M → PairKnown K M
-pair_known left right = record { left = left; right = right }
-
 module _ {K M A B : Type 0} (compared : Compared) (left : K → Tree A) (right : M → Tree B) where
   abbrev pub pair_is_node : PairKnown K M → PairNode A B → Type 0
   pair_is_node known (AtLeft node) = (left known.left).is_node node

@@ -1,5 +1,5 @@
 use Rattle.scf_compare.proofs.Common.{◌≡◌, ◌≤◌, ◌<◌, ℕ, length, slice_index, saturated, tree_size}
-use Rattle.scf_compare.proofs.tree_sizes.fill_sizes.Given as goal
+use Rattle.scf_compare.proofs.tree_sizes.paths_of.Given as goal
 
 abbrev pub invariant-loop-index : goal.invariant-loop-index
 invariant-loop-index l =
