@@ -62,16 +62,11 @@ size_later (y ∷ insns) (suc index) k =
     let more : suc (index + k) ≡ suc index + k = omega arith in
     size_later insns index k ∙ ap (tree_size (y ∷ insns)) more
 
-size_in_flow : (insns : List Insn) (index : ℕ) (i : Insn) (operation : Operation)
-    → size_of_insn (Some operation) i (tree_sizes (drop (suc index) insns))
-    ≡ size_of_flow (control_flow_at operation i index) (tree_size insns)
-size_in_flow insns index i operation = grind (arith, size_later insns (suc index))
-
 -- the size at an index, by how its instruction goes on
 pub size_by_flow : (insns : List Insn) (index : ℕ) (i : Insn) (operation : Operation) → Stands insns index i operation
     → tree_size insns index ≡ size_of_flow (control_flow_at operation i index) (tree_size insns)
 size_by_flow insns index i operation stands =
-    rw (size_here insns index i stands.here, stands.known) (size_in_flow insns index i operation)
+    rw (size_here insns index i stands.here, stands.known) (grind (arith, size_later insns (suc index)))
 
 -- ---- plain programs
 
@@ -91,5 +86,5 @@ pub plain_flow : (insns : List Insn) (index : ℕ) (i : Insn) (operation : Opera
 plain_flow insns index i operation plain stands =
     let insn = All-contains IsPlainInsn insns i plain (contains_here insns index i stands.here) in grind arith
 
--- the instruction that is read has an operation
-pub ruleset operations = (has_operation, slice_get-get_or)
+-- the instruction that is read has an operation, and leads to indices inside the program
+pub ruleset reads = (has_operation, slice_get-get_or, inside_at, size_by_flow)

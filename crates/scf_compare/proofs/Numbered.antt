@@ -1,7 +1,7 @@
 -- A profile's numbers: which rules a call can still meet, and how many steps the numbers take.
 use Rattle.scf_compare.proofs.Common.{drop-drop, ◌-◌, ◌≡◌, ◌≢◌, ℕ, ◌+◌, ◌<◌, ◌≤◌, false, true, eqb, List, [], Some, length, map, drop, get_or, sym, ap, arith, inl, inr, slice_get, slice_get-get_or, slice_get-map, slice_get_within, get_or_from_slice_get, get_or-take, length-take, take_all, eqb-true, All, All-contains, All-contains_itself, All-filter, filter_passes, contains_filtered, Contains, CallRecord, Condition, NotEqual, NumberRules, Rule, IsOf, ProfileAnswers, by_rule, by_default, meets, rules_of, AreNumbersOf, number_among, numbers_rise, sum_of_own, sum_by-drop_more, sum_by-take-drop, conditions_size, rules_size, numbers_size, own_conditions, own_rules, size_behind, IsAtCondition, IsAtRule, IsFrom, ConditionPosition, IsNumbered, NumberedProfile}
 use Rattle.scf_compare.specs.Effort.{spread}
-use Rattle.scf_compare.proofs.Rules.{contains_here, met_by, rules_more, unmet_apart}
+use Rattle.scf_compare.proofs.Rules.{contains_here, rules_more, unmet_apart}
 
 -- ---- what is read
 
@@ -60,7 +60,7 @@ module _ (s : NumberedProfile) (call : CallRecord) where
       let own = own_rule call.nr s.profile.rules r
       (rw is.at_rule.own (contains_here (own_rules s.numbers at.number) at.rule r here)) in
       let held = rw (conditions_read s.numbers at r here, take_all at.condition r.conditions all) at is.held in
-      by_rule r is.at_rule.is_of own.0 (met_by s.profile.architecture call r (sym own.1) held)
+      by_rule r is.at_rule.is_of own.0 (grind arith)
 
   -- a call of the architecture that meets none of the rules of its number
   unmet_own : IsOf s.profile.architecture call

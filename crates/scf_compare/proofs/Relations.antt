@@ -3,10 +3,6 @@ use Rattle.scf_compare.specs.SideLaws.{IsSide}
 use Rattle.scf_compare.specs.declared.side.Side.TheVariants.{Stack, Profile as OfProfile}
 use Rattle.scf_compare.proofs.Common.{Side, behavior_of, call_of-words_of, ◌≡◌, ◌≤◌, ℕ, List, arith, subst, Disposition, Insn, CallRecord, permissiveness_of, disposition_of, IsRecord, words_of, StackAnswers, stack_answer_once, Profile, HaveNoConflict, ProfileAnswers, AnswersRelated, one_answer, Relation, Same, NoMore, NoLess, Scope, IsRelated, IsInScope, RelatedAnswersIn}
 
-pub all_related : (relation : Relation) (filters : List (List Insn)) (p : Profile) (scope : Scope)
-    → RelatedAnswersIn Same scope (StackAnswers filters) p → RelatedAnswersIn relation scope (StackAnswers filters) p
-all_related relation filters p scope same = grind arith
-
 -- the relation holds of the two answers to a call, of which there are no others
 pub related_here : (relation : Relation) (filters : List (List Insn)) (p : Profile) (call : CallRecord)
     (filter profile : ℕ)

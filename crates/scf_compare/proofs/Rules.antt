@@ -10,13 +10,6 @@ module _ (architecture : Architecture) (call : CallRecord) where
   pub unmet_apart : (r : Rule) → call.nr ≢ r.number → meets architecture r call ≡ false
   unmet_apart r apart = rw (ne_eqb call.nr r.number apart)
 
-  pub unmet_failing : (r : Rule) → all_hold architecture call r.conditions ≡ false → meets architecture r call ≡ false
-  unmet_failing r fails = grind arith
-
-  pub met_by : (r : Rule) → call.nr ≡ r.number → all_hold architecture call r.conditions ≡ true
-      → meets architecture r call ≡ true
-  met_by r same hold = grind arith
-
   module _ (conditions : List Condition) (i : ℕ) (c : Condition) (here : slice_get conditions i ≡ Some c) where
     pub held_more : all_hold architecture call (take i conditions) ≡ true
         → condition_holds c (argument_in architecture call c.index) ≡ true
@@ -67,6 +60,3 @@ pub read_at : {X : Type 0} (read xs : List X) (index : ℕ) (x : X) → read ≡
 read_at read xs index x same inside is =
     slice_get_read xs (length read) index x (ap length same) inside
     (is ∙ ap (λ (l : List _). get_or l index x) same)
-
-pub some_of : (n : ℕ) (b : Bool) → b ≡ eqb n 0 → b ≡ false → 0 < n
-some_of n b e f = grind arith

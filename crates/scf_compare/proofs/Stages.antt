@@ -1,17 +1,6 @@
 -- From one stage of an exploration to the next.
 use Rattle.scf_compare.proofs.Common.{◌≡◌, ◌∙◌, ℕ, ◌<◌, ◌≤◌, List, [], ap, inl, inr, length, sym, arith, IfSome, Option, None, IsWords-words_of, call_of-words_of, words_of, AllRelated, Store, Frontier, Finding, Which, AreWordsIn, Compared, IsFirstUndecided, WereSeen, IsFrontier, GoesOver, Tree, finding_of_all}
-use Rattle.scf_compare.specs.declared.step.Step.TheVariants.{Next}
-use Rattle.scf_compare.specs.internal.Leaves.{pair_leaves}
 use Rattle.scf_compare.specs.internal.Stages.{IsExplored, IsFound}
-use Rattle.scf_compare.specs.internal.Trees.{IsStep}
-
--- a step to the only next node
-pub passed : {F K N : Type 0} (store : Store F) (compared : Compared) (tree : K → Tree N) (frontier : Frontier F K N)
-    (here : Tree N) (from : N) (there : Tree N) (found : Option (Which × ℕ)) (next : N)
-    → IsFrontier store tree (AreWordsIn compared) frontier
-    → IsStep (pair_leaves compared) (store.allows frontier.facts (store.level frontier.facts)) here from there (Next next)
-    → GoesOver store compared tree frontier frontier here from there found next
-passed store compared tree frontier here from there found next f step = grind arith
 
 -- A walk that begins has no branch open, and the words of the scope ahead.
 pub begun : {F K N : Type 0} (store : Store F) (tree : K → Tree N) (scope : List ℕ → Type 0) (frontier : Frontier F K N)

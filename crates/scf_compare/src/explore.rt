@@ -98,7 +98,6 @@ pub(crate) fn judge<C: Comparison, F: WordFacts>(
 
 /// One step of the walk from a node. A leaf is judged, and the newest open branch is taken. If the store doesn't decide
 /// the leaf, its side and instruction index are kept as the first undecided ones, unless there were some before.
-#[tactic(auto, using(crate::proofs::Stages::passed))]
 fn advance<C: Comparison, F: WordFacts>(
     comparison: &C,
     frontier: &mut Frontier<F, C::Known, C::Node>,

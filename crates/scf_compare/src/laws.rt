@@ -21,7 +21,6 @@ ghost use Rattle.scf_profile.specs.Scope.{IsInScope, RelatedAnswersIn, SameAnswe
 use scf_profile::{Relation, Scope};
 
 /// A stack that answers as a profile does is no more permissive of any syscall than the profile, and no less.
-#[tactic(auto, using(crate::proofs::Relations::all_related))]
 pub fn same_is_no_more_and_no_less()
     ensures no_more { (filters : List (List Insn)) (p : Profile) (scope : Scope)
         → SameAnswersIn scope (StackAnswers filters) p

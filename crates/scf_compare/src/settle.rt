@@ -42,7 +42,6 @@ fn difference_of<C: Comparison>(comparison: &C, fixed: &FixedBits) -> Option<Fin
 
 /// Splits on a bit that isn't fixed yet, if a split is left: opens a branch where the bit is clear, and learns that it
 /// is set. Both begin at the root.
-#[tactic(auto, using(crate::proofs::Budgets::none_left))]
 fn restart<C: Comparison, F: WordFacts>(
     settling: &Settling<'_, C>,
     frontier: &mut Frontier<F, C::Known, SettlingNode<C::Node>>,
@@ -92,7 +91,6 @@ fn restart<C: Comparison, F: WordFacts>(
 
 /// One step of the second walk, if the budget suffices. At a test that no atom decides, and at a leaf where the store
 /// doesn't decide the answers, it splits.
-#[tactic(auto, using(crate::proofs::Stages::passed))]
 fn advance_again<C: Comparison, F: WordFacts>(
     settling: &Settling<'_, C>,
     frontier: &mut Frontier<F, C::Known, SettlingNode<C::Node>>,
@@ -151,7 +149,7 @@ fn advance_again<C: Comparison, F: WordFacts>(
 
 /// Walks the whole tree from a node again, with splits. The finding is `Holds`, with these steps, or `Fails`; there is
 /// none only if the budget was used up.
-#[tactic(auto, using(crate::proofs::Budgets::walks))]
+#[tactic(auto, using(crate::proofs::Budgets::at_end))]
 pub(crate) fn settle<C: Comparison, F: WordFacts>(
     alloc: Global,
     comparison: &C,

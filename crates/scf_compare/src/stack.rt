@@ -45,7 +45,6 @@ impl SideTree for StackSide<'_> {
 
     ghost tree = { λ side. stack_tree side.filters.now };
 
-    #[tactic(auto, using(crate::proofs::Rules::some_of))]
     fn start(&self) -> (KnownRegisters, StackNode) {
         if self.filters.is_empty() {
             return (KnownRegisters::at_start(None), Empty);

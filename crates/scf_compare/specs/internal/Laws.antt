@@ -42,13 +42,10 @@ scaled_counts a scale h s =
     let all : scale * 1 ≤ scale * a = mul-le-mul_left scale h in
     omega arith
 
-insn_counts : (operation : Option Operation) (i : Insn) (later : List ℕ) → 0 < size_of_insn operation i later
-insn_counts operation i later = grind arith
-
 pub index_counts : (insns : List Insn) (index : ℕ) → 0 < tree_size insns index
 unfolding tree_sizes
 index_counts [] index = omega arith
-index_counts (i ∷ insns) zero = insn_counts (operation_of i.code) i (tree_sizes insns)
+index_counts (i ∷ insns) zero = grind arith
 index_counts (i ∷ insns) (suc index) = index_counts insns index
 
 -- each node of a filter's tree counts

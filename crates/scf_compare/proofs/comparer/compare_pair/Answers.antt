@@ -1,6 +1,6 @@
 use Rattle.std.specs.Prelude.{unwrap_or}
 use Rattle.scf_compare.proofs.Common.{ℕ, ◌⊎◌, AllRelated, Compared, Finding, IfSome, IsFindingDecided, IsTrue, None, Option, Some, Which, arith, compared_in, inl, refl}
-use Rattle.scf_compare.proofs.Budgets.{none_taken, settled_below, undecided_below}
+use Rattle.scf_compare.proofs.Budgets.{settled_below, undecided_below}
 use Rattle.scf_compare.specs.declared.budget.Limit.{Limit}
 use Rattle.scf_compare.specs.internal.Budgets.{LeavesSteps}
 use Rattle.scf_compare.specs.declared.finding.Finding.TheVariants.{Holds, Undecided}
@@ -21,12 +21,6 @@ weaker explored to = record {
   known = explored.known;
 }
 
--- what decides was explored in the steps of the first walk
-settled_explored : (compared : Compared) (given : Type 0) (limit effort taken at : ℕ) (side : Which) (finding : Finding)
-    → IsExplored compared given limit effort taken (Undecided side at) → IsSettled compared taken finding
-    → IsExplored compared given limit effort taken finding × IsFindingDecided (AllRelated compared) limit effort finding
-settled_explored compared given limit effort taken at side finding first is = grind arith
-
 -- what a second walk makes of a comparison that the first one leaves undecided
 settled_comparison : (compared : Compared) (is_complete : Type 0) (limit taken left_below at : ℕ) (budget : Limit)
     (side : Which) (settled : Option Finding)
@@ -40,12 +34,11 @@ settled_comparison compared is_complete limit taken left_below at budget side No
   settled = λ unlimited. absurd (rw unlimited at left);
   below = undecided_below budget.splits budget.steps left_below side at left;
 }
-settled_comparison compared is_complete limit taken left_below at budget side (Some finding) first is left =
-    let both = settled_explored compared _ limit (effort_between compared) taken at side finding first is in record {
-      explored = both.0;
-      settled = λ _. both.1;
-      below = settled_below compared budget.splits budget.steps left_below taken finding is left;
-    }
+settled_comparison compared is_complete limit taken left_below at budget side (Some finding) first is left = record {
+  explored = grind arith;
+  settled = λ _. grind arith;
+  below = settled_below compared budget.splits budget.steps left_below taken finding is left;
+}
 
 pub returns-in_ok-settled-in-Undecided-2 : goal.returns-in_ok-settled-in-Undecided-2
 returns-in_ok-settled-in-Undecided-2 g c =
@@ -64,4 +57,4 @@ returns-in-Undecided g c =
     settled_comparison _ _ c.args.limit c.explore.new.taken c.args.budget.now.steps undecided.at c.args.budget.now
     undecided.side (Some (Holds c.explore.new.taken))
     (weaker first (λ given. (c.in_ok-facts.ensures.exact given.0, (c.start.ensures.plain given.1, given.2))))
-    (inl (refl, c.requires c.if-is_same.true)) (none_taken c.args.budget.now.splits c.args.budget.now.steps _)
+    (inl (refl, c.requires c.if-is_same.true)) (grind arith)

@@ -1,5 +1,4 @@
 use Rattle.scf_compare.proofs.Common.{None, arith, inl, inr, refl}
-use Rattle.scf_compare.proofs.Budgets.{after_turn}
 use Rattle.scf_compare.proofs.Stages.{all_related}
 use Rattle.scf_compare.proofs.settle.settle.Goals as goal
 
@@ -15,7 +14,7 @@ loop-settling-preserved g c =
             | inl seen ↦ inl seen
             | inr ahead ↦ on.words words ahead
           ];
-      budget = grind (arith, after_turn);
+      budget = grind arith;
     }
 
 pub returns-in-Some-AllSeen-clause-settled : goal.returns-in-Some-AllSeen-clause-settled

@@ -4,12 +4,6 @@ use Rattle.scf_compare.proofs.Stacks.{is_stack_leaf, paths_from, side_leaf}
 use Rattle.scf_compare.specs.internal.Laws.{scaled_counts}
 use Rattle.scf_compare.proofs.stack.step_from.Goals as goal
 
-whole_cost : (filters : List (List Insn)) (index n whole : ℕ) → 1 ≤ n
-    → n * stack_paths (drop (index + 1) filters) ≤ whole → 1 ≤ whole
-whole_cost filters index n whole cost most =
-    let newer = drop (index + 1) filters in
-    omega (arith, scaled_counts n (stack_paths newer) cost (paths_count newer))
-
 -- the end of a filter's tree is one of the stack, and so is the end at which all filters so far decide
 pub returns-then-index-filters : goal.returns-then-index-filters
 returns-then-index-filters g c =
@@ -28,7 +22,9 @@ returns-then-index-filters g c =
           (step.leads words w before.1));
       costs = omega (
         arith,
-        whole_cost filters index (filter_size (filter_at filters index) c.loop-next.node) _ step.costs so_far.size,
+        scaled_counts (filter_size (filter_at filters index) c.loop-next.node) (stack_paths (drop (index + 1) filters))
+            step.costs (paths_count (drop (index + 1) filters)),
+        so_far.size,
       );
       plain = λ plain.
           let before = so_far.plain plain in

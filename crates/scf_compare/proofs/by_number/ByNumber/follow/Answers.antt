@@ -1,10 +1,10 @@
 -- Where the successors of a condition lead.
-use Rattle.scf_compare.proofs.Common.{◌≡◌, Bool, true, ℕ, List, sym, ◌∙◌, get_or, false, slice_get-get_or, IsWords, Architecture, Condition, argument_in, row_of, call_of, meets, own_conditions, own_rules}
+use Rattle.scf_compare.proofs.Common.{arith, ◌≡◌, Bool, true, ℕ, List, sym, ◌∙◌, get_or, false, slice_get-get_or, IsWords, Architecture, Condition, argument_in, row_of, call_of, meets, own_conditions, own_rules}
 use Rattle.scf_profile.proofs.NumberTests.{decides}
 use Rattle.scf_profile.specs.Condition.{condition_holds}
 use Rattle.scf_profile.specs.NumberTests.{comes_to, test_of}
 use Rattle.scf_compare.proofs.Halves.{argument_fits}
-use Rattle.scf_compare.proofs.Rules.{all_more, fails_by, held_more, unmet_failing}
+use Rattle.scf_compare.proofs.Rules.{all_more, fails_by, held_more}
 use Rattle.scf_compare.proofs.Numbered.{conditions_read, no_rule}
 use Rattle.scf_compare.proofs.by_number.ByNumber.follow.Goals as goal
 
@@ -42,5 +42,5 @@ returns-in-Decided-false-clause-reached c = λ words condition w here at. rw c.i
       own = at.at_rule.own;
       unmet =
           all_more (λ earlier. meets architecture earlier call ≡ false) rules c.args.at.rule rule stands at.at_rule.unmet
-          (unmet_failing architecture call rule fails);
+          (grind arith);
     }))
