@@ -1,5 +1,5 @@
 -- The rules of a profile and their conditions, one after another.
-use Rattle.scf_compare.proofs.Common.{drop-cons, ◌≡◌, ◌≢◌, ℕ, suc, ◌+◌, ◌*◌, ◌<◌, Bool, true, false, eqb, List, [], ◌∷◌, ◌++◌, Some, length, take, drop, get_or, ap, ◌∙◌, arith, slice_get, All, Contains, ne_eqb, All-push, get_or_from_slice_get, add-one, slice_get_read, slice_get_within, Architecture, argument_in, CallRecord, Condition, Rule, all_hold, meets, conditions_size, rules_size}
+use Rattle.scf_compare.proofs.Common.{drop-cons, ◌≡◌, ◌≢◌, ℕ, suc, ◌+◌, ◌*◌, ◌<◌, true, false, List, [], ◌∷◌, ◌++◌, Some, length, take, drop, get_or, ap, ◌∙◌, arith, slice_get, All, Contains, ne_eqb, All-push, get_or_from_slice_get, add-one, slice_get_read, slice_get_within, Architecture, argument_in, CallRecord, Condition, Rule, all_hold, meets, conditions_size, rules_size}
 use Rattle.std.proofs.Math.Seq.{take-suc}
 use Rattle.std.proofs.lemmas.List.Folds.{list_all_at, list_all_more}
 use Rattle.scf_profile.specs.Condition.{condition_holds}

@@ -1,5 +1,5 @@
 -- From one stage of an exploration to the next.
-use Rattle.scf_compare.proofs.Common.{◌≡◌, ◌∙◌, ℕ, ◌<◌, ◌≤◌, List, [], ap, inl, inr, length, sym, arith, IfSome, Option, None, IsWords-words_of, call_of-words_of, words_of, AllRelated, Store, Frontier, Finding, Which, AreWordsIn, Compared, IsFirstUndecided, WereSeen, IsFrontier, GoesOver, Tree, finding_of_all}
+use Rattle.scf_compare.proofs.Common.{◌≡◌, ◌∙◌, ℕ, ◌<◌, ◌≤◌, List, [], ap, inl, inr, length, sym, arith, IfSome, Option, None, IsWords-words_of, call_of-words_of, words_of, AllRelated, Store, Frontier, Finding, Which, AreWordsIn, Compared, IsFirstUndecided, WereSeen, IsFrontier, Tree, finding_of_all}
 use Rattle.scf_compare.specs.internal.Stages.{IsExplored, IsFound}
 
 -- A walk that begins has no branch open, and the words of the scope ahead.

@@ -1,5 +1,5 @@
 -- A finding on filters and a profile is a verdict on them.
-use Rattle.scf_compare.proofs.Common.{Finding, ◌≡◌, ℕ, zero, suc, List, Contains, sym, arith, [], ◌∷◌, Insn, call_of-words_of, Profile, SameAnswers, RunAnswers, StackAnswers, one_answers, Relation, Scope, Verdict, RelatedAnswersIn, SameAnswersIn, CanEndAt, StackCanEndAt, IsTrueOf, IsTrueOfStackBy, IsDecided, AllRelated, IsTrueFinding, EndsWith, IsFilterEnd, control_flow_at, compared_in, finding_of, profile_behavior, stack_behavior, IsStackLeaf}
+use Rattle.scf_compare.proofs.Common.{Finding, ◌≡◌, ℕ, zero, suc, List, Contains, sym, arith, [], ◌∷◌, Insn, call_of-words_of, Profile, SameAnswers, RunAnswers, StackAnswers, one_answers, Relation, Scope, Verdict, RelatedAnswersIn, SameAnswersIn, IsTrueOf, IsTrueOfStackBy, IsDecided, AllRelated, IsTrueFinding, compared_in, finding_of, profile_behavior, stack_behavior}
 use Rattle.scf_compare.specs.internal.Leaves.{IsOnTheLeft}
 use Rattle.scf_profile.specs.declared.scope.Scope.TheVariants.{All}
 use Rattle.scf_profile.specs.declared.relation.Relation.TheVariants as relations

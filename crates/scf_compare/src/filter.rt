@@ -1,15 +1,12 @@
 //! A filter as a tree of questions: its paths are followed with what is known of the registers.
 
-ghost use Rattle.std.specs.Prelude.{◌≡◌, ◌<◌, ℕ, List, length};
+ghost use Rattle.std.specs.Prelude.{◌≡◌, ℕ, List};
 ghost use Rattle.scf_insn.specs.Words.{IsWords};
-ghost use Rattle.scf_machine.specs.Machine.{RunsSafely};
 ghost use Rattle.scf_machine.specs.Plain.{IsPlainProgram};
-ghost use Rattle.scf_machine.specs.Rules.{IsValidList};
 ghost use Rattle.scf_compare.specs.Paths.{tree_size};
 ghost use Rattle.scf_compare.specs.internal.Filters.{IsStepOf, leaves_of_filter, filter_is_node, filter_is_plain};
 ghost use Rattle.scf_compare.specs.internal.Filters.{filter_reaches, filter_size, filter_tree};
 ghost use Rattle.scf_compare.specs.internal.Trees.{IsStep};
-ghost use Rattle.scf_compare.specs.internal.Values.{AreValues};
 
 use crate::control_flow::ControlFlow;
 use crate::registers::KnownRegisters;
@@ -18,7 +15,7 @@ use crate::sources::OpenTest;
 use crate::step::Step;
 use crate::value::{Decision, Value};
 use scf_facts::WordFacts;
-use scf_insn::{Answer, Insn, Test};
+use scf_insn::{Answer, Test};
 use scf_machine::Program;
 
 /// An instruction index, or the leaf of a division by 0.
@@ -43,6 +40,7 @@ pub(crate) fn start_in_filter(
 }
 
 /// The step from a node of a filter, and what is known of its registers after it.
+#[tactic(auto, using(crate::proofs::ControlFlows::load_fits, crate::proofs::ControlFlows::scratch_fits))]
 pub(crate) fn step_in_filter<F: WordFacts>(
     program: &Program,
     facts: &F,
@@ -55,61 +53,44 @@ pub(crate) fn step_in_filter<F: WordFacts>(
         (filter_tree program.now registers.old) node (filter_tree program.now registers.new) result }
 {
     match node {
-        FilterNode::At(index) => step_at(program.insns(), facts, index, registers),
+        FilterNode::At(index) => {
+            let (insn, operation, control_flow) = ControlFlow::at(program.insns(), index);
+            match control_flow {
+                ControlFlow::FallThrough(next) => {
+                    registers.apply(facts, insn, operation);
+                    Step::Next(FilterNode::At(next))
+                }
+                ControlFlow::Jump(target) => Step::Next(FilterNode::At(target)),
+                ControlFlow::ConditionalJump(test, operand, if_true, if_false) => {
+                    if if_true == if_false {
+                        return Step::Next(FilterNode::At(if_true));
+                    }
+                    let decision = registers
+                        .a
+                        .decide(facts, test, registers.operand(operand, insn));
+                    registers.note_open(decision);
+                    step_by(decision, FilterNode::At(if_true), FilterNode::At(if_false))
+                }
+                ControlFlow::DivideByIndex(next) => {
+                    let decision = registers.x.decide(facts, Test::Equal, Value::Known(0));
+                    let stopped = FilterNode::Stopped(Answer(0), index);
+                    registers.note_open(decision);
+                    registers.apply(facts, insn, operation);
+                    step_by(decision, stopped, FilterNode::At(next))
+                }
+                ControlFlow::ReturnConstant => Step::Leaf(SideLeaf {
+                    answer: Some(Answer(insn.k)),
+                    at: index,
+                }),
+                ControlFlow::ReturnAccumulator => Step::Leaf(SideLeaf {
+                    answer: registers.answer(facts),
+                    at: index,
+                }),
+            }
+        }
         FilterNode::Stopped(answer, at) => Step::Leaf(SideLeaf {
             answer: Some(answer),
             at,
-        }),
-    }
-}
-
-/// The step from the instruction at an index, and what is known of the registers after it.
-#[tactic(auto, using(crate::proofs::ControlFlows::load_fits, crate::proofs::ControlFlows::scratch_fits))]
-fn step_at<F: WordFacts>(
-    insns: &[Insn],
-    facts: &F,
-    index: usize,
-    registers: &mut KnownRegisters,
-) -> Step<FilterNode, SideLeaf>
-    requires index { index < length insns.now }
-    requires valid { IsValidList insns.now }
-    requires safe { (words : List ℕ) → RunsSafely insns.now words }
-    requires values { AreValues registers.old }
-    ensures { IsStep (leaves_of_filter insns.now)
-        (λ words. IsWords words × F.allows facts.now (F.level facts.now) words)
-        (filter_tree insns.now registers.old) (FilterNode.At index) (filter_tree insns.now registers.new) result }
-{
-    let (insn, operation, control_flow) = ControlFlow::at(insns, index);
-    match control_flow {
-        ControlFlow::FallThrough(next) => {
-            registers.apply(facts, insn, operation);
-            Step::Next(FilterNode::At(next))
-        }
-        ControlFlow::Jump(target) => Step::Next(FilterNode::At(target)),
-        ControlFlow::ConditionalJump(test, operand, if_true, if_false) => {
-            if if_true == if_false {
-                return Step::Next(FilterNode::At(if_true));
-            }
-            let decision = registers
-                .a
-                .decide(facts, test, registers.operand(operand, insn));
-            registers.note_open(decision);
-            step_by(decision, FilterNode::At(if_true), FilterNode::At(if_false))
-        }
-        ControlFlow::DivideByIndex(next) => {
-            let decision = registers.x.decide(facts, Test::Equal, Value::Known(0));
-            let stopped = FilterNode::Stopped(Answer(0), index);
-            registers.note_open(decision);
-            registers.apply(facts, insn, operation);
-            step_by(decision, stopped, FilterNode::At(next))
-        }
-        ControlFlow::ReturnConstant => Step::Leaf(SideLeaf {
-            answer: Some(Answer(insn.k)),
-            at: index,
-        }),
-        ControlFlow::ReturnAccumulator => Step::Leaf(SideLeaf {
-            answer: registers.answer(facts),
-            at: index,
         }),
     }
 }

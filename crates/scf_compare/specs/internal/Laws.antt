@@ -1,12 +1,9 @@
 -- Laws that the trees are given with.
-use Rattle.std.specs.Prelude.{◌+◌, ◌*◌, ◌<◌, ◌≤◌, ℕ, List, [], ◌∷◌, Option, drop}
+use Rattle.std.specs.Prelude.{◌+◌, ◌*◌, ◌<◌, ◌≤◌, ℕ, List, [], ◌∷◌, drop}
 use Rattle.std.proofs.Common.{zero, suc, arith}
 use Rattle.std.proofs.Math.Nat.{mul-le-mul_left, one-le-pow}
 use Rattle.scf_insn.specs.declared.insn.Insn.{Insn}
-use Rattle.scf_insn.specs.declared.operation.Operation.{Operation}
-use Rattle.scf_insn.specs.Codes.{operation_of}
 use Rattle.scf_compare.specs.declared.filter.FilterNode.{FilterNode}
-use Rattle.scf_compare.specs.declared.filter.FilterNode.TheVariants.{At, Stopped}
 use Rattle.scf_compare.specs.declared.pair.PairKnown.{PairKnown}
 use Rattle.scf_compare.specs.declared.pair.PairNode.{PairNode}
 use Rattle.scf_compare.specs.declared.pair.PairNode.TheVariants.{AtLeft, AtRight}
@@ -18,10 +15,9 @@ use Rattle.scf_compare.specs.declared.profile.ProfileNode.{ProfileNode}
 use Rattle.scf_profile.specs.declared.rule.Rule.{Rule}
 use Rattle.scf_compare.specs.Effort.{spread, stack_paths}
 use Rattle.scf_compare.specs.internal.Profiles.{profile_tree}
-use Rattle.scf_compare.specs.internal.Filters.{filter_size, filter_tree}
-use Rattle.scf_compare.specs.Paths.{size_of_insn, tree_sizes, tree_size}
+use Rattle.scf_compare.specs.internal.Filters.{filter_tree}
+use Rattle.scf_compare.specs.Paths.{tree_sizes, tree_size}
 use Rattle.scf_compare.specs.declared.side.Side.{Side}
-use Rattle.scf_compare.specs.declared.side.Side.TheVariants.{Stack, Profile as OfProfile}
 use Rattle.scf_compare.specs.Findings.{Compared}
 use Rattle.scf_compare.specs.Sides.{behavior_of}
 use Rattle.scf_compare.specs.internal.Pairs.{pair_tree}

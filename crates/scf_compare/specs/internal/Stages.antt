@@ -1,5 +1,5 @@
 -- From one stage of an exploration to the next.
-use Rattle.std.specs.Prelude.{◌≡◌, ◌+◌, ◌≤◌, ◌⊎◌, ℕ, List, Option, Some, None}
+use Rattle.std.specs.Prelude.{◌+◌, ◌≤◌, ◌⊎◌, ℕ, List, Option, Some, None}
 use Rattle.scf_facts.specs.declared.word_facts.WordFacts.{Ghosts as Store}
 use Rattle.scf_compare.specs.declared.explore.Judged.{Judged}
 use Rattle.scf_compare.specs.declared.explore.Judged.TheVariants.{Related, Fails as ShownBy, Open}

@@ -1,5 +1,5 @@
 use Rattle.std.specs.Prelude.{unwrap_or}
-use Rattle.scf_compare.proofs.Common.{ℕ, ◌⊎◌, AllRelated, Compared, Finding, IfSome, IsFindingDecided, IsTrue, None, Option, Some, Which, arith, compared_in, inl, refl}
+use Rattle.scf_compare.proofs.Common.{ℕ, Compared, Finding, IfSome, None, Option, Some, Which, arith, inl, refl}
 use Rattle.scf_compare.proofs.Budgets.{settled_below, undecided_below}
 use Rattle.scf_compare.specs.declared.budget.Limit.{Limit}
 use Rattle.scf_compare.specs.internal.Budgets.{LeavesSteps}

@@ -1,4 +1,105 @@
+-- The successors of an instruction follow the runs that come to it, and their sizes are within its size.
+use Rattle.scf_compare.proofs.Common.{IsPlainValue, refl, subst, arith, rules, common_steps, IfSome_then, Answer, RunAnswers, filter_tree}
+use Rattle.scf_compare.proofs.ControlFlows.{plain_flow}
+use Rattle.scf_compare.proofs.Successors.{comes_noted, leads, step_leads}
 use Rattle.scf_compare.proofs.filter.step_in_filter.Goals as goal
 
-pub step_at-requires-clause-safe : goal.step_at-requires-clause-safe
-step_at-requires-clause-safe g c = λ words. rw c.insns.ensures.same (c.insns.ensures.safe words)
+pub returns-in-FallThrough : goal.returns-in-FallThrough
+returns-in-FallThrough g c =
+    let here = rw (c.insns.ensures.same, c.in-FallThrough.is) at c.at-operation.ensures in
+    rw c.in-At.is (record {
+      proper = search rules;
+      leads = λ words w r.
+          leads here.stands r (c.insns.ensures.safe words) _ here.control_flow _
+          (λ t. c.apply.ensures.describes words r.state t w.0 w.1 r.describes);
+      costs = omega (arith, here.size);
+      plain = λ plain. (
+        plain.0,
+        c.apply.ensures.plain (rw here.control_flow at (plain_flow _ _ _ _ plain.0 here.stands)),
+      );
+    })
+
+pub returns-in-Jump : goal.returns-in-Jump
+returns-in-Jump g c =
+    let here = rw (c.insns.ensures.same, c.in-Jump.is) at c.at-operation.ensures in
+    rw c.in-At.is (record {
+      proper = search rules;
+      leads = λ words w r. leads here.stands r (c.insns.ensures.safe words) _ here.control_flow;
+      costs = omega (arith, here.size);
+      plain = search rules;
+    })
+
+pub returns-then-if_true-if_false : goal.returns-then-if_true-if_false
+returns-then-if_true-if_false g c =
+    let here = rw (c.insns.ensures.same, c.in-ConditionalJump.is) at c.at-operation.ensures in
+    rw c.in-At.is (record {
+      proper = search rules;
+      leads = λ words w r.
+          let on = leads here.stands r (c.insns.ensures.safe words) _ here.control_flow in grind (arith, common_steps, on);
+      costs = omega (arith, here.size);
+      plain = search rules;
+    })
+
+pub returns-else-if_true-if_false : goal.returns-else-if_true-if_false
+returns-else-if_true-if_false g c =
+    let here = rw (c.insns.ensures.same, c.in-ConditionalJump.is) at c.at-operation.ensures in
+    rw c.in-At.is (record {
+      proper = search rules;
+      leads = λ words w r.
+          let on = leads here.stands r (c.insns.ensures.safe words) _ here.control_flow in
+          let operand = c.operand.ensures.stands words r.state r.describes in
+          let decides = c.decide-decision.ensures.decides words r.state.a _ w.0 w.1 r.describes.a operand in
+          let noted = c.note_open.ensures.describes words in
+          step_leads (filter_tree c.args.program.now c.note_open.new.self) _ words c.decide-decision.result _ _
+          c.step_by.result _ c.step_by.ensures decides (λ holds. comes_noted noted (on.0 holds))
+          (λ holds. comes_noted noted (on.1 holds));
+      costs = grind (arith, here.size);
+      plain = λ plain.
+          let branch = rw here.control_flow at (plain_flow _ _ _ _ plain.0 here.stands) in
+          let decided =
+          c.decide-decision.ensures.plain c.at-operation.result.0.k plain.1 (c.operand.ensures.constant branch.0)
+          branch.1 in
+          let accumulator : IsPlainValue c.note_open.new.self.a = rw c.note_open.ensures.accumulator plain.1 in
+          grind (arith, common_steps, c.step_by.ensures);
+    })
+
+pub returns-in-DivideByIndex : goal.returns-in-DivideByIndex
+returns-in-DivideByIndex g c =
+    let here = rw (c.insns.ensures.same, c.in-DivideByIndex.is) at c.at-operation.ensures in
+    rw c.in-At.is (record {
+      proper = search rules;
+      leads = λ words w r.
+          let on =
+          leads here.stands r (c.insns.ensures.safe words) _ here.control_flow _
+          (λ t. c.apply-in-DivideByIndex.ensures.describes words r.state t w.0 w.1
+          (c.note_open-in-DivideByIndex.ensures.describes words r.state r.describes)) in
+          step_leads (filter_tree c.args.program.now c.apply-in-DivideByIndex.new.self) _ words
+          c.decide-decision-in-DivideByIndex.result _ _ c.step_by-in-DivideByIndex.result _
+          c.step_by-in-DivideByIndex.ensures
+          (c.decide-decision-in-DivideByIndex.ensures.decides words r.state.x 0 w.0 w.1 r.describes.x refl) on.0 on.1;
+      costs = grind (arith, here.size);
+      plain = λ plain. absurd (rw here.control_flow at (plain_flow _ _ _ _ plain.0 here.stands));
+    })
+
+pub returns-in-ReturnConstant : goal.returns-in-ReturnConstant
+returns-in-ReturnConstant g c =
+    let here = rw (c.insns.ensures.same, c.in-ReturnConstant.is) at c.at-operation.ensures in
+    rw c.in-At.is (record {
+      proper = search rules;
+      leads = λ words w r. leads here.stands r (c.insns.ensures.safe words) _ here.control_flow;
+      costs = omega (arith, here.size);
+      plain = search rules;
+    })
+
+pub returns-in-ReturnAccumulator : goal.returns-in-ReturnAccumulator
+returns-in-ReturnAccumulator g c =
+    let here = rw (c.insns.ensures.same, c.in-ReturnAccumulator.is) at c.at-operation.ensures in
+    rw c.in-At.is (record {
+      proper = search rules;
+      leads = λ words w r.
+          let answered = leads here.stands r (c.insns.ensures.safe words) _ here.control_flow in
+          IfSome_then c.answer.result (c.answer.ensures words r.state w.1 r.describes)
+          (λ (answer : Answer) same. subst (RunAnswers c.args.program.now words) same answered);
+      costs = omega (arith, here.size);
+      plain = λ plain. absurd (rw here.control_flow at (plain_flow _ _ _ _ plain.0 here.stands));
+    })

@@ -1,5 +1,5 @@
 -- The steps of the filter that is asked are steps of the stack, and at its leaves the next one begins.
-use Rattle.scf_compare.proofs.Common.{[], ◌+◌, ◌*◌, ◌<◌, ◌≤◌, ℕ, List, length, drop, arith, take_all, mul-le-mul_left, Insn, stack_paths, filter_size, paths_count, filter_at}
+use Rattle.scf_compare.proofs.Common.{[], ◌+◌, ◌*◌, ◌<◌, ◌≤◌, length, drop, arith, take_all, mul-le-mul_left, stack_paths, filter_size, paths_count, filter_at}
 use Rattle.scf_compare.proofs.Stacks.{is_stack_leaf, paths_from, side_leaf}
 use Rattle.scf_compare.specs.internal.Laws.{scaled_counts}
 use Rattle.scf_compare.proofs.stack.step_from.Goals as goal
