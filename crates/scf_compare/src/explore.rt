@@ -126,15 +126,11 @@ fn advance<C: Comparison, F: WordFacts>(
             Ok(Stage::At(next))
         }
         Step::Leaf(leaf) => match judge(comparison, &frontier.facts, leaf) {
-            Judged::Related => {
-                let stage = take_branch(comparison, frontier, known)?;
-                Ok(stage)
-            }
+            Judged::Related => take_branch(comparison, frontier, known),
             Judged::Fails(finding) => Ok(Stage::Found(finding)),
             Judged::Open => {
                 *first_undecided = first_undecided.or(Some(open_end_of(comparison, leaf)));
-                let stage = take_branch(comparison, frontier, known)?;
-                Ok(stage)
+                take_branch(comparison, frontier, known)
             }
         },
     }

@@ -24,9 +24,8 @@ pub(crate) fn facts_of<F: WordFacts>(alloc: Global, scope: Scope) -> Result<F, M
         Scope::All => F::all(alloc),
         Scope::Native => facts_of_architecture(alloc, Architecture::X8664),
         Scope::Call(number) => {
-            let is_number = word_is(0, number);
             let mut of_call: F = facts_of_audit(alloc, AUDIT_ARCH_X86_64)?;
-            of_call.learn(is_number, true)?;
+            of_call.learn(word_is(0, number), true)?;
             Ok(of_call)
         }
         Scope::Numbers { first, last } => {
@@ -92,9 +91,8 @@ fn facts_of_audit<F: WordFacts>(alloc: Global, audit: u32) -> Result<F, Memory>
         → F.allows facts 0 words ↔ (IsWords words × (slice_index words 1 ≡ audit))) }
     ensures exact { IfOk result (λ facts. IsTrue F.starts_exact → IsTrue (F.is_exact facts 0)) }
 {
-    let is_audit = word_is(1, audit);
     let mut facts = F::all(alloc)?;
-    facts.learn(is_audit, true)?;
+    facts.learn(word_is(1, audit), true)?;
     Ok(facts)
 }
 

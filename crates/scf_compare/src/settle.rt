@@ -121,10 +121,7 @@ fn advance_again<C: Comparison, F: WordFacts>(
             Ok(Some(Stage::At(next)))
         }
         Step::Branch(None, if_true, if_false) => match fixed.next_bit(&frontier.facts, test) {
-            Some(bit) => {
-                let stage = restart(settling, frontier, known, node, fixed, bit, budget)?;
-                Ok(stage)
-            }
+            Some(bit) => restart(settling, frontier, known, node, fixed, bit, budget),
             None => {
                 let next = ask(settling, frontier, known, None, if_true, if_false)?;
                 Ok(Some(Stage::At(next)))
@@ -134,10 +131,7 @@ fn advance_again<C: Comparison, F: WordFacts>(
             Judged::Related => Ok(Some(take_branch(settling, frontier, known)?)),
             Judged::Fails(finding) => Ok(Some(Stage::Found(finding))),
             Judged::Open => match fixed.next_bit(&frontier.facts, test) {
-                Some(bit) => {
-                    let stage = restart(settling, frontier, known, node, fixed, bit, budget)?;
-                    Ok(stage)
-                }
+                Some(bit) => restart(settling, frontier, known, node, fixed, bit, budget),
                 None => match difference_of(settling, &fixed) {
                     Some(finding) => Ok(Some(Stage::Found(finding))),
                     None => Ok(Some(take_branch(settling, frontier, known)?)),

@@ -9,52 +9,41 @@ use Rattle.scf_compare.specs.internal.Settling.{IsSettled}
 use Rattle.scf_compare.specs.internal.Stages.{IsExplored}
 use Rattle.scf_compare.proofs.comparer.compare_pair.Goals as goal
 
--- what is given may be more
-weaker : {compared : Compared} {given more : Type 0} {limit effort taken : ℕ} {finding : Finding}
-    → IsExplored compared given limit effort taken finding → (more → given)
-    → IsExplored compared more limit effort taken finding
-weaker explored to = record {
-  holds = explored.holds;
-  within = explored.within;
-  steps = explored.steps;
-  decided = λ is. explored.decided (to is);
-  known = explored.known;
-}
-
 -- what a second walk makes of a comparison that the first one leaves undecided
-settled_comparison : (compared : Compared) (is_complete : Type 0) (limit taken left_below at : ℕ) (budget : Limit)
+settled_comparison : (compared : Compared) (is_complete given : Type 0) (limit taken left_below at : ℕ) (budget : Limit)
     (side : Which) (settled : Option Finding)
-    → IsExplored compared (is_complete × compared.left.is_plain × compared.right.is_plain) limit
-    (effort_between compared) taken (Undecided side at)
+    → IsExplored compared given limit (effort_between compared) taken (Undecided side at)
+    → (is_complete × compared.left.is_plain × compared.right.is_plain → given)
     → IfSome settled (IsSettled compared taken)
     → LeavesSteps budget.splits settled budget.steps left_below
     → IsComparison compared is_complete limit budget (unwrap_or settled (Undecided side at)) taken left_below
-settled_comparison compared is_complete limit taken left_below at budget side None first is left = record {
-  explored = first;
+settled_comparison compared is_complete given limit taken left_below at budget side None first to is left = record {
+  explored = grind arith;
   settled = λ unlimited. absurd (rw unlimited at left);
   below = undecided_below budget.splits budget.steps left_below side at left;
 }
-settled_comparison compared is_complete limit taken left_below at budget side (Some finding) first is left = record {
-  explored = grind arith;
-  settled = λ _. grind arith;
-  below = settled_below compared budget.splits budget.steps left_below taken finding is left;
-}
+settled_comparison compared is_complete given limit taken left_below at budget side (Some finding) first to is left =
+    record {
+      explored = grind arith;
+      settled = λ _. grind arith;
+      below = settled_below compared budget.splits budget.steps left_below taken finding is left;
+    }
 
 pub returns-in_ok-settled-in-Undecided-2 : goal.returns-in_ok-settled-in-Undecided-2
 returns-in_ok-settled-in-Undecided-2 g c =
     let undecided = c.in-Undecided-2 in
     let second = c.in_ok-settled-in-Undecided-2 in
-    let first = rw (undecided.is, c.start.ensures.size) at c.in_ok-finding.ensures in
-    rw (c.unwrap_or.ensures, undecided.is) (settled_comparison _ _ c.args.limit c.explore.new.taken
+    rw (c.unwrap_or.ensures, undecided.is) (settled_comparison _ _ _ c.args.limit c.explore.new.taken
     c.settle.new.budget.steps undecided.at c.args.budget.now undecided.side second.settled
-    (weaker first (λ given. (c.in_ok-facts.ensures.exact given.0, (c.start.ensures.plain given.1, given.2))))
+    (rw (undecided.is, c.start.ensures.size) at c.in_ok-finding.ensures)
+    (λ given. (c.in_ok-facts.ensures.exact given.0, (c.start.ensures.plain given.1, given.2)))
     second.ensures.settled second.ensures.steps)
 
 pub returns-in-Undecided : goal.returns-in-Undecided
 returns-in-Undecided g c =
     let undecided = c.in-Undecided in
-    let first = rw (undecided.is, c.start.ensures.size) at c.in_ok-finding.ensures in
-    settled_comparison _ _ c.args.limit c.explore.new.taken c.args.budget.now.steps undecided.at c.args.budget.now
+    settled_comparison _ _ _ c.args.limit c.explore.new.taken c.args.budget.now.steps undecided.at c.args.budget.now
     undecided.side (Some (Holds c.explore.new.taken))
-    (weaker first (λ given. (c.in_ok-facts.ensures.exact given.0, (c.start.ensures.plain given.1, given.2))))
+    (rw (undecided.is, c.start.ensures.size) at c.in_ok-finding.ensures)
+    (λ given. (c.in_ok-facts.ensures.exact given.0, (c.start.ensures.plain given.1, given.2)))
     (inl (refl, c.requires c.if-is_same.true)) (grind arith)

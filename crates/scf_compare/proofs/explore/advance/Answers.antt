@@ -5,12 +5,12 @@ pub returns-in_ok-next-in-Branch-clause-stage : goal.returns-in_ok-next-in-Branc
 returns-in_ok-next-in-Branch-clause-stage g c =
     c.in_ok-next-in-Branch.ensures c.args.known.now c.args.node _ c.in-Branch.ensures
 
-pub returns-in_ok-stage-in-Related-clause-stage : goal.returns-in_ok-stage-in-Related-clause-stage
-returns-in_ok-stage-in-Related-clause-stage g c =
-    c.in_ok-stage-in-Related.ensures c.args.known.now c.args.node _
+pub returns-in-Related-clause-stage : goal.returns-in-Related-clause-stage
+returns-in-Related-clause-stage g c =
+    c.take_branch.ensures c.args.known.now c.args.node _
     (λ words given reached. inl (c.in-Related.ensures.judged words (given, c.in-Leaf.ensures.leads words given reached)))
 
-pub returns-in_ok-stage-in-Open-clause-stage : goal.returns-in_ok-stage-in-Open-clause-stage
-returns-in_ok-stage-in-Open-clause-stage g c =
-    c.in_ok-stage-in-Open.ensures c.args.known.now c.args.node _
+pub returns-in-Open-clause-stage : goal.returns-in-Open-clause-stage
+returns-in-Open-clause-stage g c =
+    c.take_branch-in-Open.ensures c.args.known.now c.args.node _
     (λ words given reached. inr (grind (arith, common_steps)))

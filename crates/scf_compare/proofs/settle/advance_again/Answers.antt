@@ -29,8 +29,8 @@ returns-in_ok-take_branch-in-None-difference_of-clause-stage g c =
     inl (c.in-None-difference_of.ensures.related words within
     (c.in-None-next_bit.ensures.have words given reached.1)))
 
-pub returns-in_ok-stage-in-Some-clause-stage : goal.returns-in_ok-stage-in-Some-clause-stage
-returns-in_ok-stage-in-Some-clause-stage g c = c.in_ok-stage-in-Some.ensures.stage c.args.known.now
+pub returns-in-Some-clause-stage : goal.returns-in-Some-clause-stage
+returns-in-Some-clause-stage g c = c.restart.ensures.stage c.args.known.now
 
-pub returns-in_ok-stage-in-Some-next_bit-clause-stage : goal.returns-in_ok-stage-in-Some-next_bit-clause-stage
-returns-in_ok-stage-in-Some-next_bit-clause-stage g c = c.in_ok-stage-in-Some-next_bit.ensures.stage c.args.known.now
+pub returns-in-Some-next_bit-clause-stage : goal.returns-in-Some-next_bit-clause-stage
+returns-in-Some-next_bit-clause-stage g c = c.restart-in-Some-next_bit.ensures.stage c.args.known.now
