@@ -2,19 +2,6 @@
 use Rattle.scf_compare.proofs.Common.{◌≡◌, ◌∙◌, ℕ, ◌<◌, ◌≤◌, List, [], ap, inl, inr, length, sym, arith, IfSome, Option, None, IsWords-words_of, call_of-words_of, words_of, AllRelated, Store, Frontier, Finding, Which, AreWordsIn, Compared, IsFirstUndecided, WereSeen, IsFrontier, Tree, finding_of_all}
 use Rattle.scf_compare.specs.internal.Stages.{IsExplored, IsFound}
 
--- A walk that begins has no branch open, and the words of the scope ahead.
-pub begun : {F K N : Type 0} (store : Store F) (tree : K → Tree N) (scope : List ℕ → Type 0) (frontier : Frontier F K N)
-    → frontier.branches.items ≡ [] → store.level frontier.facts ≡ 0
-    → ((words : List ℕ) → store.allows frontier.facts 0 words → scope words)
-    → IsFrontier store tree scope frontier
-begun store tree scope frontier none unmarked allowed = record {
-  marks = unmarked ∙ sym (ap length none);
-  branches = λ index branch stands. absurd (let no_branch = rw none at stands in cc);
-  within = λ level up_to words allows.
-      let first : level ≡ 0 = omega (arith, ap length none) in
-      allowed words (rw first at allows);
-}
-
 -- the relation holds of the answers to every record, once the words of each were seen and no leaf is undecided
 pub all_related : (compared : Compared) (found : Option (Which × ℕ)) → found ≡ None
     → ((words : List ℕ) → AreWordsIn compared words → WereSeen compared found words) → AllRelated compared

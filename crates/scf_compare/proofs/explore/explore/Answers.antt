@@ -1,35 +1,17 @@
 use Rattle.std.specs.Prelude.{sum_by}
 use Rattle.scf_compare.proofs.Common.{ap, open_size, ◌≡◌, ◌+◌, ◌∙◌, inr, arith, refl, None, AreWordsIn}
-use Rattle.scf_compare.proofs.Stages.{all_related, begun, of_all, of_found}
+use Rattle.scf_compare.proofs.Stages.{all_related, of_all, of_found}
 use Rattle.scf_compare.proofs.explore.explore.Goals as goal
 
 pub loop-steps-init : goal.loop-steps-init
-loop-steps-init g c =
-    let new = c.new-frontier.ensures in
-    let tree = g.C.Comparison.tree c.args.comparison.now in
-    let none : open_size tree c.new-frontier.result ≡ 0 =
-    ap (sum_by (λ branch. (tree branch.known).size branch.node)) new.branches in
-    rw new.facts (record {
-      frontier =
-          begun g.F.WordFacts tree (AreWordsIn (g.C.Comparison.compared c.args.comparison.now))
-          (record { facts = c.args.facts; branches = c.new-frontier.result.branches }) new.branches c.requires.unmarked
-          (λ words. (c.requires.scope words).0);
-      node = c.requires.node;
-      index = tt;
-      words = λ words within.
-          inr (inr (rw c.requires.unmarked ((c.requires.scope words).1 within), c.requires.reached words within));
-      size = omega (arith, none);
-      exact = λ exact plain. (
-        refl,
-        record {
-          branches = λ index branch stands. absurd (let no_branch = rw new.branches at stands in cc);
-          facts = rw c.requires.unmarked exact;
-          plain = plain;
-          reached = λ words allowed.
-              c.requires.reached words ((c.requires.scope words).0 (rw c.requires.unmarked at allowed));
-        },
-      );
-    })
+loop-steps-init g c = record {
+  frontier = grind (arith, c.requires.scope);
+  node = c.requires.node;
+  index = tt;
+  words = λ words within. grind (arith, c.requires.scope words, c.requires.reached words within);
+  size = grind arith;
+  exact = λ exact plain. grind (arith, c.requires.scope, c.requires.reached);
+}
 
 pub returns-in-AllSeen : goal.returns-in-AllSeen
 returns-in-AllSeen g c =
@@ -55,13 +37,4 @@ pub loop-steps-preserved : goal.loop-steps-preserved
 loop-steps-preserved g c =
     let after = c.in_ok-next.ensures in
     let over = rw c.in-At.is at after.stage in
-    let so_far = c.loop-steps.invariant in
-    record {
-      frontier = over.frontier;
-      node = over.node;
-      index = after.index;
-      words = λ words within. grind (arith, so_far.words words within, over.words words, after.still);
-      size = omega (arith, so_far.size, over.size);
-      exact = λ exact plain.
-          let before = so_far.exact exact plain in (after.exact before.1 ∙ before.0, over.exact before.1);
-    }
+    grind (arith, over, after.index, after.still, after.exact, c.loop-steps.invariant)

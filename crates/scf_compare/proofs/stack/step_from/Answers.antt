@@ -16,19 +16,15 @@ returns-then-index-filters g c =
       proper = side_leaf filters c.decided_at-decided.result (c.decided_at-decided.ensures.leaf filters index so_far.node.2
           (is_stack_leaf filters index c.in-Leaf.leaf so_far.node.0 step.proper));
       leads = λ words w r.
-          let before = so_far.reaches words w r in
-          rw (take_all (index + 1) filters past)
-          at (c.decided_at-decided.ensures.decides filters index words so_far.node.0 so_far.node.2 before.0
-          (step.leads words w before.1));
+          let decides = c.decided_at-decided.ensures.decides filters index words so_far.node.0 so_far.node.2 in
+          grind (arith, take_all (index + 1) filters past, decides, so_far.reaches words w r, step.leads words w);
       costs = omega (
         arith,
         scaled_counts (filter_size (filter_at filters index) c.loop-next.node) (stack_paths (drop (index + 1) filters))
             step.costs (paths_count (drop (index + 1) filters)),
         so_far.size,
       );
-      plain = λ plain.
-          let before = so_far.plain plain in
-          c.decided_at-decided.ensures.known before.1 (step.plain before.2);
+      plain = λ plain. grind (arith, c.decided_at-decided.ensures.known, so_far.plain plain, step.plain);
     }
 
 pub loop-next-preserved : goal.loop-next-preserved
@@ -51,11 +47,8 @@ loop-next-preserved g c =
             (is_stack_leaf filters index c.in-Leaf.leaf so_far.node.0 step.proper),
       );
       reaches = λ words w r.
-          let before = so_far.reaches words w r in (
-            c.decided_at-decided.ensures.decides filters index words so_far.node.0 so_far.node.2 before.0
-                (step.leads words w before.1),
-            begun.reached words,
-          );
+          let decides = c.decided_at-decided.ensures.decides filters index words so_far.node.0 so_far.node.2 in
+          grind (arith, decides, begun.reached words, so_far.reaches words w r, step.leads words w);
       size = grind (arith, begun.size, paths_from filters (index + 1) inside, most, so_far.size);
       plain = λ plain.
           let before = so_far.plain plain in (

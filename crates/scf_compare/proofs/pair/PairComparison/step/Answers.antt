@@ -8,13 +8,13 @@ returns-in-Branch g c =
     let after = tree c.step.new.known in
     let whole = (g.R.SideTree.behavior c.args.self.now.right).size in
     let counts = g.met.R.SideTree.size_counts c.args.self.now.right in
-    rw c.in-AtLeft.is (record {
-      proper = step.proper;
-      leads = λ words given on. grind (arith, step.leads words (on.0, given) on.1);
-      costs = scaled_costs (after.size c.in-Branch.if_true) (after.size c.in-Branch.if_false)
-          ((tree c.args.known.now.left).size c.in-AtLeft.node) whole step.costs counts;
-      plain = λ plain. let stays = step.plain plain.0 in (stays.0, (stays.1, plain.1), (stays.2, plain.1));
-    })
+    rw c.in-AtLeft.is (grind (
+      arith,
+      step.leads,
+      step.plain,
+      scaled_costs (after.size c.in-Branch.if_true) (after.size c.in-Branch.if_false)
+          ((tree c.args.known.now.left).size c.in-AtLeft.node) whole step.costs counts,
+    ))
 
 pub returns-in-Leaf : goal.returns-in-Leaf
 returns-in-Leaf g c =
