@@ -56,8 +56,7 @@ by_answer : (atom : Option Atom) → KeepsAsked atom
     → LearnsExactly atom true × LearnsExactly atom false
     × ((words : List ℕ) (first second : Type 0) → GoesEither atom words first second
     → (GivesAnswer atom true words → first) × (GivesAnswer atom false words → second))
-by_answer None keeps = absurd keeps
-by_answer (Some atom) keeps = (keeps.0, keeps.1, λ words first second goes. goes)
+by_answer atom keeps = grind arith
 
 pub opened : {F K N : Type 0} (store : Store F) (compared : Compared) (tree : K → Tree N) (old new : Frontier F K N)
     (known : K) (atom : Option Atom) (if_true if_false : N)

@@ -14,15 +14,12 @@ argument_fits Bits64 words i w = (IsRecord-call_of words w).args i
 
 -- the half that a part asks of is a word, unless it is 0 in every argument
 module _ (words : List ℕ) (i : ℕ) (w : IsWords words) where
-  low_there : slice_index words (2 * i + 4) ≡ half_asked Low (argument (call_of words) i)
-  low_there = rw (words_of-call_of words w) at (argument_low (call_of words) i)
-
-  high_there : slice_index words (2 * i + 4 + 1) ≡ half_asked High (argument (call_of words) i)
-  high_there = rw (words_of-call_of words w) at (argument_high (call_of words) i)
-
   pub half_there : (bits : ArgumentBits) (part : ConditionPart) → asks_of_zero bits part ≡ false
       → slice_index words (word_asked part (2 * i + 4)) ≡ half_asked part (taken_of bits (argument (call_of words) i))
-  half_there bits part h = grind (arith, low_there, high_there)
+  half_there bits part h =
+      let low = rw (words_of-call_of words w) at (argument_low (call_of words) i) in
+      let high = rw (words_of-call_of words w) at (argument_high (call_of words) i) in
+      grind (arith, low, high)
 
 pub half_is_zero : (bits : ArgumentBits) (part : ConditionPart) (register : ℕ) → asks_of_zero bits part ≡ true
     → half_asked part (taken_of bits register) ≡ 0

@@ -13,18 +13,12 @@ module _ (relation : Relation) (scope : Scope) (filters : List (List Insn)) (p :
   -- where the answers to the words of all records of a scope are related, those to the records are
   pub related_of : AllRelated (compared_in relation scope (stack_behavior filters) (profile_behavior p))
       → RelatedAnswersIn relation scope (StackAnswers filters) p
-  related_of h = λ call is_record in_scope.
-      let same = call_of-words_of call is_record in
-      let related = h call is_record in_scope in
-      grind (arith, same, related)
+  related_of h = λ call is_record in_scope. grind (arith, call_of-words_of call is_record, h call is_record in_scope)
 
   -- and where those to the records are, those to their words are
   pub words_related : RelatedAnswersIn relation scope (StackAnswers filters) p
       → AllRelated (compared_in relation scope (stack_behavior filters) (profile_behavior p))
-  words_related related = λ call is_record in_scope.
-      let same = call_of-words_of call is_record in
-      let here = related call is_record in_scope in
-      grind (arith, same, here)
+  words_related h = λ call is_record in_scope. grind (arith, call_of-words_of call is_record, h call is_record in_scope)
 
   -- a verdict whose finding decides the one decides the other
   pub decided_in : (limit size : ℕ) (verdict : Verdict)

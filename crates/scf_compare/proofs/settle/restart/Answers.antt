@@ -15,10 +15,8 @@ returns-clause-stage g c = λ before.
           let within =
           c.requires.frontier.within (g.F.WordFacts.level c.args.frontier.now.facts) (omega arith) words allowed in
           let reached = c.requires.root.reached words within in
-          let have = c.requires.have words allowed on.1 in (
-            λ is. (reached, c.fix.ensures.have words have (rw c.is_set.ensures at is)),
-            λ is. (reached, c.fix-2.ensures.have words have (rw c.is_set.ensures at is)),
-          );
+          let have = c.requires.have words allowed on.1 in
+          grind (arith, c.is_set.ensures, c.fix.ensures.have words have, c.fix-2.ensures.have words have);
       costs = omega (
         arith,
         two_walks effort (lacking c.args.fixed.words) (lacking c.fix.new.self.words) (lacking c.fix-2.new.self.words)
