@@ -2,7 +2,6 @@
 use Rattle.scf_compare.proofs.Common.{◌≡◌, ◌∙◌, ℕ, ◌+◌, ◌*◌, ◌<◌, ◌^◌, true, false, List, ap, arith, slice_index, Atom, atom_answer, ArgumentBits, Bits32, Bits64, taken_of, IsWords, call_of, argument, words_of-call_of, argument_low, argument_high, IsRecord-call_of}
 use Rattle.scf_facts.specs.Atoms.{answer_at, word_of}
 use Rattle.scf_compare.specs.declared.question.ConditionPart.{ConditionPart}
-use Rattle.scf_compare.specs.declared.question.ConditionPart.TheVariants.{High, Low}
 use Rattle.scf_compare.specs.internal.Conditions.{asks_of_zero, half_asked, word_asked}
 
 -- ---- the halves of an argument

@@ -93,9 +93,8 @@ module _ (numbers : List NumberRules) (rules : List Rule) (are : AreNumbersOf nu
   pub from_number : own.number ≤ call.nr → IsFrom index numbers call
   from_number least k d lt =
       let within = slice_get_within numbers index own here in
-      let before : k < index = omega (arith, length-take index numbers) in
-      let rise = numbers_rise numbers rules are k index d before within in
-      rw (get_or-take index numbers k d before) (grind (arith, rise, get_or_from_slice_get numbers index own d here))
+      let same = get_or_from_slice_get numbers index own d here in
+      grind (arith, within, same, length-take, get_or-take, numbers_rise numbers rules are k index d)
 
   -- one that has none before a number, and is below that one, has none
   pub from_above : IsFrom index numbers call → call.nr < own.number → All (λ o. call.nr ≢ o.number) numbers

@@ -1,5 +1,5 @@
 -- From one stage of an exploration to the next.
-use Rattle.scf_compare.proofs.Common.{◌≡◌, ◌∙◌, ℕ, ◌<◌, ◌≤◌, List, [], ap, inl, inr, length, sym, arith, IfSome, Option, None, IsWords-words_of, call_of-words_of, words_of, AllRelated, Store, Frontier, Finding, Which, AreWordsIn, Compared, IsFirstUndecided, WereSeen, IsFrontier, Tree, finding_of_all}
+use Rattle.scf_compare.proofs.Common.{◌≡◌, ℕ, ◌<◌, ◌≤◌, List, arith, IfSome, Option, None, IsWords-words_of, call_of-words_of, words_of, AllRelated, Finding, Which, AreWordsIn, Compared, IsFirstUndecided, WereSeen, finding_of_all}
 use Rattle.scf_compare.specs.internal.Stages.{IsExplored, IsFound}
 
 -- the relation holds of the answers to every record, once the words of each were seen and no leaf is undecided
@@ -8,7 +8,7 @@ pub all_related : (compared : Compared) (found : Option (Which × ℕ)) → foun
 all_related compared found none seen = λ call is_record in_scope.
     let within : AreWordsIn compared (words_of call) =
     (IsWords-words_of call is_record, rw (call_of-words_of call is_record) in_scope) in
-    elim (seen (words_of call) within) [ inl related ↦ related | inr undecided ↦ absurd (let no_leaf = rw none at undecided in cc) ]
+    grind (arith, seen (words_of call) within)
 
 -- what is explored once all was seen
 pub of_all : (compared : Compared) (given : Type 0) (steps limit effort : ℕ) (first : Option (Which × ℕ))

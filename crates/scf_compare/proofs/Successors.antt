@@ -49,12 +49,10 @@ module _ {insns : List Insn} {words : List ℕ} {index : ℕ} {i : Insn} {operat
       → Leads control_flow
   leads_by safe (FallThrough next) does = comes_next safe (effect operation i words c.state) refl next does
   leads_by safe (Jump target) e =
-      comes_on (jumps_to c.state target) target registers e refl
-      (record { a = c.describes.a; x = c.describes.x; scratch = c.describes.scratch })
+      comes_on (jumps_to c.state target) target registers e refl (grind arith)
   leads_by safe (ConditionalJump test operand if_true if_false) e =
       let to = λ (next : ℕ) (on : effect operation i words c.state ≡ Goes (jumps_to c.state next)).
-      comes_on _ next registers on refl
-      (record { a = c.describes.a; x = c.describes.x; scratch = c.describes.scratch }) in
+      comes_on _ next registers on refl (grind arith) in
       (λ h. to if_true (rw h at e), λ h. to if_false (rw h at e))
   leads_by safe (DivideByIndex next) (there, e) = λ after d. (
     λ zero. answers 0 (rw zero at e),

@@ -1,5 +1,4 @@
-use Rattle.std.specs.Prelude.{sum_by}
-use Rattle.scf_compare.proofs.Common.{ap, open_size, ◌≡◌, ◌+◌, ◌∙◌, inr, arith, refl, None, AreWordsIn}
+use Rattle.scf_compare.proofs.Common.{◌≡◌, ◌+◌, ◌∙◌, arith, None}
 use Rattle.scf_compare.proofs.Stages.{all_related, of_all, of_found}
 use Rattle.scf_compare.proofs.explore.explore.Goals as goal
 

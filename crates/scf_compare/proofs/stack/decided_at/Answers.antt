@@ -1,4 +1,4 @@
-use Rattle.scf_compare.proofs.Common.{◌<ℤ◌, ◌≤ℤ◌, [], arith, ints, rank_of}
+use Rattle.scf_compare.proofs.Common.{[], arith, ints}
 use Rattle.scf_machine.proofs.Stacks.{one_more}
 use Rattle.scf_compare.proofs.stack.decided_at.Goals as goal
 
