@@ -1,9 +1,9 @@
 -- The names that proofs of this crate cite, passed on from one place. Declares nothing.
-pub use Rattle.std.proofs.Common.{All, Bool, IfNone, IfSome, IsTrue, List, None, Option, Some, [], ap, arith, bit_and, bit_or, bit_xor, count_ones, drop, eqb, false, get_or, if◌then◌else◌, inl, inr, leb, length, length-append, ltb, refl, replicate, rules, slice_get, slice_index, slice_index_or, slice_set, subst, suc, sym, take, tests, true, zero, ℕ, ◌%◌, ◌*◌, ◌++◌, ◌+◌, ◌-◌, ◌/◌, ◌<◌, ◌^◌, ◌↔◌, ◌∙◌, ◌∷◌, ◌≡◌, ◌≢◌, ◌≤◌, ◌⊎◌}
+pub use Rattle.std.proofs.Common.{All, Bool, IfNone, IfSome, IsTrue, List, None, Option, Some, [], add-one, ap, arith, bit_and, bit_or, bit_xor, count_ones, drop, eqb, false, get_or, if◌then◌else◌, inl, inr, leb, length, length-append, ltb, max, nat_lt, refl, replicate, rules, slice_get, slice_index, slice_index_or, slice_set, subst, suc, sym, take, tests, true, zero, ℕ, ◌%◌, ◌*◌, ◌++◌, ◌+◌, ◌-◌, ◌/◌, ◌<◌, ◌^◌, ◌↔◌, ◌∙◌, ◌∷◌, ◌≡◌, ◌≢◌, ◌≤◌, ◌⊎◌}
 pub use Rattle.std.proofs.Math.Nat.{add-mul, div-eq_of_lt, le-div_iff_mul-le, mod-lt, pow-succ'}
 pub use Rattle.std.proofs.Math.Pow.{pow_mono, shr_mono}
 pub use Rattle.std.proofs.Math.Seq.{take-append_seam}
-pub use Rattle.std.proofs.lemmas.Bool.{false_from_ne_true, leb-false, ltb-false, ltb-true, true_from_ne_false}
+pub use Rattle.std.proofs.lemmas.Bool.{false_from_ne_true, leb-false, ltb-false, ltb-true, ne_eqb, true_from_ne_false}
 pub use Rattle.std.proofs.lemmas.Iterator.{YieldsList-from_slice, cases_from_any}
 pub use Rattle.std.proofs.lemmas.List.{drop-append-le, get_or-replicate, get_or-set_same, get_or_default, get_or_past, get_or_read, length-replicate, length-take-le, set-get_or, set-set, take-append-le, take-take, with_items_is}
 pub use Rattle.std.proofs.lemmas.List.Elements.{All-from_recursion, All-pop, All-push, All-set, recursion_from_All}
@@ -26,11 +26,7 @@ pub use Rattle.scf_facts.specs.declared.atom.Atom.{Atom}
 pub use Rattle.scf_facts.specs.declared.bits.Bits.{Bits}
 pub use Rattle.scf_facts.specs.declared.interval.Interval.{Interval}
 pub use Rattle.scf_facts.specs.declared.learned.Learned.{Learned}
-pub use Rattle.scf_facts.specs.declared.trail.Change.{Change}
-pub use Rattle.scf_facts.specs.declared.trail.SavedValue.TheVariants.{Intervals}
 pub use Rattle.scf_facts.specs.internal.Bits.{LacksBits, SomeLack}
-pub use Rattle.scf_facts.specs.internal.Counts.{AreRising, count_at}
-pub use Rattle.scf_facts.specs.internal.Intervals.{AreApart, AreApartFrom, ArePartsOf, LiesIn, LiesInOne, LiesOutside, part_above, part_below, part_within}
-pub use Rattle.scf_facts.specs.internal.Learned.{AllowsByLearned, Holds, learned_at}
-pub use Rattle.scf_facts.specs.internal.Trail.{Covers, facts_before, known_at, known_before, restored}
+pub use Rattle.scf_facts.specs.internal.Intervals.{AreApart, AreApartFrom, ArePartsOf, LiesIn, LiesInOne}
+pub use Rattle.scf_facts.specs.internal.Learned.{AllowsByLearned, Holds}
 pub use Rattle.scf_facts.specs.internal.WordSets.{AllowsNumber, AllowsWords, EachNumber, NumberFacts, SomeNumber, is_exact_set, no_facts}

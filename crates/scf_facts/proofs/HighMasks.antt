@@ -1,5 +1,6 @@
 -- Masks of all bits from one on.
-use Rattle.scf_facts.proofs.Common.{◌≡◌, ℕ, ◌+◌, ◌-◌, ◌*◌, ◌/◌, ◌<◌, ◌≤◌, ◌^◌, ◌↔◌, true, eqb, sym, ap, ◌∙◌, arith, bit_and, eq-eqb, eqb-true, and_le_r, pow_pos, shr_split, and_high_mask, add-mul, div-lt_iff_lt-mul, le-div_iff_mul-le, mod-lt, pow_mono}
+use Rattle.scf_facts.proofs.MaskLaws.{and_twice}
+use Rattle.scf_facts.proofs.Common.{◌≡◌, ◌≢◌, false, ne_eqb, ℕ, ◌+◌, ◌-◌, ◌*◌, ◌/◌, ◌<◌, ◌≤◌, ◌^◌, ◌↔◌, true, eqb, sym, ap, ◌∙◌, arith, bit_and, eq-eqb, eqb-true, and_le_r, pow_pos, shr_split, and_high_mask, add-mul, div-lt_iff_lt-mul, le-div_iff_mul-le, mod-lt, pow_mono}
 
 pub one_more : (q d : ℕ) → (q + 1) * d ≡ q * d + d
 one_more q d = add-mul q 1 d ∙ (let once : q * d + 1 * d ≡ q * d + d = omega arith in once)
@@ -36,3 +37,9 @@ high_range x v m k within mask h multiple =
           let part : x / 2 ^ k * 2 ^ k ≡ v = sym of_x ∙ eqb-true _ _ has in
           (omega (arith, part, shr_split x k), omega (arith, part, rest, shr_split x k, mod-lt x (pow_pos k))),
     )
+
+-- no number has a value with a bit beyond the mask
+pub never : (x v m : ℕ) → bit_and v m ≢ v → eqb (bit_and x m) v ≡ false
+never x v m beyond = ne_eqb _ _ (λ e. beyond (ap (λ n. bit_and n m) (sym e) ∙ and_twice x m ∙ e))
+
+pub ruleset asked = (high_range, never)

@@ -1,11 +1,10 @@
 pub mod AtomLaws
 pub mod Common
 pub mod CommonBits
-pub mod CountLaws
 pub mod HighMasks
 pub mod IntervalLaws
 pub mod LeastNumber
+pub mod Levels
 pub mod LowestBit
 pub mod MaskLaws
 pub mod StoreLaws
-pub mod TrailLaws

@@ -101,6 +101,8 @@ some_words (s ∷ sets) some =
       λ k d lt. grind (arith, common_steps, cases_eq k 0, here.2, rest.3 (k - 1) d),
     )
 
+pub ruleset set_laws = (allows_set, exact_set)
+
 pub ruleset word_laws = (number_set, each_word, exact_word)
 
 -- so where none is, exact facts of some word allow no number

@@ -1,9 +1,8 @@
 //! A store that keeps what it learned as a list.
 
-ghost use Rattle.std.specs.Prelude.{◌≡◌, ◌↔◌, ℕ, List, IfOk, IsOk, IsTrue, false, length};
+ghost use Rattle.std.specs.Prelude.{◌≡◌, ◌↔◌, ℕ, List, IfOk, IsOk, IsTrue, false, length, slice_index_or};
 ghost use Rattle.scf_insn.specs.Words.{IsWords};
-ghost use Rattle.scf_facts.specs.internal.Counts.{AreRising};
-ghost use Rattle.scf_facts.specs.internal.Learned.{AllHold, AllowsByLearned, learned_at};
+ghost use Rattle.scf_facts.specs.internal.Learned.{AllHold, AllowsByLearned};
 
 use crate::atom::{Atom, Tell};
 use crate::bits::Bits;
@@ -12,7 +11,7 @@ use crate::word_facts::WordFacts;
 use scf_insn::Memory;
 use std::alloc::Global;
 
-/// The learned atoms with their answers, in order, and the length of that list at each open mark.
+/// The learned atoms with their answers, in order, and that list as it was at each open mark.
 ///
 /// `tell` knows an atom that was itself learned, an `Eq` with mask 0, and any atom on a word whose value a true `Eq`
 /// under a full mask has fixed. `known_bits` gives the bits of such a word, and none of another. `pick` gives 0 for
@@ -20,14 +19,13 @@ use std::alloc::Global;
 #[derive(Drop)]
 pub struct AtomList {
     learned: Vec<Learned>,
-    marks: Vec<usize>,
-    ghost rising: { AreRising marks.items (length learned.items) },
+    saved: Vec<Vec<Learned>>,
 }
 
 impl WordFacts for AtomList {
-    ghost level = { λ facts. length facts.marks.items };
+    ghost level = { λ facts. length facts.saved.items };
 
-    ghost allows = { λ facts level. AllowsByLearned (learned_at facts.learned.items facts.marks.items level) };
+    ghost allows = { λ facts level. AllowsByLearned (slice_index_or facts.saved.items level facts.learned).items };
 
     ghost is_exact = { λ _ _. false };
 
@@ -42,35 +40,32 @@ impl WordFacts for AtomList {
     {
         Ok(AtomList {
             learned: Vec::new(alloc),
-            marks: Vec::new(alloc),
+            saved: Vec::new(alloc),
         })
     }
 
-    #[tactic(auto, using(crate::proofs::AtomLaws::learned_pushed, crate::proofs::CountLaws::rising_more))]
     fn learn(&mut self, atom: Atom, holds: bool) -> Result<(), Memory> {
         self.learned.push(Learned { atom, holds })?;
         Ok(())
     }
 
-    #[tactic(auto, using(crate::proofs::AtomLaws::opened_laws))]
     fn mark(&mut self) -> Result<(), Memory> {
-        let count = self.learned.len();
-        self.marks.push(count)?;
+        let learned = self.learned.clone()?;
+        self.saved.push(learned)?;
         Ok(())
     }
 
-    #[tactic(auto, using(crate::proofs::AtomLaws::learned_closed, crate::proofs::CountLaws::rising_cut))]
     fn undo(&mut self) {
-        if let Some(count) = self.marks.pop() {
-            self.learned.truncate(count);
+        if let Some(learned) = self.saved.pop() {
+            self.learned = learned;
         }
     }
 
     fn open_marks(&self) -> usize {
-        self.marks.len()
+        self.saved.len()
     }
 
-    #[tactic(auto, using(crate::proofs::AtomLaws::learned_now, crate::proofs::AtomLaws::holds))]
+    #[tactic(auto, using(crate::proofs::AtomLaws::holds))]
     fn tell(&self, atom: Atom) -> Tell {
         if let Atom::Eq { mask: 0, value, .. } = atom {
             return Tell::of(value == 0);
@@ -84,7 +79,7 @@ impl WordFacts for AtomList {
         Tell::Maybe
     }
 
-    #[tactic(auto, using(crate::proofs::AtomLaws::learned_now, crate::proofs::AtomLaws::holds))]
+    #[tactic(auto, using(crate::proofs::AtomLaws::holds))]
     fn known_bits(&self, word: u8) -> Bits {
         for known in &self.learned {
             match known.fixes() {
@@ -99,7 +94,7 @@ impl WordFacts for AtomList {
         false
     }
 
-    #[tactic(auto, using(crate::proofs::AtomLaws::learned_now))]
+    #[tactic(auto, using(crate::proofs::Levels::now))]
     fn pick(&self) -> Option<[u32; 16]> {
         let mut words = [0; 16];
         for known in &self.learned {

@@ -1,184 +1,110 @@
 //! Sets of values as sorted, disjoint intervals.
 
-ghost use Rattle.std.specs.Prelude.{◌≡◌, ◌<◌, ◌≤◌, ◌++◌, ◌↔◌, ℕ, [], All, length, IsTrue, IfSome, IfNone, IfOk};
-ghost use Rattle.std.specs.List.{filter_map, AllWithin};
-ghost use Rattle.scf_facts.specs.internal.Intervals.{LiesIn, LiesOutside, LiesInOne, AreApart, ArePartsOf};
-ghost use Rattle.scf_facts.specs.internal.Intervals.{all_intervals, part_within, part_below, part_above};
+ghost use Rattle.std.specs.Prelude.{◌≡◌, ◌<◌, ◌≤◌, ◌↔◌, ℕ, length, IsTrue, IfSome, IfNone, IfOk};
+ghost use Rattle.std.specs.List.{AllWithin};
+ghost use Rattle.scf_facts.specs.internal.Intervals.{LiesIn, LiesInOne, AreApart, ArePartsOf};
 
 use crate::interval::Interval;
-use scf_insn::Memory;
 use std::alloc::{AllocError, Global};
-use std::marker::Model;
 
-/// The interval of all values.
-static ALL_INTERVALS: [Interval; 1] = [Interval::ALL];
-
-/// Sorted, disjoint intervals.
-#[derive(Drop)]
-pub(crate) struct Intervals {
-    /// The intervals, once values were removed. Before that nothing is allocated.
-    cut: Option<Vec<Interval>>,
+/// The least interval that has all values of the intervals, if there is one.
+#[tactic(auto, using(crate::proofs::IntervalLaws::within_ends))]
+pub(crate) fn hull(intervals: &[Interval]) -> Option<Interval>
+    requires { AreApart intervals.now }
+    ensures hull { IfSome result (λ hull. (x : ℕ) → LiesInOne intervals.now x → LiesIn hull x) }
+{
+    let first = intervals.first()?;
+    let last = intervals.last()?;
+    Some(Interval {
+        low: first.low,
+        high: last.high,
+    })
 }
 
-impl Model for Intervals {
-    ghost use Rattle.std.specs.Prelude.{List};
-    ghost use Rattle.std.specs.Option.{option_map_or};
-    ghost use Rattle.scf_facts.specs.declared.interval.Interval.{Interval};
-    ghost use Rattle.scf_facts.specs.internal.Intervals.{AreApart, all_intervals};
-
-    ghost Value = { List Interval };
-
-    ghost view = { λ s. option_map_or (λ v. v.items) s.cut all_intervals };
-
-    ghost invariant = { λ s. AreApart (option_map_or (λ v. v.items) s.cut all_intervals) };
-}
-
-impl Intervals {
-    /// All values.
-    pub(crate) fn all() -> Intervals
-        ensures { result ≡ all_intervals }
-    {
-        Intervals { cut: None }
-    }
-
-    /// No value.
-    pub(crate) fn none(alloc: Global) -> Intervals
-        ensures { result ≡ [] }
-    {
-        Intervals {
-            cut: Some(Vec::new(alloc)),
-        }
-    }
-
-    /// The intervals, in order.
-    pub(crate) fn as_slice(&self) -> &[Interval]
-        ensures same { result.now ≡ self.now }
-        ensures apart { AreApart result.now }
-    {
-        match &self.cut {
-            Some(intervals) => intervals,
-            None => &ALL_INTERVALS,
-        }
-    }
-
-    /// The least interval that has all of their values, if there is one.
-    #[tactic(auto, using(crate::proofs::IntervalLaws::within_ends))]
-    pub(crate) fn hull(&self) -> Option<Interval>
-        ensures hull { IfSome result (λ hull. (x : ℕ) → LiesInOne self.now x → LiesIn hull x) }
-    {
-        let intervals = self.as_slice();
-        let first = intervals.first()?;
-        let last = intervals.last()?;
-        Some(Interval {
-            low: first.low,
-            high: last.high,
-        })
-    }
-
-    /// The intervals' parts within a range.
-    #[tactic(auto, using(crate::proofs::IntervalLaws::cut_within))]
-    pub(crate) fn within(&self, alloc: Global, range: Interval) -> Result<Intervals, Memory>
-        ensures { IfOk result (λ parts. ArePartsOf (LiesIn range) self.now parts) }
-    {
-        let split = split_by(self.as_slice(), range);
-        let parts = parts_of_touched_within(alloc, split.touched, range)?;
-        Ok(Intervals { cut: Some(parts) })
-    }
-
-    /// The intervals' parts outside a range.
-    #[tactic(auto, using(crate::proofs::IntervalLaws::cut_outside))]
-    pub(crate) fn outside(&self, alloc: Global, range: Interval) -> Result<Intervals, Memory>
-        requires { range.low ≤ range.high }
-        ensures { IfOk result (λ parts. ArePartsOf (LiesOutside range) self.now parts) }
-    {
-        let intervals = self.as_slice();
-        let split = split_by(intervals, range);
-        let cut = parts_of_touched_outside(alloc, split.touched, range)?;
-        let mut parts = Vec::with_capacity(alloc, intervals.len() + 1)?;
-        parts.extend_from_slice(split.below)?;
-        parts.extend_from_slice(&cut)?;
-        parts.extend_from_slice(split.above)?;
-        Ok(Intervals { cut: Some(parts) })
-    }
-}
-
-/// The intervals' parts within a range, computed for each.
-fn parts_of_touched_within(
+/// The intervals' parts within a range.
+pub(crate) fn parts_within(
     alloc: Global,
-    touched: &[Interval],
+    intervals: &[Interval],
     range: Interval,
 ) -> Result<Vec<Interval>, AllocError>
-    ensures { IfOk result (λ parts. parts.items ≡ filter_map (part_within range) touched.now) }
+    requires { AreApart intervals.now }
+    ensures { IfOk result (λ parts. ArePartsOf (LiesIn range) intervals.now parts.items) }
 {
-    touched
-        .iter()
-        .filter_map(|interval| interval.part_within(range))
-        .collect(alloc)
+    let rest = parts_from(alloc, intervals, u64::from(range.low))?;
+    parts_below(alloc, &rest, u64::from(range.high) + 1)
 }
 
-/// The intervals' parts outside a range, computed for each.
-fn parts_of_touched_outside(
+/// The intervals' parts outside a range.
+pub(crate) fn parts_outside(
     alloc: Global,
-    touched: &[Interval],
+    intervals: &[Interval],
     range: Interval,
 ) -> Result<Vec<Interval>, AllocError>
-    ensures { IfOk result (λ parts. parts.items
-        ≡ filter_map (part_below range.low) touched.now ++ filter_map (part_above range.high) touched.now) }
+    requires apart { AreApart intervals.now }
+    requires filled { range.low ≤ range.high }
+    ensures { IfOk result (λ parts. ArePartsOf (λ x. LiesIn range x → ⊥) intervals.now parts.items) }
 {
-    let below = touched
-        .iter()
-        .filter_map(|interval| interval.part_below(range.low));
-    let above = touched
-        .iter()
-        .filter_map(|interval| interval.part_above(range.high));
-    below.chain(above).collect(alloc)
+    let mut parts = parts_below(alloc, intervals, u64::from(range.low))?;
+    let above = parts_from(alloc, intervals, u64::from(range.high) + 1)?;
+    parts.extend_from_slice(&above)?;
+    Ok(parts)
 }
 
-/// Sorted intervals, split by a range.
-#[derive(Clone, Copy)]
-struct Split<'a> {
-    /// The intervals that end below the range.
-    below: &'a [Interval],
-    /// The intervals that touch it.
-    touched: &'a [Interval],
-    /// The intervals that begin above it.
-    above: &'a [Interval],
-}
-
-/// Splits sorted intervals by a range.
-#[tactic(auto, using(crate::proofs::IntervalLaws::apart_right))]
-fn split_by(intervals: &[Interval], range: Interval) -> Split<'_>
+/// The intervals' parts below a bound, with room for one interval more than there were.
+fn parts_below(
+    alloc: Global,
+    intervals: &[Interval],
+    bound: u64,
+) -> Result<Vec<Interval>, AllocError>
     requires { AreApart intervals.now }
-    ensures whole { intervals.now ≡ result.below.now ++ (result.touched.now ++ result.above.now) }
-    ensures below { All (λ interval. interval.high < range.low) result.below.now }
-    ensures above { All (λ interval. range.high < interval.low) result.above.now }
+    ensures { IfOk result (λ parts. ArePartsOf (λ x. x < bound) intervals.now parts.items) }
 {
-    let (below, rest) = intervals.split_at(count_ending_below(intervals, range.low));
-    let (touched, above) = rest.split_at(count_beginning_within(rest, range.high));
-    Split {
-        below,
-        touched,
-        above,
+    let count = count_ending_below(intervals, bound);
+    let mut parts = Vec::with_capacity(alloc, intervals.len() + 1)?;
+    parts.extend_from_slice(&intervals[..count])?;
+    let Some(last) = intervals.get(count).copied() else {
+        return Ok(parts);
+    };
+    if bound <= u64::from(last.low) {
+        return Ok(parts);
     }
+    parts.push(Interval {
+        low: last.low,
+        high: (bound - 1) as u32,
+    })?;
+    Ok(parts)
 }
 
-/// How many of the sorted intervals end below a value.
-fn count_ending_below(intervals: &[Interval], x: u32) -> usize
+/// The intervals' parts from a bound on.
+fn parts_from(
+    alloc: Global,
+    intervals: &[Interval],
+    bound: u64,
+) -> Result<Vec<Interval>, AllocError>
     requires { AreApart intervals.now }
-    ensures bound { result ≤ length intervals.now }
-    ensures below { AllWithin (λ interval. interval.high < x) intervals.now 0 result }
-    ensures rest { AllWithin (λ interval. x ≤ interval.high) intervals.now result (length intervals.now) }
+    ensures { IfOk result (λ parts. ArePartsOf (λ x. bound ≤ x) intervals.now parts.items) }
 {
-    intervals.partition_point(|interval| interval.high < x)
+    let count = count_ending_below(intervals, bound);
+    let Some(first) = intervals.get(count).copied() else {
+        return Ok(Vec::new(alloc));
+    };
+    let mut parts = Vec::with_capacity(alloc, intervals.len() - count)?;
+    parts.push(Interval {
+        low: u64::from(first.low).max(bound) as u32,
+        high: first.high,
+    })?;
+    parts.extend_from_slice(&intervals[count + 1..])?;
+    Ok(parts)
 }
 
-/// How many of the sorted intervals begin at or below a value.
-fn count_beginning_within(intervals: &[Interval], x: u32) -> usize
+/// How many of the sorted intervals end below a bound.
+fn count_ending_below(intervals: &[Interval], bound: u64) -> usize
     requires { AreApart intervals.now }
     ensures bound { result ≤ length intervals.now }
-    ensures above { AllWithin (λ interval. x < interval.low) intervals.now result (length intervals.now) }
+    ensures below { AllWithin (λ interval. interval.high < bound) intervals.now 0 result }
+    ensures rest { AllWithin (λ interval. bound ≤ interval.high) intervals.now result (length intervals.now) }
 {
-    intervals.partition_point(|interval| interval.low <= x)
+    intervals.partition_point(|interval| u64::from(interval.high) < bound)
 }
 
 /// The first of the sorted intervals whose end is at least a value.
@@ -189,7 +115,9 @@ pub(crate) fn first_reaching(intervals: &[Interval], x: u32) -> Option<Interval>
     ensures first { IfSome result (λ interval. (y : ℕ) → x ≤ y → LiesInOne intervals.now y → interval.low ≤ y) }
     ensures none { IfNone result ((y : ℕ) → x ≤ y → LiesInOne intervals.now y → ⊥) }
 {
-    intervals.get(count_ending_below(intervals, x)).copied()
+    intervals
+        .get(count_ending_below(intervals, u64::from(x)))
+        .copied()
 }
 
 /// Whether a value lies in one of the sorted intervals.

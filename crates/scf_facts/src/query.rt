@@ -20,7 +20,7 @@ pub(crate) enum Query {
 impl Query {
     /// The question of `atom`. An `Eq` under a full mask asks for one value, under a mask of all bits from one on for a
     /// range.
-    #[tactic(auto, using(crate::proofs::HighMasks::high_range))]
+    #[tactic(auto, using(crate::proofs::HighMasks::asked))]
     pub(crate) fn of(atom: Atom) -> Query
         ensures asks { Asks atom result }
         ensures simple { AsksSimply atom result }
@@ -28,10 +28,17 @@ impl Query {
         match atom {
             Atom::Gt { value, .. } => Query::within(0, value, false),
             Atom::Ge { value, .. } => Query::within(value, u32::MAX, true),
+            Atom::Eq { mask, value, .. } if value & mask != value => Query::within(
+                0,
+                u32::MAX,
+                false,
+            ),
             Atom::Eq { mask, value, .. } if mask == u32::MAX => Query::within(value, value, true),
-            Atom::Eq { mask, value, .. } if is_high_mask(mask) && value & mask == value => {
-                Query::within(value, value + !mask, true)
-            }
+            Atom::Eq { mask, value, .. } if is_high_mask(mask) => Query::within(
+                value,
+                value + !mask,
+                true,
+            ),
             Atom::Eq { mask, value, .. } => Query::Masked(Bits { mask, value }),
         }
     }

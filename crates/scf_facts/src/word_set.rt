@@ -1,28 +1,25 @@
 //! What is known of one word.
 
 ghost use Rattle.std.specs.Prelude.{◌≡◌, ◌↔◌, ◌⊎◌, ◌<◌, ◌^◌, ℕ, All, IsTrue, true, false, bit_and, bit_or};
-ghost use Rattle.std.specs.Prelude.{IsSome, IfSome, IfNone, IfOk, OnOk, OnErr};
+ghost use Rattle.std.specs.Prelude.{IsSome, IfSome, IfNone, IfOk};
 ghost use Rattle.std.specs.Int.{IsPowerOfTwo};
 ghost use Rattle.scf_facts.specs.Atoms.{answer_at};
 ghost use Rattle.scf_facts.specs.Bits.{HasBits};
 ghost use Rattle.scf_facts.specs.internal.Bits.{LacksBits};
 ghost use Rattle.scf_facts.specs.Exactness.{KeepsExact};
-ghost use Rattle.scf_facts.specs.internal.Intervals.{LiesIn, LiesOutside, LiesInOne};
-ghost use Rattle.scf_facts.specs.internal.Trail.{facts_before};
+ghost use Rattle.scf_facts.specs.internal.Intervals.{AreApart, LiesIn, LiesInOne};
 ghost use Rattle.scf_facts.specs.internal.WordSets.{AllowsNumber, EachNumber, SomeNumber, is_exact_set, no_facts};
 
 use crate::atom::{Atom, Tell};
 use crate::bits::Bits;
 use crate::free_number::{Searched, free_number, refutes};
 use crate::interval::Interval;
-use crate::intervals::{Intervals, lies_in_one};
+use crate::intervals::{hull, lies_in_one, parts_outside, parts_within};
 use crate::least::first_number;
 use crate::query::Query;
-use crate::trail::SavedValue;
 use scf_insn::Memory;
 use std::alloc::Global;
 use std::marker::Model;
-use std::mem;
 
 /// How many choices of a bit a search for a value may make.
 const MOST_TRIES: u32 = 256;
@@ -32,113 +29,109 @@ const MOST_TRIES: u32 = 256;
 /// Refuted bits have at least two bits in their mask: refuting a single bit makes its other value known.
 #[derive(Drop)]
 pub(crate) struct WordSet {
-    intervals: Intervals,
+    intervals: Vec<Interval>,
     known: Bits,
     refuted: Vec<Bits>,
 }
 
 impl Model for WordSet {
+    ghost use Rattle.scf_facts.specs.internal.Intervals.{AreApart};
     ghost use Rattle.scf_facts.specs.internal.WordSets.{NumberFacts};
 
     ghost Value = { NumberFacts };
 
-    ghost view = { λ s. record { intervals = s.intervals; known = s.known; refuted = s.refuted.items } };
+    ghost view = { λ s. record { intervals = s.intervals.items; known = s.known; refuted = s.refuted.items } };
+
+    ghost invariant = { λ s. AreApart s.intervals.items };
 }
 
 impl WordSet {
     /// Every value.
-    pub(crate) fn new(alloc: Global) -> WordSet
-        ensures { result ≡ no_facts }
+    pub(crate) fn new(alloc: Global) -> Result<WordSet, Memory>
+        ensures { IfOk result (λ set. set ≡ no_facts) }
     {
-        WordSet {
-            intervals: Intervals::all(),
+        Ok(WordSet {
+            intervals: Vec::from_slice(alloc, &[Interval::ALL])?,
             known: Bits::NONE,
             refuted: Vec::new(alloc),
-        }
+        })
     }
 
-    /// Keeps the values for which the atom has this answer, and returns what was known before. If allocation fails,
-    /// nothing changes.
-    pub(crate) fn learn(
-        &mut self,
-        alloc: Global,
-        atom: Atom,
-        holds: bool,
-    ) -> Result<SavedValue, Memory>
-        ensures learned { OnOk result ((x : ℕ) → x < 2 ^ 32
-            → AllowsNumber self.new x ↔ (AllowsNumber self.old x × (answer_at atom x ≡ holds))) }
-        ensures before { IfOk result (λ former. facts_before former self.new ≡ self.old) }
-        ensures refused { OnErr result (self.new ≡ self.old) }
-        ensures exact { OnOk result (KeepsExact atom holds
-            → IsTrue (is_exact_set self.old) → IsTrue (is_exact_set self.new)) }
+    /// The values for which the atom has this answer.
+    pub(crate) fn learn(&self, alloc: Global, atom: Atom, holds: bool) -> Result<WordSet, Memory>
+        ensures learned { IfOk result (λ kept. (x : ℕ) → x < 2 ^ 32
+            → AllowsNumber kept x ↔ (AllowsNumber self.now x × (answer_at atom x ≡ holds))) }
+        ensures exact { IfOk result (λ kept. KeepsExact atom holds
+            → IsTrue (is_exact_set self.now) → IsTrue (is_exact_set kept)) }
     {
         match Query::of(atom) {
             Query::Within { range, answer } if answer == holds => {
-                let kept = self.intervals.within(alloc, range)?;
-                Ok(self.replace_intervals(kept))
+                let kept = parts_within(alloc, &self.intervals, range)?;
+                Ok(self.with_intervals(alloc, kept)?)
             }
             Query::Within { range, .. } => {
-                let kept = self.intervals.outside(alloc, range)?;
-                Ok(self.replace_intervals(kept))
+                let kept = parts_outside(alloc, &self.intervals, range)?;
+                Ok(self.with_intervals(alloc, kept)?)
             }
-            Query::Masked(bits) if holds => Ok(self.keep_bits(alloc, bits)),
-            Query::Masked(bits) => self.drop_bits(alloc, bits),
+            Query::Masked(bits) if holds => self.with_bits(alloc, bits),
+            Query::Masked(bits) => self.without_bits(alloc, bits),
         }
     }
 
-    /// Undoes the last change.
-    pub(crate) fn restore(&mut self, former: SavedValue)
-        ensures { self.new ≡ facts_before former self.old }
+    /// What is known, with these intervals.
+    fn with_intervals(&self, alloc: Global, intervals: Vec<Interval>) -> Result<WordSet, Memory>
+        requires { AreApart intervals.items }
+        ensures { IfOk result (λ set. set ≡ record self.now { intervals = intervals.items }) }
     {
-        match former {
-            SavedValue::Intervals(intervals) => self.intervals = intervals,
-            SavedValue::Known(known) => self.known = known,
-            SavedValue::Unrefuted => {
-                self.refuted.pop();
-            }
-        }
+        Ok(WordSet {
+            intervals,
+            known: self.known,
+            refuted: Vec::from_slice(alloc, &self.refuted)?,
+        })
     }
 
-    /// Replaces the intervals, and returns those before.
-    fn replace_intervals(&mut self, intervals: Intervals) -> SavedValue
-        ensures intervals { self.new ≡ record self.old { intervals = intervals } }
-        ensures before { facts_before result self.new ≡ self.old }
+    /// A copy of what is known.
+    fn copy(&self, alloc: Global) -> Result<WordSet, Memory>
+        ensures { IfOk result (λ set. set ≡ self.now) }
     {
-        SavedValue::Intervals(mem::replace(&mut self.intervals, intervals))
+        self.with_intervals(alloc, Vec::from_slice(alloc, &self.intervals)?)
     }
 
-    /// Keeps the values with the bits.
-    fn keep_bits(&mut self, alloc: Global, bits: Bits) -> SavedValue
-        ensures kept { (x : ℕ) → AllowsNumber self.new x ↔ (AllowsNumber self.old x × HasBits bits x) }
-        ensures before { facts_before result self.new ≡ self.old }
-        ensures refuted { self.new.refuted ≡ self.old.refuted }
+    /// The values with the bits.
+    fn with_bits(&self, alloc: Global, bits: Bits) -> Result<WordSet, Memory>
+        ensures kept { IfOk result (λ kept. (x : ℕ)
+            → AllowsNumber kept x ↔ (AllowsNumber self.now x × HasBits bits x)) }
+        ensures refuted { IfOk result (λ kept. kept.refuted ≡ self.now.refuted) }
     {
-        match self.known.join(bits) {
-            Some(known) => SavedValue::Known(mem::replace(&mut self.known, known)),
-            None => self.replace_intervals(Intervals::none(alloc)),
-        }
+        let Some(known) = self.known.join(bits) else {
+            return self.with_intervals(alloc, Vec::new(alloc));
+        };
+        let mut kept = self.copy(alloc)?;
+        kept.known = known;
+        Ok(kept)
     }
 
-    /// Keeps the values without the bits.
+    /// The values without the bits.
     #[tactic(auto, using(crate::proofs::MaskLaws::is_one))]
-    fn drop_bits(&mut self, alloc: Global, bits: Bits) -> Result<SavedValue, Memory>
-        ensures kept { OnOk result ((x : ℕ) → AllowsNumber self.new x ↔ (AllowsNumber self.old x × LacksBits bits x)) }
-        ensures before { IfOk result (λ former. facts_before former self.new ≡ self.old) }
-        ensures refused { OnErr result (self.new ≡ self.old) }
-        ensures refuted { (bits.mask ≡ 0) ⊎ IsPowerOfTwo bits.mask → self.new.refuted ≡ self.old.refuted }
+    fn without_bits(&self, alloc: Global, bits: Bits) -> Result<WordSet, Memory>
+        ensures kept { IfOk result (λ kept. (x : ℕ)
+            → AllowsNumber kept x ↔ (AllowsNumber self.now x × LacksBits bits x)) }
+        ensures refuted { IfOk result (λ kept. (bits.mask ≡ 0) ⊎ IsPowerOfTwo bits.mask
+            → kept.refuted ≡ self.now.refuted) }
     {
         let Some(_) = self.known.join(bits) else {
-            return Ok(SavedValue::Known(self.known));
+            return self.copy(alloc);
         };
         let open = bits.beyond(self.known);
         if open.mask == 0 {
-            return Ok(self.replace_intervals(Intervals::none(alloc)));
+            return self.with_intervals(alloc, Vec::new(alloc));
         }
         if open.mask.is_power_of_two() {
-            return Ok(self.keep_bits(alloc, open.flipped()));
+            return self.with_bits(alloc, open.flipped());
         }
-        self.refuted.push(bits)?;
-        Ok(SavedValue::Unrefuted)
+        let mut kept = self.copy(alloc)?;
+        kept.refuted.push(bits)?;
+        Ok(kept)
     }
 
     /// The atom's answer for every value, if it is known.
@@ -148,16 +141,29 @@ impl WordSet {
         ensures both { result ≡ Tell.Maybe → IsTrue (is_exact_set self.now)
             → SomeNumber self.now (λ x. answer_at atom x ≡ true) × SomeNumber self.now (λ x. answer_at atom x ≡ false) }
     {
-        let decided = match Query::of(atom) {
-            Query::Within { range, answer } => match self.lies_within(range) {
-                Some(within) => Some(within == answer),
-                None => None,
-            },
-            Query::Masked(bits) => self.has_bits(bits),
-        };
-        match decided {
-            Some(answer) => Tell::of(answer),
-            None => Tell::Maybe,
+        if self.excludes(atom, true) {
+            Tell::Never
+        } else if self.excludes(atom, false) {
+            Tell::Always
+        } else {
+            Tell::Maybe
+        }
+    }
+
+    /// Whether it is known that the atom has this answer for no value.
+    fn excludes(&self, atom: Atom, answer: bool) -> bool
+        ensures none { IsTrue result → EachNumber self.now (λ x. answer_at atom x ≡ answer → ⊥) }
+        ensures some { result ≡ false → IsTrue (is_exact_set self.now)
+            → SomeNumber self.now (λ x. answer_at atom x ≡ answer) }
+    {
+        match Query::of(atom) {
+            Query::Within {
+                range,
+                answer: inside,
+            } if inside == answer => self.has_none(range, self.known),
+            Query::Within { range, .. } => self.has_none_outside(range),
+            Query::Masked(bits) if answer => self.has_none_with(bits),
+            Query::Masked(bits) => self.has_none_without(bits),
         }
     }
 
@@ -168,62 +174,22 @@ impl WordSet {
         ensures known { EachNumber self.now (HasBits result) }
     {
         let known = Bits::of(self.known.value, self.known.mask);
-        match self.intervals.hull() {
+        match hull(&self.intervals) {
             Some(hull) => known.union(Bits::between(hull.low, hull.high)),
             None => known,
         }
     }
 
-    /// Whether all values lie within a range, or none does, if either is known.
-    fn lies_within(&self, range: Interval) -> Option<bool>
-        ensures all { result ≡ Some true → EachNumber self.now (LiesIn range) }
-        ensures none { result ≡ Some false → EachNumber self.now (λ x. LiesIn range x → ⊥) }
-        ensures both { IfNone result (IsTrue (is_exact_set self.now)
-            → SomeNumber self.now (LiesIn range) × SomeNumber self.now (LiesOutside range)) }
-    {
-        if self.has_none(range, self.known) {
-            Some(false)
-        } else if self.has_none_outside(range) {
-            Some(true)
-        } else {
-            None
-        }
-    }
-
-    /// Whether all values have the bits, or none does, if either is known.
-    fn has_bits(&self, bits: Bits) -> Option<bool>
-        ensures all { result ≡ Some true → EachNumber self.now (HasBits bits) }
-        ensures none { result ≡ Some false → EachNumber self.now (LacksBits bits) }
-        ensures both { IfNone result (IsTrue (is_exact_set self.now)
-            → SomeNumber self.now (HasBits bits) × SomeNumber self.now (LacksBits bits)) }
-    {
-        let Some(joined) = self.known.join(bits) else {
-            return Some(false);
-        };
-        if self.has_none(Interval::ALL, joined) {
-            Some(false)
-        } else if self.has_none_without(bits.beyond(self.known)) {
-            Some(true)
-        } else {
-            None
-        }
-    }
-
     /// Whether every value is known to have the bits.
-    #[tactic(auto, using(std::proofs::lemmas::Bool::cases_eq))]
     fn has_none_without(&self, bits: Bits) -> bool
         requires within { bit_and bits.value bits.mask ≡ bits.value }
         ensures all { IsTrue result → EachNumber self.now (HasBits bits) }
         ensures some { result ≡ false → IsTrue (is_exact_set self.now) → SomeNumber self.now (LacksBits bits) }
     {
-        let mut left = bits;
-        while let Some(bit) = left.lowest() {
-            if !self.has_none_with(bit.flipped()) {
-                return false;
-            }
-            left = left.beyond(bit);
-        }
-        true
+        let Some(bit) = bits.lowest() else {
+            return true;
+        };
+        self.has_none_with(bit.flipped()) && self.has_none_without(bits.beyond(bit))
     }
 
     /// Whether it is known that no value lies in the range and has the bits.
@@ -231,8 +197,7 @@ impl WordSet {
         ensures none { IsTrue result → EachNumber self.now (λ x. LiesIn range x → LacksBits bits x) }
         ensures some { result ≡ false → (x : ℕ) × LiesInOne self.now.intervals x × LiesIn range x × HasBits bits x }
     {
-        refutes(&self.refuted, bits)
-            || first_number(self.intervals.as_slice(), range, bits).is_none()
+        refutes(&self.refuted, bits) || first_number(&self.intervals, range, bits).is_none()
     }
 
     /// Whether no value has these bits beside the known ones.
@@ -249,20 +214,24 @@ impl WordSet {
     /// Whether no value lies outside the range.
     fn has_none_outside(&self, range: Interval) -> bool
         ensures all { IsTrue result → EachNumber self.now (LiesIn range) }
-        ensures some { result ≡ false → IsTrue (is_exact_set self.now) → SomeNumber self.now (LiesOutside range) }
+        ensures some { result ≡ false → IsTrue (is_exact_set self.now) → SomeNumber self.now (λ x. LiesIn range x → ⊥) }
     {
-        let below = Interval::ALL.part_below(range.low);
-        let above = Interval::ALL.part_above(range.high);
-        self.has_none_in(below) && self.has_none_in(above)
-    }
-
-    /// Whether no value lies in the interval, if there is one.
-    fn has_none_in(&self, part: Option<Interval>) -> bool
-        ensures none { IsTrue result → IfSome part (λ range. EachNumber self.now (λ x. LiesIn range x → ⊥)) }
-        ensures some { result ≡ false → IsTrue (is_exact_set self.now)
-            → IfSome part (λ range. SomeNumber self.now (LiesIn range)) × IsSome part }
-    {
-        part.is_none_or(|range| self.has_none(range, self.known))
+        (range.low == 0
+            || self.has_none(
+                Interval {
+                    low: 0,
+                    high: range.low - 1,
+                },
+                self.known,
+            ))
+            && (range.high == u32::MAX
+                || self.has_none(
+                    Interval {
+                        low: range.high + 1,
+                        high: u32::MAX,
+                    },
+                    self.known,
+                ))
     }
 
     /// Whether the word is known to have no value.
@@ -280,7 +249,7 @@ impl WordSet {
     {
         self.known.are_in(x)
             && self.refuted.iter().all(|refuted| refuted.are_missing(x))
-            && lies_in_one(self.intervals.as_slice(), x)
+            && lies_in_one(&self.intervals, x)
     }
 
     /// A possible value, if one is found; the least one, if no bits are refuted.
@@ -289,7 +258,7 @@ impl WordSet {
         ensures found { IsTrue (is_exact_set self.now)
             → (x : ℕ) → x < 2 ^ 32 → AllowsNumber self.now x → IsSome result }
     {
-        let first = first_number(self.intervals.as_slice(), Interval::ALL, self.known)?;
+        let first = first_number(&self.intervals, Interval::ALL, self.known)?;
         if self.allows(first) {
             return Some(first);
         }
@@ -311,7 +280,7 @@ impl WordSet {
         ensures none { IfNone result (All (λ interval. (AllowsNumber self.now interval.low → ⊥)
             × (AllowsNumber self.now interval.high → ⊥)) self.now.intervals) }
     {
-        for interval in self.intervals.as_slice() {
+        for interval in &self.intervals {
             if self.allows(interval.low) {
                 return Some(interval.low);
             }
@@ -348,7 +317,7 @@ impl WordSet {
     {
         let mut tries = MOST_TRIES;
         free_number(
-            self.intervals.as_slice(),
+            &self.intervals,
             &self.refuted,
             self.known,
             Bits::NONE,

@@ -1,16 +1,13 @@
 //! A store that keeps a set of values for each word.
 
-ghost use Rattle.std.specs.Prelude.{◌≡◌, ◌<◌, ℕ, List, IsTrue, length, true, false};
+ghost use Rattle.std.specs.Prelude.{◌≡◌, ◌<◌, ℕ, List, All, IsTrue, length, slice_index_or, true, false};
 ghost use Rattle.std.specs.List.{list_all};
 ghost use Rattle.scf_facts.specs.Atoms.{atom_answer, word_of};
-ghost use Rattle.scf_facts.specs.internal.Counts.{AreRising};
-ghost use Rattle.scf_facts.specs.internal.Trail.{known_at};
 ghost use Rattle.scf_facts.specs.internal.WordSets.{AllowsWords, is_exact_set};
 
 use crate::atom::{Atom, Tell};
 use crate::bits::Bits;
-use crate::trail::Change;
-use crate::undo::{note, restore};
+use crate::shared_set::SharedSet;
 use crate::word_facts::WordFacts;
 use crate::word_set::WordSet;
 use scf_insn::Memory;
@@ -24,89 +21,81 @@ use std::alloc::Global;
 /// tries the least value, the ends of the intervals, the known value and that value with one further bit; if all are
 /// refuted, it searches bit by bit until a value is found, there is none, or the tries run out.
 ///
-/// While a mark is open, a trail records each change, and a mark is the trail's length at that time. `learn` reserves
-/// room in it first, so that a failed allocation changes nothing. Of consecutive changes of one word's intervals only
-/// the first is recorded: undoing it restores what was known before all of them.
+/// A mark saves the sixteen sets, which are shared: `learn` puts another set in the place of its word's.
 #[derive(Drop)]
 pub struct WordSets {
     alloc: Global,
-    sets: Vec<WordSet>,
-    trail: Vec<Change>,
-    marks: Vec<usize>,
+    sets: Vec<SharedSet>,
+    saved: Vec<Vec<SharedSet>>,
     ghost sixteen: { length sets.items ≡ 16 },
-    ghost rising: { AreRising marks.items (length trail.items) },
+    ghost saved_sixteen: { All (λ level. length level.items ≡ 16) saved.items },
 }
 
 impl WordFacts for WordSets {
-    ghost level = { λ facts. length facts.marks.items };
+    ghost level = { λ facts. length facts.saved.items };
 
-    ghost allows = { λ facts level. AllowsWords
-        (known_at facts.sets.items facts.trail.items facts.marks.items level) };
+    ghost allows = { λ facts level. AllowsWords (slice_index_or facts.saved.items level facts.sets).items };
 
     ghost is_exact = { λ facts level. list_all is_exact_set
-        (known_at facts.sets.items facts.trail.items facts.marks.items level) };
+        (slice_index_or facts.saved.items level facts.sets).items };
 
     ghost starts_exact = { true };
 
     fn all(alloc: Global) -> Result<Self, Memory> {
+        let set = SharedSet::new(alloc, WordSet::new(alloc)?)?;
         let mut sets = Vec::with_capacity(alloc, 16)?;
         while sets.len() < 16 {
-            sets.push(WordSet::new(alloc))?;
+            sets.push(set.clone()?)?;
         }
         Ok(WordSets {
             alloc,
             sets,
-            trail: Vec::new(alloc),
-            marks: Vec::new(alloc),
+            saved: Vec::new(alloc),
         })
     }
 
-    #[tactic(auto, using(crate::proofs::TrailLaws::known_now, crate::proofs::StoreLaws::exact_set))]
+    #[tactic(auto, using(crate::proofs::Levels::now, crate::proofs::StoreLaws::set_laws))]
     fn learn(&mut self, atom: Atom, holds: bool) -> Result<(), Memory> {
-        let word = atom.word();
-        self.trail.reserve(1)?;
-        let former = self.sets[word as usize].learn(self.alloc, atom, holds)?;
-        note(&mut self.trail, &self.marks, Change { word, former })?;
+        let word = atom.word() as usize;
+        let set = self.sets[word].as_set().learn(self.alloc, atom, holds)?;
+        self.sets[word] = SharedSet::new(self.alloc, set)?;
         Ok(())
     }
 
-    #[tactic(auto, using(crate::proofs::TrailLaws::opened_laws))]
     fn mark(&mut self) -> Result<(), Memory> {
-        let count = self.trail.len();
-        self.marks.push(count)?;
+        let sets = self.sets.clone()?;
+        self.saved.push(sets)?;
         Ok(())
     }
 
     fn undo(&mut self) {
-        if let Some(count) = self.marks.pop() {
-            restore(&mut self.sets, &mut self.trail, count);
+        if let Some(sets) = self.saved.pop() {
+            self.sets = sets;
         }
     }
 
     fn open_marks(&self) -> usize {
-        self.marks.len()
+        self.saved.len()
     }
 
-    #[tactic(auto, using(crate::proofs::TrailLaws::known_now))]
     fn tell(&self, atom: Atom) -> Tell {
         tell_by_word(&self.sets, atom)
     }
 
-    #[tactic(auto, using(crate::proofs::TrailLaws::known_now, crate::proofs::StoreLaws::each_word))]
+    #[tactic(auto, using(crate::proofs::StoreLaws::each_word))]
     fn known_bits(&self, word: u8) -> Bits {
-        self.sets[word as usize].known_bits()
+        self.sets[word as usize].as_set().known_bits()
     }
 
-    #[tactic(auto, using(crate::proofs::TrailLaws::known_now))]
     fn is_empty(&self) -> bool {
-        self.sets.iter().any(|set| set.is_empty())
+        self.sets.iter().any(|set| set.as_set().is_empty())
     }
 
-    #[tactic(auto, using(crate::proofs::TrailLaws::known_now, crate::proofs::StoreLaws::word_laws))]
+    #[tactic(auto, using(crate::proofs::StoreLaws::word_laws))]
     fn pick(&self) -> Option<[u32; 16]> {
         let mut words = [0; 16];
         for (index, set) in self.sets.iter().enumerate() {
-            words[index] = set.pick()?;
+            words[index] = set.as_set().pick()?;
         }
         Some(words)
     }
@@ -114,7 +103,7 @@ impl WordFacts for WordSets {
 
 /// The atom's answer for every allowed list, if the values of its word show it.
 #[tactic(auto, using(crate::proofs::StoreLaws::each_word))]
-fn tell_by_word(sets: &[WordSet], atom: Atom) -> Tell
+fn tell_by_word(sets: &[SharedSet], atom: Atom) -> Tell
     requires sixteen { length sets.now ≡ 16 }
     requires word { word_of atom < 16 }
     ensures always { result ≡ Tell.Always
@@ -126,5 +115,5 @@ fn tell_by_word(sets: &[WordSet], atom: Atom) -> Tell
         → ((words : List ℕ) × AllowsWords sets.now words × (atom_answer atom words ≡ true))
         × ((words : List ℕ) × AllowsWords sets.now words × (atom_answer atom words ≡ false)) }
 {
-    sets[atom.word() as usize].tell(atom)
+    sets[atom.word() as usize].as_set().tell(atom)
 }

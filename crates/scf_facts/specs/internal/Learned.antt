@@ -1,9 +1,8 @@
 -- Lists of words that agree with what was learned.
-use Rattle.std.specs.Prelude.{◌≡◌, ℕ, List, All, length, take}
+use Rattle.std.specs.Prelude.{◌≡◌, ℕ, List, All}
 use Rattle.scf_insn.specs.Words.{IsWords}
 use Rattle.scf_facts.specs.declared.learned.Learned.{Learned}
 use Rattle.scf_facts.specs.Atoms.{atom_answer}
-use Rattle.scf_facts.specs.internal.Counts.{count_at}
 
 -- the atom has the learned answer
 abbrev pub Holds : Learned → List ℕ → Type 0
@@ -12,10 +11,6 @@ Holds known words = atom_answer known.atom words ≡ known.holds
 -- each learned atom has its answer
 abbrev pub AllHold : List Learned → List ℕ → Type 0
 AllHold learned words = All (λ known. Holds known words) learned
-
--- what had been learned at a level
-abbrev pub learned_at : List Learned → List ℕ → ℕ → List Learned
-learned_at learned marks level = take (count_at marks (length learned) level) learned
 
 -- the lists of words that agree with what was learned
 pub record AllowsByLearned (learned : List Learned) (words : List ℕ) : Type 0 where

@@ -1,5 +1,5 @@
 -- What an atom asks of the number of its word.
-use Rattle.std.specs.Prelude.{◌≡◌, ◌<◌, ◌≤◌, ◌^◌, ◌↔◌, ◌⊎◌, ℕ, Bool, IsTrue, true}
+use Rattle.std.specs.Prelude.{◌≡◌, ◌<◌, ◌≤◌, ◌^◌, ◌↔◌, ◌⊎◌, ℕ, Bool, IsTrue, true, bit_and}
 use Rattle.std.specs.Int.{IsPowerOfTwo}
 use Rattle.scf_facts.specs.declared.atom.Atom.{Atom}
 use Rattle.scf_facts.specs.declared.query.Query.{Query}
@@ -9,11 +9,12 @@ use Rattle.scf_facts.specs.Bits.{HasBits}
 use Rattle.scf_facts.specs.internal.Intervals.{LiesIn}
 use Rattle.scf_facts.specs.Exactness.{KeepsExact}
 
--- the answer of the atom by where the number lies, or by its bits
+-- the answer of the atom by where the number lies, or by bits whose value lies within their mask
 abbrev pub Asks : Atom → Query → Type 0
 Asks atom (Within range answer) =
     (range.low ≤ range.high) × ((x : ℕ) → x < 2 ^ 32 → LiesIn range x ↔ (answer_at atom x ≡ answer))
-Asks atom (Masked bits) = (x : ℕ) → HasBits bits x ↔ (answer_at atom x ≡ true)
+Asks atom (Masked bits) =
+    (bit_and bits.value bits.mask ≡ bits.value) × ((x : ℕ) → HasBits bits x ↔ (answer_at atom x ≡ true))
 
 -- where the bits are those of a simple mask, as far as an answer has to keep facts exact
 abbrev pub AsksSimply : Atom → Query → Type 0

@@ -1,6 +1,7 @@
 use Rattle.scf_facts.proofs.AtomLaws.{allows_pushed}
+use Rattle.scf_facts.proofs.Levels.{now}
 use Rattle.scf_facts.proofs.atom_list.AtomListWordFacts.learn.Goals as goal
 
 pub returns-clause-law_learn : goal.returns-clause-law_learn
-returns-clause-law_learn c =
-    rw c.in_ok-push.ensures.items (allows_pushed c.args.self.now.learned.items _ c.args.self.now.marks.items)
+returns-clause-law_learn c = λ words.
+    simp now (rw c.in_ok-push.ensures.items (allows_pushed c.args.self.now.learned.items _ words))

@@ -1,10 +1,10 @@
 use Rattle.scf_facts.proofs.Common.{true_from_ne_false, ◌<◌, ◌^◌, ℕ, rules, tests, arith, IsTrue, NumberFacts, AllowsNumber, is_exact_set, cases_from_any, YieldsList-from_slice}
 use Rattle.scf_facts.proofs.StoreLaws.{some_allowed}
-use Rattle.scf_facts.proofs.TrailLaws.{known_now}
+use Rattle.scf_facts.proofs.Levels.{now}
 use Rattle.scf_facts.proofs.word_sets.WordSetsWordFacts.is_empty.Goals as goal
 
 pub returns-clause-seen : goal.returns-clause-seen
-returns-clause-seen c = simp known_now (λ exact none.
+returns-clause-seen c = simp now (λ exact none.
     let facts = c.args.self.now in
     let each = cases_from_any _ _ _ (λ (_ : NumberFacts). ℕ)
     (λ set. IsTrue (is_exact_set set) → (x : ℕ) × (x < 2 ^ 32) × AllowsNumber set x) c.any.ensures.ran
