@@ -35,18 +35,18 @@ joined whole below above range l u filled = (
   λ x. grind (arith, lies_append below above x, l.1 x, u.1 x),
 )
 
-begins : (least : ℕ) (is : List Interval) → AreApartFrom least is → (l : ℕ) (d : Interval)
-    → l < length is → (least ≤ (get_or is l d).low) × ((get_or is l d).low ≤ (get_or is l d).high)
-begins least [] a l d lt = absurd (omega arith)
-begins least (i ∷ is) a zero d lt = omega arith
-begins least (i ∷ is) a (suc l) d lt = omega (arith, a.0, a.1, begins (i.high + 1) is a.2 l d)
+ends : (least : ℕ) (is : List Interval) → AreApartFrom least is → (l : ℕ) (d : Interval)
+    → l < length is → least ≤ (get_or is l d).high
+ends least [] a l d lt = absurd (omega arith)
+ends least (i ∷ is) a zero d lt = omega arith
+ends least (i ∷ is) a (suc l) d lt = omega (arith, a.0, a.1, ends (i.high + 1) is a.2 l d)
 
--- no interval begins or ends before an earlier one
+-- no interval ends before an earlier one
 pub rising : (least : ℕ) (is : List Interval) → AreApartFrom least is → (k l : ℕ) (d : Interval) → k ≤ l
-    → l < length is → ((get_or is k d).low ≤ (get_or is l d).low) × ((get_or is k d).high ≤ (get_or is l d).high)
+    → l < length is → (get_or is k d).high ≤ (get_or is l d).high
 rising least [] a k l d le lt = absurd (omega arith)
 rising least (i ∷ is) a zero zero d le lt = omega arith
-rising least (i ∷ is) a zero (suc l) d le lt = omega (arith, a.1, begins (i.high + 1) is a.2 l d)
+rising least (i ∷ is) a zero (suc l) d le lt = omega (arith, ends (i.high + 1) is a.2 l d)
 rising least (i ∷ is) a (suc k) zero d le lt = absurd (omega arith)
 rising least (i ∷ is) a (suc k) (suc l) d le lt = rising (i.high + 1) is a.2 k l d (omega arith) (omega arith)
 
@@ -130,10 +130,12 @@ lies_within P (i ∷ is) x all h = elim h [
 -- a number in one of the intervals lies between the ends of all
 pub within_ends : (is : List Interval) (first last : Interval) (x : ℕ) → AreApart is → slice_get is 0 ≡ Some first
     → slice_get is (length is - 1) ≡ Some last → LiesInOne is x → (first.low ≤ x) × (x ≤ last.high)
-within_ends is first last x a begin end h =
-    lies_within (λ y. (first.low ≤ y) × (y ≤ last.high)) is x (λ k d lt y lies.
-    let low = rising 0 is a 0 k d (omega arith) lt in
-    let high = rising 0 is a k (length is - 1) d (omega arith) (omega arith) in
-    let of_first : get_or is 0 d ≡ first = get_or_from_slice_get is 0 first d begin in
-    let of_last : get_or is (length is - 1) d ≡ last = get_or_from_slice_get is (length is - 1) last d end in
-    (omega (arith, rw of_first at low.0, lies.0), omega (arith, rw of_last at high.1, lies.1))) h
+within_ends [] first last x a begin end h = absurd h
+within_ends (i ∷ is) first last x a begin end h =
+    let same : first ≡ i = cc in (
+      rw same (lies_from i.low (i ∷ is) x (omega arith, a.1, a.2) h),
+      lies_within (λ y. y ≤ last.high) (i ∷ is) x (λ k d lt y lies.
+          let high = rising 0 (i ∷ is) a k (length (i ∷ is) - 1) d (omega arith) (omega arith) in
+          let of_last : get_or (i ∷ is) (length (i ∷ is) - 1) d ≡ last = get_or_from_slice_get (i ∷ is) _ last d end in
+          omega (arith, rw of_last at high, lies.1)) h,
+    )

@@ -1,7 +1,7 @@
 //! Questions about one word of a call record, and what a store knows of the answer.
 
-ghost use Rattle.std.specs.Prelude.{◌≡◌, ◌<◌, if◌then◌else◌};
-ghost use Rattle.scf_facts.specs.Atoms.{answer_at, atom_answer, word_of};
+ghost use Rattle.std.specs.Prelude.{◌≡◌, if◌then◌else◌};
+ghost use Rattle.scf_facts.specs.Atoms.{answer_at, word_of};
 
 /// A question about one of the sixteen 32-bit words of a call record. `word` is the word's index, 0 to 15 (the caller's
 /// condition); comparisons are unsigned. The answer is true or false.
@@ -34,14 +34,6 @@ impl Atom {
             Atom::Gt { value, .. } => number > value,
             Atom::Ge { value, .. } => number >= value,
         }
-    }
-
-    /// The answer for these words.
-    pub(crate) fn is_true_of(self, words: &[u32; 16]) -> bool
-        requires { word_of self < 16 }
-        ensures { result ≡ atom_answer self words.now }
-    {
-        self.answer(words[self.word() as usize])
     }
 }
 

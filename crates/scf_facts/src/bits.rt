@@ -63,13 +63,6 @@ impl Bits {
         x & self.mask == self.value
     }
 
-    /// Whether the number lacks these bits.
-    pub(crate) fn are_missing(self, x: u32) -> bool
-        ensures { IsTrue result ↔ LacksBits self x }
-    {
-        x & self.mask != self.value
-    }
-
     /// The bits of both, if some number has both.
     #[tactic(auto, using(crate::proofs::MaskLaws::joined, crate::proofs::MaskLaws::in_joined))]
     pub(crate) fn join(self, other: Bits) -> Option<Bits>

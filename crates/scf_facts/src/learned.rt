@@ -55,6 +55,6 @@ impl Learned {
     pub(crate) fn agrees(&self, words: &[u32; 16]) -> bool
         ensures { IsTrue result ↔ (atom_answer self.now.atom words.now ≡ self.now.holds) }
     {
-        self.atom.is_true_of(words) == self.holds
+        self.atom.answer(words[self.atom.word() as usize]) == self.holds
     }
 }

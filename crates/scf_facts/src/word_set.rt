@@ -248,7 +248,7 @@ impl WordSet {
         ensures { IsTrue result ↔ AllowsNumber self.now x }
     {
         self.known.are_in(x)
-            && self.refuted.iter().all(|refuted| refuted.are_missing(x))
+            && !self.refuted.iter().any(|refuted| refuted.are_in(x))
             && lies_in_one(&self.intervals, x)
     }
 

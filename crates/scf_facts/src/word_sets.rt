@@ -43,13 +43,9 @@ impl WordFacts for WordSets {
 
     fn all(alloc: Global) -> Result<Self, Memory> {
         let set = SharedSet::new(alloc, WordSet::new(alloc)?)?;
-        let mut sets = Vec::with_capacity(alloc, 16)?;
-        while sets.len() < 16 {
-            sets.push(set.clone()?)?;
-        }
         Ok(WordSets {
             alloc,
-            sets,
+            sets: Vec::from_elem(alloc, set, 16)?,
             saved: Vec::new(alloc),
         })
     }

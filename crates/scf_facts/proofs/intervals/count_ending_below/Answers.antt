@@ -5,7 +5,7 @@ use Rattle.scf_facts.proofs.intervals.count_ending_below.Goals as goal
 pub returns : goal.returns
 returns c =
     let parted = IsPartitionedBy-ltb (λ i. i.high) c.args.intervals.now c.args.bound
-    (λ k l d le lt. (rising 0 c.args.intervals.now c.requires k l d le lt).1) in
+    (rising 0 c.args.intervals.now c.requires) in
     let point = IsPartitionPoint-from_clause (λ i. ltb i.high c.args.bound) _ _ c.partition_point.ensures.partitioned
     parted (λ a r q k. search rules) in
     record {

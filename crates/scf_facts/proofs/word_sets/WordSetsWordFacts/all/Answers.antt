@@ -1,8 +1,7 @@
-use Rattle.scf_facts.proofs.Common.{length}
 use Rattle.scf_facts.proofs.StoreLaws.{allows_all}
 use Rattle.scf_facts.proofs.word_sets.WordSetsWordFacts.all.Goals as goal
 
 pub returns-clause-law_all : goal.returns-clause-law_all
 returns-clause-law_all c = λ words.
-    let sets = c.loop-sets.sets.items in
-    rw c.new-3.ensures.items (rw (← c.loop-sets.invariant.same) at (allows_all (length sets) words))
+    let items = c.in_ok-from_elem.ensures.items_if_clones_equal (λ set same. same) in
+    rw (c.new-3.ensures.items, items, c.in_ok-set.ensures, c.in_ok-new.ensures) (allows_all 16 words)
