@@ -1,5 +1,5 @@
 -- Laws of intervals and their parts.
-use Rattle.scf_facts.proofs.Common.{nat_tests, ◌-◌, ◌≡◌, ◌⊎◌, inl, inr, ℕ, zero, suc, refl, sym, ◌+◌, ◌<◌, ◌≤◌, ◌↔◌, List, [], ◌∷◌, ◌++◌, get_or, get_or_from_slice_get, length, arith, nat_lt, if◌then◌else◌, All, IfSome, IfNone, Option, Some, None, slice_get, AllWithin, Interval, LiesIn, LiesInOne, AreApartFrom, AreApart, ArePartsOf, take, drop, max}
+use Rattle.scf_facts.proofs.Common.{nat_tests, ◌-◌, ◌≡◌, ◌⊎◌, inl, inr, ℕ, zero, suc, refl, ◌+◌, ◌<◌, ◌≤◌, ◌↔◌, List, [], ◌∷◌, ◌++◌, get_or, get_or_from_slice_get, length, arith, nat_lt, if◌then◌else◌, All, IfSome, IfNone, Option, Some, None, slice_get, AllWithin, Interval, LiesIn, LiesInOne, AreApartFrom, AreApart, ArePartsOf, take, drop, max}
 
 lies_append : (is js : List Interval) (x : ℕ) → LiesInOne (is ++ js) x ↔ (LiesInOne is x ⊎ LiesInOne js x)
 lies_append [] js x = (inr, λ h. elim h [ inl none ↦ absurd none | inr there ↦ there ])

@@ -8,7 +8,7 @@ use std::alloc::{AllocError, Global};
 use std::marker::Model;
 use std::rc::Rc;
 
-/// A word's set that several levels of a store share. To clone it copies no set.
+/// A word's set that several levels of a store share. Cloning it copies no set.
 #[derive(Drop)]
 pub(crate) struct SharedSet {
     set: Rc<WordSet>,

@@ -21,7 +21,8 @@ use std::alloc::Global;
 /// tries the least value, the ends of the intervals, the known value and that value with one further bit; if all are
 /// refuted, it searches bit by bit until a value is found, there is none, or the tries run out.
 ///
-/// A mark saves the sixteen sets, which are shared: `learn` puts another set in the place of its word's.
+/// A mark saves the sixteen sets. Levels share a set that they know alike: `learn` replaces the set of its word, and
+/// changes none.
 #[derive(Drop)]
 pub struct WordSets {
     alloc: Global,

@@ -1,5 +1,5 @@
 -- Numbers by the intervals that they lie in.
-use Rattle.std.specs.Prelude.{◌+◌, ◌-◌, ◌<◌, ◌≤◌, ◌^◌, ◌⊎◌, ◌↔◌, ℕ, List, [], ◌∷◌}
+use Rattle.std.specs.Prelude.{◌+◌, ◌-◌, ◌≤◌, ◌^◌, ◌⊎◌, ◌↔◌, ℕ, List, [], ◌∷◌}
 use Rattle.scf_facts.specs.declared.interval.Interval.{Interval}
 
 -- a number lies in an interval

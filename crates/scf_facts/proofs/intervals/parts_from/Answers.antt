@@ -1,4 +1,4 @@
-use Rattle.scf_facts.proofs.Common.{◌≡◌, arith, common_steps, gets, slice_get, Some, add-one}
+use Rattle.scf_facts.proofs.Common.{◌≡◌, arith, common_steps, gets, slice_get, Some}
 use Rattle.scf_facts.proofs.IntervalLaws.{parts_from, reaches}
 use Rattle.scf_facts.proofs.intervals.parts_from.Goals as goal
 
