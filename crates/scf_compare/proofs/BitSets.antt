@@ -1,11 +1,15 @@
 -- The bits that splits have fixed.
-use Rattle.std.specs.Prelude.{slice_set}
-use Rattle.std.proofs.lemmas.Nat.{or_disjoint}
+use Rattle.std.specs.Prelude.{count_ones, slice_set}
+use Rattle.std.proofs.Common.{le_refl}
+use Rattle.std.specs.Int.Bits.{or_step}
+use Rattle.std.specs.Int.Count.{ones_step}
+use Rattle.std.proofs.lemmas.Nat.{ones-le, or_disjoint}
 use Rattle.std.proofs.lemmas.List.Sums.{sum_by-set}
 use Rattle.scf_facts.proofs.Common.{IsPowerOfTwo, and_pow}
 use Rattle.scf_facts.proofs.MaskLaws.{under_power}
-use Rattle.scf_compare.proofs.Common.{Bits, HasBits, trailing_ones, bit_at-trailing_ones, one_shl, w32, le_or_l, pow_pos, ◌≡◌, ◌+◌, ◌*◌, ◌%◌, ◌<◌, ◌≤◌, ◌-◌, ◌^◌, ℕ, List, arith, bit_and, bit_or, common_steps, eq-eqb, eqb, false, inl, inr, length, refl, slice_index}
-use Rattle.scf_compare.specs.internal.FixedBits.{HaveBits, bits_at, lacking}
+use Rattle.scf_compare.proofs.Common.{Bits, HasBits, ap, trailing_ones, bit_at-trailing_ones, one_shl, w32, le_or_l, pow_pos, ◌≡◌, ◌+◌, ◌*◌, ◌/◌, ◌%◌, ◌<◌, ◌≤◌, ◌-◌, ◌^◌, ℕ, List, arith, bit_and, bit_or, cases_eq, common_steps, eq-eqb, eqb, false, inl, inr, length, suc, zero, refl, slice_index}
+use Rattle.scf_compare.specs.internal.FixedBits.{HaveBits, bits_at}
+use Rattle.scf_compare.specs.Splits.{open_bits}
 
 -- a number that doesn't have a bit lacks it
 pub lacks_bit : (x m : ℕ) → IsPowerOfTwo m → eqb (bit_and x m) m ≡ false → bit_and x m ≡ 0
@@ -23,13 +27,55 @@ pub have_set : (fixed : List Bits) (word : ℕ) (new : Bits) (words : List ℕ) 
     → HaveBits fixed words → HasBits new (slice_index words word) → HaveBits (slice_set fixed word new) words
 have_set fixed word new words lt have this = λ k. grind (arith, common_steps, have k, this)
 
--- what is left to fix changes with one word
-pub lacking_set : (fixed : List Bits) (word : ℕ) (new : Bits) → word < length fixed
-    → lacking (slice_set fixed word new) + (2 ^ 32 - 1 - (bits_at fixed word).mask) ≡ lacking fixed + (2 ^ 32 - 1 - new.mask)
-lacking_set fixed word new lt =
-    omega (arith, sum_by-set (λ bits. 2 ^ 32 - 1 - bits.mask) fixed word new (record { mask = 0; value = 0 }) lt)
+-- A number with further bits has as many ones as before only where it is the same.
+more_ones : (digits a b : ℕ) → bit_or a b ≤ digits → (count_ones a ≤ count_ones (bit_or a b))
+    × (count_ones a ≡ count_ones (bit_or a b) → a ≡ bit_or a b)
+more_ones zero a b within =
+    let same : a ≡ bit_or a b = omega (arith, le_or_l a b) in
+    (omega (arith, ap count_ones same), λ ones. same)
+more_ones (suc digits) a b within =
+    let joined = bit_or a b in
+    let step = or_step a b in
+    let half = more_ones digits (a / 2) (b / 2) (omega arith) in
+    let high : joined / 2 ≡ bit_or (a / 2) (b / 2) = omega arith in
+    let of_a = ones_step a in
+    let of_joined = ones_step joined in
+    let of_high = ap count_ones high in
+    (omega (arith, half.0), λ same. omega (arith, half.0, half.1 (omega (arith, half.0))))
 
-pub ruleset fixings = (have_set, lacking_set, le_or_l, or_disjoint, pow_pos)
+-- more bits of a word leave no more to fix
+pub lacking_bits : (fixed : List Bits) (word : ℕ) (new : Bits) (m : ℕ) → word < length fixed
+    → new.mask ≡ bit_or (bits_at fixed word).mask m → open_bits (slice_set fixed word new) ≤ open_bits fixed
+lacking_bits fixed word new m lt more =
+    let old = (bits_at fixed word).mask in
+    let ones : count_ones old ≤ count_ones new.mask = rw more (more_ones _ old m (le_refl _)).0 in
+    omega (
+      arith,
+      sum_by-set (λ bits. 32 - count_ones bits.mask) fixed word new (record { mask = 0; value = 0 }) lt,
+      ones,
+    )
+
+-- one more bit leaves less
+pub lacking_bit : (fixed : List Bits) (word : ℕ) (new : Bits) (m : ℕ) → word < length fixed
+    → new.mask ≡ bit_or (bits_at fixed word).mask m → IsPowerOfTwo m → bit_and (bits_at fixed word).mask m ≡ 0
+    → new.mask < 2 ^ 32 → open_bits (slice_set fixed word new) < open_bits fixed
+lacking_bit fixed word new m lt more one apart fits =
+    let old = (bits_at fixed word).mask in
+    let joined = or_disjoint old m apart in
+    let ones = more_ones _ old m (le_refl _) in
+    let some : 0 < m = omega (arith, one.1, pow_pos one.0) in
+    let most : count_ones new.mask ≤ 32 = ones-le 32 new.mask fits in
+    let fewer : count_ones old < count_ones new.mask = rw more (
+    elim (cases_eq (count_ones old) (count_ones (bit_or old m))) [
+      | inl same ↦ absurd (omega (arith, ones.1 same))
+      | inr other ↦ omega (arith, ones.0)
+    ]) in
+    omega (
+      arith,
+      sum_by-set (λ bits. 32 - count_ones bits.mask) fixed word new (record { mask = 0; value = 0 }) lt,
+    )
+
+pub ruleset fixings = (have_set, lacking_bits, lacking_bit)
 
 -- the lowest bit that a mask lacks
 pub lowest_lacking : (mask : ℕ) → mask + 1 < 2 ^ 32

@@ -12,6 +12,7 @@ pub mod Relations
 pub mod Rules
 pub mod Saturated
 pub mod Weights
+pub mod SplitLaws
 pub mod Stacks
 pub mod Stages
 pub mod Steps

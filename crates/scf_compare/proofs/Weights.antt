@@ -3,7 +3,7 @@ use Rattle.std.proofs.Math.Nat.{one-le-pow, pow-le-pow_right}
 use Rattle.std.proofs.lemmas.Grind.{pow_more}
 use Rattle.scf_facts.specs.declared.bits.Bits.{Bits}
 use Rattle.scf_compare.proofs.Common.{◌≡◌, ◌+◌, ◌-◌, ◌*◌, ◌<◌, ◌≤◌, ◌^◌, ℕ, List, arith, mul-le-mul_left, scaled_costs}
-use Rattle.scf_compare.specs.internal.FixedBits.{lacking}
+use Rattle.scf_compare.specs.Splits.{open_bits}
 use Rattle.scf_compare.specs.internal.Settling.{weight}
 
 pub weight_counts : (effort lacks : ℕ) → 0 < (2 * effort + 1) ^ lacks
@@ -32,7 +32,7 @@ two_walks effort lacks set clear first second =
 pub settled_costs : (a b n effort : ℕ) (fixed : List Bits) → a + b + 1 ≤ n
     → a * weight effort fixed + b * weight effort fixed + 1 ≤ n * weight effort fixed
 settled_costs a b n effort fixed h =
-    scaled_costs a b n (weight effort fixed) h (weight_counts effort (lacking fixed))
+    scaled_costs a b n (weight effort fixed) h (weight_counts effort (open_bits fixed))
 
 pub settled_cost : (a n effort : ℕ) (fixed : List Bits) → a + 1 ≤ n
     → a * weight effort fixed + 1 ≤ n * weight effort fixed
@@ -44,7 +44,7 @@ settled_end n effort fixed h = omega (arith, settled_cost 0 n effort fixed h)
 pub ruleset settled = (settled_costs, settled_cost, settled_end)
 
 -- what a step counts where more is fixed, by what one counts before
-pub weighs_less : (effort size : ℕ) (more fewer : List Bits) → lacking more ≤ lacking fewer → 0 < size
+pub weighs_less : (effort size : ℕ) (more fewer : List Bits) → open_bits more ≤ open_bits fewer → 0 < size
     → weight effort more ≤ size * weight effort fewer
 weighs_less effort size more fewer less counts =
     let within : weight effort more ≤ weight effort fewer = pow-le-pow_right (omega arith) less in

@@ -5,5 +5,6 @@ pub mod Limits
 pub mod Paths
 pub mod SideLaws
 pub mod Sides
+pub mod Splits
 pub mod Verdicts
 pub mod internal

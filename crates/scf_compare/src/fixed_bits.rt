@@ -5,7 +5,8 @@ ghost use Rattle.std.specs.Int.{IsPowerOfTwo};
 ghost use Rattle.scf_insn.specs.Words.{IsWords};
 ghost use Rattle.scf_facts.specs.Atoms.{atom_answer};
 ghost use Rattle.scf_facts.specs.Bits.{HasBits};
-ghost use Rattle.scf_compare.specs.internal.FixedBits.{AreWhole, HaveBits, IsOpenBit, bit_is_set, bits_at, lacking};
+ghost use Rattle.scf_compare.specs.internal.FixedBits.{AreWhole, HaveBits, IsOpenBit, bit_is_set, bits_at};
+ghost use Rattle.scf_compare.specs.Splits.{open_bits};
 
 use crate::known_bits::told_bits;
 use crate::sources::OpenTest;
@@ -79,7 +80,7 @@ impl FixedBits {
         requires { IsOpenBit self.old.words bit }
         ensures have { (words : List ℕ) → HaveBits self.old.words words
             → atom_answer (bit_is_set bit.word bit.mask) words ≡ is_set → HaveBits self.new.words words }
-        ensures less { lacking self.new.words < lacking self.old.words }
+        ensures less { open_bits self.new.words < open_bits self.old.words }
         ensures others { (index : ℕ) → index ≢ bit.word
             → bits_at self.new.words index ≡ bits_at self.old.words index }
     {
@@ -93,7 +94,7 @@ impl FixedBits {
         requires { word < 16 }
         ensures have { (words : List ℕ) → F.allows facts.now (F.level facts.now) words
             → HaveBits self.old.words words → HaveBits self.new.words words }
-        ensures less { lacking self.new.words ≤ lacking self.old.words }
+        ensures less { open_bits self.new.words ≤ open_bits self.old.words }
         ensures others { (index : ℕ) → index ≢ word
             → bits_at self.new.words index ≡ bits_at self.old.words index }
     {
@@ -125,7 +126,7 @@ impl FixedBits {
     ) -> Option<WordBit>
         ensures have { (words : List ℕ) → F.allows facts.now (F.level facts.now) words
             → HaveBits self.old.words words → HaveBits self.new.words words }
-        ensures less { lacking self.new.words ≤ lacking self.old.words }
+        ensures less { open_bits self.new.words ≤ open_bits self.old.words }
         ensures open { IfSome result (IsOpenBit self.new.words) }
         ensures none { IfNone result (AreWhole self.new.words) }
     {

@@ -16,6 +16,7 @@ ghost use Rattle.scf_compare.specs.SideLaws.{
   SameHoldsByAll,
   SidesHeadline,
 };
+ghost use Rattle.scf_compare.specs.Splits.{SplitsEnd};
 ghost use Rattle.scf_profile.specs.Scope.{IsInScope, RelatedAnswersIn, SameAnswersIn};
 
 use scf_profile::{Relation, Scope};
@@ -68,6 +69,11 @@ pub fn both_ways_is_one_disposition()
 #[tactic(auto, using(crate::proofs::Relations::side_answers_once))]
 pub fn holds_through()
     ensures { HoldsThrough }
+{}
+
+/// A comparison makes fewer than 2^512 splits, since each leaves fewer bits that aren't fixed in both halves.
+pub fn splits_end()
+    ensures { SplitsEnd }
 {}
 
 /// The headline, which follows from what `check`, `compare_stack` and `compare_by` promise.

@@ -79,7 +79,7 @@ pub use finding::{Finding, Which};
 pub use laws::{
     both_ways_is_one_disposition, headline, holds_through, holds_turned,
     no_more_and_no_less_is_one_disposition, same_holds_by_all, same_is_no_more_and_no_less,
-    sides_headline,
+    sides_headline, splits_end,
 };
 pub use plain::is_plain;
 pub use scf_profile::{Relation, Scope};

@@ -3,7 +3,8 @@
 ghost use Rattle.std.specs.Prelude.{◌≡◌, ◌≤◌, ◌↔◌, ℕ, List, None, IfNone, IfOk, IfSome};
 ghost use Rattle.scf_compare.specs.Findings.{WordsRelated};
 ghost use Rattle.scf_compare.specs.internal.Budgets.{IsTurn, LeavesSteps};
-ghost use Rattle.scf_compare.specs.internal.FixedBits.{AreWhole, HaveBits, IsOpenBit, lacking};
+ghost use Rattle.scf_compare.specs.internal.FixedBits.{AreWhole, HaveBits, IsOpenBit};
+ghost use Rattle.scf_compare.specs.Splits.{open_bits};
 ghost use Rattle.scf_compare.specs.internal.Frontier.{IsFrontier};
 ghost use Rattle.scf_compare.specs.internal.Leaves.{AreWordsIn};
 ghost use Rattle.scf_compare.specs.internal.Settling.{
@@ -58,7 +59,7 @@ fn restart<C: Comparison, F: WordFacts>(
         StartsAt (AreWordsIn (C.compared own.comparison.now)) (C.tree own.comparison.now own.start) own.root }
     requires have { (words : List ℕ) → F.allows frontier.old.facts (F.level frontier.old.facts) words
         → HaveBits from.fixed.words words → HaveBits fixed.words words }
-    requires less { lacking fixed.words ≤ lacking from.fixed.words }
+    requires less { open_bits fixed.words ≤ open_bits from.fixed.words }
     requires open { IsOpenBit fixed.words bit }
     ensures stage { let own = settling.now in
         let trees = settling_trees (C.tree own.comparison.now) own.start own.root in

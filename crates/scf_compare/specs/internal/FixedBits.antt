@@ -1,5 +1,5 @@
 -- Bits of the sixteen words that splits have fixed.
-use Rattle.std.specs.Prelude.{◌≡◌, ◌-◌, ◌<◌, ◌^◌, ℕ, List, bit_and, slice_index, slice_index_or, sum_by}
+use Rattle.std.specs.Prelude.{◌≡◌, ◌-◌, ◌<◌, ◌^◌, ℕ, List, bit_and, slice_index, slice_index_or}
 use Rattle.std.specs.Int.{IsPowerOfTwo}
 use Rattle.scf_facts.specs.declared.atom.Atom.{Atom}
 use Rattle.scf_facts.specs.declared.atom.Atom.TheVariants.{Eq}
@@ -28,7 +28,3 @@ pub record IsOpenBit (fixed : List Bits) (bit : WordBit) : Type 0 where
 -- whether a word has a bit
 abbrev pub bit_is_set : ℕ → ℕ → Atom
 bit_is_set word bit = Eq word bit bit
-
--- what the masks lack together: it falls with each bit that is fixed
-abbrev pub lacking : List Bits → ℕ
-lacking fixed = sum_by (λ bits. 2 ^ 32 - 1 - bits.mask) fixed

@@ -22,7 +22,7 @@ use Rattle.scf_compare.specs.Findings.{Compared}
 use Rattle.scf_compare.specs.Sides.{behavior_of}
 use Rattle.scf_compare.specs.internal.Pairs.{pair_tree}
 use Rattle.scf_compare.specs.declared.settling.SettlingNode.{SettlingNode}
-use Rattle.scf_compare.specs.internal.FixedBits.{lacking}
+use Rattle.scf_compare.specs.Splits.{open_bits}
 use Rattle.scf_compare.specs.internal.Settling.{settling_tree, weight}
 use Rattle.scf_compare.specs.internal.Trees.{Tree}
 use Rattle.scf_compare.specs.internal.NumberedProfiles.{NumberedProfile}
@@ -87,4 +87,4 @@ pub settling_counts : {N : Type 0} (effort : ℕ) (tree : Tree N) → ((node : N
     → (at : SettlingNode N) → 0 < (settling_tree effort tree).size at
 settling_counts effort tree counts at =
     scaled_counts (tree.size at.node) (weight effort at.fixed.words) (counts at.node)
-    (one-le-pow (lacking at.fixed.words) (2 * effort + 1) (omega arith))
+    (one-le-pow (open_bits at.fixed.words) (2 * effort + 1) (omega arith))

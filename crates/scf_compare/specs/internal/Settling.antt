@@ -5,13 +5,14 @@ use Rattle.scf_compare.specs.declared.finding.Finding.{Finding}
 use Rattle.scf_compare.specs.declared.finding.Finding.TheVariants.{Holds}
 use Rattle.scf_compare.specs.declared.settling.SettlingNode.{SettlingNode}
 use Rattle.scf_compare.specs.Findings.{AllRelated, Compared}
-use Rattle.scf_compare.specs.internal.FixedBits.{HaveBits, lacking}
+use Rattle.scf_compare.specs.internal.FixedBits.{HaveBits}
+use Rattle.scf_compare.specs.Splits.{open_bits}
 use Rattle.scf_compare.specs.internal.Stages.{IsFound}
 use Rattle.scf_compare.specs.internal.Trees.{Tree}
 
 -- How much a step counts where these bits are fixed: more than two walks of the whole tree with one bit more.
 abbrev pub weight : ℕ → List Bits → ℕ
-weight effort fixed = (2 * effort + 1) ^ lacking fixed
+weight effort fixed = (2 * effort + 1) ^ open_bits fixed
 
 -- A comparison's tree with the bits that splits have fixed: the words that come to a node have them.
 abbrev pub settling_tree : {N : Type 0} → ℕ → Tree N → Tree (SettlingNode N)

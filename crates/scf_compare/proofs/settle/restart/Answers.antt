@@ -1,6 +1,6 @@
 use Rattle.scf_compare.proofs.Common.{None, arith, rules}
 use Rattle.scf_compare.proofs.Weights.{two_walks, weighs_less}
-use Rattle.scf_compare.specs.internal.FixedBits.{lacking}
+use Rattle.scf_compare.specs.Splits.{open_bits}
 use Rattle.scf_compare.proofs.settle.restart.Goals as goal
 
 pub returns-clause-stage : goal.returns-clause-stage
@@ -19,7 +19,7 @@ returns-clause-stage g c = λ before.
           grind (arith, c.is_set.ensures, c.fix.ensures.have words have, c.fix-2.ensures.have words have);
       costs = omega (
         arith,
-        two_walks effort (lacking c.args.fixed.words) (lacking c.fix.new.self.words) (lacking c.fix-2.new.self.words)
+        two_walks effort (open_bits c.args.fixed.words) (open_bits c.fix.new.self.words) (open_bits c.fix-2.new.self.words)
             c.fix.ensures.less c.fix-2.ensures.less,
         weighs_less effort ((tree before).size c.args.from.node) c.args.fixed.words c.args.from.fixed.words
             c.requires.less counts,
