@@ -1,3 +1,2 @@
 mod ComparisonLemmas
 mod StackLemmas
-mod TableLemmas

@@ -5,7 +5,7 @@ use Rattle.scf_insn.specs.Kernel.{max_insns_per_path}
 use Rattle.scf_insn.specs.declared.insn.Insn.{Insn}
 use Rattle.scf_machine.specs.Stack.{IsPush, cost_of}
 use Rattle.scf_tool.proofs.Common.{drop_more, map-append, take-append-drop, take_more}
-use Rattle.scf_tool.proofs.StackLemmas.{AllZip-more}
+use Rattle.std.proofs.lemmas.Slice.Zip.{all_zipped_more}
 use Rattle.scf_tool.specs.FilterStacks.{HasNoStack, HasStack, IsNotPushed}
 use Rattle.scf_tool.specs.Verifying.{IsAcceptedFilter}
 use Rattle.scf_tool.specs.declared.verify_fault.VerifyFault.{VerifyFault}
@@ -30,7 +30,7 @@ module _ (filters : List Bytes) (i : ℕ) (d : Bytes) (stack : List (List Insn))
       ap known (take_more filters i d within)
       ∙ map-append (λ (filter : Bytes). Some filter.bytes.now) (take i filters) (get_or filters i d ∷ []) in
       rw (more, push.2.1) record {
-        accepted = AllZip-more IsAcceptedFilter (known (take i filters)) stack _ push.0 before.accepted push.1;
+        accepted = all_zipped_more IsAcceptedFilter (known (take i filters)) stack _ push.0 before.accepted push.1;
         total = total;
       }
 

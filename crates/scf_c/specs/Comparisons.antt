@@ -8,14 +8,15 @@ use Rattle.scf_compare.specs.declared.finding.Finding.TheVariants.{Holds, Fails,
 use Rattle.scf_compare.specs.declared.finding.Which.{Which}
 use Rattle.scf_compare.specs.declared.finding.Which.TheVariants.{Left, Right}
 use Rattle.scf_request.specs.declared.request.Limits.{Limits}
-use Rattle.scf_tool.specs.CallReports.{calls_text, findings_text}
+use Rattle.scf_tool.specs.CallReports.{calls_text}
 use Rattle.scf_tool.specs.Commands.{NoReadFailed, known_text}
-use Rattle.scf_tool.specs.Reports.{beside_word, finding_text, report_text}
+use Rattle.scf_tool.specs.Reports.{finding_outcome_of, report_text}
 use Rattle.scf_tool.specs.VerifyingArchitectures.{AreProfilesRefused, VerifiesArchitectures}
 use Rattle.scf_tool.specs.VerifyingBeside.{AreVerifiedBeside, IsRefusedPair, IsTableFault, VerifiesBeside}
 use Rattle.scf_tool.specs.VerifyingStacks.{AreVerifiedCalls, IsRefusedBehind, IsRefusedStack, IsVerifiedBy}
 use Rattle.scf_tool.specs.declared.call_verification.CallFinding.{CallFinding}
 use Rattle.scf_tool.specs.declared.call_verification.CallsOutcome.{CallsOutcome}
+use Rattle.scf_tool.specs.declared.verification.FindingOutcome.{FindingOutcome}
 use Rattle.scf_tool.specs.declared.verification.Outcome.{Outcome}
 use Rattle.scf_tool.specs.declared.verify_fault.BesideFault.TheVariants as besides
 use Rattle.scf_tool.specs.declared.verify_fault.VerifyFault.TheVariants.{Memory}
@@ -55,16 +56,22 @@ call_comparison_of call = record { nr = call.number; reserved = 0; comparison = 
 
 -- ---- a comparison over the records of a scope
 
--- The filters and the right side, from their bytes, come to this finding, and these are the printed lines of it.
-abbrev pub IsCompared : RightKind → List Bytes → RightSide → Asked → ℕ → Finding → List ℕ → Type 0
-IsCompared Profile filters right asked limit finding text = (outcome : Outcome)
+-- The filters and the right side, from their bytes, come to this outcome.
+abbrev pub ComesTo : RightKind → List Bytes → RightSide → Asked → ℕ → FindingOutcome → Type 0
+ComesTo Profile filters right asked limit own = (outcome : Outcome)
     × IsVerifiedBy asked.relation (known filters) (Some right.table.now) (Some right.profile.now)
     asked.scope (limit_of_steps limit) outcome
-    × (finding ≡ finding_of outcome.verdict) × (text ≡ report_text asked.relation outcome)
-IsCompared Filters filters right asked limit finding text =
-    VerifiesBeside asked.relation (known filters) (known right.filters.now) asked.scope (limit_of_steps limit)
-    (Ok finding)
-    × (text ≡ finding_text asked.relation beside_word finding)
+    × (own ≡ finding_outcome_of outcome)
+ComesTo Filters filters right asked limit own =
+    VerifiesBeside asked.relation (known filters) (known right.filters.now) asked.scope (limit_of_steps limit) (Ok own)
+
+-- They come to an outcome with this finding, and these are the printed lines of it.
+pub record IsCompared (kind : RightKind) (filters : List Bytes) (right : RightSide) (asked : Asked) (limit : ℕ)
+    (finding : Finding) (text : List ℕ) : Type 0 where
+  pub outcome : FindingOutcome
+  pub comes_to : ComesTo kind filters right asked limit outcome
+  pub finding_is : finding ≡ outcome.finding
+  pub text_is : text ≡ report_text asked.relation outcome
 
 -- Why they aren't compared: for the first fault of an input, or out of memory, which may come at any time. It isn't
 -- that they can't be read.
@@ -88,7 +95,7 @@ abbrev pub IsComparedEach : Relation → List Bytes → List ℕ → List Table 
 IsComparedEach relation filters profile tables limit finding text = (outcome : Outcome)
     × VerifiesArchitectures relation None (known filters) (map known_text (texts_of tables)) (Some profile)
     (limit_of_steps limit) (Ok outcome)
-    × (finding ≡ finding_of outcome.verdict) × (text ≡ report_text relation outcome)
+    × (finding ≡ finding_of outcome.verdict) × (text ≡ report_text relation (finding_outcome_of outcome))
 
 -- why they aren't compared
 abbrev pub IsEachRefused : List Bytes → List ℕ → List Table → Refusal → Type 0
@@ -101,13 +108,18 @@ IsEachRefused filters profile tables why = ⊥
 -- ---- a comparison call by call
 
 -- The same of the calls of the table, each with its finding.
-abbrev pub AreCompared : RightKind → List Bytes → RightSide → Relation → Limits → List CallFinding → List ℕ → Type 0
-AreCompared Profile filters right relation limits calls text = (outcome : CallsOutcome)
-    × AreVerifiedCalls relation (known filters) (Some right.table.now) (Some right.profile.now) limits outcome
-    × (calls ≡ outcome.calls.items) × (text ≡ calls_text relation outcome)
-AreCompared Filters filters right relation limits calls text =
-    AreVerifiedBeside relation (known filters) (known right.filters.now) (Some right.table.now) limits calls
-    × (text ≡ findings_text relation beside_word calls)
+abbrev pub CallsComeTo : RightKind → List Bytes → RightSide → Relation → Limits → CallsOutcome → Type 0
+CallsComeTo Profile filters right relation limits outcome =
+    AreVerifiedCalls relation (known filters) (Some right.table.now) (Some right.profile.now) limits outcome
+CallsComeTo Filters filters right relation limits outcome =
+    AreVerifiedBeside relation (known filters) (known right.filters.now) (Some right.table.now) limits outcome
+
+pub record AreCompared (kind : RightKind) (filters : List Bytes) (right : RightSide) (relation : Relation)
+    (limits : Limits) (calls : List CallFinding) (text : List ℕ) : Type 0 where
+  pub outcome : CallsOutcome
+  pub come_to : CallsComeTo kind filters right relation limits outcome
+  pub calls_are : calls ≡ outcome.calls.items
+  pub text_is : text ≡ calls_text relation outcome
 
 -- why they aren't compared
 abbrev pub AreCallsRefused : RightKind → List Bytes → RightSide → Refusal → Type 0

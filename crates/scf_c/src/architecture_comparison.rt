@@ -24,7 +24,7 @@ use crate::status::{OK, WRONG_ARGUMENT};
 use crate::tables::{relation_under, table_readers_of};
 use scf_compare::Limit;
 use scf_profile::Relation;
-use scf_tool::{finding_of, report_by, verify_architectures};
+use scf_tool::{FindingOutcome, report_finding, verify_architectures};
 use std::alloc::Global;
 
 /// Compares filters with a profile for each architecture that has a table.
@@ -51,8 +51,9 @@ fn compare_each(
         relation,
         Limit::of_steps(limit),
     )?;
-    let text = report_by(alloc, relation, &outcome)?;
-    let finding = finding_of(&outcome.verdict);
+    let outcome = FindingOutcome::from(outcome);
+    let text = report_finding(alloc, relation, &outcome)?;
+    let finding = outcome.finding;
     Ok(Compared { finding, text })
 }
 

@@ -2,13 +2,17 @@
 
 ghost use Rattle.std.specs.Prelude.{◌≡◌, ◌≢◌, ℕ, List, map, IfErr, IfOk};
 ghost use Rattle.scf_tool.specs.declared.call_verification.CallFinding.{CallFinding};
-ghost use Rattle.scf_c.specs.Comparisons.{AreCallsRefused, AreCompared, call_comparison_of};
+ghost use Rattle.scf_c.specs.Comparisons.{
+  AreCallsRefused,
+  AreCompared,
+  CallsComeTo,
+  call_comparison_of,
+};
 ghost use Rattle.scf_c.specs.Faults.{IsRefusal, no_fault};
 ghost use Rattle.scf_c.specs.HandingOut.{IsHandedOut, IsNothingHandedOut};
 ghost use Rattle.scf_c.specs.Questions.{AreCallsAsked, AreNoCallsAsked, limits_of};
 ghost use Rattle.scf_c.specs.Statuses.{ok, wrong_argument};
 ghost use Rattle.scf_c.specs.declared.question.Asked.{Asked};
-ghost use Rattle.scf_c.specs.declared.question.RightKind.TheVariants as kinds;
 
 use crate::comparison::comparison_of;
 use crate::fault::{no_fault, refuse};
@@ -18,9 +22,8 @@ use crate::question::{Asked, RightKind, calls_asked_of, limits_of};
 use crate::refusal::Refusal;
 use crate::right_side::readers_of;
 use crate::status::{OK, WRONG_ARGUMENT};
-use scf_profile::Relation;
 use scf_tool::{
-    CallFinding, Limits, report_calls, report_calls_beside, verify_calls, verify_calls_beside,
+    CallFinding, CallsOutcome, Limits, report_calls, verify_calls, verify_calls_beside,
 };
 use std::alloc::{AllocError, Global};
 
@@ -46,59 +49,30 @@ fn handed_of(alloc: Global, calls: &[CallFinding]) -> Result<Vec<CallComparison>
     Ok(list)
 }
 
-/// Compares filters with the profile of a right side, call by call.
-fn compare_with_profile(
+/// What a comparison of filters with a right side comes to, call by call.
+fn outcome_of(
     alloc: Global,
     filters: &[Bytes],
     right: &RightSide,
-    relation: Relation,
+    asked: Asked,
     limits: Limits,
-) -> Result<ComparedCalls, Refusal>
-    ensures compared { IfOk result (λ own. (calls : List CallFinding)
-        × AreCompared kinds.Profile filters.now right.now relation limits calls own.text.items
-        × (own.calls.items ≡ map call_comparison_of calls)) }
-    ensures refused { IfErr result (AreCallsRefused kinds.Profile filters.now right.now) }
+) -> Result<CallsOutcome, Refusal>
+    ensures outcome { IfOk result (CallsComeTo asked.right filters.now right.now asked.relation limits) }
+    ensures refused { IfErr result (AreCallsRefused asked.right filters.now right.now) }
 {
+    let by = asked.relation;
     let mut readers = readers_of(alloc, filters)?;
-    let outcome = verify_calls(
-        alloc,
-        &mut readers,
-        &mut Reader::new(right.profile),
-        &mut Reader::new(right.table),
-        relation,
-        limits,
-    )?;
-    let text = report_calls(alloc, relation, &outcome)?;
-    let calls = handed_of(alloc, &outcome.calls)?;
-    Ok(ComparedCalls { calls, text })
-}
-
-/// Compares filters with those of a right side, call by call.
-fn compare_with_filters(
-    alloc: Global,
-    filters: &[Bytes],
-    right: &RightSide,
-    relation: Relation,
-    limits: Limits,
-) -> Result<ComparedCalls, Refusal>
-    ensures compared { IfOk result (λ own. (calls : List CallFinding)
-        × AreCompared kinds.Filters filters.now right.now relation limits calls own.text.items
-        × (own.calls.items ≡ map call_comparison_of calls)) }
-    ensures refused { IfErr result (AreCallsRefused kinds.Filters filters.now right.now) }
-{
-    let mut readers = readers_of(alloc, filters)?;
-    let mut beside = readers_of(alloc, right.filters)?;
-    let findings = verify_calls_beside(
-        alloc,
-        &mut readers,
-        &mut beside,
-        &mut Reader::new(right.table),
-        relation,
-        limits,
-    )?;
-    let text = report_calls_beside(alloc, relation, &findings)?;
-    let calls = handed_of(alloc, &findings)?;
-    Ok(ComparedCalls { calls, text })
+    let mut table = Reader::new(right.table);
+    match asked.right {
+        RightKind::Profile => {
+            let mut profile = Reader::new(right.profile);
+            Ok(verify_calls(alloc, &mut readers, &mut profile, &mut table, by, limits)?)
+        }
+        RightKind::Filters => {
+            let mut beside = readers_of(alloc, right.filters)?;
+            Ok(verify_calls_beside(alloc, &mut readers, &mut beside, &mut table, by, limits)?)
+        }
+    }
 }
 
 /// Compares filters with a right side, call by call.
@@ -114,11 +88,10 @@ fn compare_with(
         × (own.calls.items ≡ map call_comparison_of calls)) }
     ensures refused { IfErr result (AreCallsRefused asked.right filters.now right.now) }
 {
-    let relation = asked.relation;
-    match asked.right {
-        RightKind::Profile => compare_with_profile(alloc, filters, right, relation, limits),
-        RightKind::Filters => compare_with_filters(alloc, filters, right, relation, limits),
-    }
+    let outcome = outcome_of(alloc, filters, right, asked, limits)?;
+    let text = report_calls(alloc, asked.relation, &outcome)?;
+    let calls = handed_of(alloc, &outcome.calls)?;
+    Ok(ComparedCalls { calls, text })
 }
 
 /// Compares filters with a profile or with other filters, call by call of the table, and hands out the findings in the

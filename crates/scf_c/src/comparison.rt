@@ -3,6 +3,7 @@
 ghost use Rattle.std.specs.Prelude.{◌≡◌, ◌≢◌, ℕ, List, IfErr, IfOk};
 ghost use Rattle.scf_compare.specs.declared.finding.Finding.{Finding};
 ghost use Rattle.scf_c.specs.Comparisons.{
+  ComesTo,
   IsComparisonRefused,
   IsCompared,
   comparison_of,
@@ -14,7 +15,6 @@ ghost use Rattle.scf_c.specs.HandingOut.{IsHandedOut, IsNothingHandedOut};
 ghost use Rattle.scf_c.specs.Questions.{IsAsked, IsNothingAsked};
 ghost use Rattle.scf_c.specs.Statuses.{ok, wrong_argument};
 ghost use Rattle.scf_c.specs.declared.question.Asked.{Asked};
-ghost use Rattle.scf_c.specs.declared.question.RightKind.TheVariants as kinds;
 
 use crate::fault::{no_fault, refuse};
 use crate::layout::{Bytes, Call, Comparison, Fault, Question, RightSide};
@@ -24,7 +24,7 @@ use crate::refusal::Refusal;
 use crate::right_side::readers_of;
 use crate::status::{OK, WRONG_ARGUMENT};
 use scf_compare::{Finding, Limit, Which};
-use scf_tool::{finding_of, report_beside, report_by, verify_beside, verify_by};
+use scf_tool::{FindingOutcome, report_finding, verify_beside, verify_by};
 use std::alloc::Global;
 
 /// What a comparison comes to, and the lines that the program prints of it.
@@ -34,57 +34,40 @@ pub(crate) struct Compared {
     pub text: Vec<u8>,
 }
 
-/// Compares filters with the profile of a right side.
-fn compare_with_profile(
+/// What a comparison of filters with a right side comes to.
+fn outcome_of(
     alloc: Global,
     filters: &[Bytes],
     right: &RightSide,
     asked: Asked,
     limit: u64,
-) -> Result<Compared, Refusal>
-    ensures compared { IfOk result (λ own.
-        IsCompared kinds.Profile filters.now right.now asked limit own.finding own.text.items) }
-    ensures refused { IfErr result (IsComparisonRefused kinds.Profile filters.now right.now) }
+) -> Result<FindingOutcome, Refusal>
+    ensures outcome { IfOk result (ComesTo asked.right filters.now right.now asked limit) }
+    ensures refused { IfErr result (IsComparisonRefused asked.right filters.now right.now) }
 {
+    let (scope, relation) = (asked.scope, asked.relation);
+    let within = Limit::of_steps(limit);
     let mut readers = readers_of(alloc, filters)?;
-    let outcome = verify_by(
-        alloc,
-        &mut readers,
-        &mut Reader::new(right.profile),
-        &mut Reader::new(right.table),
-        asked.scope,
-        asked.relation,
-        Limit::of_steps(limit),
-    )?;
-    let text = report_by(alloc, asked.relation, &outcome)?;
-    let finding = finding_of(&outcome.verdict);
-    Ok(Compared { finding, text })
-}
-
-/// Compares filters with those of a right side.
-fn compare_with_filters(
-    alloc: Global,
-    filters: &[Bytes],
-    right: &RightSide,
-    asked: Asked,
-    limit: u64,
-) -> Result<Compared, Refusal>
-    ensures compared { IfOk result (λ own.
-        IsCompared kinds.Filters filters.now right.now asked limit own.finding own.text.items) }
-    ensures refused { IfErr result (IsComparisonRefused kinds.Filters filters.now right.now) }
-{
-    let mut readers = readers_of(alloc, filters)?;
-    let mut beside = readers_of(alloc, right.filters)?;
-    let finding = verify_beside(
-        alloc,
-        &mut readers,
-        &mut beside,
-        asked.scope,
-        asked.relation,
-        Limit::of_steps(limit),
-    )?;
-    let text = report_beside(alloc, asked.relation, &finding)?;
-    Ok(Compared { finding, text })
+    match asked.right {
+        RightKind::Profile => {
+            let mut profile = Reader::new(right.profile);
+            let mut table = Reader::new(right.table);
+            let outcome = verify_by(
+                alloc,
+                &mut readers,
+                &mut profile,
+                &mut table,
+                scope,
+                relation,
+                within,
+            )?;
+            Ok(FindingOutcome::from(outcome))
+        }
+        RightKind::Filters => {
+            let mut beside = readers_of(alloc, right.filters)?;
+            Ok(verify_beside(alloc, &mut readers, &mut beside, scope, relation, within)?)
+        }
+    }
 }
 
 /// Compares filters with a right side.
@@ -99,10 +82,10 @@ fn compare_with(
         IsCompared asked.right filters.now right.now asked limit own.finding own.text.items) }
     ensures refused { IfErr result (IsComparisonRefused asked.right filters.now right.now) }
 {
-    match asked.right {
-        RightKind::Profile => compare_with_profile(alloc, filters, right, asked, limit),
-        RightKind::Filters => compare_with_filters(alloc, filters, right, asked, limit),
-    }
+    let outcome = outcome_of(alloc, filters, right, asked, limit)?;
+    let text = report_finding(alloc, asked.relation, &outcome)?;
+    let finding = outcome.finding;
+    Ok(Compared { finding, text })
 }
 
 fn side_number(side: Which) -> u32

@@ -5,6 +5,7 @@ ghost use Rattle.scf_c.specs.HandingOut.{IsHandedOut};
 ghost use Rattle.scf_c.specs.internal.Reading.{rest_of};
 
 use scf_insn::{Failed, Source};
+use scf_tool::InMemory;
 
 /// A reader of bytes in memory. Never fails.
 #[derive(Drop)]
@@ -32,6 +33,14 @@ impl Source for Reader<'_> {
         buffer[..count].copy_from_slice(&self.rest[..count]);
         self.rest = &self.rest[count..];
         Ok(count)
+    }
+}
+
+impl InMemory for Reader<'_> {
+    ghost text = { λ s. rest_of s };
+
+    fn bytes(&self) -> &[u8] {
+        self.rest
     }
 }
 

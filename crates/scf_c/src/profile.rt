@@ -1,15 +1,11 @@
 //! A profile by itself.
 
-ghost use Rattle.std.specs.Prelude.{◌≡◌, ◌≢◌, ℕ, List, Some, IfErr, IfOk};
-ghost use Rattle.scf_insn.specs.declared.insn.Insn.{Insn};
-ghost use Rattle.scf_machine.specs.Machine.{RunAnswers};
+ghost use Rattle.std.specs.Prelude.{◌≡◌, ◌≢◌, ℕ, List, IfErr, IfOk};
 ghost use Rattle.scf_profile.specs.ProfileAnswers.{ProfileAnswers};
 ghost use Rattle.scf_profile.specs.Reasons.{IsReason};
-ghost use Rattle.scf_profile.specs.SameAnswers.{SameAnswers};
 ghost use Rattle.scf_profile.specs.declared.loaded.Loaded.{Loaded};
 ghost use Rattle.scf_profile.specs.declared.reason.Reason.{Reason};
-ghost use Rattle.scf_tool.specs.Commands.{IsStated};
-ghost use Rattle.scf_tool.specs.Verifying.{IsAcceptedFilter};
+ghost use Rattle.scf_tool.specs.Commands.{IsFilterOf, IsStated};
 ghost use Rattle.scf_c.specs.Faults.{IsRefusal, no_fault};
 ghost use Rattle.scf_c.specs.Layout.{record_of};
 ghost use Rattle.scf_c.specs.HandingOut.{IsHandedOut, IsNothingHandedOut};
@@ -21,51 +17,20 @@ use crate::layout::{Call, Fault, ProfileReason};
 use crate::memory::hand_out;
 use crate::refusal::Refusal;
 use crate::status::OK;
-use scf_compile::{CompileFault, compile};
-use scf_machine::Program;
-use scf_profile::{CallTable, Loaded, Reason, load};
-use scf_tool::{VerifyFault, encoding_of};
+use scf_profile::Reason;
+use scf_tool::{filter_of, load_with_table};
 use std::alloc::Global;
-
-/// What a profile and a table state.
-fn loaded(alloc: Global, profile: &[u8], table: &[u8]) -> Result<Loaded, Refusal>
-    ensures stated { IfOk result (IsStated profile.now table.now) }
-    ensures refused { IfErr result (IsProfileRefused profile.now table.now) }
-{
-    let names = match CallTable::read(alloc, table) {
-        Ok(names) => names,
-        Err(fault) => return Err(Refusal::Verify(VerifyFault::Table(fault))),
-    };
-    match load(alloc, profile, &names) {
-        Ok(loaded) => Ok(loaded),
-        Err(fault) => Err(Refusal::Verify(VerifyFault::Profile(fault))),
-    }
-}
-
-/// The filter of a profile and a table.
-fn compiled(alloc: Global, profile: &[u8], table: &[u8]) -> Result<Program, Refusal>
-    ensures program { IfOk result (λ program. (loaded : Loaded) × IsStated profile.now table.now loaded
-        × SameAnswers (RunAnswers program) loaded.profile) }
-    ensures refused { IfErr result (IsCompilationRefused profile.now table.now) }
-{
-    let loaded = loaded(alloc, profile, table)?;
-    match compile(alloc, &loaded.profile) {
-        Ok(program) => Ok(program),
-        Err(fault) => Err(Refusal::Compile(fault)),
-    }
-}
 
 /// The bytes of the filter of a profile and a table.
 fn filter_bytes(alloc: Global, profile: &[u8], table: &[u8]) -> Result<Vec<u8>, Refusal>
     ensures filter { IfOk result (λ bytes. (loaded : Loaded) × IsStated profile.now table.now loaded
-        × (insns : List Insn) × IsAcceptedFilter (Some bytes.items) insns
-        × SameAnswers (RunAnswers insns) loaded.profile) }
+        × IsFilterOf loaded.profile bytes.items) }
     ensures refused { IfErr result (IsCompilationRefused profile.now table.now) }
 {
-    let program = compiled(alloc, profile, table)?;
-    match encoding_of(alloc, program.insns()) {
+    let loaded = load_with_table(alloc, profile, table)?;
+    match filter_of(alloc, &loaded.profile) {
         Ok(bytes) => Ok(bytes),
-        Err(_) => Err(Refusal::Compile(CompileFault::Memory)),
+        Err(fault) => Err(Refusal::Compile(fault)),
     }
 }
 
@@ -80,8 +45,7 @@ pub extern "C" fn scf_compile(
     fault: &mut Fault,
 ) -> u32
     ensures compiled { result ≡ ok → (loaded : Loaded) × IsStated profile.now table.now loaded
-        × (bytes : List ℕ) × (insns : List Insn) × IsAcceptedFilter (Some bytes) insns
-        × SameAnswers (RunAnswers insns) loaded.profile
+        × (bytes : List ℕ) × IsFilterOf loaded.profile bytes
         × IsHandedOut bytes filter.old filter.new needed.new × (fault.new ≡ no_fault) }
     ensures refused { result ≢ ok → IsRefusal (IsCompilationRefused profile.now table.now) result fault.new
         × IsNothingHandedOut filter.old filter.new needed.new }
@@ -135,13 +99,13 @@ pub extern "C" fn scf_ask(
     *answer = 0;
     *reason = no_reason();
     *fault = no_fault();
-    match loaded(alloc, profile, table) {
+    match load_with_table(alloc, profile, table) {
         Ok(loaded) => {
             let asked = call.record();
             *answer = loaded.profile.answer(&asked).0;
             *reason = numbered(loaded.profile.reason(&asked));
             OK
         }
-        Err(why) => refuse(why, fault),
+        Err(why) => refuse(Refusal::Verify(why), fault),
     }
 }

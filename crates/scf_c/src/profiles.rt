@@ -1,17 +1,11 @@
 //! A profile for several architectures.
 
-ghost use Rattle.std.specs.Prelude.{◌≡◌, ◌≢◌, ℕ, List, Some, IfErr, IfOk};
-ghost use Rattle.std.specs.List.{AllZip};
-ghost use Rattle.scf_insn.specs.declared.insn.Insn.{Insn};
-ghost use Rattle.scf_machine.specs.Machine.{RunAnswers};
-ghost use Rattle.scf_profile.specs.Loading.{LoadsEach, RefusesEach};
+ghost use Rattle.std.specs.Prelude.{◌≡◌, ◌≢◌, ℕ, List, IfErr, IfOk};
 ghost use Rattle.scf_profile.specs.ProfileAnswers.{ProfilesAnswer};
 ghost use Rattle.scf_profile.specs.Reasons.{IsReasonAmong};
-ghost use Rattle.scf_profile.specs.SameAnswers.{SameAnswersAsEach};
 ghost use Rattle.scf_profile.specs.declared.loaded.LoadedProfiles.{LoadedProfiles};
 ghost use Rattle.scf_profile.specs.declared.reason.Reason.{Reason};
-ghost use Rattle.scf_tool.specs.Commands.{AreStated, CantLoadEach, SpellsTable};
-ghost use Rattle.scf_tool.specs.Verifying.{IsAcceptedFilter};
+ghost use Rattle.scf_tool.specs.Commands.{AreStated, IsFilterOfEach};
 ghost use Rattle.scf_c.specs.Architectures.{AreMeant, texts_of};
 ghost use Rattle.scf_c.specs.Faults.{IsRefusal, no_fault};
 ghost use Rattle.scf_c.specs.HandingOut.{IsHandedOut, IsNothingHandedOut};
@@ -30,95 +24,32 @@ use crate::memory::hand_out;
 use crate::profile::{no_reason, numbered};
 use crate::refusal::Refusal;
 use crate::status::{OK, WRONG_ARGUMENT};
-use crate::tables::{architecture_of, are_meant};
-use scf_compile::{CompileFault, compile_profiles};
-use scf_insn::Architecture;
-use scf_machine::Program;
-use scf_profile::{
-    ArchitectureTable, CallTable, LoadFault, LoadedProfiles, TableFault, load_profiles,
-};
-use scf_tool::{VerifyFault, encoding_of};
+use crate::tables::{are_meant, table_readers_of};
+use scf_profile::{LoadedProfiles, TableFault};
+use scf_tool::{VerifyFault, filter_of_each, load_with_tables};
 use std::alloc::Global;
-
-/// The tables with these texts, each with its architecture.
-fn read_tables(
-    alloc: Global,
-    tables: &[Table],
-) -> Result<Vec<(Architecture, CallTable)>, VerifyFault>
-    ensures tables { IfOk result (λ own. AllZip SpellsTable (texts_of tables.now) own.items) }
-    ensures refused { IfErr result (λ fault. (profile : List ℕ)
-        → CantLoadEach profile (texts_of tables.now) fault) }
-{
-    let mut own = Vec::new(alloc);
-    for table in tables {
-        if let Some(architecture) = architecture_of(table.architecture) {
-            let names = CallTable::read(alloc, table.bytes)?;
-            let Ok(()) = own.push((architecture, names)) else {
-                return Err(VerifyFault::Table(TableFault::Memory));
-            };
-        }
-    }
-    Ok(own)
-}
-
-/// Loads the profile of each architecture that has a table.
-fn load_under(
-    alloc: Global,
-    profile: &[u8],
-    tables: &[(Architecture, CallTable)],
-) -> Result<LoadedProfiles, LoadFault>
-    ensures loaded { IfOk result (LoadsEach profile.now tables.now) }
-    ensures refused { IfErr result (RefusesEach profile.now tables.now) }
-{
-    let mut under = Vec::new(alloc);
-    for (architecture, table) in tables {
-        let architecture = *architecture;
-        under.push(ArchitectureTable {
-            architecture,
-            table,
-        })?;
-    }
-    load_profiles(alloc, profile, &under)
-}
 
 /// What a profile and tables state.
 fn loaded(alloc: Global, profile: &[u8], tables: &[Table]) -> Result<LoadedProfiles, Refusal>
     ensures stated { IfOk result (AreStated profile.now (texts_of tables.now)) }
     ensures refused { IfErr result (AreProfilesRefused profile.now tables.now) }
 {
-    let own = read_tables(alloc, tables)?;
-    match load_under(alloc, profile, &own) {
-        Ok(loaded) => Ok(loaded),
-        Err(fault) => Err(Refusal::Verify(VerifyFault::Profile(fault))),
-    }
-}
-
-/// The filter of a profile and tables.
-fn compiled(alloc: Global, profile: &[u8], tables: &[Table]) -> Result<Program, Refusal>
-    ensures program { IfOk result (λ program. (loaded : LoadedProfiles)
-        × AreStated profile.now (texts_of tables.now) loaded
-        × SameAnswersAsEach (RunAnswers program) loaded.profiles) }
-    ensures refused { IfErr result (AreCompilationsRefused profile.now tables.now) }
-{
-    let loaded = loaded(alloc, profile, tables)?;
-    match compile_profiles(alloc, &loaded.profiles) {
-        Ok(program) => Ok(program),
-        Err(fault) => Err(Refusal::Compile(fault)),
-    }
+    let Ok(readers) = table_readers_of(alloc, tables) else {
+        return Err(Refusal::Verify(VerifyFault::Table(TableFault::Memory)));
+    };
+    Ok(load_with_tables(alloc, profile, &readers)?)
 }
 
 /// The bytes of the filter of a profile and tables.
 fn filter_bytes(alloc: Global, profile: &[u8], tables: &[Table]) -> Result<Vec<u8>, Refusal>
     ensures filter { IfOk result (λ bytes. (loaded : LoadedProfiles)
-        × AreStated profile.now (texts_of tables.now) loaded
-        × (insns : List Insn) × IsAcceptedFilter (Some bytes.items) insns
-        × SameAnswersAsEach (RunAnswers insns) loaded.profiles) }
+        × AreStated profile.now (texts_of tables.now) loaded × IsFilterOfEach loaded.profiles bytes.items) }
     ensures refused { IfErr result (AreCompilationsRefused profile.now tables.now) }
 {
-    let program = compiled(alloc, profile, tables)?;
-    match encoding_of(alloc, program.insns()) {
+    let loaded = loaded(alloc, profile, tables)?;
+    match filter_of_each(alloc, &loaded.profiles) {
         Ok(bytes) => Ok(bytes),
-        Err(_) => Err(Refusal::Compile(CompileFault::Memory)),
+        Err(fault) => Err(Refusal::Compile(fault)),
     }
 }
 
@@ -134,8 +65,7 @@ pub extern "C" fn scf_compile_architectures(
 ) -> u32
     ensures compiled { result ≡ ok → AreMeant tables.now × (loaded : LoadedProfiles)
         × AreStated profile.now (texts_of tables.now) loaded
-        × (bytes : List ℕ) × (insns : List Insn) × IsAcceptedFilter (Some bytes) insns
-        × SameAnswersAsEach (RunAnswers insns) loaded.profiles
+        × (bytes : List ℕ) × IsFilterOfEach loaded.profiles bytes
         × IsHandedOut bytes filter.old filter.new needed.new × (fault.new ≡ no_fault) }
     ensures wrong { result ≡ wrong_argument → (AreMeant tables.now → ⊥) × (fault.new ≡ no_fault) }
     ensures refused { result ≢ ok → result ≢ wrong_argument → AreMeant tables.now

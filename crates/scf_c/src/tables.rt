@@ -1,8 +1,7 @@
 //! The syscall tables of several architectures.
 
-ghost use Rattle.std.specs.Prelude.{◌≡◌, ◌≤◌, ◌↔◌, All, IsTrue, MatchOption, Some, map, IfOk};
+ghost use Rattle.std.specs.Prelude.{◌≡◌, ◌≤◌, ◌↔◌, All, IsTrue, MatchOption, map, IfOk};
 ghost use Rattle.scf_profile.specs.declared.relation.Relation.{Relation};
-ghost use Rattle.scf_tool.specs.Commands.{known_text};
 ghost use Rattle.scf_tool.specs.VerifyingArchitectures.{table_text};
 ghost use Rattle.scf_c.specs.Architectures.{
   AreMeant,
@@ -106,8 +105,7 @@ pub(crate) fn table_readers_of<'a>(
     alloc: Global,
     tables: &[Table<'a>],
 ) -> Result<Vec<TableReader<Reader<'a>>>, AllocError>
-    ensures { IfOk result (λ readers.
-        map (table_text (λ reader. Some (rest_of reader))) readers.items ≡ map known_text (texts_of tables.now)) }
+    ensures { IfOk result (λ readers. map (table_text rest_of) readers.items ≡ texts_of tables.now) }
 {
     let mut readers = Vec::new(alloc);
     for table in tables {

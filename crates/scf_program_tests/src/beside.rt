@@ -3,7 +3,7 @@
 
 use crate::parts::{ALLOW, NO_TABLE, Part, WITHOUT_WRITE, bundle, filter_of, long_filter};
 use crate::runs::run;
-use scf_compare::{Finding, Limit, Relation, Scope};
+use scf_compare::{Limit, Relation, Scope};
 use scf_insn::ReadFault;
 use scf_insn::faults::{Failing, Reader};
 use scf_machine::PushFault;
@@ -249,11 +249,7 @@ fn printed_lines(rt: HostRuntime) {
 }
 
 /// What two readers on each side come to, of which one fails.
-fn found(
-    alloc: Global,
-    filter: &[u8],
-    failing: &[Failing; 4],
-) -> (Result<Finding, BesideFault>, [u64; 4]) {
+fn found(alloc: Global, filter: &[u8], failing: &[Failing; 4]) -> (Option<BesideFault>, [u64; 4]) {
     let [first, second, third, fourth] = failing;
     let mut filters = [
         Reader::new(filter, 1, *first),
@@ -274,7 +270,7 @@ fn found(
     let [first, second] = &filters;
     let [third, fourth] = &beside;
     (
-        found,
+        found.err(),
         [first.asks(), second.asks(), third.asks(), fourth.asks()],
     )
 }
@@ -291,7 +287,7 @@ fn fail_reader(rt: &impl Abort, alloc: Global, filter: &[u8], index: usize, shar
     } else {
         BesideFault::Beside(fault)
     };
-    assert!(rt; found == Err(wanted), "{index} after {share}");
+    assert!(rt; found == Some(wanted), "{index} after {share}");
     for (at, count) in asks.iter().enumerate() {
         let is_so = (*count > 0) == (at <= index);
         assert!(rt; is_so, "{index} after {share}: {asks:?}");
@@ -339,5 +335,5 @@ fn room_of_each_side(rt: HostRuntime) {
         Relation::Same,
         Limit::of_steps(1),
     );
-    assert!(rt; found == Err(BesideFault::Beside(fault)));
+    assert!(rt; found.err() == Some(BesideFault::Beside(fault)));
 }

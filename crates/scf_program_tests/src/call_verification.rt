@@ -149,12 +149,14 @@ fn calls() -> &'static [Call] {
 
 /// Whether each call of the table is there, and the names and architectures that are left out.
 fn is_whole(outcome: &CallsOutcome) -> bool {
-    outcome.calls.len() == calls().len()
-        && are(outcome.left_out.skipped.as_slice(), &["gone"])
-        && are(
-            outcome.left_out.other_architectures.as_slice(),
-            &["SCMP_ARCH_X86"],
-        )
+    match &outcome.left_out {
+        Some(own) => {
+            outcome.calls.len() == calls().len()
+                && are(own.skipped.as_slice(), &["gone"])
+                && are(own.other_architectures.as_slice(), &["SCMP_ARCH_X86"])
+        }
+        None => false,
+    }
 }
 
 /// What is told within ample steps, or within 64.

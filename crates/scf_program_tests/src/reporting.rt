@@ -4,8 +4,8 @@ use scf_compare::{Finding, Verdict, Which};
 use scf_insn::{Answer, CallRecord};
 use scf_profile::{Relation, Texts};
 use scf_tool::{
-    CallFinding, CallsOutcome, LeftOut, Outcome, report, report_beside, report_calls,
-    report_calls_beside,
+    CallFinding, CallsOutcome, FindingOutcome, LeftOut, Outcome, report, report_calls,
+    report_finding,
 };
 use std::alloc::Global;
 use std::process::Abort;
@@ -190,10 +190,10 @@ fn findings_of(rt: &impl Abort, alloc: Global, told: &[ToldCall]) -> Vec<CallFin
 fn told_of(rt: &impl Abort, alloc: Global, told: &[ToldCall]) -> CallsOutcome {
     CallsOutcome {
         calls: findings_of(rt, alloc, told),
-        left_out: LeftOut {
+        left_out: Some(LeftOut {
             skipped: texts_of(rt, alloc, SKIPPED),
             other_architectures: texts_of(rt, alloc, OTHERS),
-        },
+        }),
     }
 }
 
@@ -273,7 +273,11 @@ fn beside() -> &'static [(Relation, Finding, &'static str)] {
 }
 
 fn is_report_beside(alloc: Global, relation: Relation, finding: &Finding, wanted: &str) -> bool {
-    match report_beside(alloc, relation, finding) {
+    let outcome = FindingOutcome {
+        finding: *finding,
+        left_out: None,
+    };
+    match report_finding(alloc, relation, &outcome) {
         Ok(text) => text.as_slice() == wanted.as_bytes(),
         Err(_) => false,
     }
@@ -287,8 +291,8 @@ fn reported_beside(rt: HostRuntime) {
     }
 }
 
-fn is_report_of_calls_beside(alloc: Global, calls: &[CallFinding], wanted: &str) -> bool {
-    match report_calls_beside(alloc, Relation::SameDisposition, calls) {
+fn is_report_of_calls_beside(alloc: Global, outcome: &CallsOutcome, wanted: &str) -> bool {
+    match report_calls(alloc, Relation::SameDisposition, outcome) {
         Ok(text) => text.as_slice() == wanted.as_bytes(),
         Err(_) => false,
     }
@@ -306,10 +310,13 @@ fn told_beside() -> &'static [ToldCall] {
 
 #[test]
 fn reported_calls_beside(rt: HostRuntime) {
-    let calls = findings_of(&rt, rt.alloc(), told_beside());
+    let outcome = CallsOutcome {
+        calls: findings_of(&rt, rt.alloc(), told_beside()),
+        left_out: None,
+    };
     let wanted = "differs\n\
         1 a differs args 0x2 0x80000 0x0 0xffffffffffffffff 0xabc 0x10 \
         filter ERRNO 38 beside UNNAMED 0x00010000\n";
-    let is_so = is_report_of_calls_beside(rt.alloc(), &calls, wanted);
+    let is_so = is_report_of_calls_beside(rt.alloc(), &outcome, wanted);
     is_reported(&rt, is_so, wanted);
 }

@@ -1,12 +1,11 @@
 -- The parties of a comparison.
-use Rattle.scf_tool.proofs.Common.{refl, sym, subst, ◌≡◌, ◌≤◌, length, Some, None, Ok, Err, Result, IfSome, IfErr, LoadFault, VerifyFault, ℕ, List, Option, Insn, Answering, Names, Inputs, AreComparedParties, AreInputs, left_out_of}
-use Rattle.scf_tool.specs.declared.verify_fault.VerifyFault.TheVariants.{Memory}
+use Rattle.scf_tool.proofs.Common.{refl, sym, subst, ◌≡◌, ◌≤◌, length, Some, None, IfSome, LoadFault, ℕ, List, Option, Insn, Answering, Names, Inputs, AreComparedParties, AreInputs, left_out_of}
 
 module _ (filters : List (Option (List ℕ))) (table profile : Option (List ℕ)) where
   -- what holds of them is said of their bytes
   pub parties_are_compared : (inputs : Inputs) (holds : List (List Insn) → Names → Answering → Type 0)
       → AreInputs filters table profile inputs → holds inputs.stack inputs.names inputs.loaded.profile
-      → AreComparedParties filters table profile (left_out_of inputs.loaded) holds
+      → AreComparedParties filters table profile (Some (left_out_of inputs.loaded)) holds
   parties_are_compared inputs holds read compared = record {
     stack = inputs.stack;
     names = inputs.names;
@@ -25,9 +24,3 @@ pub refused_text : (refuses : List ℕ → LoadFault → Type 0) (bytes : Option
 refused_text refuses None text fault h refused = tt
 refused_text refuses (Some input) text fault h refused =
     (h.1, subst (λ (t : List ℕ). refuses t fault) (sym h.0) refused)
-
--- a fault that is out of memory
-pub memory_fault : {T : Type 0} (holds : VerifyFault → Type 0) (result : Result T VerifyFault)
-    → IfErr result (λ fault. fault ≡ Memory) → holds Memory → IfErr result holds
-memory_fault holds (Ok value) is here = tt
-memory_fault holds (Err fault) is here = subst holds (sym is) here

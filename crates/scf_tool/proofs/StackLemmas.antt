@@ -1,19 +1,12 @@
 -- Readers of filters, one after another.
 use Rattle.scf_tool.proofs.Common.{◌≡◌, ℕ, ◌+◌, ◌<◌, ◌≤◌, List, [], ◌∷◌, ◌++◌, length, take, drop, set, get_or, map, Option, Some, Ok, Err, refl, sym, ap, ◌∙◌, arith, add-one, length-drop, drop_more, take_more, take_more_set, set_split, drop-set-lt, take-append-drop, map-append, sum_by_push, AllZip, Insn, max_insns_per_path, IsPush, cost_of, PartReader, HasEnded, IsAcceptedFilter, HasStack, HasNoStack, IsNotPushed, HaveStopped, LeavesFilterReaders, LeavesProfileReader, LeavesTableReader, NoReadFailed, VerifyFault, FilterRead, rest_of}
 use Rattle.scf_tool.specs.VerifyingBeside.{IsTableFault}
+use Rattle.std.proofs.lemmas.Slice.Zip.{all_zipped_more}
 use Rattle.scf_tool.proofs.Common.{inl, inr}
 use Rattle.scf_tool.specs.declared.verify_fault.VerifyFault.TheVariants.{ProfileRead, TableRead}
 use Rattle.scf_request.specs.declared.contents.TableReader.{TableReader}
 use Rattle.scf_tool.specs.FilterStacks.{HaveStoppedBy}
 use Rattle.scf_tool.specs.VerifyingArchitectures.{LeavesTableReaders}
-
--- one more on both sides
-pub AllZip-more : {A B : Type 0} (R : A → B → Type 0) (xs : List A) (ys : List B) (x : A) (y : B) → AllZip R xs ys
-    → R x y → AllZip R (xs ++ x ∷ []) (ys ++ y ∷ [])
-AllZip-more R [] [] x y h own = (own, tt)
-AllZip-more R (a ∷ xs) (b ∷ ys) x y h own = (h.0, AllZip-more R xs ys x y h.1 own)
-AllZip-more R [] (b ∷ ys) x y h own = absurd h
-AllZip-more R (a ∷ xs) [] x y h own = absurd h
 
 -- the lists hold the same from an index on, and this stands there
 pub record SameFrom {R : Type 0} (i : ℕ) (olds news : List R) (old : R) : Type 0 where
@@ -62,7 +55,7 @@ one_more_read input Taken Ended i olds news old new before after from upto taken
     record {
       taken = rw texts taken;
       ended = rw (olds_taken i olds news old from, take_more_set news i new from.within)
-          (AllZip-more Ended (take i olds) (take i news) old new upto.ended end);
+          (all_zipped_more Ended (take i olds) (take i news) old new upto.ended end);
       same = drop-set-lt (i + 1) news i new (omega arith) ∙ same_behind i olds news old from;
     }
 
@@ -103,7 +96,7 @@ pub stack_grows : {R : Type 0} (remaining : R → Option (List ℕ)) (failures :
     → ((insns : List Insn) × IsAcceptedFilter (remaining old) insns × IsPush stack insns (Ok tt) pushed)
     → HasEnded remaining failures old new → IsStackUpTo remaining failures (i + 1) olds (set news i new) pushed
 stack_grows remaining failures i olds news old new stack pushed from upto push end =
-    let accepted = AllZip-more IsAcceptedFilter (map remaining (take i olds)) stack (remaining old) push.0
+    let accepted = all_zipped_more IsAcceptedFilter (map remaining (take i olds)) stack (remaining old) push.0
     upto.taken.accepted push.1 in
     let total : cost_of (stack ++ push.0 ∷ []) ≤ max_insns_per_path + 4 =
     omega (arith, push.2.0, sum_by_push (λ filter. length filter + 4) stack push.0) in

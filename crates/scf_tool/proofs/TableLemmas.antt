@@ -1,6 +1,7 @@
 -- Tables of several architectures, one after another.
-use Rattle.scf_tool.proofs.Common.{◌≡◌, ◌≢◌, ℕ, ◌+◌, ◌<◌, Bool, true, false, List, [], ◌∷◌, ◌++◌, length, get_or, set, take, drop, map, Option, Some, Ok, Err, refl, sym, ap, ◌∙◌, arith, drop_more, map-append, take_more, take-append-drop, AllZip, Insn, PartReader, VerifyFault, rest_of}
+use Rattle.scf_tool.proofs.Common.{◌≡◌, ◌≢◌, ℕ, ◌+◌, ◌<◌, Bool, true, false, List, [], ◌∷◌, ◌++◌, length, get_or, set, take, drop, map, Option, Some, Ok, Err, refl, sym, ap, ◌∙◌, arith, drop_more, map-append, take_more, take-append-drop, AllZip, Insn, PartReader, VerifyFault}
 use Rattle.std.proofs.lemmas.List.Sums.{sum_by-cons}
+use Rattle.std.proofs.lemmas.Slice.Zip.{all_zipped_more}
 use Rattle.std.specs.Prelude.{count_by}
 use Rattle.scf_insn.specs.Architectures.{row_of}
 use Rattle.scf_profile.specs.Table.{table_of}
@@ -17,7 +18,7 @@ use Rattle.scf_insn.specs.declared.architecture.Architecture.{Architecture}
 use Rattle.scf_profile.specs.StatedProfile.{Tables}
 use Rattle.scf_profile.specs.Table.{Names}
 use Rattle.scf_request.specs.declared.contents.TableReader.{TableReader}
-use Rattle.scf_tool.proofs.StackLemmas.{AllZip-more, IsReadUpTo, SameFrom, one_more_read, texts_split}
+use Rattle.scf_tool.proofs.StackLemmas.{IsReadUpTo, SameFrom, one_more_read, texts_split}
 use Rattle.scf_tool.specs.Verifying.{IsNoTable, IsTable}
 use Rattle.scf_tool.specs.VerifyingArchitectures.{AreComparedUnder, AreTables, HasNoTable, IsTableOf, TableHasEnded, left_out_of_each, table_text}
 use Rattle.scf_tool.specs.declared.verify_fault.VerifyFault.TheVariants.{Memory, Table}
@@ -37,7 +38,7 @@ module _ {R : Type 0} (remaining : R → Option (List ℕ)) (failures : R → �
     tables_grow after added end =
         one_more_read (table_text remaining) AreTables (TableHasEnded remaining failures) i olds news old new tables after
         from upto
-        (rw added.2 (AllZip-more IsTableOf (map (table_text remaining) (take i olds)) tables (table_text remaining old)
+        (rw added.2 (all_zipped_more IsTableOf (map (table_text remaining) (take i olds)) tables (table_text remaining old)
         (old.architecture, added.0) upto.taken (refl, added.1)))
         end
 
@@ -54,14 +55,14 @@ module _ {R : Type 0} (remaining : R → Option (List ℕ)) (failures : R → �
       why = refused;
     }
 
--- ---- the tables of a bundle
+-- ---- tables in memory
 
--- the readers of parts tell what the parts hold
-pub told_of_tables : (readers : List (TableReader PartReader))
-    → map (table_text (λ reader. Some (rest_of reader))) readers ≡ map known_text (map rest_of_table readers)
-told_of_tables [] = refl
-told_of_tables (reader ∷ readers) =
-    ap (λ texts. known_text (rest_of_table reader) ∷ texts) (told_of_tables readers)
+-- readers of bytes in memory tell them
+pub told_of_tables : {R : Type 0} (text : R → List ℕ) (readers : List (TableReader R))
+    → map (table_text (λ reader. Some (text reader))) readers ≡ map known_text (map (table_text text) readers)
+told_of_tables text [] = refl
+told_of_tables text (reader ∷ readers) =
+    ap (λ texts. known_text (table_text text reader) ∷ texts) (told_of_tables text readers)
 
 -- those of an architecture are counted
 pub texts_counted : (architecture : Architecture) (tables : List (TableReader PartReader))
@@ -79,38 +80,41 @@ texts_counted architecture (table ∷ tables) =
     by_test true is behind = rw (sum_by-cons, is) (omega (arith, behind))
     by_test false is behind = rw (sum_by-cons, is) (omega (arith, behind))
 
-module _ (tables : List (TableReader PartReader)) (i : ℕ) (d : TableReader PartReader) (lt : i < length tables) where
-  one_text_more : map rest_of_table (take (i + 1) tables)
-      ≡ map rest_of_table (take i tables) ++ rest_of_table (get_or tables i d) ∷ []
-  one_text_more = ap (map rest_of_table) (take_more tables i d lt)
-      ∙ map-append rest_of_table (take i tables) (get_or tables i d ∷ [])
+module _ {R : Type 0} (text : R → List ℕ) (tables : List (TableReader R)) (i : ℕ) (reader : TableReader R)
+    (lt : i < length tables) (is : reader ≡ get_or tables i reader) where
+  one_text_more : map (table_text text) (take (i + 1) tables)
+      ≡ map (table_text text) (take i tables) ++ table_text text reader ∷ []
+  one_text_more = ap (map (table_text text)) (take_more tables i reader lt)
+      ∙ map-append (table_text text) (take i tables) (get_or tables i reader ∷ [])
+      ∙ ap (λ x. map (table_text text) (take i tables) ++ table_text text x ∷ []) (sym is)
 
   module _ (own : List OwnedTable)
-      (before : AllZip SpellsTable (map rest_of_table (take i tables)) (map named_of own)) where
+      (before : AllZip SpellsTable (map (table_text text) (take i tables)) (map named_of own)) where
     -- one more is spelled
     pub spelled_more : (pushed : List OwnedTable) (table : Names)
-        → pushed ≡ own ++ record { architecture = (get_or tables i d).architecture; table = table } ∷ []
-        → table_of (rest_of (get_or tables i d).reader) ≡ Ok table
-        → AllZip SpellsTable (map rest_of_table (take (i + 1) tables)) (map named_of pushed)
+        → pushed ≡ own ++ record { architecture = reader.architecture; table = table } ∷ []
+        → table_of (text reader.reader) ≡ Ok table
+        → AllZip SpellsTable (map (table_text text) (take (i + 1) tables)) (map named_of pushed)
     spelled_more pushed table added spelled =
-        let one : OwnedTable = record { architecture = (get_or tables i d).architecture; table = table } in
+        let one : OwnedTable = record { architecture = reader.architecture; table = table } in
         let names : map named_of pushed ≡ map named_of own ++ named_of one ∷ [] =
         ap (map named_of) added ∙ map-append named_of own (one ∷ []) in
         rw (one_text_more, names)
-        (AllZip-more SpellsTable (map rest_of_table (take i tables)) (map named_of own)
-        (rest_of_table (get_or tables i d)) (named_of one) before (refl, spelled))
+        (all_zipped_more SpellsTable (map (table_text text) (take i tables)) (map named_of own)
+        (table_text text reader) (named_of one) before (refl, spelled))
 
     -- one isn't
     pub cant_spell : (profile : List ℕ) (fault : TableFault)
-        → (fault ≢ faults.Memory → table_of (rest_of (get_or tables i d).reader) ≡ Err fault)
-        → CantLoadEach profile (map rest_of_table tables) (Table fault)
+        → (fault ≢ faults.Memory → table_of (text reader.reader) ≡ Err fault)
+        → CantLoadEach profile (map (table_text text) tables) (Table fault)
     cant_spell profile fault refused = λ other. (
-      map rest_of_table (take i tables),
-      rest_of_table (get_or tables i d),
-      map rest_of_table (drop (i + 1) tables),
-      ap (map rest_of_table) (sym (take-append-drop i tables)
-          ∙ ap (λ (behind : List (TableReader PartReader)). take i tables ++ behind) (drop_more tables i d lt))
-          ∙ map-append rest_of_table (take i tables) (get_or tables i d ∷ drop (i + 1) tables),
+      map (table_text text) (take i tables),
+      table_text text reader,
+      map (table_text text) (drop (i + 1) tables),
+      ap (map (table_text text)) (sym (take-append-drop i tables)
+          ∙ ap (λ (behind : List (TableReader R)). take i tables ++ behind) (drop_more tables i reader lt)
+          ∙ ap (λ (x : TableReader R). take i tables ++ x ∷ drop (i + 1) tables) (sym is))
+          ∙ map-append (table_text text) (take i tables) (reader ∷ drop (i + 1) tables),
       map named_of own,
       before,
       refused other,
@@ -124,7 +128,7 @@ module _ (filters : List (Option (List ℕ))) (texts : List (Architecture × Opt
   pub are_compared_under : (inputs : ArchitectureInputs) (holds : List (List Insn) → Tables → List Profile → Type 0)
       → AreInputsUnder filters texts profile inputs
       → holds inputs.stack (map named_of inputs.tables.items) inputs.loaded.profiles
-      → AreComparedUnder filters texts profile (left_out_of_each inputs.loaded) holds
+      → AreComparedUnder filters texts profile (Some (left_out_of_each inputs.loaded)) holds
   are_compared_under inputs holds read compared = record {
     stack = inputs.stack;
     tables = map named_of inputs.tables.items;

@@ -9,7 +9,7 @@ use Rattle.scf_compare.specs.declared.finding.Finding.TheVariants.{Holds, Fails}
 use Rattle.scf_tool.specs.declared.call_verification.CallFinding.{CallFinding}
 use Rattle.scf_tool.specs.declared.call_verification.CallsOutcome.{CallsOutcome}
 use Rattle.scf_tool.specs.Lines.{answer_text}
-use Rattle.scf_tool.specs.Reports.{answer_line, argument_text, finding_text, left_out_text, profile_word, said_of}
+use Rattle.scf_tool.specs.Reports.{answer_line, argument_text, finding_text, left_out_text, said_of, word_of_right}
 
 -- ---- the joint finding
 
@@ -52,12 +52,10 @@ named_line relation right_word call =
 
 -- ---- the report
 
--- the lines of calls: the joint finding's, and one for each call of which the relation doesn't hold
-abbrev pub findings_text : Relation → List ℕ → List CallFinding → List ℕ
-findings_text relation right_word calls =
-    joint_text relation right_word (joint_of calls) ++ flat_map (named_line relation right_word) calls
-
--- The lines of an outcome: those of its calls, and of what was left out.
+-- The lines of an outcome: the joint finding's, one for each call of which the relation doesn't hold, and those of what
+-- was left out.
 abbrev pub calls_text : Relation → CallsOutcome → List ℕ
 calls_text relation outcome =
-    findings_text relation profile_word outcome.calls.items ++ left_out_text outcome.left_out
+    let right_word = word_of_right outcome.left_out in
+    joint_text relation right_word (joint_of outcome.calls.items)
+    ++ (flat_map (named_line relation right_word) outcome.calls.items ++ left_out_text outcome.left_out)

@@ -23,6 +23,7 @@ use Rattle.scf_profile.specs.declared.loaded.Loaded.{Loaded}
 use Rattle.scf_profile.specs.declared.loaded.LoadedProfiles.{LoadedProfiles}
 use Rattle.scf_profile.specs.declared.table_fault.TableFault.TheVariants as tables
 use Rattle.scf_profile.specs.Loading.{Loads, LoadsEach, Refuses, RefusesEach}
+use Rattle.scf_profile.specs.Profile.{Profile}
 use Rattle.scf_profile.specs.ProfileAnswers.{ProfileAnswers, ProfilesAnswer}
 use Rattle.scf_profile.specs.Reasons.{IsReason, IsReasonAmong}
 use Rattle.scf_profile.specs.SameAnswers.{SameAnswers, SameAnswersAsEach}
@@ -44,9 +45,8 @@ use Rattle.scf_request.specs.declared.request.Scopes.TheVariants.{AtOnce, EachCa
 use Rattle.scf_tool.specs.declared.verify_fault.BesideFault.{BesideFault}
 use Rattle.scf_tool.specs.declared.verify_fault.VerifyFault.{VerifyFault}
 use Rattle.scf_tool.specs.declared.verify_fault.VerifyFault.TheVariants as verifies
-use Rattle.scf_compare.specs.declared.finding.Finding.{Finding}
-use Rattle.scf_tool.specs.declared.call_verification.CallFinding.{CallFinding}
 use Rattle.scf_tool.specs.declared.call_verification.CallsOutcome.{CallsOutcome}
+use Rattle.scf_tool.specs.declared.verification.FindingOutcome.{FindingOutcome}
 use Rattle.scf_tool.specs.declared.verification.Outcome.{Outcome}
 use Rattle.scf_tool.specs.declared.status.Status.TheVariants.{Well}
 use Rattle.scf_request.specs.Bundle.{AreNoParts, IsArchitecturesBundle, IsBesideBundle, IsBundle, architecture_kinds, beside_kinds, profile_kinds}
@@ -54,10 +54,10 @@ use Rattle.scf_request.specs.Contents.{texts_for}
 use Rattle.scf_request.specs.declared.bundle.PartKind.{PartKind}
 use Rattle.scf_tool.specs.ArchitectureScopes.{range_of}
 use Rattle.scf_tool.specs.Comparisons.{limit_of}
-use Rattle.scf_tool.specs.CallReports.{calls_text, findings_text, joint_of}
+use Rattle.scf_tool.specs.CallReports.{calls_text, joint_of}
 use Rattle.scf_tool.specs.Lines.{traced_text}
 use Rattle.scf_tool.specs.FilterStacks.{HasStack, HasNoStack}
-use Rattle.scf_tool.specs.Reports.{beside_word, finding_status, finding_text, report_text, verdict_status}
+use Rattle.scf_tool.specs.Reports.{finding_outcome_of, finding_status, report_text}
 use Rattle.scf_tool.specs.Verifying.{IsAcceptedFilter, IsNoFilter, ReadsFilter, ReadsUnder}
 use Rattle.scf_tool.specs.VerifyingArchitectures.{AreProfilesRefused, AreVerified, AreVerifiedCallsOf}
 use Rattle.scf_tool.specs.VerifyingBeside.{AreVerifiedBeside, IsRefusedPair, IsTableFault, VerifiesBeside, fault_of_either}
@@ -174,10 +174,20 @@ CantLoad profile table (verifies.Profile fault) =
     (names : Names) × (table_of table ≡ Ok names) × Refuses profile names fault
 CantLoad profile table fault = ⊥
 
--- `compile`: the bytes of an accepted filter that answers every call record as the profile does
+-- the bytes of an accepted filter that answers every call record as the profile does
+abbrev pub IsFilterOf : Profile → List ℕ → Type 0
+IsFilterOf profile bytes =
+    (insns : List Insn) × IsAcceptedFilter (Some bytes) insns × SameAnswers (RunAnswers insns) profile
+
+-- or as the profiles of several architectures do
+abbrev pub IsFilterOfEach : List Profile → List ℕ → Type 0
+IsFilterOfEach profiles bytes =
+    (insns : List Insn) × IsAcceptedFilter (Some bytes) insns × SameAnswersAsEach (RunAnswers insns) profiles
+
+-- `compile`: the filter of the profile
 abbrev pub Compiles : List ℕ → List ℕ → Result Reply Fault → Type 0
-Compiles profile table (Ok (Bytes bytes)) = (loaded : Loaded) × IsStated profile table loaded
-    × (insns : List Insn) × IsAcceptedFilter (Some bytes.items) insns × SameAnswers (RunAnswers insns) loaded.profile
+Compiles profile table (Ok (Bytes bytes)) =
+    (loaded : Loaded) × IsStated profile table loaded × IsFilterOf loaded.profile bytes.items
 Compiles profile table (Err (faults.Verify fault)) = CantLoad profile table fault
 Compiles profile table (Err (faults.Compile fault)) = (loaded : Loaded) × IsStated profile table loaded
     × (fault ≡ compiles.TooLarge → bpf_maxinsns < size_bound_of loaded.profile)
@@ -192,10 +202,10 @@ GivesReason call profile table ending = ⊥
 
 -- ---- a comparison
 
--- the report of an outcome, and the status of its verdict
-abbrev pub IsReport : Relation → Outcome → Reply → Type 0
+-- the report of an outcome, and the status of its finding
+abbrev pub IsReport : Relation → FindingOutcome → Reply → Type 0
 IsReport relation outcome (Compared text status) =
-    (text.items ≡ report_text relation outcome) × (status ≡ verdict_status outcome.verdict)
+    (text.items ≡ report_text relation outcome) × (status ≡ finding_status outcome.finding)
 IsReport relation outcome reply = ⊥
 
 -- the report of an outcome call by call, and the status of its joint finding, where None is that the relation holds of
@@ -212,7 +222,7 @@ ComparesParts over relation limits filters profile table (Err (faults.Verify fau
     NoReadFailed fault × IsRefusedStack (map Some filters) (Some table) (Some profile) fault
 ComparesParts (AtOnce scope) relation limits filters profile table (Ok reply) = (outcome : Outcome)
     × IsVerifiedBy relation (map Some filters) (Some table) (Some profile) scope (limit_of limits) outcome
-    × IsReport relation outcome reply
+    × IsReport relation (finding_outcome_of outcome) reply
 ComparesParts EachCall relation limits filters profile table (Ok reply) = (outcome : CallsOutcome)
     × AreVerifiedCalls relation (map Some filters) (Some table) (Some profile) limits outcome
     × IsCallsReport relation outcome reply
@@ -242,20 +252,19 @@ AreNotCompared (AtOnce scope) filters beside tables fault =
 AreNotCompared EachCall filters beside tables fault = (table : List ℕ) × (tables ≡ table ∷ [])
     × IsRefusedPair (map Some filters) (map Some beside) (IsTableFault (Some table)) fault
 
--- What two stacks come to: why they aren't compared, or the report of a finding over the calls of a scope, or call by
--- call of a table, and its status, where None is that the relation holds of all calls.
+-- What two stacks come to: why they aren't compared, or the report of an outcome over the calls of a scope, or call by
+-- call of a table.
 abbrev pub ComparesStacks : Scopes → Relation → Limits → List (List ℕ) → List (List ℕ) → List (List ℕ)
     → Result Reply Fault → Type 0
 ComparesStacks over relation limits filters beside tables (Err (faults.Stacks fault)) =
     NoReadFailed (fault_of_either fault) × AreNotCompared over filters beside tables fault
-ComparesStacks (AtOnce scope) relation limits filters beside tables (Ok (Compared text status)) = (finding : Finding)
-    × VerifiesBeside relation (map Some filters) (map Some beside) scope (limit_of limits) (Ok finding)
-    × (text.items ≡ finding_text relation beside_word finding) × (status ≡ finding_status finding)
-ComparesStacks EachCall relation limits filters beside tables (Ok (Compared text status)) =
-    (table : List ℕ) × (tables ≡ table ∷ []) × (calls : List CallFinding)
-    × AreVerifiedBeside relation (map Some filters) (map Some beside) (Some table) limits calls
-    × (text.items ≡ findings_text relation beside_word calls)
-    × (status ≡ option_map_or finding_status (joint_of calls) Well)
+ComparesStacks (AtOnce scope) relation limits filters beside tables (Ok reply) = (outcome : FindingOutcome)
+    × VerifiesBeside relation (map Some filters) (map Some beside) scope (limit_of limits) (Ok outcome)
+    × IsReport relation outcome reply
+ComparesStacks EachCall relation limits filters beside tables (Ok reply) =
+    (table : List ℕ) × (tables ≡ table ∷ []) × (outcome : CallsOutcome)
+    × AreVerifiedBeside relation (map Some filters) (map Some beside) (Some table) limits outcome
+    × IsCallsReport relation outcome reply
 ComparesStacks over relation limits filters beside tables ending = ⊥
 
 -- `compare --beside`: the report of the comparison of the filters with those beside them, any number of either; call by
@@ -323,7 +332,7 @@ ComparesProfiles over relation limits filters profile tables (Err (faults.Verify
 ComparesProfiles (AtOnce scope) relation limits filters profile tables (Ok reply) = (outcome : Outcome)
     × AreVerified relation (range_of scope) (map Some filters) (map known_text tables) (Some profile) (limit_of limits)
     outcome
-    × IsReport relation outcome reply
+    × IsReport relation (finding_outcome_of outcome) reply
 ComparesProfiles EachCall relation limits filters profile tables (Ok reply) = (outcome : CallsOutcome)
     × AreVerifiedCallsOf relation (map Some filters) (map known_text tables) (Some profile) limits outcome
     × IsCallsReport relation outcome reply
@@ -358,12 +367,10 @@ CantLoadEach profile texts (verifies.Profile fault) =
     (read : Tables) × AllZip SpellsTable texts read × RefusesEach profile read fault
 CantLoadEach profile texts fault = ⊥
 
--- `compile --architectures`: the bytes of an accepted filter that answers every call record as the profiles of all
--- architectures that have a table do
+-- `compile --architectures`: the filter of the profiles of all architectures that have a table
 abbrev pub CompilesEach : List ℕ → List (Architecture × List ℕ) → Result Reply Fault → Type 0
-CompilesEach profile texts (Ok (Bytes bytes)) = (loaded : LoadedProfiles) × AreStated profile texts loaded
-    × (insns : List Insn) × IsAcceptedFilter (Some bytes.items) insns
-    × SameAnswersAsEach (RunAnswers insns) loaded.profiles
+CompilesEach profile texts (Ok (Bytes bytes)) =
+    (loaded : LoadedProfiles) × AreStated profile texts loaded × IsFilterOfEach loaded.profiles bytes.items
 CompilesEach profile texts (Err (faults.Verify fault)) = CantLoadEach profile texts fault
 CompilesEach profile texts (Err (faults.Compile fault)) = (loaded : LoadedProfiles)
     × AreStated profile texts loaded

@@ -1,5 +1,5 @@
 -- What the program prints of a comparison.
-use Rattle.std.specs.Prelude.{ℕ, false, List, ◌++◌, codes}
+use Rattle.std.specs.Prelude.{ℕ, false, List, [], ◌++◌, codes, Option, Some, None}
 use Rattle.std.specs.List.{flat_map}
 use Rattle.std.specs.Fmt.{decimal, digits}
 use Rattle.scf_insn.specs.declared.record.CallRecord.{CallRecord}
@@ -7,11 +7,11 @@ use Rattle.scf_profile.specs.declared.relation.Relation.{Relation}
 use Rattle.scf_profile.specs.declared.relation.Relation.TheVariants as relations
 use Rattle.scf_compare.specs.declared.finding.Finding.{Finding}
 use Rattle.scf_compare.specs.declared.finding.Finding.TheVariants.{Holds, Fails, Undecided, Unfinished}
-use Rattle.scf_compare.specs.declared.verdict.Verdict.{Verdict}
 use Rattle.scf_compare.specs.Verdicts.{finding_of}
 use Rattle.scf_tool.specs.declared.left_out.LeftOut.{LeftOut}
 use Rattle.scf_tool.specs.declared.status.Status.{Status}
 use Rattle.scf_tool.specs.declared.status.Status.TheVariants.{Well, Differs, Open}
+use Rattle.scf_tool.specs.declared.verification.FindingOutcome.{FindingOutcome}
 use Rattle.scf_tool.specs.declared.verification.Outcome.{Outcome}
 use Rattle.scf_tool.specs.Lines.{answer_text}
 use Rattle.scf_tool.specs.VerifyingStacks.{outcome_left_out}
@@ -41,12 +41,10 @@ said_of relations.NoMore = (codes "no more", codes "more")
 said_of relations.NoLess = (codes "no less", codes "less")
 said_of relations.SameDisposition = (codes "same disposition", codes "differs")
 
--- the right side of a comparison, by its name in the lines
-abbrev pub profile_word : List ℕ
-profile_word = codes "profile"
-
-abbrev pub beside_word : List ℕ
-beside_word = codes "beside"
+-- the right side of a comparison, by its name in the lines: a profile, of which this was left out, or other filters
+abbrev pub word_of_right : Option LeftOut → List ℕ
+word_of_right (Some left_out) = codes "profile"
+word_of_right None = codes "beside"
 
 -- the lines of a finding on a relation of filters and a right side
 abbrev pub finding_text : Relation → List ℕ → Finding → List ℕ
@@ -63,24 +61,23 @@ finding_status (Holds steps) = Well
 finding_status (Fails call left right) = Differs
 finding_status finding = Open
 
--- a verdict is a finding on a profile
-abbrev pub verdict_text : Relation → Verdict → List ℕ
-verdict_text relation verdict = finding_text relation profile_word (finding_of verdict)
-
-abbrev pub verdict_status : Verdict → Status
-verdict_status verdict = finding_status (finding_of verdict)
-
 -- a word and a name
 abbrev pub name_line : List ℕ → List ℕ → List ℕ
 name_line word name = word ++ codes " " ++ name ++ codes "\n"
 
 -- what was left out of a profile: a line for each skipped name, and one for each other architecture
-abbrev pub left_out_text : LeftOut → List ℕ
-left_out_text left_out =
+abbrev pub left_out_text : Option LeftOut → List ℕ
+left_out_text None = []
+left_out_text (Some left_out) =
     flat_map (name_line (codes "skipped")) left_out.skipped
     ++ flat_map (name_line (codes "other")) left_out.other_architectures
 
--- The lines of an outcome: those of the verdict on a relation, and of what was left out.
-abbrev pub report_text : Relation → Outcome → List ℕ
+-- The lines of an outcome: those of the finding on a relation, and of what was left out.
+abbrev pub report_text : Relation → FindingOutcome → List ℕ
 report_text relation outcome =
-    verdict_text relation outcome.verdict ++ left_out_text (outcome_left_out outcome)
+    finding_text relation (word_of_right outcome.left_out) outcome.finding ++ left_out_text outcome.left_out
+
+-- a verdict is a finding on a profile
+abbrev pub finding_outcome_of : Outcome → FindingOutcome
+finding_outcome_of outcome =
+    record { finding = finding_of outcome.verdict; left_out = Some (outcome_left_out outcome) }

@@ -1,6 +1,6 @@
 -- What is known of a stack of filters, the call tables of several architectures and a profile once they are read and
 -- compared. The bytes of each reader count where the reader tells them.
-use Rattle.std.specs.Prelude.{◌≡◌, ◌⊎◌, ◌++◌, ℕ, List, [], ◌∷◌, Option, Result, Ok, Err, IfSome}
+use Rattle.std.specs.Prelude.{◌≡◌, ◌⊎◌, ◌++◌, ℕ, List, [], ◌∷◌, Option, Some, Result, Ok, Err, IfSome}
 use Rattle.std.specs.List.{AllZip}
 use Rattle.scf_insn.specs.declared.architecture.Architecture.{Architecture}
 use Rattle.scf_insn.specs.declared.insn.Insn.{Insn}
@@ -30,8 +30,8 @@ use Rattle.scf_tool.specs.declared.left_out.LeftOut.{LeftOut}
 
 -- ---- the tables
 
--- a reader's architecture, and the bytes that it has for its table
-abbrev pub table_text : {R : Type 0} → (R → Option (List ℕ)) → TableReader R → Architecture × Option (List ℕ)
+-- a reader's architecture, and what it has for its table
+abbrev pub table_text : {R A : Type 0} → (R → A) → TableReader R → Architecture × A
 table_text remaining reader = (reader.architecture, remaining reader.reader)
 
 -- the bytes are the call table of their architecture
@@ -73,7 +73,7 @@ AreProfilesRefused texts profile fault =
 -- The bytes are a stack of filters, call tables and a profile, of which this is left out, and this holds of that stack,
 -- those tables and the profiles that are stated for their architectures.
 pub record AreComparedUnder (filters : List (Option (List ℕ))) (texts : List (Architecture × Option (List ℕ)))
-    (profile : Option (List ℕ)) (left_out : LeftOut) (holds : List (List Insn) → Tables → List Profile → Type 0)
+    (profile : Option (List ℕ)) (left_out : Option LeftOut) (holds : List (List Insn) → Tables → List Profile → Type 0)
     : Type 0 where
   pub stack : List (List Insn)
   pub tables : Tables
@@ -81,7 +81,7 @@ pub record AreComparedUnder (filters : List (Option (List ℕ))) (texts : List (
   pub has_stack : HasStack filters stack
   pub are_tables : AreTables texts tables
   pub are_loaded : AreLoaded profile tables loaded
-  pub is_left_out : left_out ≡ left_out_of_each loaded
+  pub is_left_out : left_out ≡ Some (left_out_of_each loaded)
   pub compared : holds stack tables loaded.profiles
 
 -- They are compared by a relation, and the verdict speaks for all architectures that have a table, where there is a
@@ -89,7 +89,7 @@ pub record AreComparedUnder (filters : List (Option (List ℕ))) (texts : List (
 abbrev pub AreVerified : Relation → Option NumberRange → List (Option (List ℕ)) → List (Architecture × Option (List ℕ))
     → Option (List ℕ) → Limit → Outcome → Type 0
 AreVerified relation range filters texts profile limit outcome =
-    AreComparedUnder filters texts profile (outcome_left_out outcome)
+    AreComparedUnder filters texts profile (Some (outcome_left_out outcome))
     (λ stack tables profiles.
     IsJointComparison relation (scope_of range) stack profiles limit outcome.verdict)
 

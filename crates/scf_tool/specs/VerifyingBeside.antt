@@ -1,16 +1,16 @@
 -- What is known of two stacks of filters, and of a call table, once they are read and compared. The bytes of each
 -- reader count where the reader tells them.
-use Rattle.std.specs.Prelude.{◌≡◌, ◌⊎◌, ℕ, List, Option, Result, Ok, Err}
+use Rattle.std.specs.Prelude.{◌≡◌, ◌⊎◌, ℕ, List, Option, None, Result, Ok, Err}
 use Rattle.scf_insn.specs.declared.architecture.Architecture.TheVariants.{X8664}
 use Rattle.scf_insn.specs.declared.insn.Insn.{Insn}
 use Rattle.scf_profile.specs.Table.{Names}
 use Rattle.scf_profile.specs.declared.relation.Relation.{Relation}
 use Rattle.scf_profile.specs.declared.scope.Scope.{Scope}
 use Rattle.scf_compare.specs.declared.budget.Limit.{Limit}
-use Rattle.scf_compare.specs.declared.finding.Finding.{Finding}
 use Rattle.scf_compare.specs.Sides.{stack_behavior}
 use Rattle.scf_request.specs.declared.request.Limits.{Limits}
-use Rattle.scf_tool.specs.declared.call_verification.CallFinding.{CallFinding}
+use Rattle.scf_tool.specs.declared.call_verification.CallsOutcome.{CallsOutcome}
+use Rattle.scf_tool.specs.declared.verification.FindingOutcome.{FindingOutcome}
 use Rattle.scf_tool.specs.declared.verify_fault.BesideFault.{BesideFault}
 use Rattle.scf_tool.specs.declared.verify_fault.BesideFault.TheVariants.{Verify, Beside}
 use Rattle.scf_tool.specs.declared.verify_fault.VerifyFault.{VerifyFault}
@@ -45,20 +45,22 @@ IsRefusedPair filters beside behind (Beside fault) =
 
 -- What the comparison of two stacks by a relation, from the bytes of their readers, answers.
 abbrev pub VerifiesBeside : Relation → List (Option (List ℕ)) → List (Option (List ℕ)) → Scope → Limit
-    → Result Finding BesideFault → Type 0
-VerifiesBeside relation filters beside scope limit (Ok finding) =
+    → Result FindingOutcome BesideFault → Type 0
+VerifiesBeside relation filters beside scope limit (Ok outcome) =
     (left : List (List Insn)) × (right : List (List Insn)) × AreStacks filters beside left right
-    × IsFound relation (stack_behavior left) (stack_behavior right) scope limit finding
+    × IsFound relation (stack_behavior left) (stack_behavior right) scope limit outcome.finding
+    × (outcome.left_out ≡ None)
 VerifiesBeside relation filters beside scope limit (Err fault) =
     IsRefusedPair filters beside (λ behind. behind ≡ Memory) fault
 
 -- Two stacks and a table are compared by a relation, call by call.
 abbrev pub AreVerifiedBeside : Relation → List (Option (List ℕ)) → List (Option (List ℕ)) → Option (List ℕ) → Limits
-    → List CallFinding → Type 0
-AreVerifiedBeside relation filters beside table limits calls =
+    → CallsOutcome → Type 0
+AreVerifiedBeside relation filters beside table limits outcome =
     (left : List (List Insn)) × (right : List (List Insn)) × AreStacks filters beside left right
     × (names : Names) × IsTable table names
-    × AreFoundOfTable relation X8664 (stack_behavior left) (stack_behavior right) names limits calls
+    × AreFoundOfTable relation X8664 (stack_behavior left) (stack_behavior right) names limits outcome.calls.items
+    × (outcome.left_out ≡ None)
 
 -- ---- the readers
 

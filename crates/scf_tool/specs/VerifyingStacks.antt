@@ -1,6 +1,6 @@
 -- What is known of a stack of filters, a call table and a profile once they are read and compared. The bytes of each
 -- reader count where the reader tells them.
-use Rattle.std.specs.Prelude.{◌≡◌, ◌⊎◌, ℕ, List, All, Option, Result, Ok, Err}
+use Rattle.std.specs.Prelude.{◌≡◌, ◌⊎◌, ℕ, List, All, Option, Some, Result, Ok, Err}
 use Rattle.scf_insn.specs.declared.architecture.Architecture.TheVariants.{X8664}
 use Rattle.scf_insn.specs.declared.insn.Insn.{Insn}
 use Rattle.scf_machine.specs.Plain.{IsPlainProgram}
@@ -51,21 +51,21 @@ outcome_left_out outcome =
 -- The bytes are a stack of filters, a call table and a profile, of which this is left out, and this holds of that
 -- stack, that table and that profile.
 pub record AreComparedParties (filters : List (Option (List ℕ))) (table profile : Option (List ℕ))
-    (left_out : LeftOut) (holds : List (List Insn) → Names → Profile → Type 0) : Type 0 where
+    (left_out : Option LeftOut) (holds : List (List Insn) → Names → Profile → Type 0) : Type 0 where
   pub stack : List (List Insn)
   pub names : Names
   pub loaded : Loaded
   pub has_stack : HasStack filters stack
   pub is_table : IsTable table names
   pub is_loaded : IsLoaded profile names loaded
-  pub is_left_out : left_out ≡ left_out_of loaded
+  pub is_left_out : left_out ≡ Some (left_out_of loaded)
   pub compared : holds stack names loaded.profile
 
 -- They are compared by a relation, and the verdict is one on that stack and that profile.
 abbrev pub IsVerifiedBy : Relation → List (Option (List ℕ)) → Option (List ℕ) → Option (List ℕ) → Scope → Limit
     → Outcome → Type 0
 IsVerifiedBy relation filters table profile scope limit outcome =
-    AreComparedParties filters table profile (outcome_left_out outcome)
+    AreComparedParties filters table profile (Some (outcome_left_out outcome))
     (λ stack names p. IsComparison relation stack p scope limit outcome.verdict)
 
 -- Why nothing is compared: the filters are no stack, or they are, and this is why.

@@ -51,10 +51,10 @@ fn compare_calls_of_only(
     let loaded = inputs.loaded;
     Ok(CallsOutcome {
         calls,
-        left_out: LeftOut {
+        left_out: Some(LeftOut {
             skipped: loaded.skipped,
             other_architectures: loaded.other_architectures,
-        },
+        }),
     })
 }
 

@@ -12,11 +12,11 @@ ghost use Rattle.scf_tool.specs.VerifyingBeside.{
   VerifiesBeside,
 };
 
-use crate::call_verification::{CallFinding, compare_calls};
+use crate::call_verification::{CallsOutcome, compare_calls};
 use crate::filter_stack::read_stack;
-use crate::verification::read_table;
+use crate::verification::{FindingOutcome, read_table};
 use crate::verify_fault::BesideFault;
-use scf_compare::{Finding, Limit, Side, compare_sides};
+use scf_compare::{Limit, Side, compare_sides};
 use scf_facts::WordSets;
 use scf_insn::{Architecture, Source};
 use scf_machine::FilterStack;
@@ -65,7 +65,7 @@ pub fn verify_beside<F: Source, B: Source>(
     scope: Scope,
     relation: Relation,
     limit: Limit,
-) -> Result<Finding, BesideFault>
+) -> Result<FindingOutcome, BesideFault>
     ensures answer { VerifiesBeside relation (map F.remaining filter_readers.old)
         (map B.remaining beside_readers.old) scope limit result }
     ensures filter_readers { LeavesFirstReaders F.remaining F.failures filter_readers.old result filter_readers.new }
@@ -74,7 +74,9 @@ pub fn verify_beside<F: Source, B: Source>(
     let stacks = read_stacks(alloc, filter_readers, beside_readers)?;
     let left = Side::Stack(stacks.left.filters());
     let right = Side::Stack(stacks.right.filters());
-    Ok(compare_sides::<WordSets>(alloc, &left, &right, scope, relation, limit)?)
+    let finding = compare_sides::<WordSets>(alloc, &left, &right, scope, relation, limit)?;
+    let left_out = None;
+    Ok(FindingOutcome { finding, left_out })
 }
 
 /// Compares two stacks as `verify_beside` does, call by call: each call that a table names, by itself and in at most
@@ -88,9 +90,9 @@ pub fn verify_calls_beside<F: Source, B: Source, T: Source>(
     table_reader: &mut T,
     relation: Relation,
     limits: Limits,
-) -> Result<Vec<CallFinding>, BesideFault>
-    ensures calls { IfOk result (λ calls. AreVerifiedBeside relation (map F.remaining filter_readers.old)
-        (map B.remaining beside_readers.old) (T.remaining table_reader.old) limits calls.items) }
+) -> Result<CallsOutcome, BesideFault>
+    ensures calls { IfOk result (AreVerifiedBeside relation (map F.remaining filter_readers.old)
+        (map B.remaining beside_readers.old) (T.remaining table_reader.old) limits) }
     ensures refused { IfErr result (IsRefusedPair (map F.remaining filter_readers.old)
         (map B.remaining beside_readers.old) (IsTableFault (T.remaining table_reader.old))) }
     ensures filter_readers { LeavesFirstReaders F.remaining F.failures filter_readers.old result filter_readers.new }
@@ -102,5 +104,7 @@ pub fn verify_calls_beside<F: Source, B: Source, T: Source>(
     let left = Side::Stack(stacks.left.filters());
     let right = Side::Stack(stacks.right.filters());
     let own = Architecture::X8664;
-    Ok(compare_calls(alloc, &left, &right, own, &table, relation, limits)?)
+    let calls = compare_calls(alloc, &left, &right, own, &table, relation, limits)?;
+    let left_out = None;
+    Ok(CallsOutcome { calls, left_out })
 }

@@ -3,10 +3,8 @@
 ghost use Rattle.std.specs.Prelude.{◌≡◌, ◌++◌, codes, find, map, not, string_bytes, IfOk};
 ghost use Rattle.std.specs.Fmt.{decimal};
 ghost use Rattle.std.specs.List.{flat_map, join_by};
-ghost use Rattle.scf_tool.specs.Reports.{beside_word};
 ghost use Rattle.scf_tool.specs.CallReports.{
   calls_text,
-  findings_text,
   found_text,
   is_failure,
   is_holding,
@@ -21,8 +19,8 @@ use crate::call_verification::{CallFinding, CallsOutcome};
 use crate::fragments::Fragment::{Decimal, Text};
 use crate::lines::add_answer;
 use crate::reporting::{
-    BESIDE_WORD, PROFILE_WORD, add_answer_line, add_arguments, add_finding, add_left_out, add_word,
-    failing, holding,
+    add_answer_line, add_arguments, add_finding, add_left_out, add_word, failing, holding,
+    word_of_right,
 };
 use scf_compare::Finding;
 use scf_insn::{Answer, CallRecord, Memory};
@@ -168,21 +166,6 @@ fn add_calls(
     Ok(())
 }
 
-/// Adds the joint finding, and the line of each syscall for which the relation doesn't hold.
-fn add_findings(
-    alloc: Global,
-    text: &mut Buffer,
-    relation: Relation,
-    right_word: &str,
-    calls: &[CallFinding],
-) -> Result<(), Memory>
-    ensures { Adds text.old (findings_text relation right_word.now calls.now) result text.new }
-{
-    add_joint(text, relation, right_word, joint_finding(calls))?;
-    add_calls(alloc, text, relation, right_word, calls)?;
-    Ok(())
-}
-
 /// The report of an outcome by a relation: the joint finding, then a line for each syscall for which the relation
 /// doesn't hold, one for each skipped name and one for each other architecture, in order.
 ///
@@ -195,23 +178,15 @@ pub fn report_calls(
 ) -> Result<Vec<u8>, Memory>
     ensures { IfOk result (λ text. text.items ≡ calls_text relation outcome.now) }
 {
-    let left_out = &outcome.left_out;
+    let right_word = word_of_right(&outcome.left_out);
     let mut text = Buffer::new(alloc);
-    add_findings(alloc, &mut text, relation, PROFILE_WORD, &outcome.calls)?;
-    add_left_out(&mut text, &left_out.skipped, &left_out.other_architectures)?;
-    Ok(text.into_bytes())
-}
-
-/// The joint finding on filters and those beside them, then a line for each syscall for which the relation doesn't
-/// hold.
-pub fn report_calls_beside(
-    alloc: Global,
-    relation: Relation,
-    calls: &[CallFinding],
-) -> Result<Vec<u8>, Memory>
-    ensures { IfOk result (λ text. text.items ≡ findings_text relation beside_word calls.now) }
-{
-    let mut text = Buffer::new(alloc);
-    add_findings(alloc, &mut text, relation, BESIDE_WORD, calls)?;
+    add_joint(
+        &mut text,
+        relation,
+        right_word,
+        joint_finding(&outcome.calls),
+    )?;
+    add_calls(alloc, &mut text, relation, right_word, &outcome.calls)?;
+    add_left_out(&mut text, &outcome.left_out)?;
     Ok(text.into_bytes())
 }

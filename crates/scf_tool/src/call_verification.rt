@@ -36,7 +36,8 @@ pub struct CallFinding {
 pub struct CallsOutcome {
     /// The calls of the table, by number.
     pub calls: Vec<CallFinding>,
-    pub left_out: LeftOut,
+    /// Where they are comparisons with a profile.
+    pub left_out: Option<LeftOut>,
 }
 
 /// These texts, kept.
@@ -177,9 +178,9 @@ pub fn verify_calls<F: Source, P: Source, T: Source>(
     let loaded = inputs.loaded;
     Ok(CallsOutcome {
         calls,
-        left_out: LeftOut {
+        left_out: Some(LeftOut {
             skipped: loaded.skipped,
             other_architectures: loaded.other_architectures,
-        },
+        }),
     })
 }

@@ -1,27 +1,29 @@
 //! The report of a comparison.
 
-ghost use Rattle.std.specs.Prelude.{◌≡◌, ◌++◌, codes, string_bytes, IfOk};
+ghost use Rattle.std.specs.Prelude.{◌≡◌, ◌++◌, Some, codes, string_bytes, IfOk};
 ghost use Rattle.std.specs.Fmt.{decimal};
 ghost use Rattle.std.specs.List.{flat_map};
 ghost use Rattle.scf_compare.specs.Verdicts.{finding_of};
 ghost use Rattle.scf_tool.specs.Reports.{
   answer_line,
   argument_text,
-  beside_word,
   call_line,
   left_out_text,
   name_line,
+  finding_outcome_of,
   finding_text,
   prefixed,
   report_text,
   said_of,
+  word_of_right,
 };
 ghost use Rattle.scf_tool.specs.internal.Gathering.{Adds};
 
 use crate::buffer::Buffer;
 use crate::fragments::Fragment::{Decimal, Hexadecimal, Text};
+use crate::left_out::LeftOut;
 use crate::lines::add_answer;
-use crate::verification::Outcome;
+use crate::verification::{FindingOutcome, Outcome};
 use scf_compare::{Finding, Verdict, Which};
 use scf_insn::{Answer, CallRecord, Memory};
 use scf_profile::{Relation, Texts};
@@ -73,11 +75,15 @@ pub(crate) fn add_answer_line(text: &mut Buffer, who: &str, answer: Answer) -> R
     Ok(())
 }
 
-/// The name of a profile as the right side of a comparison.
-pub(crate) const PROFILE_WORD: &str = "profile";
-
-/// The name of filters beside others.
-pub(crate) const BESIDE_WORD: &str = "beside";
+/// The name of the right side of a comparison: a profile, of which this was left out, or other filters.
+pub(crate) fn word_of_right(left_out: &Option<LeftOut>) -> &'static str
+    ensures { result.now ≡ word_of_right left_out.now }
+{
+    match left_out {
+        Some(_) => "profile",
+        None => "beside",
+    }
+}
 
 /// The word for a relation that holds.
 pub(crate) fn holding(relation: Relation) -> &'static str
@@ -151,7 +157,7 @@ pub(crate) fn add_finding(
 }
 
 /// The finding that a verdict is.
-pub fn finding_of(verdict: &Verdict) -> Finding
+pub(crate) fn finding_of(verdict: &Verdict) -> Finding
     ensures { result ≡ finding_of verdict.now }
 {
     match verdict {
@@ -190,44 +196,49 @@ fn add_names(text: &mut Buffer, word: &str, names: &Texts) -> Result<(), Memory>
 }
 
 /// Adds what was left out of a profile.
-pub(crate) fn add_left_out(text: &mut Buffer, skipped: &Texts, others: &Texts) -> Result<(), Memory>
+fn add_names_left_out(text: &mut Buffer, skipped: &Texts, others: &Texts) -> Result<(), Memory>
     ensures { Adds text.old
-        (left_out_text (record { skipped = skipped.now; other_architectures = others.now })) result text.new }
+        (left_out_text (Some (record { skipped = skipped.now; other_architectures = others.now }))) result text.new }
 {
     add_names(text, "skipped", skipped)?;
     add_names(text, "other", others)?;
     Ok(())
 }
 
+/// Adds what was left out of a profile, if there is one.
+pub(crate) fn add_left_out(text: &mut Buffer, left_out: &Option<LeftOut>) -> Result<(), Memory>
+    ensures { Adds text.old (left_out_text left_out.now) result text.new }
+{
+    match left_out {
+        Some(own) => add_names_left_out(text, &own.skipped, &own.other_architectures),
+        None => Ok(()),
+    }
+}
+
 /// The report of an outcome: the verdict, then a line for each skipped name and one for each other architecture, in
 /// order.
 pub fn report(alloc: Global, outcome: &Outcome) -> Result<Vec<u8>, Memory>
-    ensures { IfOk result (λ text. text.items ≡ report_text Relation.Same outcome.now) }
-{
-    report_by(alloc, Relation::Same, outcome)
-}
-
-/// The report of an outcome by a relation: `no more` or `no less` in place of `same`, `more` or `less` in place of
-/// `differs`. `report` is the case of equal answers.
-pub fn report_by(alloc: Global, relation: Relation, outcome: &Outcome) -> Result<Vec<u8>, Memory>
-    ensures { IfOk result (λ text. text.items ≡ report_text relation outcome.now) }
+    ensures { IfOk result (λ text. text.items ≡ report_text Relation.Same (finding_outcome_of outcome.now)) }
 {
     let finding = finding_of(&outcome.verdict);
     let mut text = Buffer::new(alloc);
-    add_finding(&mut text, relation, PROFILE_WORD, &finding)?;
-    add_left_out(&mut text, &outcome.skipped, &outcome.other_architectures)?;
+    add_finding(&mut text, Relation::Same, "profile", &finding)?;
+    add_names_left_out(&mut text, &outcome.skipped, &outcome.other_architectures)?;
     Ok(text.into_bytes())
 }
 
-/// The lines of a finding on filters and those beside them.
-pub fn report_beside(
+/// The report of an outcome by a relation: `no more` or `no less` in place of `same`, `more` or `less` in place of
+/// `differs`. `report` is the case of equal answers of filters and a profile.
+pub fn report_finding(
     alloc: Global,
     relation: Relation,
-    finding: &Finding,
+    outcome: &FindingOutcome,
 ) -> Result<Vec<u8>, Memory>
-    ensures { IfOk result (λ text. text.items ≡ finding_text relation beside_word finding.now) }
+    ensures { IfOk result (λ text. text.items ≡ report_text relation outcome.now) }
 {
+    let right_word = word_of_right(&outcome.left_out);
     let mut text = Buffer::new(alloc);
-    add_finding(&mut text, relation, BESIDE_WORD, finding)?;
+    add_finding(&mut text, relation, right_word, &outcome.finding)?;
+    add_left_out(&mut text, &outcome.left_out)?;
     Ok(text.into_bytes())
 }

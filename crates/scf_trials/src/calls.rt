@@ -18,9 +18,9 @@ use scf_profile::{ArchitectureTable, CallTable, Loaded, Profile, Texts, load, lo
 use scf_request::{Contents, TableReader, parse};
 use scf_text::{assemble, tokens};
 use scf_tool::{
-    Limits, NumberRange, Outcome, report, report_beside, report_by, report_calls,
-    report_calls_beside, split, verify, verify_architectures, verify_beside, verify_by,
-    verify_calls, verify_calls_beside, verify_calls_of, verify_stack,
+    CallsOutcome, FindingOutcome, Limits, NumberRange, Outcome, report, report_calls,
+    report_finding, split, verify, verify_architectures, verify_beside, verify_by, verify_calls,
+    verify_calls_beside, verify_calls_of, verify_stack,
 };
 use std::alloc::Global;
 use std::io;
@@ -273,6 +273,22 @@ fn try_verify<R: Print>(lines: &mut Lines<R>, alloc: Global) {
     }
 }
 
+fn report_found<R: Print>(lines: &mut Lines<R>, alloc: Global, outcome: &FindingOutcome) {
+    tell_twice!(
+        lines,
+        "report_finding",
+        report_finding(alloc, Relation::NoMore, outcome)
+    );
+}
+
+fn report_calls_found<R: Print>(lines: &mut Lines<R>, alloc: Global, outcome: &CallsOutcome) {
+    tell_twice!(
+        lines,
+        "report_calls",
+        report_calls(alloc, Relation::NoLess, outcome)
+    );
+}
+
 fn try_verify_by<R: Print>(lines: &mut Lines<R>, alloc: Global) {
     let verified = twice!(
         lines,
@@ -288,11 +304,7 @@ fn try_verify_by<R: Print>(lines: &mut Lines<R>, alloc: Global) {
         )
     );
     if let Some(outcome) = verified {
-        tell_twice!(
-            lines,
-            "report_by",
-            report_by(alloc, Relation::NoMore, &outcome)
-        );
+        report_found(lines, alloc, &FindingOutcome::from(outcome));
     }
 }
 
@@ -365,11 +377,7 @@ fn report_difference<R: Print>(lines: &mut Lines<R>, alloc: Global) {
         other_architectures: Texts::from_vec(Vec::new(alloc)),
     };
     tell_twice!(lines, "report", report(alloc, &outcome));
-    tell_twice!(
-        lines,
-        "report_by",
-        report_by(alloc, Relation::NoLess, &outcome)
-    );
+    report_found(lines, alloc, &FindingOutcome::from(outcome));
 }
 
 fn try_verify_calls<R: Print>(lines: &mut Lines<R>, alloc: Global) {
@@ -386,11 +394,7 @@ fn try_verify_calls<R: Print>(lines: &mut Lines<R>, alloc: Global) {
         )
     );
     if let Some(outcome) = verified {
-        tell_twice!(
-            lines,
-            "report_calls",
-            report_calls(alloc, Relation::NoLess, &outcome)
-        );
+        report_calls_found(lines, alloc, &outcome);
     }
 }
 
@@ -407,12 +411,8 @@ fn try_verify_beside<R: Print>(lines: &mut Lines<R>, alloc: Global) {
             Limit::of_steps(LIMIT),
         )
     );
-    if let Some(finding) = verified {
-        tell_twice!(
-            lines,
-            "report_beside",
-            report_beside(alloc, Relation::SameDisposition, &finding)
-        );
+    if let Some(outcome) = verified {
+        report_found(lines, alloc, &outcome);
     }
 }
 
@@ -429,12 +429,8 @@ fn try_verify_calls_beside<R: Print>(lines: &mut Lines<R>, alloc: Global) {
             LIMITS,
         )
     );
-    if let Some(calls) = verified {
-        tell_twice!(
-            lines,
-            "report_calls_beside",
-            report_calls_beside(alloc, Relation::NoMore, &calls)
-        );
+    if let Some(outcome) = verified {
+        report_calls_found(lines, alloc, &outcome);
     }
 }
 

@@ -1,12 +1,8 @@
 //! Commands on a profile with the tables of several architectures.
 
 ghost use Rattle.std.specs.Prelude.{◌≡◌, ◌≤◌, ◌↔◌, ◌∷◌, [], ℕ, true, false, List, Option, All, length, map, IfOk, IfErr, IsTrue, MatchOption, Ok, Err};
-ghost use Rattle.std.specs.List.{AllZip};
 ghost use Rattle.scf_insn.specs.Architectures.{architectures, row_of};
-ghost use Rattle.scf_machine.specs.Machine.{RunAnswers};
-ghost use Rattle.scf_profile.specs.SameAnswers.{SameAnswersAsEach};
 ghost use Rattle.scf_profile.specs.StatedProfile.{is_named};
-ghost use Rattle.scf_profile.specs.declared.loaded.LoadedProfiles.{LoadedProfiles};
 ghost use Rattle.scf_request.specs.Bundle.{AreNoParts, architecture_kinds};
 ghost use Rattle.scf_request.specs.Contents.{of_architectures, of_kind, rest_of, rest_of_table, texts_for};
 ghost use Rattle.scf_request.specs.declared.bundle.PartKind.TheVariants.{Filter, Profile as OfProfile};
@@ -23,27 +19,24 @@ ghost use Rattle.scf_tool.specs.Commands.{
   HoldsOtherParts,
   IsTableCount,
   ReadsInput,
-  SpellsTable,
 };
 ghost use Rattle.scf_tool.specs.Commands as spec;
 ghost use Rattle.scf_tool.specs.Statuses.{LeavesWhole};
-ghost use Rattle.scf_tool.specs.internal.Verification.{named_of};
 
 use crate::architecture_call_verification::verify_calls_of;
 use crate::architecture_scope::range_of;
 use crate::architecture_verification::verify_architectures;
-use crate::buffer::encoding_of;
 use crate::call_verification::limit_of;
 use crate::commands::compare::{report_of, report_of_calls};
 use crate::commands::{only, whole_input};
+use crate::compilation::filter_of_each;
 use crate::fault::Fault;
-use crate::owned_table::{OwnedTable, load_under};
+use crate::loading::load_with_tables;
 use crate::reply::Reply;
+use crate::verification::FindingOutcome;
 use crate::verify_fault::VerifyFault;
-use scf_compile::{CompileFault, compile_profiles};
 use scf_insn::{Architecture, CallRecord, Source};
-use scf_machine::Program;
-use scf_profile::{CallTable, LoadedProfiles, Relation, Scope, TableFault};
+use scf_profile::{LoadedProfiles, Relation, Scope};
 use scf_request::{BundleFault, Comparison, Contents, Limits, PartReader, Scopes, TableReader};
 use std::alloc::Global;
 
@@ -140,30 +133,7 @@ fn parts_of<'a>(
     }
 }
 
-/// The tables of a bundle, however long they are.
-fn owned_tables(
-    alloc: Global,
-    tables: &[TableReader<PartReader<'_>>],
-) -> Result<Vec<OwnedTable>, VerifyFault>
-    ensures tables { IfOk result (λ own. AllZip SpellsTable (map rest_of_table tables.now) (map named_of own.items)) }
-    ensures fault { IfErr result (λ fault. (profile : List ℕ)
-        → CantLoadEach profile (map rest_of_table tables.now) fault) }
-{
-    let mut own = Vec::new(alloc);
-    for part in tables {
-        let table = CallTable::read(alloc, part.reader.rest())?;
-        let architecture = part.architecture;
-        let Ok(()) = own.push(OwnedTable {
-            architecture,
-            table,
-        }) else {
-            return Err(VerifyFault::Table(TableFault::Memory));
-        };
-    }
-    Ok(own)
-}
-
-/// What a profile and tables state, however long they are.
+/// What a profile and the tables of a bundle state.
 fn loaded(
     alloc: Global,
     profile: &[u8],
@@ -172,8 +142,7 @@ fn loaded(
     ensures stated { IfOk result (AreStated profile.now (map rest_of_table tables.now)) }
     ensures fault { IfErr result (CantLoadEach profile.now (map rest_of_table tables.now)) }
 {
-    let own = owned_tables(alloc, tables)?;
-    Ok(load_under(alloc, profile, &own)?)
+    load_with_tables(alloc, profile, tables)
 }
 
 /// The report on a stack and a profile, over the calls of each architecture that has a table; if the scope is a range,
@@ -195,7 +164,7 @@ fn compare_at_once(
     let limit = limit_of(limits);
     let range = range_of(scope);
     let outcome = verify_architectures(alloc, filters, profile, tables, range, relation, limit)?;
-    report_of(alloc, relation, &outcome)
+    Ok(report_of(alloc, relation, &FindingOutcome::from(outcome))?)
 }
 
 /// The report on a stack and a profile, call by call of the only table.
@@ -214,7 +183,7 @@ fn compare_each_call(
         (map rest_of filters.old) (rest_of profile.old) (map rest_of_table tables.old) (Err (Fault.Verify fault))) }
 {
     let outcome = verify_calls_of(alloc, filters, profile, tables, relation, limits)?;
-    report_of_calls(alloc, relation, &outcome)
+    Ok(report_of_calls(alloc, relation, &outcome)?)
 }
 
 /// The report on a stack and a profile, over the records that are asked for.
@@ -268,22 +237,6 @@ pub(super) fn compare_architectures<R: Source>(
     Ok(compare_parts(alloc, &mut filters, &mut profile, &mut tables, comparison)?)
 }
 
-/// The filter of a profile and tables.
-fn compiled(
-    alloc: Global,
-    profile: &[u8],
-    tables: &[TableReader<PartReader<'_>>],
-) -> Result<Program, Fault>
-    ensures program { IfOk result (λ program. (loaded : LoadedProfiles)
-        × AreStated profile.now (map rest_of_table tables.now) loaded
-        × SameAnswersAsEach (RunAnswers program) loaded.profiles) }
-    ensures fault { IfErr result (λ fault.
-        CompilesEach profile.now (map rest_of_table tables.now) (Err fault)) }
-{
-    let loaded = loaded(alloc, profile, tables)?;
-    Ok(compile_profiles(alloc, &loaded.profiles)?)
-}
-
 /// The bytes of the filter of a profile and tables.
 fn filter_bytes(
     alloc: Global,
@@ -295,11 +248,8 @@ fn filter_bytes(
     ensures fault { IfErr result (λ fault.
         CompilesEach profile.now (map rest_of_table tables.now) (Err fault)) }
 {
-    let program = compiled(alloc, profile, tables)?;
-    match encoding_of(alloc, program.insns()) {
-        Ok(bytes) => Ok(bytes),
-        Err(_) => Err(Fault::Compile(CompileFault::Memory)),
-    }
+    let loaded = loaded(alloc, profile, tables)?;
+    Ok(filter_of_each(alloc, &loaded.profiles)?)
 }
 
 /// `compile --architectures`: the filter that answers as a profile does, for each architecture that has a table.

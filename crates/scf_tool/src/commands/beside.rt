@@ -6,13 +6,11 @@ ghost use Rattle.scf_tool.specs.Commands.{ComparesBeside, ComparesStacks};
 ghost use Rattle.scf_tool.specs.Statuses.{LeavesWhole};
 
 use crate::beside_verification::{verify_beside, verify_calls_beside};
-use crate::call_reporting::report_calls_beside;
 use crate::call_verification::limit_of;
-use crate::commands::compare::{status_of_calls, status_of_finding};
+use crate::commands::compare::{report_of, report_of_calls};
 use crate::commands::{only, whole_input};
 use crate::fault::Fault;
 use crate::reply::Reply;
-use crate::reporting::report_beside;
 use crate::verify_fault::BesideFault;
 use scf_insn::Source;
 use scf_profile::{Relation, Scope};
@@ -35,10 +33,8 @@ fn compare_at_once(
         → IfErr result (λ fault. ComparesStacks (Scopes.AtOnce scope) relation limits
         (map rest_of filters.old) (map rest_of beside.old) tables (Err (Fault.Stacks fault))) }
 {
-    let finding = verify_beside(alloc, filters, beside, scope, relation, limit_of(limits))?;
-    let status = status_of_finding(&finding);
-    let text = report_beside(alloc, relation, &finding)?;
-    Ok(Reply::Compared { text, status })
+    let outcome = verify_beside(alloc, filters, beside, scope, relation, limit_of(limits))?;
+    Ok(report_of(alloc, relation, &outcome)?)
 }
 
 /// The report on two stacks, call by call of a table.
@@ -55,10 +51,8 @@ fn compare_each_call(
     ensures fault { IfErr result (λ fault. ComparesStacks Scopes.EachCall relation limits
         (map rest_of filters.old) (map rest_of beside.old) (rest_of table.old ∷ []) (Err (Fault.Stacks fault))) }
 {
-    let calls = verify_calls_beside(alloc, filters, beside, table, relation, limits)?;
-    let status = status_of_calls(&calls);
-    let text = report_calls_beside(alloc, relation, &calls)?;
-    Ok(Reply::Compared { text, status })
+    let outcome = verify_calls_beside(alloc, filters, beside, table, relation, limits)?;
+    Ok(report_of_calls(alloc, relation, &outcome)?)
 }
 
 /// `compare --beside`: whether a stack of filters answers as another one does, or is no more or no less permissive.

@@ -30,19 +30,19 @@ use crate::call_verification::{CallFinding, CallsOutcome, limit_of, verify_calls
 use crate::commands::{only, whole_input};
 use crate::fault::Fault;
 use crate::reply::Reply;
-use crate::reporting::{finding_of, report_by};
+use crate::reporting::report_finding;
 use crate::stack_verification::verify_by;
 use crate::status::Status;
-use crate::verification::Outcome;
+use crate::verification::FindingOutcome;
 use crate::verify_fault::VerifyFault;
 use scf_compare::Finding;
-use scf_insn::Source;
+use scf_insn::{Memory, Source};
 use scf_profile::{Relation, Scope};
 use scf_request::{BundleFault, Comparison, Contents, Limits, PartReader, Scopes};
 use std::alloc::Global;
 
 /// The exit status that goes with a finding.
-pub(super) fn status_of_finding(finding: &Finding) -> Status
+fn status_of_finding(finding: &Finding) -> Status
     ensures { result ≡ finding_status finding.now }
 {
     match finding {
@@ -53,7 +53,7 @@ pub(super) fn status_of_finding(finding: &Finding) -> Status
 }
 
 /// The exit status that goes with the finding that speaks for calls.
-pub(super) fn status_of_calls(calls: &[CallFinding]) -> Status
+fn status_of_calls(calls: &[CallFinding]) -> Status
     ensures { result ≡ option_map_or finding_status (joint_of calls.now) Status.Well }
 {
     joint_finding(calls).map_or(Status::Well, |finding| status_of_finding(&finding))
@@ -63,13 +63,12 @@ pub(super) fn status_of_calls(calls: &[CallFinding]) -> Status
 pub(super) fn report_of(
     alloc: Global,
     relation: Relation,
-    outcome: &Outcome,
-) -> Result<Reply, VerifyFault>
-    ensures reply { IfOk result (IsReport relation outcome.now) }
-    ensures memory { IfErr result (λ fault. fault ≡ VerifyFault.Memory) }
+    outcome: &FindingOutcome,
+) -> Result<Reply, Memory>
+    ensures { IfOk result (IsReport relation outcome.now) }
 {
-    let status = status_of_finding(&finding_of(&outcome.verdict));
-    let text = report_by(alloc, relation, outcome)?;
+    let status = status_of_finding(&outcome.finding);
+    let text = report_finding(alloc, relation, outcome)?;
     Ok(Reply::Compared { text, status })
 }
 
@@ -78,9 +77,8 @@ pub(super) fn report_of_calls(
     alloc: Global,
     relation: Relation,
     outcome: &CallsOutcome,
-) -> Result<Reply, VerifyFault>
-    ensures reply { IfOk result (IsCallsReport relation outcome.now) }
-    ensures memory { IfErr result (λ fault. fault ≡ VerifyFault.Memory) }
+) -> Result<Reply, Memory>
+    ensures { IfOk result (IsCallsReport relation outcome.now) }
 {
     let status = status_of_calls(&outcome.calls);
     let text = report_calls(alloc, relation, outcome)?;
@@ -111,7 +109,7 @@ fn compare_at_once(
         relation,
         limit_of(limits),
     )?;
-    report_of(alloc, relation, &outcome)
+    Ok(report_of(alloc, relation, &FindingOutcome::from(outcome))?)
 }
 
 /// The report on a stack and a profile, call by call of the table.
@@ -129,7 +127,7 @@ fn compare_each_call(
         (map rest_of filters.old) (rest_of profile.old) (rest_of table.old) (Err (Fault.Verify fault))) }
 {
     let outcome = verify_calls(alloc, filters, profile, table, relation, limits)?;
-    report_of_calls(alloc, relation, &outcome)
+    Ok(report_of_calls(alloc, relation, &outcome)?)
 }
 
 /// The report on a stack and a profile, over the records that are asked for.

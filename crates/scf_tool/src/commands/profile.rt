@@ -1,62 +1,33 @@
 //! Commands on a profile and its call table.
 
 ghost use Rattle.std.specs.Prelude.{ℕ, List, Option, ◌∷◌, [], IfOk, IfErr, MatchOption, Ok, Err};
-ghost use Rattle.scf_machine.specs.Machine.{RunAnswers};
-ghost use Rattle.scf_profile.specs.SameAnswers.{SameAnswers};
 ghost use Rattle.scf_request.specs.Bundle.{IsBundleFault};
 ghost use Rattle.scf_request.specs.Contents.{rest_of};
 ghost use Rattle.scf_tool.specs.Commands.{
-  CantLoad,
   Compiles,
   EndsOnProfile,
   GivesReason,
   HoldsBundle,
-  IsStated,
   ReadsInput,
 };
 ghost use Rattle.scf_tool.specs.Statuses.{LeavesWhole};
 
-use crate::buffer::encoding_of;
 use crate::commands::{only, whole_input};
+use crate::compilation::filter_of;
 use crate::fault::Fault;
+use crate::loading::load_with_table;
 use crate::reply::Reply;
-use crate::verify_fault::VerifyFault;
-use scf_compile::{CompileFault, compile};
 use scf_insn::{CallRecord, Source};
-use scf_machine::Program;
-use scf_profile::{CallTable, Loaded, load};
 use scf_request::{BundleFault, Contents, PartReader};
 use std::alloc::Global;
-
-/// What a profile and a table state, however long they are.
-fn loaded(alloc: Global, profile: &[u8], table: &[u8]) -> Result<Loaded, VerifyFault>
-    ensures stated { IfOk result (IsStated profile.now table.now) }
-    ensures fault { IfErr result (CantLoad profile.now table.now) }
-{
-    let names = CallTable::read(alloc, table)?;
-    Ok(load(alloc, profile, &names)?)
-}
-
-/// The filter of a profile and a table.
-fn compiled(alloc: Global, profile: &[u8], table: &[u8]) -> Result<Program, Fault>
-    ensures program { IfOk result (λ program. (loaded : Loaded) × IsStated profile.now table.now loaded
-        × SameAnswers (RunAnswers program) loaded.profile) }
-    ensures fault { IfErr result (λ fault. Compiles profile.now table.now (Err fault)) }
-{
-    let loaded = loaded(alloc, profile, table)?;
-    Ok(compile(alloc, &loaded.profile)?)
-}
 
 /// The bytes of the filter of a profile and a table.
 fn filter_bytes(alloc: Global, profile: &[u8], table: &[u8]) -> Result<Vec<u8>, Fault>
     ensures filter { IfOk result (λ bytes. Compiles profile.now table.now (Ok (Reply.Bytes bytes))) }
     ensures fault { IfErr result (λ fault. Compiles profile.now table.now (Err fault)) }
 {
-    let program = compiled(alloc, profile, table)?;
-    match encoding_of(alloc, program.insns()) {
-        Ok(bytes) => Ok(bytes),
-        Err(_) => Err(Fault::Compile(CompileFault::Memory)),
-    }
+    let loaded = load_with_table(alloc, profile, table)?;
+    Ok(filter_of(alloc, &loaded.profile)?)
 }
 
 /// The profile and the table of a bundle, where they are all that it holds.
@@ -102,7 +73,7 @@ pub(super) fn ask_profile<R: Source>(
     let Some((profile, table)) = profile_and_table(alloc, &bytes)? else {
         return Err(Fault::Parts);
     };
-    let loaded = loaded(alloc, profile.rest(), table.rest())?;
+    let loaded = load_with_table(alloc, profile.rest(), table.rest())?;
     Ok(Reply::Asked {
         answer: loaded.profile.answer(call),
         reason: loaded.profile.reason(call),

@@ -1,5 +1,7 @@
-use Rattle.scf_tool.proofs.Common.{Some, err_from_is_err_and}
+use Rattle.scf_tool.proofs.Common.{Some, ap, err_from_is_err_and}
 use Rattle.scf_tool.proofs.StackLemmas.{read_well_each}
+use Rattle.scf_tool.proofs.TableLemmas.{told_of_tables}
+use Rattle.scf_tool.specs.declared.verification.FindingOutcome.{FindingOutcome}
 use Rattle.scf_tool.specs.declared.verification.Outcome.{Outcome}
 use Rattle.scf_c.specs.declared.memory.Reader.{Reader}
 use Rattle.scf_c.specs.internal.Reading.{rest_of}
@@ -15,7 +17,24 @@ returns-in_err-outcome-clause-refused c =
       c.deref_mut.ensures.value,
       c.deref_mut-2.ensures.value,
       c.in_ok-readers.ensures,
+      told_of_tables rest_of c.in_ok-table_readers.table_readers.items,
       c.in_ok-table_readers.ensures,
       c.new.ensures,
     ) at left.answer)
     (read_well_each (λ (reader : Reader). Some (rest_of reader)) Outcome _ _ _ _ _ _ _ left.filter_readers left.table_readers left.profile_reader))
+
+pub returns-clause-compared : goal.returns-clause-compared
+returns-clause-compared c = (
+  c.in_ok-outcome.outcome,
+  rw (
+    c.deref_mut.ensures.value,
+    c.deref_mut-2.ensures.value,
+    c.in_ok-readers.ensures,
+    told_of_tables rest_of c.in_ok-table_readers.table_readers.items,
+    c.in_ok-table_readers.ensures,
+    c.new.ensures,
+    c.of_steps.ensures,
+  ) at c.in_ok-outcome.ensures.answer,
+  ap (λ (own : FindingOutcome). own.finding) c.from-outcome.ensures,
+  rw c.from-outcome.ensures at c.in_ok-text.ensures,
+)

@@ -2,7 +2,7 @@ use Rattle.scf_compare.specs.declared.verdict.Verdict.{Verdict}
 use Rattle.scf_profile.specs.Profile.{Profile}
 use Rattle.scf_tool.proofs.ArchitectureLemmas.{joint_is_true, scope_is_of}
 use Rattle.scf_tool.proofs.Common.{◌≡◌, ◌∙◌, List, AllZip, ap, refl, subst, sym, take_all, take_more}
-use Rattle.scf_tool.proofs.StackLemmas.{AllZip-more}
+use Rattle.std.proofs.lemmas.Slice.Zip.{all_zipped_more}
 use Rattle.scf_tool.specs.ArchitectureScopes.{scope_of}
 use Rattle.scf_tool.specs.JointVerdicts.{IsTrueOfEach, joint_verdict}
 use Rattle.scf_tool.specs.VerifyingStacks.{IsComparison}
@@ -19,7 +19,7 @@ loop-profile-preserved c =
       settled = rw (c.scope_of-over.ensures, c.architecture.ensures) at c.in_ok-verdict.ensures.settled;
     } in
     rw (take_more _ _ c.profile-item.result c.loop-profile-test.true, c.in_ok-push.ensures.items)
-    (AllZip-more compared _ _ _ _ c.loop-profile.invariant
+    (all_zipped_more compared _ _ _ _ c.loop-profile.invariant
     (subst (λ (p : Profile). compared p c.in_ok-verdict.verdict) c.profile-item.is own))
 
 pub returns : goal.returns

@@ -3,7 +3,7 @@ use Rattle.scf_tool.proofs.beside_verification.verify_beside.Goals as goal
 
 pub returns-clause-answer : goal.returns-clause-answer
 returns-clause-answer g c =
-    let found = c.in_ok-compare_sides.ensures in (
+    let found = c.in_ok-finding.ensures in (
       c.in_ok-stacks.stacks.left,
       c.in_ok-stacks.stacks.right,
       c.in_ok-stacks.ensures.stacks,
@@ -13,4 +13,5 @@ returns-clause-answer g c =
         decided = rw (c.filters.ensures.same, c.filters-2.ensures.same) at (found.decided refl);
         settled = rw (c.filters.ensures.same, c.filters-2.ensures.same) at found.settled;
       },
+      refl,
     )

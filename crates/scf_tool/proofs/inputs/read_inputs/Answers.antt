@@ -1,16 +1,6 @@
 use Rattle.scf_tool.proofs.Common.{inl, inr, err_from_is_err_and}
 use Rattle.scf_tool.proofs.inputs.read_inputs.Goals as goal
 
-pub returns-in_err-stack-clause-refused : goal.returns-in_err-stack-clause-refused
-returns-in_err-stack-clause-refused g c =
-    let p = err_from_is_err_and c.from_residual.result c.from_residual.ensures.1 in
-    rw (p.1, p.2) (inl c.in_err-stack.ensures.refused)
-
-pub returns-in_err-names-clause-refused : goal.returns-in_err-names-clause-refused
-returns-in_err-names-clause-refused g c =
-    let p = err_from_is_err_and c.from_residual-in_err-names.result c.from_residual-in_err-names.ensures.1 in
-    rw (p.1, p.2) (inr (c.in_ok-stack.stack, c.in_ok-stack.ensures.stack, inl c.in_err-names.ensures.refused))
-
 pub returns-in_err-loaded-clause-refused : goal.returns-in_err-loaded-clause-refused
 returns-in_err-loaded-clause-refused g c =
     let p = err_from_is_err_and c.from_residual-in_err-loaded.result c.from_residual-in_err-loaded.ensures.1 in

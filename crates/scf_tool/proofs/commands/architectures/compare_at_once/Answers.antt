@@ -1,5 +1,4 @@
-use Rattle.scf_tool.proofs.Common.{IfOk-weaker, err_from_is_err_and, inr, refl}
-use Rattle.scf_tool.proofs.PartyLemmas.{memory_fault}
+use Rattle.scf_tool.proofs.Common.{err_from_is_err_and, inr, refl, rest_of}
 use Rattle.scf_tool.proofs.StackLemmas.{part_bytes, read_well_each, told_of_parts}
 use Rattle.scf_tool.proofs.TableLemmas.{told_of_tables}
 use Rattle.scf_tool.specs.declared.verification.Outcome.{Outcome}
@@ -11,17 +10,18 @@ returns-in_err-outcome-clause-fault c =
     let left = c.in_err-outcome.ensures in
     rw (p.1, p.2) (
       read_well_each part_bytes Outcome _ _ _ _ _ _ _ left.filter_readers left.table_readers left.profile_reader,
-      rw (told_of_parts c.args.filters.now, told_of_tables c.args.tables.now) at left.answer,
+      rw (told_of_parts c.args.filters.now, told_of_tables rest_of c.args.tables.now) at left.answer,
     )
 
-pub returns-clause-reply : goal.returns-clause-reply
-returns-clause-reply c =
-    let verified = rw (c.range_of-range.ensures, c.limit_of-limit.ensures, told_of_parts c.args.filters.now, told_of_tables c.args.tables.now) at c.in_ok-outcome.ensures.answer in
-    IfOk-weaker c.report_of.result _ _ (λ reply is. (c.in_ok-outcome.outcome, verified, is)) c.report_of.ensures.reply
+pub returns-in_err-report_of-clause-fault : goal.returns-in_err-report_of-clause-fault
+returns-in_err-report_of-clause-fault c =
+    let p = err_from_is_err_and c.from_residual-in_err-report_of.result c.from_residual-in_err-report_of.ensures.1 in
+    let read = rw (told_of_parts c.args.filters.now, told_of_tables rest_of c.args.tables.now) at c.in_ok-outcome.ensures.answer in
+    rw (p.1, p.2) (tt, inr (_, read.has_stack, inr (_, read.are_tables, inr (_, read.are_loaded, refl))))
 
-pub returns-clause-fault : goal.returns-clause-fault
-returns-clause-fault c =
-    let read = rw (told_of_parts c.args.filters.now, told_of_tables c.args.tables.now) at
-    c.in_ok-outcome.ensures.answer in
-    memory_fault _ c.report_of.result c.report_of.ensures.memory
-    (tt, inr (_, read.has_stack, inr (_, read.are_tables, inr (_, read.are_loaded, refl))))
+pub returns-clause-reply : goal.returns-clause-reply
+returns-clause-reply c = (
+  c.in_ok-outcome.outcome,
+  rw (c.range_of-range.ensures, c.limit_of-limit.ensures, told_of_parts c.args.filters.now, told_of_tables rest_of c.args.tables.now) at c.in_ok-outcome.ensures.answer,
+  rw c.from.ensures at c.in_ok-report_of.ensures,
+)

@@ -1,27 +1,27 @@
-use Rattle.scf_tool.proofs.Common.{inr, refl, err_from_is_err_and, Finding}
+use Rattle.scf_tool.proofs.Common.{inr, refl, err_from_is_err_and}
 use Rattle.scf_tool.proofs.BesideLemmas.{pair_reads_well}
 use Rattle.scf_tool.proofs.StackLemmas.{part_bytes, told_of_parts}
+use Rattle.scf_tool.specs.declared.verification.FindingOutcome.{FindingOutcome}
 use Rattle.scf_tool.proofs.commands.beside.compare_at_once.Goals as goal
 
-pub returns-in_err-finding-clause-fault : goal.returns-in_err-finding-clause-fault
-returns-in_err-finding-clause-fault c = λ tables.
+pub returns-in_err-outcome-clause-fault : goal.returns-in_err-outcome-clause-fault
+returns-in_err-outcome-clause-fault c = λ tables.
     let p = err_from_is_err_and c.from_residual.result c.from_residual.ensures.1 in
-    let left = c.in_err-finding.ensures in
+    let left = c.in_err-outcome.ensures in
     rw (p.1, p.2) (
-      pair_reads_well part_bytes Finding _ _ c.in_err-finding.field-0.0 _ _ _ _ left.answer left.filter_readers left.beside_readers,
+      pair_reads_well part_bytes FindingOutcome _ _ c.in_err-outcome.field-0.0 _ _ _ _ left.answer left.filter_readers left.beside_readers,
       rw (told_of_parts c.args.filters.now, told_of_parts c.args.beside.now) at left.answer,
     )
 
-pub returns-in_err-text-clause-fault : goal.returns-in_err-text-clause-fault
-returns-in_err-text-clause-fault c = λ tables.
-    let p = err_from_is_err_and c.from_residual-in_err-text.result c.from_residual-in_err-text.ensures.1 in
-    let stacks = rw (told_of_parts c.args.filters.now, told_of_parts c.args.beside.now) at c.in_ok-finding.ensures.answer in
+pub returns-in_err-report_of-clause-fault : goal.returns-in_err-report_of-clause-fault
+returns-in_err-report_of-clause-fault c = λ tables.
+    let p = err_from_is_err_and c.from_residual-in_err-report_of.result c.from_residual-in_err-report_of.ensures.1 in
+    let stacks = rw (told_of_parts c.args.filters.now, told_of_parts c.args.beside.now) at c.in_ok-outcome.ensures.answer in
     rw (p.1, p.2) (tt, inr (stacks.0, stacks.1, stacks.2, refl))
 
 pub returns-clause-reply : goal.returns-clause-reply
 returns-clause-reply c = λ tables. (
-  c.in_ok-finding.finding,
-  rw (told_of_parts c.args.filters.now, told_of_parts c.args.beside.now, c.limit_of.ensures) at c.in_ok-finding.ensures.answer,
-  c.in_ok-text.ensures,
-  c.status_of_finding-status.ensures,
+  c.in_ok-outcome.outcome,
+  rw (told_of_parts c.args.filters.now, told_of_parts c.args.beside.now, c.limit_of.ensures) at c.in_ok-outcome.ensures.answer,
+  c.in_ok-report_of.ensures,
 )

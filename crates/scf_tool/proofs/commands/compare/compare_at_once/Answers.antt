@@ -1,6 +1,5 @@
-use Rattle.scf_tool.proofs.Common.{IfOk-weaker, err_from_is_err_and, inr, refl}
+use Rattle.scf_tool.proofs.Common.{err_from_is_err_and, inr, refl}
 use Rattle.scf_tool.specs.declared.verification.Outcome.{Outcome}
-use Rattle.scf_tool.proofs.PartyLemmas.{memory_fault}
 use Rattle.scf_tool.proofs.StackLemmas.{part_bytes, reads_well, told_of_parts}
 use Rattle.scf_tool.proofs.commands.compare.compare_at_once.Goals as goal
 
@@ -13,18 +12,15 @@ returns-in_err-outcome-clause-fault c =
       rw (told_of_parts c.args.filters.now) at left.answer,
     )
 
-pub returns-clause-reply : goal.returns-clause-reply
-returns-clause-reply c =
-    IfOk-weaker c.report_of.result _ _
-    (λ reply is. (
-      c.in_ok-outcome.outcome,
-      rw (told_of_parts c.args.filters.now, c.limit_of.ensures) at c.in_ok-outcome.ensures.answer,
-      is,
-    ))
-    c.report_of.ensures.reply
-
-pub returns-clause-fault : goal.returns-clause-fault
-returns-clause-fault c =
+pub returns-in_err-report_of-clause-fault : goal.returns-in_err-report_of-clause-fault
+returns-in_err-report_of-clause-fault c =
+    let p = err_from_is_err_and c.from_residual-in_err-report_of.result c.from_residual-in_err-report_of.ensures.1 in
     let read = rw (told_of_parts c.args.filters.now) at c.in_ok-outcome.ensures.answer in
-    memory_fault _ c.report_of.result c.report_of.ensures.memory
-    (tt, inr (_, read.has_stack, inr (_, read.is_table, inr (_, read.is_loaded, refl))))
+    rw (p.1, p.2) (tt, inr (_, read.has_stack, inr (_, read.is_table, inr (_, read.is_loaded, refl))))
+
+pub returns-clause-reply : goal.returns-clause-reply
+returns-clause-reply c = (
+  c.in_ok-outcome.outcome,
+  rw (told_of_parts c.args.filters.now, c.limit_of.ensures) at c.in_ok-outcome.ensures.answer,
+  rw c.from.ensures at c.in_ok-report_of.ensures,
+)

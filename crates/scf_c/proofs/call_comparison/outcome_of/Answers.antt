@@ -1,0 +1,29 @@
+use Rattle.scf_tool.proofs.Common.{Some, err_from_is_err_and, subst, sym}
+use Rattle.scf_tool.proofs.StackLemmas.{reads_well}
+use Rattle.scf_tool.specs.declared.call_verification.CallsOutcome.{CallsOutcome}
+use Rattle.scf_c.specs.declared.memory.Reader.{Reader}
+use Rattle.scf_c.specs.internal.Reading.{rest_of}
+use Rattle.scf_c.specs.Comparisons.{AreCallsRefused}
+use Rattle.scf_c.specs.declared.question.RightKind.{RightKind}
+use Rattle.scf_c.specs.declared.refusal.Refusal.TheVariants.{Verify}
+use Rattle.scf_c.proofs.ComparisonLemmas.{calls_refused}
+use Rattle.scf_c.proofs.call_comparison.outcome_of.Goals as goal
+
+pub returns-in_err-verify_calls-in-Profile-clause-refused : goal.returns-in_err-verify_calls-in-Profile-clause-refused
+returns-in_err-verify_calls-in-Profile-clause-refused c =
+    let p = err_from_is_err_and c.from_residual-in_err-verify_calls-in-Profile.result c.from_residual-in_err-verify_calls-in-Profile.ensures.1 in
+    let left = c.in_err-verify_calls-in-Profile.ensures in
+    rw (p.1, p.2) (subst (λ (kind : RightKind). AreCallsRefused kind c.args.filters.now c.args.right.now (Verify c.in_err-verify_calls-in-Profile.field-0.0))
+    (sym c.in-Profile.is) (calls_refused c.args.filters.now c.args.right.now c.in_err-verify_calls-in-Profile.field-0.0
+    (rw (c.deref_mut.ensures.value, c.in_ok-readers.ensures, c.new-profile.ensures, c.new-table.ensures) at left.answer)
+    (reads_well (λ (reader : Reader). Some (rest_of reader)) CallsOutcome _ _ _ _ _ _ _ left.filter_readers left.table_reader left.profile_reader)))
+
+pub returns-clause-outcome : goal.returns-clause-outcome
+returns-clause-outcome c =
+    rw c.in-Filters.is (rw (
+      c.deref_mut-in-Filters.ensures.value,
+      c.deref_mut-in-Filters-2.ensures.value,
+      c.in_ok-readers.ensures,
+      c.in_ok-beside-in-Filters.ensures,
+      c.new-table.ensures,
+    ) at c.in_ok-verify_calls_beside-in-Filters.ensures.calls)

@@ -1,7 +1,0 @@
-use Rattle.scf_tool.proofs.Common.{err_from_is_err_and}
-use Rattle.scf_c.proofs.profiles.loaded.Goals as goal
-
-pub returns-in_err-own-clause-refused : goal.returns-in_err-own-clause-refused
-returns-in_err-own-clause-refused c =
-    let p = err_from_is_err_and c.from_residual.result c.from_residual.ensures.1 in
-    rw (p.1, p.2) (c.in_err-own.ensures.refused c.args.profile.now)
