@@ -1,6 +1,6 @@
 //! Sets of values as sorted, disjoint intervals.
 
-ghost use Rattle.std.specs.Prelude.{◌≡◌, ◌<◌, ◌≤◌, ◌↔◌, ℕ, length, IsTrue, IfSome, IfNone, IfOk};
+ghost use Rattle.std.specs.Prelude.{◌≡◌, ◌<◌, ◌≤◌, ◌↔◌, ℕ, [], ◌∷◌, length, IsTrue, IfSome, IfNone, IfOk};
 ghost use Rattle.std.specs.List.{AllWithin};
 ghost use Rattle.scf_facts.specs.internal.Intervals.{LiesIn, LiesInOne, AreApart, ArePartsOf};
 
@@ -30,8 +30,13 @@ pub(crate) fn parts_within(
     requires { AreApart intervals.now }
     ensures { IfOk result (λ parts. ArePartsOf (LiesIn range) intervals.now parts.items) }
 {
-    let rest = parts_from(alloc, intervals, u64::from(range.low))?;
-    parts_below(alloc, &rest, u64::from(range.high) + 1)
+    let Some((first, rest)) = split_from(intervals, u64::from(range.low)) else {
+        return Ok(Vec::new(alloc));
+    };
+    let mut parts = Vec::with_capacity(alloc, rest.len() + 1)?;
+    parts.push(first)?;
+    parts.extend_from_slice(rest)?;
+    parts_below(alloc, &parts, u64::from(range.high) + 1)
 }
 
 /// The intervals' parts outside a range.
@@ -45,8 +50,11 @@ pub(crate) fn parts_outside(
     ensures { IfOk result (λ parts. ArePartsOf (λ x. LiesIn range x → ⊥) intervals.now parts.items) }
 {
     let mut parts = parts_below(alloc, intervals, u64::from(range.low))?;
-    let above = parts_from(alloc, intervals, u64::from(range.high) + 1)?;
-    parts.extend_from_slice(&above)?;
+    let Some((first, rest)) = split_from(intervals, u64::from(range.high) + 1) else {
+        return Ok(parts);
+    };
+    parts.push(first)?;
+    parts.extend_from_slice(rest)?;
     Ok(parts)
 }
 
@@ -75,26 +83,21 @@ fn parts_below(
     Ok(parts)
 }
 
-/// The intervals' parts from a bound on.
-fn parts_from(
-    alloc: Global,
-    intervals: &[Interval],
-    bound: u64,
-) -> Result<Vec<Interval>, AllocError>
+/// The intervals' parts from a bound on: the first one, which the bound may cut, and those behind it.
+fn split_from(intervals: &[Interval], bound: u64) -> Option<(Interval, &[Interval])>
     requires { AreApart intervals.now }
-    ensures { IfOk result (λ parts. ArePartsOf (λ x. bound ≤ x) intervals.now parts.items) }
+    ensures some { IfSome result (λ parts. ArePartsOf (λ x. bound ≤ x) intervals.now (parts.0 ∷ parts.1.now)) }
+    ensures none { IfNone result (ArePartsOf (λ x. bound ≤ x) intervals.now []) }
 {
     let count = count_ending_below(intervals, bound);
     let Some(first) = intervals.get(count).copied() else {
-        return Ok(Vec::new(alloc));
+        return None;
     };
-    let mut parts = Vec::with_capacity(alloc, intervals.len() - count)?;
-    parts.push(Interval {
+    let cut = Interval {
         low: u64::from(first.low).max(bound) as u32,
         high: first.high,
-    })?;
-    parts.extend_from_slice(&intervals[count + 1..])?;
-    Ok(parts)
+    };
+    Some((cut, &intervals[count + 1..]))
 }
 
 /// How many of the sorted intervals end below a bound.
