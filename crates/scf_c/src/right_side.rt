@@ -1,4 +1,4 @@
-//! Readers of the parties of a comparison.
+//! Readers of the inputs of a comparison.
 
 ghost use Rattle.std.specs.Prelude.{◌≡◌, Some, map, IfOk};
 ghost use Rattle.scf_c.specs.Layout.{known};

@@ -34,7 +34,7 @@ pub use Rattle.scf_request.specs.CommandLine.{scf}
 pub use Rattle.scf_tool.specs.Runs.{SpeaksOfWords}
 pub use Rattle.scf_tool.specs.Verifying.{HasEnded, IsAcceptedFilter, LeavesFilterReader, LeavesProfileReader, LeavesTableReader}
 pub use Rattle.scf_tool.specs.Comparisons.{AreFound, IsFoundOfCall}
-pub use Rattle.scf_tool.specs.VerifyingStacks.{AreComparedParties, IsRefusedStack, LeavesFilterReaders, left_out_of}
+pub use Rattle.scf_tool.specs.VerifyingStacks.{AreComparedInputs, IsRefusedStack, LeavesFilterReaders, left_out_of}
 pub use Rattle.scf_tool.specs.declared.left_out.LeftOut.{LeftOut}
 pub use Rattle.scf_request.specs.declared.contents.PartReader.{PartReader}
 pub use Rattle.scf_tool.specs.declared.fault.Fault.{Fault}

@@ -4,7 +4,7 @@ mod CallLemmas
 pub mod Common
 mod FaultLemmas
 mod OneArchitecture
-mod PartyLemmas
+mod InputLemmas
 pub mod StackLemmas
 pub mod TableLemmas
 pub mod WritingLemmas

@@ -50,7 +50,7 @@ outcome_left_out outcome =
 
 -- The bytes are a stack of filters, a call table and a profile, of which this is left out, and this holds of that
 -- stack, that table and that profile.
-pub record AreComparedParties (filters : List (Option (List ℕ))) (table profile : Option (List ℕ))
+pub record AreComparedInputs (filters : List (Option (List ℕ))) (table profile : Option (List ℕ))
     (left_out : Option LeftOut) (holds : List (List Insn) → Names → Profile → Type 0) : Type 0 where
   pub stack : List (List Insn)
   pub names : Names
@@ -65,7 +65,7 @@ pub record AreComparedParties (filters : List (Option (List ℕ))) (table profil
 abbrev pub IsVerifiedBy : Relation → List (Option (List ℕ)) → Option (List ℕ) → Option (List ℕ) → Scope → Limit
     → Outcome → Type 0
 IsVerifiedBy relation filters table profile scope limit outcome =
-    AreComparedParties filters table profile (Some (outcome_left_out outcome))
+    AreComparedInputs filters table profile (Some (outcome_left_out outcome))
     (λ stack names p. IsComparison relation stack p scope limit outcome.verdict)
 
 -- Why nothing is compared: the filters are no stack, or they are, and this is why.
@@ -90,7 +90,7 @@ VerifiesBy relation filters table profile scope limit (Err fault) = IsRefusedSta
 abbrev pub AreVerifiedCalls : Relation → List (Option (List ℕ)) → Option (List ℕ) → Option (List ℕ) → Limits
     → CallsOutcome → Type 0
 AreVerifiedCalls relation filters table profile limits outcome =
-    AreComparedParties filters table profile outcome.left_out
+    AreComparedInputs filters table profile outcome.left_out
     (λ stack names p.
     AreFoundOfTable relation X8664 (stack_behavior stack) (profile_behavior p) names limits outcome.calls.items)
 

@@ -1,4 +1,4 @@
--- The parties of a comparison.
+-- The inputs of a comparison.
 use Rattle.std.specs.Prelude.{ℕ, List, Option, map}
 use Rattle.scf_insn.specs.declared.architecture.Architecture.{Architecture}
 use Rattle.scf_profile.specs.Loading.{LoadsEach}

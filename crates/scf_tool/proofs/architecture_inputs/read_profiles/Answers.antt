@@ -1,6 +1,6 @@
 use Rattle.scf_profile.specs.Loading.{RefusesEach}
 use Rattle.scf_tool.proofs.Common.{ℕ, List, map, subst, err_from_is_err_and, LoadFault}
-use Rattle.scf_tool.proofs.PartyLemmas.{refused_text}
+use Rattle.scf_tool.proofs.InputLemmas.{refused_text}
 use Rattle.scf_tool.specs.internal.Verification.{named_of}
 use Rattle.scf_tool.proofs.architecture_inputs.read_profiles.Goals as goal
 

@@ -1,5 +1,5 @@
 use Rattle.scf_tool.proofs.Common.{err_from_is_err_and, inr, refl}
-use Rattle.scf_tool.proofs.PartyLemmas.{parties_are_compared}
+use Rattle.scf_tool.proofs.InputLemmas.{inputs_are_compared}
 use Rattle.scf_tool.proofs.call_verification.verify_calls.Goals as goal
 
 pub returns-in_err-calls-clause-answer : goal.returns-in_err-calls-clause-answer
@@ -10,5 +10,5 @@ returns-in_err-calls-clause-answer g c =
 
 pub returns-clause-answer : goal.returns-clause-answer
 returns-clause-answer g c =
-    parties_are_compared _ _ _ c.in_ok-inputs.inputs _ c.in_ok-inputs.ensures.inputs
+    inputs_are_compared _ _ _ c.in_ok-inputs.inputs _ c.in_ok-inputs.ensures.inputs
     (rw c.filters.ensures.same at c.in_ok-calls.ensures)

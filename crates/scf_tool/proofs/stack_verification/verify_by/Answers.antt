@@ -1,5 +1,5 @@
 use Rattle.scf_tool.proofs.Common.{err_from_is_err_and, inr, refl}
-use Rattle.scf_tool.proofs.PartyLemmas.{parties_are_compared}
+use Rattle.scf_tool.proofs.InputLemmas.{inputs_are_compared}
 use Rattle.scf_tool.proofs.stack_verification.verify_by.Goals as goal
 
 pub returns-in_err-verdict-clause-answer : goal.returns-in_err-verdict-clause-answer
@@ -10,7 +10,7 @@ returns-in_err-verdict-clause-answer g c =
 
 pub returns-clause-answer : goal.returns-clause-answer
 returns-clause-answer g c =
-    parties_are_compared _ _ _ c.in_ok-inputs.inputs _ c.in_ok-inputs.ensures.inputs (record {
+    inputs_are_compared _ _ _ c.in_ok-inputs.inputs _ c.in_ok-inputs.ensures.inputs (record {
       holds = c.in_ok-verdict.ensures.holds;
       within = c.in_ok-verdict.ensures.within;
       decided = c.in_ok-verdict.ensures.decided refl;

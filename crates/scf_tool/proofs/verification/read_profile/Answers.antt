@@ -1,5 +1,5 @@
 use Rattle.scf_tool.proofs.Common.{ℕ, List, subst, err_from_is_err_and, Refuses}
-use Rattle.scf_tool.proofs.PartyLemmas.{refused_text}
+use Rattle.scf_tool.proofs.InputLemmas.{refused_text}
 use Rattle.scf_tool.proofs.verification.read_profile.Goals as goal
 
 pub returns-in_err-load-in-Ok-clause-refused : goal.returns-in_err-load-in-Ok-clause-refused
