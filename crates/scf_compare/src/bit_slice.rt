@@ -1,6 +1,6 @@
 //! Bit slices: what a filter takes of one word of the record by masks and shifts.
 
-ghost use Rattle.std.specs.Prelude.{◌≡◌, ◌==◌, ◌-◌, ◌*◌, ◌/◌, ◌%◌, ◌<◌, ◌^◌, ℕ, List, IsTrue, bit_and, nat_lt};
+ghost use Rattle.std.specs.Prelude.{◌≡◌, ◌==◌, ◌↔◌, ◌-◌, ◌*◌, ◌/◌, ◌%◌, ◌<◌, ◌^◌, ℕ, List, IsTrue, bit_and, nat_lt};
 ghost use Rattle.std.specs.Prelude.{slice_index};
 ghost use Rattle.scf_facts.specs.Bits.{HasBits};
 ghost use Rattle.scf_facts.specs.HighMask.{IsHighMask};
@@ -40,6 +40,13 @@ impl BitSlice {
             right: 0,
             left: 0,
         }
+    }
+
+    /// Whether this is the whole word.
+    pub(crate) fn is_whole(self) -> bool
+        ensures { IsTrue result ↔ IsWhole self }
+    {
+        self.mask == u32::MAX && self.right == 0 && self.left == 0
     }
 
     /// The known bits of the slice, given those of its word, and the bits of the word on which it depends.

@@ -227,6 +227,7 @@ fn exponent_of(v: u32) -> Option<u32>
 }
 
 /// The decision of a test of a bit slice against a constant.
+#[tactic(auto, using(crate::proofs::BitSlices::whole_laws))]
 fn decide_bit_slice(bit_slice: BitSlice, test: Test, v: u32) -> Decision
     requires { IsBitSlice bit_slice }
     ensures asks { IsTestDecision result }
@@ -238,6 +239,10 @@ fn decide_bit_slice(bit_slice: BitSlice, test: Test, v: u32) -> Decision
         Test::Equal => bit_slice.is(v),
         Test::CommonBit => bit_slice.and(v).is(0).negated(),
         Test::Greater => bit_slice.is_above(v),
+        Test::GreaterOrEqual if bit_slice.is_whole() => {
+            let word = bit_slice.word;
+            Decision::Asks(Atom::Ge { word, value: v }, true)
+        }
         Test::GreaterOrEqual if v == 0 => Decision::Known(true),
         Test::GreaterOrEqual => bit_slice.is_above(v - 1),
     }
