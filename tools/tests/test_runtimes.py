@@ -326,12 +326,15 @@ class VerifyProcess(Case):
                 status, out, err = self.verify(process, MOBY, "--runtime", "docker", *words)
                 first = {"--no-more": "no more", "--no-less": "no less"}.get("".join(words), "same")
                 self.assertEqual((status, out.splitlines()[0], err), (0, first, ""))
-                stub = "# runc answers the numbers from 450 on, above all that the profile names, with ENOSYS\n"
+                stub = ("# runc answers the numbers from 450 on, of i386 from 450 on and of x32 from 548 on, above all "
+                        "that the profile names, with ENOSYS\n")
                 self.assertEqual(out.count(stub), 1 if first == "same" else 0, out)
             found = json.loads(self.verify(process, MOBY, "--runtime", "docker", "--json")[1])
+            # as records have the numbers, so those of x32 with the bit of that ABI
+            stubs = {"SCMP_ARCH_X86_64": 450, "SCMP_ARCH_X86": 450, "SCMP_ARCH_X32": 0x40000000 + 548}
             self.assertEqual((found["status"], found["verdict"], found["stacks"][0]["stub"], found["remarks"]),
-                             (0, "same", 450, [f"resolved for the capabilities of the process's bounding set: "
-                                               f"{', '.join(sorted(engines.DOCKER.split()))}"]))
+                             (0, "same", stubs, [f"resolved for the capabilities of the process's bounding set: "
+                                                 f"{', '.join(sorted(engines.DOCKER.split()))}"]))
             # a whole config.json is resolved already; of another runtime there is no stub
             for given, words, status in ((config(handed_on), ("--runtime", "runc"), 0),
                                          (config(handed_on), ("--runtime", "docker"), 0), (handed_on, (), 1),
