@@ -1,12 +1,14 @@
--- Why comparisons with a profile are refused.
+-- Why stacks and comparisons with a profile are refused.
 use Rattle.std.proofs.Common.{ℕ, List, Some, map}
 use Rattle.scf_tool.specs.Commands.{NoReadFailed, known_text}
+use Rattle.scf_tool.specs.FilterStacks.{HasNoStack}
 use Rattle.scf_tool.specs.VerifyingArchitectures.{AreProfilesRefused}
 use Rattle.scf_tool.specs.VerifyingStacks.{IsRefusedBehind, IsRefusedStack}
 use Rattle.scf_tool.specs.declared.verify_fault.VerifyFault.{VerifyFault}
 use Rattle.scf_tool.specs.declared.verify_fault.VerifyFault.TheVariants.{Memory}
 use Rattle.scf_c.specs.Architectures.{texts_of}
 use Rattle.scf_c.specs.Comparisons.{AreCallsRefused, IsComparisonRefused, IsEachRefused}
+use Rattle.scf_c.specs.Filters.{IsStackRefused}
 use Rattle.scf_c.specs.Layout.{known}
 use Rattle.scf_c.specs.declared.layout.Bytes.{Bytes}
 use Rattle.scf_c.specs.declared.layout.RightSide.{RightSide}
@@ -32,3 +34,8 @@ pub each_refused : (filters : List Bytes) (profile : List ℕ) (tables : List Ta
     → NoReadFailed fault → IsEachRefused filters profile tables (Verify fault)
 each_refused filters profile tables Memory refused well = tt
 each_refused filters profile tables fault refused well = (refused, well)
+
+pub stack_refused : (filters : List Bytes) (fault : VerifyFault) → HasNoStack (known filters) fault → NoReadFailed fault
+    → IsStackRefused filters (Verify fault)
+stack_refused filters Memory refused well = tt
+stack_refused filters fault refused well = (refused, well)

@@ -1,2 +1,1 @@
 mod ComparisonLemmas
-mod StackLemmas

@@ -4,7 +4,7 @@ use Rattle.scf_text.specs.Faults.{IsFault, fault_of}
 use Rattle.scf_tool.specs.Commands.{NoReadFailed}
 use Rattle.scf_tool.specs.FilterStacks.{HasNoStack}
 use Rattle.scf_tool.specs.Verifying.{IsNoFilter, ReadsFilter}
-use Rattle.scf_tool.specs.declared.verify_fault.VerifyFault.TheVariants.{FilterRead}
+use Rattle.scf_tool.specs.declared.verify_fault.VerifyFault.TheVariants.{FilterRead, Memory}
 use Rattle.scf_c.specs.declared.layout.Bytes.{Bytes}
 use Rattle.scf_c.specs.declared.refusal.Refusal.{Refusal}
 use Rattle.scf_c.specs.declared.refusal.Refusal.TheVariants.{Verify, Text}
@@ -15,8 +15,9 @@ abbrev pub IsFilterRefused : List ℕ → Refusal → Type 0
 IsFilterRefused bytes (Verify why) = IsNoFilter (Some bytes) why × NoReadFailed why
 IsFilterRefused bytes why = ⊥
 
--- why the filters are no stack
+-- why the filters are no stack, or out of memory, which may come at any time
 abbrev pub IsStackRefused : List Bytes → Refusal → Type 0
+IsStackRefused filters (Verify Memory) = Unit {0}
 IsStackRefused filters (Verify why) = HasNoStack (known filters) why × NoReadFailed why
 IsStackRefused filters why = ⊥
 

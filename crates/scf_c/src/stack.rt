@@ -1,50 +1,31 @@
 //! A stack of filters.
 
-ghost use Rattle.std.specs.Prelude.{◌≡◌, ◌≢◌, List, Ok, Some, IfErr, IfOk, OnOk};
+ghost use Rattle.std.specs.Prelude.{◌≡◌, ◌≢◌, List, IfErr, IfOk};
 ghost use Rattle.scf_insn.specs.Words.{words_of};
 ghost use Rattle.scf_insn.specs.declared.insn.Insn.{Insn};
 ghost use Rattle.scf_machine.specs.Precedence.{StackAnswers};
-ghost use Rattle.scf_machine.specs.Stack.{IsPush};
 ghost use Rattle.scf_tool.specs.FilterStacks.{HasStack};
-ghost use Rattle.scf_tool.specs.Verifying.{IsAcceptedFilter};
 ghost use Rattle.scf_c.specs.Faults.{IsRefusal, no_fault};
 ghost use Rattle.scf_c.specs.Filters.{IsStackRefused};
 ghost use Rattle.scf_c.specs.Layout.{known, record_of};
 ghost use Rattle.scf_c.specs.Statuses.{ok};
-ghost use Rattle.scf_c.specs.internal.Refusals.{IsPushRefused};
 
 use crate::fault::{no_fault, refuse};
-use crate::filter::accepted;
 use crate::layout::{Bytes, Call, Fault};
 use crate::refusal::Refusal;
+use crate::right_side::readers_of;
 use crate::status::OK;
 use scf_machine::FilterStack;
-use scf_tool::VerifyFault;
+use scf_tool::read_stack;
 use std::alloc::Global;
-
-/// Pushes the filter with these bytes.
-fn push_filter(alloc: Global, stack: &mut FilterStack, filter: &[u8]) -> Result<(), Refusal>
-    ensures pushed { OnOk result ((insns : List Insn) × IsAcceptedFilter (Some filter.now) insns
-        × IsPush stack.old insns (Ok tt) stack.new) }
-    ensures refused { IfErr result (IsPushRefused stack.old filter.now) }
-{
-    let program = accepted(alloc, filter)?;
-    match stack.push(program) {
-        Ok(()) => Ok(()),
-        Err((fault, _)) => Err(Refusal::Verify(VerifyFault::Stack(fault))),
-    }
-}
 
 /// The stack of the filters with these bytes, the oldest first.
 fn stack_of(alloc: Global, filters: &[Bytes]) -> Result<FilterStack, Refusal>
     ensures stack { IfOk result (HasStack (known filters.now)) }
     ensures refused { IfErr result (IsStackRefused filters.now) }
 {
-    let mut stack = FilterStack::new(alloc);
-    for filter in filters {
-        push_filter(alloc, &mut stack, filter.bytes)?;
-    }
-    Ok(stack)
+    let mut readers = readers_of(alloc, filters)?;
+    Ok(read_stack(alloc, &mut readers)?)
 }
 
 /// What a stack of filters answers to a call. The filters are in the order of the stack, the oldest first.

@@ -34,11 +34,9 @@ fn push_filter<R: Source>(
     }
 }
 
-/// Reads a stack of filters, the oldest first. Each is read, checked and pushed before the next.
-pub(crate) fn read_stack<R: Source>(
-    alloc: Global,
-    readers: &mut [R],
-) -> Result<FilterStack, VerifyFault>
+/// Reads a stack of filters, the oldest first. Each is read, checked and pushed before the next; the error is the first
+/// fault.
+pub fn read_stack<R: Source>(alloc: Global, readers: &mut [R]) -> Result<FilterStack, VerifyFault>
     ensures stack { IfOk result (HasStack (map R.remaining readers.old)) }
     ensures refused { IfErr result (HasNoStack (map R.remaining readers.old)) }
     ensures ended { OnOk result (HaveEnded R.remaining R.failures readers.old readers.new) }

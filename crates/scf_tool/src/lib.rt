@@ -41,6 +41,7 @@ pub use call_verification::{CallFinding, CallsOutcome, verify_calls};
 pub use command_line::refuse_words;
 pub use commands::run_command;
 pub use compilation::{filter_of, filter_of_each};
+pub use filter_stack::read_stack;
 pub use in_memory::InMemory;
 pub use left_out::LeftOut;
 pub use loading::{load_with_table, load_with_tables};
