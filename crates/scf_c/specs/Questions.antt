@@ -4,7 +4,9 @@ use Rattle.scf_profile.specs.declared.relation.Relation.{Relation}
 use Rattle.scf_profile.specs.declared.relation.Relation.TheVariants.{Same, NoMore, NoLess, SameDisposition}
 use Rattle.scf_profile.specs.declared.scope.Scope.{Scope}
 use Rattle.scf_profile.specs.declared.scope.Scope.TheVariants.{All, Native, Call, Numbers, Of, NumbersOf}
+use Rattle.scf_request.specs.declared.request.Comparison.{Comparison}
 use Rattle.scf_request.specs.declared.request.Limits.{Limits}
+use Rattle.scf_request.specs.declared.request.Scopes.{Scopes}
 use Rattle.scf_c.specs.declared.layout.Question.{Question}
 use Rattle.scf_c.specs.declared.layout.RightSide.{RightSide}
 use Rattle.scf_c.specs.declared.question.Asked.{Asked}
@@ -54,6 +56,10 @@ pub record AreCallsAsked (question : Question) (right : RightSide) (asked : Aske
 abbrev pub AreNoCallsAsked : Question → RightSide → Type 0
 AreNoCallsAsked question right = (asked : Asked) → AreCallsAsked question right asked → ⊥
 
--- how many steps comparisons of single calls may take, with the default number of splits
+-- how many steps comparisons may take, with the default number of splits
 abbrev pub limits_of : Question → Limits
 limits_of question = record { each = question.limit; total = question.total_limit; splits = 10000 }
+
+-- the comparison over scopes that a question asks for
+abbrev pub asked_over : Scopes → Question → Asked → Comparison
+asked_over over question asked = record { limits = limits_of question; scopes = over; relation = asked.relation }

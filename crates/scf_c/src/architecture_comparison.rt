@@ -8,24 +8,40 @@ ghost use Rattle.scf_c.specs.Comparisons.{
   IsComparedEach,
   IsEachRefused,
   comparison_of,
+  comparison_of_each,
   no_comparison,
 };
 ghost use Rattle.scf_c.specs.Faults.{IsRefusal, no_fault};
 ghost use Rattle.scf_c.specs.HandingOut.{IsHandedOut, IsNothingHandedOut};
 ghost use Rattle.scf_c.specs.Statuses.{ok, wrong_argument};
 
-use crate::comparison::{Compared, comparison_of, no_comparison};
+use crate::comparison::{comparison_of, no_comparison};
 use crate::fault::{no_fault, refuse};
-use crate::layout::{Bytes, Comparison, Fault, Table};
+use crate::layout::{Bytes, Comparison as HandedComparison, Fault, Table};
 use crate::memory::{Reader, hand_out};
+use crate::outcome::{Compared, reported};
 use crate::refusal::Refusal;
 use crate::right_side::readers_of;
 use crate::status::{OK, WRONG_ARGUMENT};
 use crate::tables::{relation_under, table_readers_of};
-use scf_compare::Limit;
-use scf_profile::Relation;
-use scf_tool::{FindingOutcome, report_finding, verify_architectures};
+use scf_profile::{Relation, Scope};
+use scf_tool::{Comparison, Limits, Scopes, verify_architectures};
 use std::alloc::Global;
+
+/// The comparison over the records of each architecture that has a table, with the default number of splits.
+fn comparison_of_each(relation: Relation, limit: u64) -> Comparison
+    ensures { result ≡ comparison_of_each relation limit }
+{
+    Comparison {
+        limits: Limits {
+            each: limit,
+            total: limit,
+            splits: 10_000,
+        },
+        scopes: Scopes::AtOnce(Scope::All),
+        relation,
+    }
+}
 
 /// Compares filters with a profile for each architecture that has a table.
 fn compare_each(
@@ -36,25 +52,23 @@ fn compare_each(
     relation: Relation,
     limit: u64,
 ) -> Result<Compared, Refusal>
-    ensures compared { IfOk result (λ own.
-        IsComparedEach relation filters.now profile.now tables.now limit own.finding own.text.items) }
-    ensures refused { IfErr result (IsEachRefused filters.now profile.now tables.now) }
+    ensures compared { IfOk result (λ own. IsComparedEach (comparison_of_each relation limit)
+        filters.now profile.now tables.now own.finding own.text.items) }
+    ensures refused { IfErr result (IsEachRefused (comparison_of_each relation limit)
+        filters.now profile.now tables.now) }
 {
     let mut readers = readers_of(alloc, filters)?;
     let mut table_readers = table_readers_of(alloc, tables)?;
+    let mut profile = Reader::new(profile);
+    let comparison = comparison_of_each(relation, limit);
     let outcome = verify_architectures(
         alloc,
         &mut readers,
-        &mut Reader::new(profile),
+        &mut profile,
         &mut table_readers,
-        None,
-        relation,
-        Limit::of_steps(limit),
+        comparison,
     )?;
-    let outcome = FindingOutcome::from(outcome);
-    let text = report_finding(alloc, relation, &outcome)?;
-    let finding = outcome.finding;
-    Ok(Compared { finding, text })
+    Ok(reported(alloc, relation, outcome)?)
 }
 
 /// Compares filters with a profile for each architecture that has a table, and hands out what the program prints of it.
@@ -66,7 +80,7 @@ pub extern "C" fn scf_compare_architectures(
     tables: &[Table],
     relation: u32,
     limit: u64,
-    comparison: &mut Comparison,
+    comparison: &mut HandedComparison,
     text: &mut [u8],
     needed: &mut usize,
     fault: &mut Fault,
@@ -74,14 +88,14 @@ pub extern "C" fn scf_compare_architectures(
     // The verdict, the call and the answers are those of a finding that is true of these bytes.
     ensures compared { result ≡ ok → (own : Relation) × IsAskedUnder tables.now relation own
         × (finding : Finding) × (lines : List ℕ)
-        × IsComparedEach own filters.now profile.now tables.now limit finding lines
+        × IsComparedEach (comparison_of_each own limit) filters.now profile.now tables.now finding lines
         × (comparison.new ≡ comparison_of finding) × IsHandedOut lines text.old text.new needed.new
         × (fault.new ≡ no_fault) }
     ensures wrong { result ≡ wrong_argument
         → ((own : Relation) → IsAskedUnder tables.now relation own → ⊥) × (fault.new ≡ no_fault) }
     ensures refused { result ≢ ok → result ≢ wrong_argument → (own : Relation)
         × IsAskedUnder tables.now relation own
-        × IsRefusal (IsEachRefused filters.now profile.now tables.now) result fault.new }
+        × IsRefusal (IsEachRefused (comparison_of_each own limit) filters.now profile.now tables.now) result fault.new }
     ensures nothing { result ≢ ok → (comparison.new ≡ no_comparison)
         × IsNothingHandedOut text.old text.new needed.new }
 {

@@ -3,7 +3,6 @@
 ghost use Rattle.std.specs.Prelude.{◌≡◌, ◌≢◌, ℕ, List, IfErr, IfOk};
 ghost use Rattle.scf_compare.specs.declared.finding.Finding.{Finding};
 ghost use Rattle.scf_c.specs.Comparisons.{
-  ComesTo,
   IsComparisonRefused,
   IsCompared,
   comparison_of,
@@ -12,80 +11,38 @@ ghost use Rattle.scf_c.specs.Comparisons.{
 };
 ghost use Rattle.scf_c.specs.Faults.{IsRefusal, no_fault};
 ghost use Rattle.scf_c.specs.HandingOut.{IsHandedOut, IsNothingHandedOut};
-ghost use Rattle.scf_c.specs.Questions.{IsAsked, IsNothingAsked};
+ghost use Rattle.scf_c.specs.Questions.{IsAsked, IsNothingAsked, asked_over};
 ghost use Rattle.scf_c.specs.Statuses.{ok, wrong_argument};
 ghost use Rattle.scf_c.specs.declared.question.Asked.{Asked};
 
 use crate::fault::{no_fault, refuse};
 use crate::layout::{Bytes, Call, Comparison, Fault, Question, RightSide};
-use crate::memory::{Reader, hand_out};
-use crate::question::{Asked, RightKind, asked_of};
+use crate::memory::hand_out;
+use crate::outcome::{Compared, outcome_of, reported};
+use crate::question::{Asked, asked_of, asked_over};
 use crate::refusal::Refusal;
-use crate::right_side::readers_of;
 use crate::status::{OK, WRONG_ARGUMENT};
-use scf_compare::{Finding, Limit, Which};
-use scf_tool::{FindingOutcome, report_finding, verify_beside, verify_by};
+use scf_compare::{Finding, Which};
+use scf_tool::Scopes;
 use std::alloc::Global;
 
-/// What a comparison comes to, and the lines that the program prints of it.
-#[derive(Drop)]
-pub(crate) struct Compared {
-    pub finding: Finding,
-    pub text: Vec<u8>,
-}
-
-/// What a comparison of filters with a right side comes to.
-fn outcome_of(
-    alloc: Global,
-    filters: &[Bytes],
-    right: &RightSide,
-    asked: Asked,
-    limit: u64,
-) -> Result<FindingOutcome, Refusal>
-    ensures outcome { IfOk result (ComesTo asked.right filters.now right.now asked limit) }
-    ensures refused { IfErr result (IsComparisonRefused asked.right filters.now right.now) }
-{
-    let (scope, relation) = (asked.scope, asked.relation);
-    let within = Limit::of_steps(limit);
-    let mut readers = readers_of(alloc, filters)?;
-    match asked.right {
-        RightKind::Profile => {
-            let mut profile = Reader::new(right.profile);
-            let mut table = Reader::new(right.table);
-            let outcome = verify_by(
-                alloc,
-                &mut readers,
-                &mut profile,
-                &mut table,
-                scope,
-                relation,
-                within,
-            )?;
-            Ok(FindingOutcome::from(outcome))
-        }
-        RightKind::Filters => {
-            let mut beside = readers_of(alloc, right.filters)?;
-            Ok(verify_beside(alloc, &mut readers, &mut beside, scope, relation, within)?)
-        }
-    }
-}
-
-/// Compares filters with a right side.
+/// Compares filters with a right side over the records of a scope.
 fn compare_with(
     alloc: Global,
     filters: &[Bytes],
     right: &RightSide,
+    question: &Question,
     asked: Asked,
-    limit: u64,
 ) -> Result<Compared, Refusal>
-    ensures compared { IfOk result (λ own.
-        IsCompared asked.right filters.now right.now asked limit own.finding own.text.items) }
-    ensures refused { IfErr result (IsComparisonRefused asked.right filters.now right.now) }
+    ensures compared { IfOk result (λ own. IsCompared asked.right
+        (asked_over (Scopes.AtOnce asked.scope) question.now asked) filters.now right.now
+        own.finding own.text.items) }
+    ensures refused { IfErr result (IsComparisonRefused asked.right
+        (asked_over (Scopes.AtOnce asked.scope) question.now asked) filters.now right.now) }
 {
-    let outcome = outcome_of(alloc, filters, right, asked, limit)?;
-    let text = report_finding(alloc, asked.relation, &outcome)?;
-    let finding = outcome.finding;
-    Ok(Compared { finding, text })
+    let comparison = asked_over(Scopes::AtOnce(asked.scope), question, asked);
+    let outcome = outcome_of(alloc, filters, right, asked.right, comparison)?;
+    Ok(reported(alloc, comparison.relation, outcome)?)
 }
 
 fn side_number(side: Which) -> u32
@@ -159,12 +116,14 @@ pub extern "C" fn scf_compare(
     // The verdict, the call and the answers are those of a finding that is true of these bytes.
     ensures compared { result ≡ ok → (asked : Asked) × IsAsked question.now right.now asked
         × (finding : Finding) × (lines : List ℕ)
-        × IsCompared asked.right filters.now right.now asked question.now.limit finding lines
+        × IsCompared asked.right (asked_over (Scopes.AtOnce asked.scope) question.now asked) filters.now right.now
+        finding lines
         × (comparison.new ≡ comparison_of finding) × IsHandedOut lines text.old text.new needed.new
         × (fault.new ≡ no_fault) }
     ensures wrong { result ≡ wrong_argument → IsNothingAsked question.now right.now × (fault.new ≡ no_fault) }
     ensures refused { result ≢ ok → result ≢ wrong_argument → (asked : Asked) × IsAsked question.now right.now asked
-        × IsRefusal (IsComparisonRefused asked.right filters.now right.now) result fault.new }
+        × IsRefusal (IsComparisonRefused asked.right (asked_over (Scopes.AtOnce asked.scope) question.now asked)
+        filters.now right.now) result fault.new }
     ensures nothing { result ≢ ok → (comparison.new ≡ no_comparison)
         × IsNothingHandedOut text.old text.new needed.new }
 {
@@ -174,7 +133,7 @@ pub extern "C" fn scf_compare(
     let Some(asked) = asked_of(question, right) else {
         return WRONG_ARGUMENT;
     };
-    match compare_with(alloc, filters, right, asked, question.limit) {
+    match compare_with(alloc, filters, right, question, asked) {
         Ok(compared) => {
             *comparison = comparison_of(&compared.finding);
             hand_out(compared.text.as_slice(), text, needed);

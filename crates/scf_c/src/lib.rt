@@ -12,6 +12,7 @@ mod fault;
 mod filter;
 mod layout;
 mod memory;
+mod outcome;
 mod profile;
 mod profiles;
 mod question;

@@ -9,6 +9,7 @@ ghost use Rattle.scf_c.specs.Questions.{
   IsAsked,
   IsNothingAsked,
   IsOver,
+  asked_over,
   limits_of,
   relation_number,
   right_number,
@@ -17,7 +18,7 @@ ghost use Rattle.scf_c.specs.declared.question.RightKind.{RightKind};
 
 use crate::layout::{Question, RightSide};
 use scf_profile::{Relation, Scope};
-use scf_tool::Limits;
+use scf_tool::{Comparison, Limits, Scopes};
 
 /// The scope of x86-64 calls.
 const NATIVE_CALLS: u32 = 1;
@@ -103,13 +104,24 @@ pub(crate) fn calls_asked_of(question: &Question, right: &RightSide) -> Option<A
     }
 }
 
-/// How many steps comparisons of single calls may take, with the default number of splits.
-pub(crate) fn limits_of(question: &Question) -> Limits
+/// How many steps comparisons may take, with the default number of splits.
+fn limits_of(question: &Question) -> Limits
     ensures { result ≡ limits_of question.now }
 {
     Limits {
         each: question.limit,
         total: question.total_limit,
         splits: 10_000,
+    }
+}
+
+/// The comparison over scopes that a question asks for.
+pub(crate) fn asked_over(scopes: Scopes, question: &Question, asked: Asked) -> Comparison
+    ensures { result ≡ asked_over scopes question.now asked }
+{
+    Comparison {
+        limits: limits_of(question),
+        scopes,
+        relation: asked.relation,
     }
 }

@@ -3,12 +3,12 @@
 
 use crate::parts::{ALLOW, NO_TABLE, Part, WITHOUT_WRITE, bundle, filter_of, long_filter};
 use crate::runs::run;
-use scf_compare::{Limit, Relation, Scope};
+use scf_compare::{Relation, Scope};
 use scf_insn::ReadFault;
 use scf_insn::faults::{Failing, Reader};
 use scf_machine::PushFault;
 use scf_test_fixtures::filters::ALLOW_ALL;
-use scf_tool::{BesideFault, VerifyFault, verify_beside};
+use scf_tool::{BesideFault, Comparison, Limits, Scopes, VerifyFault, verify_beside};
 use std::alloc::Global;
 use std::process::Abort;
 
@@ -248,6 +248,26 @@ fn printed_lines(rt: HostRuntime) {
     }
 }
 
+/// Why the stacks of these filters aren't compared over all records in so many steps.
+fn fault_of(
+    alloc: Global,
+    filters: &mut [Reader<'_>],
+    beside: &mut [Reader<'_>],
+    steps: u64,
+) -> Option<BesideFault> {
+    let mut no_tables: [Reader<'_>; 0] = [];
+    let comparison = Comparison {
+        limits: Limits {
+            each: steps,
+            total: steps,
+            splits: 0,
+        },
+        scopes: Scopes::AtOnce(Scope::All),
+        relation: Relation::Same,
+    };
+    verify_beside(alloc, filters, beside, &mut no_tables, comparison).err()
+}
+
 /// What two readers on each side come to, of which one fails.
 fn found(alloc: Global, filter: &[u8], failing: &[Failing; 4]) -> (Option<BesideFault>, [u64; 4]) {
     let [first, second, third, fourth] = failing;
@@ -259,18 +279,11 @@ fn found(alloc: Global, filter: &[u8], failing: &[Failing; 4]) -> (Option<Beside
         Reader::new(filter, 1, *third),
         Reader::new(filter, 1, *fourth),
     ];
-    let found = verify_beside(
-        alloc,
-        &mut filters,
-        &mut beside,
-        Scope::All,
-        Relation::Same,
-        Limit::of_steps(1_000),
-    );
+    let found = fault_of(alloc, &mut filters, &mut beside, 1_000);
     let [first, second] = &filters;
     let [third, fourth] = &beside;
     (
-        found.err(),
+        found,
         [first.asks(), second.asks(), third.asks(), fourth.asks()],
     )
 }
@@ -327,13 +340,6 @@ fn room_of_each_side(rt: HostRuntime) {
     let mut filters = readers_of(&rt, rt.alloc(), &filter, 7);
     let mut beside = readers_of(&rt, rt.alloc(), &filter, 8);
     let fault = VerifyFault::Stack(PushFault::TooMany { total: 32796 });
-    let found = verify_beside(
-        rt.alloc(),
-        &mut filters,
-        &mut beside,
-        Scope::All,
-        Relation::Same,
-        Limit::of_steps(1),
-    );
-    assert!(rt; found.err() == Some(BesideFault::Beside(fault)));
+    let found = fault_of(rt.alloc(), &mut filters, &mut beside, 1);
+    assert!(rt; found == Some(BesideFault::Beside(fault)));
 }

@@ -11,7 +11,10 @@ use scf_profile::{LoadFault, TableFault};
 use scf_test_fixtures::kernel::{ALLOW, ERRNO, ERRNO_1, X86_64};
 use scf_test_fixtures::profiles::{DEFAULT_ALLOW, READ_TABLE};
 use scf_test_fixtures::texts::are;
-use scf_tool::{CallFinding, CallsOutcome, Limits, VerifyFault, verify_calls, verify_stack};
+use scf_tool::{
+    CallFinding, Comparison, ComparisonOutcome, Findings, Limits, Scopes, VerifyFault, verify_by,
+    verify_stack,
+};
 use std::alloc::Global;
 use std::process::Abort;
 
@@ -94,17 +97,26 @@ fn given<'a>(older: &'a [u8], newer: &'a [u8], table: &'a str, profile: &'a str)
     [older, newer, table.as_bytes(), profile.as_bytes()]
 }
 
-/// So many steps for each call and as many as are wanted for all together, and few splits.
-fn each(limit: u64) -> Limits {
-    Limits {
-        each: limit,
-        total: u64::MAX,
-        splits: 5,
+/// A comparison call by call, in so many steps for each call and as many as are wanted for all together, and in few
+/// splits.
+fn each(limit: u64) -> Comparison {
+    Comparison {
+        limits: Limits {
+            each: limit,
+            total: u64::MAX,
+            splits: 5,
+        },
+        scopes: Scopes::EachCall,
+        relation: Relation::Same,
     }
 }
 
 /// What an older and a newer filter, a table and a profile come to, call by call.
-fn verified(alloc: Global, given: &[&[u8]; 4], limit: u64) -> Result<CallsOutcome, VerifyFault> {
+fn verified(
+    alloc: Global,
+    given: &[&[u8]; 4],
+    limit: u64,
+) -> Result<ComparisonOutcome, VerifyFault> {
     let [older, newer, table, profile] = given;
     let mut filters = [
         Reader::new(*older, 1, Failing::Never),
@@ -112,14 +124,7 @@ fn verified(alloc: Global, given: &[&[u8]; 4], limit: u64) -> Result<CallsOutcom
     ];
     let mut table = Reader::new(*table, 1, Failing::Never);
     let mut profile = Reader::new(*profile, 1, Failing::Never);
-    verify_calls(
-        alloc,
-        &mut filters,
-        &mut profile,
-        &mut table,
-        Relation::Same,
-        each(limit),
-    )
+    verify_by(alloc, &mut filters, &mut profile, &mut table, each(limit))
 }
 
 /// Whether this is told of a call of the table.
@@ -147,11 +152,19 @@ fn calls() -> &'static [Call] {
     CALLS
 }
 
+/// The findings on calls.
+fn calls_of(outcome: &ComparisonOutcome) -> &[CallFinding] {
+    match &outcome.findings {
+        Findings::AtOnce(_) => &[],
+        Findings::EachCall(calls) => calls,
+    }
+}
+
 /// Whether each call of the table is there, and the names and architectures that are left out.
-fn is_whole(outcome: &CallsOutcome) -> bool {
+fn is_whole(outcome: &ComparisonOutcome) -> bool {
     match &outcome.left_out {
         Some(own) => {
-            outcome.calls.len() == calls().len()
+            calls_of(outcome).len() == calls().len()
                 && are(own.skipped.as_slice(), &["gone"])
                 && are(own.other_architectures.as_slice(), &["SCMP_ARCH_X86"])
         }
@@ -164,7 +177,7 @@ fn verdicts_within(rt: &impl Abort, alloc: Global, given: &[&[u8]; 4], is_ample:
     let limit = if is_ample { 1_000_000 } else { 64 };
     let outcome = verified(alloc, given, limit).expect(rt, "no fault");
     assert!(rt; is_whole(&outcome));
-    tells_of_each(rt, outcome.calls.as_slice(), is_ample);
+    tells_of_each(rt, calls_of(&outcome), is_ample);
 }
 
 #[test]
@@ -185,7 +198,7 @@ fn fault_by(
     by_calls: bool,
 ) -> Option<VerifyFault> {
     if by_calls {
-        verify_calls(alloc, filters, profile, table, Relation::Same, each(1_000)).err()
+        verify_by(alloc, filters, profile, table, each(1_000)).err()
     } else {
         verify_stack(alloc, filters, profile, table, Scope::All, 1_000).err()
     }
@@ -340,15 +353,7 @@ fn nine_readers<'a>(rt: &impl Abort, alloc: Global, filter: &'a [u8]) -> Vec<Rea
 fn are_too_many(rt: &impl Abort, alloc: Global, filters: &mut [Reader<'_>], total: usize) {
     let mut table = Reader::new(b"read", 1, Failing::Never);
     let mut profile = Reader::new(b"[", 1, Failing::Never);
-    let limits = each(1_000);
-    let answer = verify_calls(
-        alloc,
-        filters,
-        &mut profile,
-        &mut table,
-        Relation::Same,
-        limits,
-    );
+    let answer = verify_by(alloc, filters, &mut profile, &mut table, each(1_000));
     let wanted = VerifyFault::Stack(PushFault::TooMany { total });
     assert!(rt; answer.err() == Some(wanted));
     assert!(rt; (table.asks(), profile.asks()) == (0, 0));

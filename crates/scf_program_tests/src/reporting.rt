@@ -3,10 +3,7 @@
 use scf_compare::{Finding, Verdict, Which};
 use scf_insn::{Answer, CallRecord};
 use scf_profile::{Relation, Texts};
-use scf_tool::{
-    CallFinding, CallsOutcome, FindingOutcome, LeftOut, Outcome, report, report_calls,
-    report_finding,
-};
+use scf_tool::{CallFinding, ComparisonOutcome, Findings, LeftOut, Outcome, report, report_by};
 use std::alloc::Global;
 use std::process::Abort;
 
@@ -187,9 +184,9 @@ fn findings_of(rt: &impl Abort, alloc: Global, told: &[ToldCall]) -> Vec<CallFin
 }
 
 /// An outcome with these calls, and with names and architectures that were left out.
-fn told_of(rt: &impl Abort, alloc: Global, told: &[ToldCall]) -> CallsOutcome {
-    CallsOutcome {
-        calls: findings_of(rt, alloc, told),
+fn told_of(rt: &impl Abort, alloc: Global, told: &[ToldCall]) -> ComparisonOutcome {
+    ComparisonOutcome {
+        findings: Findings::EachCall(findings_of(rt, alloc, told)),
         left_out: Some(LeftOut {
             skipped: texts_of(rt, alloc, SKIPPED),
             other_architectures: texts_of(rt, alloc, OTHERS),
@@ -212,8 +209,8 @@ fn is_with_left_out(text: &[u8], wanted: &str) -> bool {
 }
 
 /// Whether this is printed of an outcome, with what is left out behind it.
-fn is_report_of_calls(alloc: Global, outcome: &CallsOutcome, wanted: &str) -> bool {
-    match report_calls(alloc, Relation::Same, outcome) {
+fn is_report_of_calls(alloc: Global, outcome: &ComparisonOutcome, wanted: &str) -> bool {
+    match report_by(alloc, Relation::Same, outcome) {
         Ok(text) => is_with_left_out(text.as_slice(), wanted),
         Err(_) => false,
     }
@@ -273,11 +270,11 @@ fn beside() -> &'static [(Relation, Finding, &'static str)] {
 }
 
 fn is_report_beside(alloc: Global, relation: Relation, finding: &Finding, wanted: &str) -> bool {
-    let outcome = FindingOutcome {
-        finding: *finding,
+    let outcome = ComparisonOutcome {
+        findings: Findings::AtOnce(*finding),
         left_out: None,
     };
-    match report_finding(alloc, relation, &outcome) {
+    match report_by(alloc, relation, &outcome) {
         Ok(text) => text.as_slice() == wanted.as_bytes(),
         Err(_) => false,
     }
@@ -291,8 +288,8 @@ fn reported_beside(rt: HostRuntime) {
     }
 }
 
-fn is_report_of_calls_beside(alloc: Global, outcome: &CallsOutcome, wanted: &str) -> bool {
-    match report_calls(alloc, Relation::SameDisposition, outcome) {
+fn is_report_of_calls_beside(alloc: Global, outcome: &ComparisonOutcome, wanted: &str) -> bool {
+    match report_by(alloc, Relation::SameDisposition, outcome) {
         Ok(text) => text.as_slice() == wanted.as_bytes(),
         Err(_) => false,
     }
@@ -310,8 +307,8 @@ fn told_beside() -> &'static [ToldCall] {
 
 #[test]
 fn reported_calls_beside(rt: HostRuntime) {
-    let outcome = CallsOutcome {
-        calls: findings_of(&rt, rt.alloc(), told_beside()),
+    let outcome = ComparisonOutcome {
+        findings: Findings::EachCall(findings_of(&rt, rt.alloc(), told_beside())),
         left_out: None,
     };
     let wanted = "differs\n\

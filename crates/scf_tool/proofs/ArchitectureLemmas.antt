@@ -1,19 +1,24 @@
 -- The profiles of several architectures, each compared.
-use Rattle.scf_tool.proofs.Common.{◌≡◌, ◌<◌, ℕ, zero, suc, Bool, true, false, not, List, [], ◌∷◌, length, get_or, find, Option, Some, None, refl, sym, subst, ap, ◌∙◌, arith, Contains, Contains-append_right, AllZip, Insn, Verdict, Same, Differs, Undecided, Unfinished, StackAnswers}
+use Rattle.scf_tool.proofs.Common.{◌≡◌, ◌<◌, ℕ, zero, suc, Bool, true, false, not, List, [], ◌∷◌, length, get_or, find, Option, Some, None, refl, sym, subst, ap, ◌∙◌, arith, Contains, Contains-append_right, AllZip, Insn, Finding, Holds, Fails, Undecided, Unfinished, StackAnswers}
 use Rattle.scf_insn.specs.Architectures.{IsOf}
 use Rattle.scf_insn.specs.declared.architecture.Architecture.{Architecture}
+use Rattle.scf_insn.specs.Words.{IsRecord, words_of}
+use Rattle.scf_insn.proofs.CallWords.{call_of-words_of}
 use Rattle.scf_insn.specs.declared.record.CallRecord.{CallRecord}
 use Rattle.scf_profile.specs.Profile.{Profile}
+use Rattle.scf_profile.specs.ProfileAnswers.{ProfilesAnswer}
 use Rattle.scf_profile.specs.ProfileAnswers.ProfilesAnswer.{by_profile}
-use Rattle.scf_profile.specs.Scope.{IsInScope, RelatedAnswersIn}
 use Rattle.scf_profile.specs.declared.relation.Relation.{Relation}
+use Rattle.scf_profile.specs.Scope.{IsInScope}
 use Rattle.scf_profile.specs.declared.scope.Scope.{Scope}
+use Rattle.scf_profile.specs.declared.scope.Scope.TheVariants.{Numbers}
 use Rattle.scf_compare.specs.declared.budget.Limit.{Limit}
-use Rattle.scf_compare.specs.Verdicts.{IsTrueOfStackBy}
+use Rattle.scf_compare.specs.declared.finding.Which.TheVariants.{Left, Right}
+use Rattle.scf_compare.specs.Findings.{AllRelated, Compared, IsTrueFinding, compared_in}
+use Rattle.scf_compare.specs.Sides.{profile_behavior, stack_behavior}
 use Rattle.scf_tool.specs.ArchitectureScopes.{scope_of}
-use Rattle.scf_tool.specs.declared.architecture_scope.NumberRange.{NumberRange}
-use Rattle.scf_tool.specs.JointVerdicts.{IsTrueOfEach, is_difference, is_same, joint_verdict, most_steps}
-use Rattle.scf_tool.specs.VerifyingStacks.{IsComparison}
+use Rattle.scf_tool.specs.Comparisons.{IsFound}
+use Rattle.scf_tool.specs.JointFindings.{IsTrueOfEach, is_failure, is_holding, joint_finding, most_steps}
 
 -- ---- two lists of one length
 
@@ -54,76 +59,93 @@ module _ {P V : Type 0} (R : P → V → Type 0) (f : V → Bool) where
   zip_none (x ∷ ps) (y ∷ vs) (suc k) p each lt is none =
       zip_none ps vs k p each.1 (omega arith) is (none_parts y vs none).1
 
--- ---- their verdicts
+-- ---- their findings
 
 module _ (relation : Relation) (over : Architecture → Scope)
     (of_architecture : (a : Architecture) (call : CallRecord) → IsInScope (over a) call → IsOf a call)
     (stack : List (List Insn)) (profiles : List Profile) where
-  -- a verdict on one that isn't Same is true of all
-  one_is_true : (p : Profile) (verdict : Verdict) → Contains profiles p
-      → IsTrueOfStackBy relation stack p (over p.architecture) verdict → is_same verdict ≡ false
-      → IsTrueOfEach relation over stack profiles verdict
-  one_is_true p (Same steps) among holds other = absurd (cc)
-  one_is_true p (Differs call filter profile) among holds other =
-      let answers = by_profile p among (of_architecture p.architecture call holds.1) profile.0 holds.3 in
-      (p, among, holds.0, holds.1, holds.2, answers, holds.4)
-  one_is_true p (Undecided at) among holds other = holds
+  abbrev compared : Profile → Compared
+  compared p = compared_in relation (over p.architecture) (stack_behavior stack) (profile_behavior p)
+
+  -- what a profile answers to the words of a call of its architecture, all do
+  answered : (p : Profile) (call : CallRecord) (answer : ℕ) → Contains profiles p → IsRecord call
+      → IsInScope (over p.architecture) call → (profile_behavior p).answers (words_of call) answer
+      → ProfilesAnswer profiles call answer
+  answered p call answer among record_is in_it holds =
+      by_profile p among (of_architecture p.architecture call in_it) answer (rw (call_of-words_of call record_is) at holds)
+
+  -- a finding on one that isn't Holds is true of all
+  one_is_true : (p : Profile) (finding : Finding) → Contains profiles p
+      → IsTrueFinding (compared p) finding → is_holding finding ≡ false
+      → IsTrueOfEach relation over stack profiles finding
+  one_is_true p (Holds steps) among holds other = absurd (cc)
+  one_is_true p (Fails call left right) among holds other = (
+    p,
+    among,
+    holds.0,
+    holds.1,
+    holds.2,
+    answered p call right.0 among holds.0 holds.1 holds.3,
+    holds.4,
+  )
+  one_is_true p (Undecided Left at) among holds other = holds
+  one_is_true p (Undecided Right at) among holds other = holds
   one_is_true p Unfinished among holds other = tt
 
-  difference_is_other : (verdict : Verdict) → is_difference verdict ≡ true → is_same verdict ≡ false
-  difference_is_other (Same steps) is = absurd (cc)
-  difference_is_other (Differs call filter profile) is = refl
-  difference_is_other (Undecided at) is = absurd (cc)
-  difference_is_other Unfinished is = absurd (cc)
+  failure_is_other : (finding : Finding) → is_failure finding ≡ true → is_holding finding ≡ false
+  failure_is_other (Holds steps) is = absurd (cc)
+  failure_is_other (Fails call left right) is = refl
+  failure_is_other (Undecided side at) is = absurd (cc)
+  failure_is_other Unfinished is = absurd (cc)
 
-  same_is_related : (p : Profile) (verdict : Verdict)
-      → IsTrueOfStackBy relation stack p (over p.architecture) verdict → not (is_same verdict) ≡ false
-      → RelatedAnswersIn relation (over p.architecture) (StackAnswers stack) p
-  same_is_related p (Same steps) holds same = holds
-  same_is_related p (Differs call filter profile) holds same = absurd (cc)
-  same_is_related p (Undecided at) holds same = absurd (cc)
-  same_is_related p Unfinished holds same = absurd (cc)
+  holding_is_related : (p : Profile) (finding : Finding) → IsTrueFinding (compared p) finding
+      → not (is_holding finding) ≡ false → AllRelated (compared p)
+  holding_is_related p (Holds steps) holds same = holds
+  holding_is_related p (Fails call left right) holds same = absurd (cc)
+  holding_is_related p (Undecided side at) holds same = absurd (cc)
+  holding_is_related p Unfinished holds same = absurd (cc)
 
-  other_is_not_same : (verdict : Verdict) → not (is_same verdict) ≡ true → is_same verdict ≡ false
-  other_is_not_same (Same steps) is = absurd (cc)
-  other_is_not_same (Differs call filter profile) is = refl
-  other_is_not_same (Undecided at) is = refl
-  other_is_not_same Unfinished is = refl
+  other_is_not_holding : (finding : Finding) → not (is_holding finding) ≡ true → is_holding finding ≡ false
+  other_is_not_holding (Holds steps) is = absurd (cc)
+  other_is_not_holding (Fails call left right) is = refl
+  other_is_not_holding (Undecided side at) is = refl
+  other_is_not_holding Unfinished is = refl
 
   module _ (limit : Limit) where
-    abbrev Compared : Profile → Verdict → Type 0
-    Compared p verdict = IsComparison relation stack p (over p.architecture) limit verdict
+    abbrev Found : Profile → Finding → Type 0
+    Found p finding =
+        IsFound relation (stack_behavior stack) (profile_behavior p) (over p.architecture) limit finding
 
-    abbrev is_other : Verdict → Bool
-    is_other verdict = not (is_same verdict)
+    abbrev is_other : Finding → Bool
+    is_other finding = not (is_holding finding)
 
     -- that which speaks for all is true of all
-    pub joint_is_true : (verdicts : List Verdict) → AllZip Compared profiles verdicts
-        → IsTrueOfEach relation over stack profiles (joint_verdict verdicts)
-    joint_is_true verdicts each = by_first (find is_difference verdicts) refl (find is_other verdicts) refl
+    pub joint_is_true : (findings : List Finding) → AllZip Found profiles findings
+        → IsTrueOfEach relation over stack profiles (joint_finding findings)
+    joint_is_true findings each = by_first (find is_failure findings) refl (find is_other findings) refl
       where
-        by_first : (first : Option Verdict) → find is_difference verdicts ≡ first → (other : Option Verdict)
-            → find is_other verdicts ≡ other → IsTrueOfEach relation over stack profiles (joint_verdict verdicts)
-        by_first (Some verdict) found other others =
-            let at = zip_found Compared is_difference profiles verdicts verdict each found in
-            rw found (one_is_true at.0 verdict at.1 at.2.holds (difference_is_other verdict at.3))
-        by_first None found (Some verdict) others =
-            let at = zip_found Compared is_other profiles verdicts verdict each others in
-            rw (found, others) (one_is_true at.0 verdict at.1 at.2.holds (other_is_not_same verdict at.3))
+        by_first : (first : Option Finding) → find is_failure findings ≡ first → (other : Option Finding)
+            → find is_other findings ≡ other → IsTrueOfEach relation over stack profiles (joint_finding findings)
+        by_first (Some finding) found other others =
+            let at = zip_found Found is_failure profiles findings finding each found in
+            rw found (one_is_true at.0 finding at.1 at.2.holds (failure_is_other finding at.3))
+        by_first None found (Some finding) others =
+            let at = zip_found Found is_other profiles findings finding each others in
+            rw (found, others) (one_is_true at.0 finding at.1 at.2.holds (other_is_not_holding finding at.3))
         by_first None found None others =
-            let all : IsTrueOfEach relation over stack profiles (Same (most_steps verdicts)) = λ p call among record_is in_it.
-            let at = zip_none Compared is_other profiles verdicts among.0 p each among.1 among.2 others in
-            let answers = same_is_related p at.0 at.1.holds at.2 call record_is in_it in (
-              answers.filter,
-              answers.profile,
-              answers.of_words,
-              by_profile p among (of_architecture p.architecture call in_it) answers.profile answers.of_profile,
+            let all : IsTrueOfEach relation over stack profiles (Holds (most_steps findings)) = λ p call among record_is in_it.
+            let at = zip_none Found is_other profiles findings among.0 p each among.1 among.2 others in
+            let answers = holding_is_related p at.0 at.1.holds at.2 call record_is in_it in (
+              answers.left,
+              answers.right,
+              answers.of_left,
+              answered p call answers.right among record_is in_it answers.of_right,
               answers.are_related,
             ) in
             rw (found, others) all
 
 -- the records that are compared are those of the architecture
-pub scope_is_of : (range : Option NumberRange) (architecture : Architecture) (call : CallRecord)
-    → IsInScope (scope_of range architecture) call → IsOf architecture call
-scope_is_of None architecture call is = is
-scope_is_of (Some range) architecture call is = is.0
+pub scope_is_of : (scope : Scope) (architecture : Architecture) (call : CallRecord)
+    → IsInScope (scope_of scope architecture) call → IsOf architecture call
+scope_is_of (Numbers first last) architecture call is = is.0
+scope_is_of scope architecture call is = is

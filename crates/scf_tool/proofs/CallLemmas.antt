@@ -14,7 +14,7 @@ use Rattle.scf_profile.specs.Table.{Names}
 use Rattle.scf_profile.specs.declared.named_call.NamedCall.{NamedCall}
 use Rattle.scf_profile.specs.declared.relation.Relation.{Relation}
 use Rattle.scf_tool.specs.ArchitectureScopes.{scope_of_call}
-use Rattle.scf_tool.specs.declared.call_verification.CallFinding.{CallFinding}
+use Rattle.scf_tool.specs.declared.findings.CallFinding.{CallFinding}
 use Rattle.scf_tool.proofs.Common.{AreFound, IsFoundOfCall}
 
 -- one call more

@@ -16,7 +16,7 @@ use Rattle.scf_tool.proofs.Common.{Err, List, LoadFault, Names, Ok, Option, Resu
 use Rattle.scf_tool.specs.Comparisons.{AreFoundOfTable}
 use Rattle.scf_tool.specs.VerifyingArchitectures.{AreFoundOfOnly, AreTables}
 use Rattle.scf_tool.specs.declared.architecture_inputs.ArchitectureInputs.{ArchitectureInputs}
-use Rattle.scf_tool.specs.declared.call_verification.CallFinding.{CallFinding}
+use Rattle.scf_tool.specs.declared.findings.CallFinding.{CallFinding}
 use Rattle.scf_tool.specs.declared.owned_table.OwnedTable.{OwnedTable}
 use Rattle.scf_tool.specs.internal.Verification.{AreInputsUnder, named_of}
 

@@ -2,7 +2,6 @@
 -- reader tells them.
 use Rattle.std.specs.Prelude.{◌≡◌, ◌≢◌, ◌<◌, ◌≤◌, ◌++◌, ℕ, Bool, true, false, List, [], ◌∷◌, length, map, All, Option, Some, Result, Ok, Err}
 use Rattle.std.specs.List.{AllZip}
-use Rattle.std.specs.Option.{option_map_or}
 use Rattle.scf_insn.specs.declared.encoding.ReadFault.TheVariants as reads
 use Rattle.scf_insn.specs.declared.input.InputFault.{InputFault}
 use Rattle.scf_insn.specs.declared.input.InputFault.TheVariants as inputs
@@ -37,31 +36,23 @@ use Rattle.scf_profile.specs.declared.relation.Relation.{Relation}
 use Rattle.scf_tool.specs.declared.reply.Reply.{Reply}
 use Rattle.scf_tool.specs.declared.reply.Reply.TheVariants.{Accepted, Ran, Decided, Asked, Bytes, Compared}
 use Rattle.scf_request.specs.declared.request.Comparison.{Comparison}
-use Rattle.scf_request.specs.declared.request.Limits.{Limits}
+use Rattle.scf_tool.specs.declared.findings.ComparisonOutcome.{ComparisonOutcome}
 use Rattle.scf_request.specs.declared.request.Request.{Request}
 use Rattle.scf_request.specs.declared.request.Request.TheVariants as requests
 use Rattle.scf_request.specs.declared.request.Scopes.{Scopes}
 use Rattle.scf_request.specs.declared.request.Scopes.TheVariants.{AtOnce, EachCall}
-use Rattle.scf_tool.specs.declared.verify_fault.BesideFault.{BesideFault}
 use Rattle.scf_tool.specs.declared.verify_fault.VerifyFault.{VerifyFault}
 use Rattle.scf_tool.specs.declared.verify_fault.VerifyFault.TheVariants as verifies
-use Rattle.scf_tool.specs.declared.call_verification.CallsOutcome.{CallsOutcome}
-use Rattle.scf_tool.specs.declared.verification.FindingOutcome.{FindingOutcome}
-use Rattle.scf_tool.specs.declared.verification.Outcome.{Outcome}
-use Rattle.scf_tool.specs.declared.status.Status.TheVariants.{Well}
 use Rattle.scf_request.specs.Bundle.{AreNoParts, IsArchitecturesBundle, IsBesideBundle, IsBundle, architecture_kinds, beside_kinds, profile_kinds}
 use Rattle.scf_request.specs.Contents.{texts_for}
 use Rattle.scf_request.specs.declared.bundle.PartKind.{PartKind}
-use Rattle.scf_tool.specs.ArchitectureScopes.{range_of}
-use Rattle.scf_tool.specs.Comparisons.{limit_of}
-use Rattle.scf_tool.specs.CallReports.{calls_text, joint_of}
 use Rattle.scf_tool.specs.Lines.{traced_text}
 use Rattle.scf_tool.specs.FilterStacks.{HasStack, HasNoStack}
-use Rattle.scf_tool.specs.Reports.{finding_outcome_of, finding_status, report_text}
+use Rattle.scf_tool.specs.Reports.{findings_status, report_text}
 use Rattle.scf_tool.specs.Verifying.{IsAcceptedFilter, IsNoFilter, ReadsFilter, ReadsUnder}
-use Rattle.scf_tool.specs.VerifyingArchitectures.{AreProfilesRefused, AreVerified, AreVerifiedCallsOf}
-use Rattle.scf_tool.specs.VerifyingBeside.{AreVerifiedBeside, IsRefusedPair, IsTableFault, VerifiesBeside, fault_of_either}
-use Rattle.scf_tool.specs.VerifyingStacks.{AreVerifiedCalls, IsRefusedBehind, IsRefusedStack, IsVerifiedBy}
+use Rattle.scf_tool.specs.VerifyingArchitectures.{VerifiesArchitectures}
+use Rattle.scf_tool.specs.VerifyingBeside.{VerifiesBeside, fault_of_either}
+use Rattle.scf_tool.specs.VerifyingStacks.{VerifiesBy}
 
 -- ---- standard input
 
@@ -202,31 +193,21 @@ GivesReason call profile table ending = ⊥
 
 -- ---- a comparison
 
--- the report of an outcome, and the status of its finding
-abbrev pub IsReport : Relation → FindingOutcome → Reply → Type 0
+-- the report of an outcome, and its status
+abbrev pub IsReport : Relation → ComparisonOutcome → Reply → Type 0
 IsReport relation outcome (Compared text status) =
-    (text.items ≡ report_text relation outcome) × (status ≡ finding_status outcome.finding)
+    (text.items ≡ report_text relation outcome) × (status ≡ findings_status outcome.findings)
 IsReport relation outcome reply = ⊥
 
--- the report of an outcome call by call, and the status of its joint finding, where None is that the relation holds of
--- all calls
-abbrev pub IsCallsReport : Relation → CallsOutcome → Reply → Type 0
-IsCallsReport relation outcome (Compared text status) = (text.items ≡ calls_text relation outcome)
-    × (status ≡ option_map_or finding_status (joint_of outcome.calls.items) Well)
-IsCallsReport relation outcome reply = ⊥
-
--- What filters, a profile and a table come to: why they aren't compared; or the report of an outcome over the calls of
--- a scope, or call by call.
-abbrev pub ComparesParts : Scopes → Relation → Limits → List (List ℕ) → List ℕ → List ℕ → Result Reply Fault → Type 0
-ComparesParts over relation limits filters profile table (Err (faults.Verify fault)) =
-    NoReadFailed fault × IsRefusedStack (map Some filters) (Some table) (Some profile) fault
-ComparesParts (AtOnce scope) relation limits filters profile table (Ok reply) = (outcome : Outcome)
-    × IsVerifiedBy relation (map Some filters) (Some table) (Some profile) scope (limit_of limits) outcome
-    × IsReport relation (finding_outcome_of outcome) reply
-ComparesParts EachCall relation limits filters profile table (Ok reply) = (outcome : CallsOutcome)
-    × AreVerifiedCalls relation (map Some filters) (Some table) (Some profile) limits outcome
-    × IsCallsReport relation outcome reply
-ComparesParts over relation limits filters profile table ending = ⊥
+-- What filters, a profile and a table come to: why they aren't compared, or the report of the outcome that is asked
+-- for.
+abbrev pub ComparesParts : Comparison → List (List ℕ) → List ℕ → List ℕ → Result Reply Fault → Type 0
+ComparesParts comparison filters profile table (Err (faults.Verify fault)) =
+    NoReadFailed fault × VerifiesBy comparison (map Some filters) (Some table) (Some profile) (Err fault)
+ComparesParts comparison filters profile table (Ok reply) = (outcome : ComparisonOutcome)
+    × VerifiesBy comparison (map Some filters) (Some table) (Some profile) (Ok outcome)
+    × IsReport comparison.relation outcome reply
+ComparesParts comparison filters profile table ending = ⊥
 
 -- `compare`: the report of the comparison, where one filter or more, a profile and a table are all that the bundle
 -- holds
@@ -235,7 +216,7 @@ Compares comparison input =
     EndsOnBundle input (λ filters profiles tables. (1 ≤ filters) × (profiles ≡ 1) × (tables ≡ 1))
     (λ ending. (filters : List (List ℕ)) × (profile table : List ℕ) × (1 ≤ length filters)
     × HoldsBundle input filters (profile ∷ []) (table ∷ [])
-    × ComparesParts comparison.scopes comparison.relation comparison.limits filters profile table ending)
+    × ComparesParts comparison filters profile table ending)
 
 -- ---- a comparison with other filters
 
@@ -245,27 +226,15 @@ abbrev pub HoldsBeside : Scopes → Option (List ℕ) → List (List ℕ) → Li
 HoldsBeside over input filters beside tables =
     (bytes : List ℕ) × ReadsInput input (Ok bytes) × IsBesideBundle over bytes filters beside tables
 
--- why two stacks aren't compared: call by call there is a table, too
-abbrev pub AreNotCompared : Scopes → List (List ℕ) → List (List ℕ) → List (List ℕ) → BesideFault → Type 0
-AreNotCompared (AtOnce scope) filters beside tables fault =
-    IsRefusedPair (map Some filters) (map Some beside) (λ behind. behind ≡ verifies.Memory) fault
-AreNotCompared EachCall filters beside tables fault = (table : List ℕ) × (tables ≡ table ∷ [])
-    × IsRefusedPair (map Some filters) (map Some beside) (IsTableFault (Some table)) fault
-
--- What two stacks come to: why they aren't compared, or the report of an outcome over the calls of a scope, or call by
--- call of a table.
-abbrev pub ComparesStacks : Scopes → Relation → Limits → List (List ℕ) → List (List ℕ) → List (List ℕ)
-    → Result Reply Fault → Type 0
-ComparesStacks over relation limits filters beside tables (Err (faults.Stacks fault)) =
-    NoReadFailed (fault_of_either fault) × AreNotCompared over filters beside tables fault
-ComparesStacks (AtOnce scope) relation limits filters beside tables (Ok reply) = (outcome : FindingOutcome)
-    × VerifiesBeside relation (map Some filters) (map Some beside) scope (limit_of limits) (Ok outcome)
-    × IsReport relation outcome reply
-ComparesStacks EachCall relation limits filters beside tables (Ok reply) =
-    (table : List ℕ) × (tables ≡ table ∷ []) × (outcome : CallsOutcome)
-    × AreVerifiedBeside relation (map Some filters) (map Some beside) (Some table) limits outcome
-    × IsCallsReport relation outcome reply
-ComparesStacks over relation limits filters beside tables ending = ⊥
+-- What two stacks come to: why they aren't compared, or the report of the outcome that is asked for, call by call of a
+-- table.
+abbrev pub ComparesStacks : Comparison → List (List ℕ) → List (List ℕ) → List (List ℕ) → Result Reply Fault → Type 0
+ComparesStacks comparison filters beside tables (Err (faults.Stacks fault)) = NoReadFailed (fault_of_either fault)
+    × VerifiesBeside comparison (map Some filters) (map Some beside) (map Some tables) (Err fault)
+ComparesStacks comparison filters beside tables (Ok reply) = (outcome : ComparisonOutcome)
+    × VerifiesBeside comparison (map Some filters) (map Some beside) (map Some tables) (Ok outcome)
+    × IsReport comparison.relation outcome reply
+ComparesStacks comparison filters beside tables ending = ⊥
 
 -- `compare --beside`: the report of the comparison of the filters with those beside them, any number of either; call by
 -- call the bundle holds a table, too
@@ -274,7 +243,7 @@ ComparesBeside comparison input = EndsOnParts (beside_kinds comparison.scopes) i
     ((filters beside tables : List (List ℕ)) × HoldsBeside comparison.scopes input filters beside tables
     × (comparison.scopes ≡ EachCall) × (length tables ≢ 1))
     (λ ending. (filters beside tables : List (List ℕ)) × HoldsBeside comparison.scopes input filters beside tables
-    × ComparesStacks comparison.scopes comparison.relation comparison.limits filters beside tables ending)
+    × ComparesStacks comparison filters beside tables ending)
 
 -- ---- several architectures
 
@@ -322,21 +291,15 @@ EndsOnArchitectures has_filters only_one input holds =
 abbrev pub known_text : Architecture × List ℕ → Architecture × Option (List ℕ)
 known_text table = (table.0, Some table.1)
 
--- What filters, a profile and tables come to: why they aren't compared; or the report of an outcome over the calls of
--- the architectures that have a table, where the scope is a range those with a number of it; or the report of one call
--- by call of the only table.
-abbrev pub ComparesProfiles : Scopes → Relation → Limits → List (List ℕ) → List ℕ → List (Architecture × List ℕ)
-    → Result Reply Fault → Type 0
-ComparesProfiles over relation limits filters profile tables (Err (faults.Verify fault)) = NoReadFailed fault
-    × IsRefusedBehind (map Some filters) (AreProfilesRefused (map known_text tables) (Some profile)) fault
-ComparesProfiles (AtOnce scope) relation limits filters profile tables (Ok reply) = (outcome : Outcome)
-    × AreVerified relation (range_of scope) (map Some filters) (map known_text tables) (Some profile) (limit_of limits)
-    outcome
-    × IsReport relation (finding_outcome_of outcome) reply
-ComparesProfiles EachCall relation limits filters profile tables (Ok reply) = (outcome : CallsOutcome)
-    × AreVerifiedCallsOf relation (map Some filters) (map known_text tables) (Some profile) limits outcome
-    × IsCallsReport relation outcome reply
-ComparesProfiles over relation limits filters profile tables ending = ⊥
+-- What filters, a profile and tables come to: why they aren't compared, or the report of the outcome that is asked for.
+abbrev pub ComparesProfiles : Comparison → List (List ℕ) → List ℕ → List (Architecture × List ℕ) → Result Reply Fault
+    → Type 0
+ComparesProfiles comparison filters profile tables (Err (faults.Verify fault)) = NoReadFailed fault
+    × VerifiesArchitectures comparison (map Some filters) (map known_text tables) (Some profile) (Err fault)
+ComparesProfiles comparison filters profile tables (Ok reply) = (outcome : ComparisonOutcome)
+    × VerifiesArchitectures comparison (map Some filters) (map known_text tables) (Some profile) (Ok outcome)
+    × IsReport comparison.relation outcome reply
+ComparesProfiles comparison filters profile tables ending = ⊥
 
 -- whether single calls are compared, for which there is one table
 abbrev pub is_call_by_call : Scopes → Bool
@@ -346,7 +309,7 @@ is_call_by_call EachCall = true
 -- `compare --architectures`: the report of the comparison
 abbrev pub ComparesArchitectures : Comparison → Option (List ℕ) → Result Reply Fault → Type 0
 ComparesArchitectures comparison input = EndsOnArchitectures true (is_call_by_call comparison.scopes) input
-    (ComparesProfiles comparison.scopes comparison.relation comparison.limits)
+    (ComparesProfiles comparison)
 
 -- a call table of an architecture, however long its text is
 abbrev pub SpellsTable : Architecture × List ℕ → Architecture × Names → Type 0

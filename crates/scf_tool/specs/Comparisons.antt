@@ -14,8 +14,12 @@ use Rattle.scf_profile.specs.declared.named_call.NamedCall.{NamedCall}
 use Rattle.scf_profile.specs.declared.relation.Relation.{Relation}
 use Rattle.scf_profile.specs.declared.scope.Scope.{Scope}
 use Rattle.scf_request.specs.declared.request.Limits.{Limits}
+use Rattle.scf_request.specs.declared.request.Scopes.{Scopes}
+use Rattle.scf_request.specs.declared.request.Scopes.TheVariants as scopes
 use Rattle.scf_tool.specs.ArchitectureScopes.{scope_of_call}
-use Rattle.scf_tool.specs.declared.call_verification.CallFinding.{CallFinding}
+use Rattle.scf_tool.specs.declared.findings.CallFinding.{CallFinding}
+use Rattle.scf_tool.specs.declared.findings.Findings.{Findings}
+use Rattle.scf_tool.specs.declared.findings.Findings.TheVariants.{AtOnce, EachCall}
 
 -- a number of splits, of which the greatest stands for no limit
 abbrev pub splits_of : ℕ → Splits
@@ -62,3 +66,9 @@ abbrev pub AreFoundOfTable : Relation → Architecture → Behavior → Behavior
 AreFoundOfTable relation architecture left right names limits calls =
     (of_table : List NamedCall) × AreCallsOf names of_table
     × (after : ℕ) × AreFound relation architecture left right (limit_of limits) limits.total of_table calls after
+
+-- The findings are those that are asked for: one over a scope, or one for each call.
+abbrev pub AreAsked : (Scope → Finding → Type 0) → (List CallFinding → Type 0) → Scopes → Findings → Type 0
+AreAsked IsFinding AreCalls (scopes.AtOnce scope) (AtOnce finding) = IsFinding scope finding
+AreAsked IsFinding AreCalls scopes.EachCall (EachCall calls) = AreCalls calls.items
+AreAsked IsFinding AreCalls over findings = ⊥

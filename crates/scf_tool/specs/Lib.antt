@@ -1,10 +1,9 @@
 pub mod ArchitectureScopes
-pub mod CallReports
 pub mod Commands
 pub mod Comparisons
 pub mod Faults
 pub mod FilterStacks
-pub mod JointVerdicts
+pub mod JointFindings
 pub mod Lines
 pub mod Numerals
 pub mod Replies

@@ -1,18 +1,23 @@
 -- What the program prints of a comparison.
-use Rattle.std.specs.Prelude.{ℕ, false, List, [], ◌++◌, codes, Option, Some, None}
-use Rattle.std.specs.List.{flat_map}
+use Rattle.std.specs.Prelude.{ℕ, false, List, [], ◌++◌, codes, Option, Some, None, if◌then◌else◌}
+use Rattle.std.specs.List.{flat_map, join_by}
 use Rattle.std.specs.Fmt.{decimal, digits}
+use Rattle.std.specs.Option.{option_map_or}
 use Rattle.scf_insn.specs.declared.record.CallRecord.{CallRecord}
 use Rattle.scf_profile.specs.declared.relation.Relation.{Relation}
 use Rattle.scf_profile.specs.declared.relation.Relation.TheVariants as relations
 use Rattle.scf_compare.specs.declared.finding.Finding.{Finding}
 use Rattle.scf_compare.specs.declared.finding.Finding.TheVariants.{Holds, Fails, Undecided, Unfinished}
 use Rattle.scf_compare.specs.Verdicts.{finding_of}
+use Rattle.scf_tool.specs.declared.findings.CallFinding.{CallFinding}
+use Rattle.scf_tool.specs.declared.findings.ComparisonOutcome.{ComparisonOutcome}
+use Rattle.scf_tool.specs.declared.findings.Findings.{Findings}
+use Rattle.scf_tool.specs.declared.findings.Findings.TheVariants.{AtOnce, EachCall}
 use Rattle.scf_tool.specs.declared.left_out.LeftOut.{LeftOut}
 use Rattle.scf_tool.specs.declared.status.Status.{Status}
 use Rattle.scf_tool.specs.declared.status.Status.TheVariants.{Well, Differs, Open}
-use Rattle.scf_tool.specs.declared.verification.FindingOutcome.{FindingOutcome}
 use Rattle.scf_tool.specs.declared.verification.Outcome.{Outcome}
+use Rattle.scf_tool.specs.JointFindings.{worst_of_calls, is_holding}
 use Rattle.scf_tool.specs.Lines.{answer_text}
 use Rattle.scf_tool.specs.VerifyingStacks.{outcome_left_out}
 
@@ -55,12 +60,6 @@ finding_text relation right_word (Fails call left right) =
 finding_text relation right_word (Undecided side at) = codes "undecided at " ++ decimal at ++ codes "\n"
 finding_text relation right_word Unfinished = codes "unfinished\n"
 
--- the exit status that goes with a finding
-abbrev pub finding_status : Finding → Status
-finding_status (Holds steps) = Well
-finding_status (Fails call left right) = Differs
-finding_status finding = Open
-
 -- a word and a name
 abbrev pub name_line : List ℕ → List ℕ → List ℕ
 name_line word name = word ++ codes " " ++ name ++ codes "\n"
@@ -72,12 +71,56 @@ left_out_text (Some left_out) =
     flat_map (name_line (codes "skipped")) left_out.skipped
     ++ flat_map (name_line (codes "other")) left_out.other_architectures
 
--- The lines of an outcome: those of the finding on a relation, and of what was left out.
-abbrev pub report_text : Relation → FindingOutcome → List ℕ
+-- ---- call by call
+
+-- the line of the worst finding on calls
+abbrev pub joint_text : Relation → List ℕ → Option Finding → List ℕ
+joint_text relation right_word None = (said_of relation).0 ++ codes "\n"
+joint_text relation right_word (Some (Fails call left right)) = (said_of relation).1 ++ codes "\n"
+joint_text relation right_word (Some finding) = finding_text relation right_word finding
+
+-- what the line of a call says behind its names: of which arguments and answers a relation doesn't hold
+abbrev pub found_text : Relation → List ℕ → Finding → List ℕ
+found_text relation right_word (Fails call left right) =
+    ((said_of relation).1 ++ codes " args")
+    ++ (flat_map argument_text call.args
+    ++ (codes " filter " ++ (answer_text left.0 ++ (codes " " ++ answer_line right_word right.0))))
+found_text relation right_word finding = finding_text relation right_word finding
+
+-- the line of a call: its number and its names, with commas between; nothing where the relation holds
+abbrev pub named_line : Relation → List ℕ → CallFinding → List ℕ
+named_line relation right_word call =
+    if is_holding call.finding then []
+    else ((decimal call.number ++ codes " ") ++ (join_by (λ name. name) (codes ",") call.names ++ codes " "))
+    ++ found_text relation right_word call.finding
+
+-- ---- a report
+
+-- The lines of what is found: of the finding on a relation; or of the worst one on calls, and one for each
+-- call of which the relation doesn't hold.
+abbrev pub findings_text : Relation → List ℕ → Findings → List ℕ
+findings_text relation right_word (AtOnce finding) = finding_text relation right_word finding
+findings_text relation right_word (EachCall calls) =
+    joint_text relation right_word (worst_of_calls calls.items)
+    ++ flat_map (named_line relation right_word) calls.items
+
+-- The lines of an outcome, and those of what was left out.
+abbrev pub report_text : Relation → ComparisonOutcome → List ℕ
 report_text relation outcome =
-    finding_text relation (word_of_right outcome.left_out) outcome.finding ++ left_out_text outcome.left_out
+    findings_text relation (word_of_right outcome.left_out) outcome.findings ++ left_out_text outcome.left_out
 
 -- a verdict is a finding on a profile
-abbrev pub finding_outcome_of : Outcome → FindingOutcome
-finding_outcome_of outcome =
-    record { finding = finding_of outcome.verdict; left_out = Some (outcome_left_out outcome) }
+abbrev pub outcome_of : Outcome → ComparisonOutcome
+outcome_of outcome =
+    record { findings = AtOnce (finding_of outcome.verdict); left_out = Some (outcome_left_out outcome) }
+
+-- the exit status that goes with a finding
+abbrev pub finding_status : Finding → Status
+finding_status (Holds steps) = Well
+finding_status (Fails call left right) = Differs
+finding_status finding = Open
+
+-- that of findings: of calls by the worst one
+abbrev pub findings_status : Findings → Status
+findings_status (AtOnce finding) = finding_status finding
+findings_status (EachCall calls) = option_map_or finding_status (worst_of_calls calls.items) Well

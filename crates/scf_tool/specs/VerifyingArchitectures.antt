@@ -10,22 +10,21 @@ use Rattle.scf_profile.specs.StatedProfile.{Tables}
 use Rattle.scf_profile.specs.Table.{Names}
 use Rattle.scf_profile.specs.declared.loaded.LoadedProfiles.{LoadedProfiles}
 use Rattle.scf_profile.specs.declared.relation.Relation.{Relation}
-use Rattle.scf_compare.specs.declared.budget.Limit.{Limit}
 use Rattle.scf_compare.specs.Sides.{profile_behavior, stack_behavior}
 use Rattle.scf_request.specs.declared.contents.TableReader.{TableReader}
+use Rattle.scf_request.specs.declared.request.Comparison.{Comparison}
 use Rattle.scf_request.specs.declared.request.Limits.{Limits}
 use Rattle.scf_tool.specs.ArchitectureScopes.{scope_of}
-use Rattle.scf_tool.specs.Comparisons.{AreFoundOfTable}
-use Rattle.scf_tool.specs.declared.architecture_scope.NumberRange.{NumberRange}
-use Rattle.scf_tool.specs.declared.call_verification.CallFinding.{CallFinding}
-use Rattle.scf_tool.specs.declared.call_verification.CallsOutcome.{CallsOutcome}
-use Rattle.scf_tool.specs.declared.verification.Outcome.{Outcome}
+use Rattle.scf_tool.specs.Comparisons.{AreAsked, AreFoundOfTable, limit_of}
+use Rattle.scf_tool.specs.declared.findings.CallFinding.{CallFinding}
+use Rattle.scf_tool.specs.declared.findings.ComparisonOutcome.{ComparisonOutcome}
+use Rattle.scf_tool.specs.declared.findings.Findings.{Findings}
 use Rattle.scf_tool.specs.declared.verify_fault.VerifyFault.{VerifyFault}
 use Rattle.scf_tool.specs.declared.verify_fault.VerifyFault.TheVariants.{FilterRead, Check, Stack, TableRead, Table, Memory}
 use Rattle.scf_tool.specs.FilterStacks.{HasStack, HaveStoppedBy}
-use Rattle.scf_tool.specs.JointVerdicts.{IsJointComparison}
+use Rattle.scf_tool.specs.JointFindings.{IsJointlyFound}
 use Rattle.scf_tool.specs.Verifying.{HasEnded, IsNoProfileBy, IsNoTable, IsTable, LeavesTableReader}
-use Rattle.scf_tool.specs.VerifyingStacks.{IsRefusedBehind, outcome_left_out}
+use Rattle.scf_tool.specs.VerifyingStacks.{IsRefusedBehind}
 use Rattle.scf_tool.specs.declared.left_out.LeftOut.{LeftOut}
 
 -- ---- the tables
@@ -84,25 +83,6 @@ pub record AreComparedUnder (filters : List (Option (List ℕ))) (texts : List (
   pub is_left_out : left_out ≡ Some (left_out_of_each loaded)
   pub compared : holds stack tables loaded.profiles
 
--- They are compared by a relation, and the verdict speaks for all architectures that have a table, where there is a
--- range over the records with a number of it.
-abbrev pub AreVerified : Relation → Option NumberRange → List (Option (List ℕ)) → List (Architecture × Option (List ℕ))
-    → Option (List ℕ) → Limit → Outcome → Type 0
-AreVerified relation range filters texts profile limit outcome =
-    AreComparedUnder filters texts profile (Some (outcome_left_out outcome))
-    (λ stack tables profiles.
-    IsJointComparison relation (scope_of range) stack profiles limit outcome.verdict)
-
--- What the comparison of a stack with a profile for each architecture, from the bytes of their readers, answers.
-abbrev pub VerifiesArchitectures : Relation → Option NumberRange → List (Option (List ℕ))
-    → List (Architecture × Option (List ℕ)) → Option (List ℕ) → Limit → Result Outcome VerifyFault → Type 0
-VerifiesArchitectures relation range filters texts profile limit (Ok outcome) =
-    AreVerified relation range filters texts profile limit outcome
-VerifiesArchitectures relation range filters texts profile limit (Err fault) =
-    IsRefusedBehind filters (AreProfilesRefused texts profile) fault
-
--- ---- the comparison call by call
-
 -- The only table and the only profile are compared, call by call of the table, by a relation and in these limits.
 pub record AreFoundOfOnly (relation : Relation) (stack : List (List Insn)) (tables : Tables) (profiles : List Profile)
     (limits : Limits) (calls : List CallFinding) : Type 0 where
@@ -114,20 +94,23 @@ pub record AreFoundOfOnly (relation : Relation) (stack : List (List Insn)) (tabl
   pub of_table : own.architecture ≡ architecture
   pub found : AreFoundOfTable relation architecture (stack_behavior stack) (profile_behavior own) names limits calls
 
--- The bytes are a stack of filters, the table of an architecture and a profile, which are compared so.
-abbrev pub AreVerifiedCallsOf : Relation → List (Option (List ℕ)) → List (Architecture × Option (List ℕ))
-    → Option (List ℕ) → Limits → CallsOutcome → Type 0
-AreVerifiedCallsOf relation filters texts profile limits outcome =
-    AreComparedUnder filters texts profile outcome.left_out
-    (λ stack tables profiles. AreFoundOfOnly relation stack tables profiles limits outcome.calls.items)
+-- The findings are true of a stack and the profiles of architectures, compared as is asked by a relation: one that
+-- speaks for the records of all of them, where the scope is a range for those with a number of it; or call by call of
+-- the only table.
+abbrev pub AreFoundUnder : Comparison → List (List Insn) → Tables → List Profile → Findings → Type 0
+AreFoundUnder comparison stack tables profiles findings =
+    AreAsked
+    (λ scope. IsJointlyFound comparison.relation (scope_of scope) stack profiles (limit_of comparison.limits))
+    (AreFoundOfOnly comparison.relation stack tables profiles comparison.limits)
+    comparison.scopes findings
 
--- What the comparison of a stack with the profile of one architecture, call by call and from the bytes of their
--- readers, answers. The faults are those of the comparison for several architectures.
-abbrev pub VerifiesCallsOf : Relation → List (Option (List ℕ)) → List (Architecture × Option (List ℕ))
-    → Option (List ℕ) → Limits → Result CallsOutcome VerifyFault → Type 0
-VerifiesCallsOf relation filters texts profile limits (Ok outcome) =
-    AreVerifiedCallsOf relation filters texts profile limits outcome
-VerifiesCallsOf relation filters texts profile limits (Err fault) =
+-- What that comparison, from the bytes of the readers, answers.
+abbrev pub VerifiesArchitectures : Comparison → List (Option (List ℕ)) → List (Architecture × Option (List ℕ))
+    → Option (List ℕ) → Result ComparisonOutcome VerifyFault → Type 0
+VerifiesArchitectures comparison filters texts profile (Ok outcome) =
+    AreComparedUnder filters texts profile outcome.left_out
+    (λ stack tables profiles. AreFoundUnder comparison stack tables profiles outcome.findings)
+VerifiesArchitectures comparison filters texts profile (Err fault) =
     IsRefusedBehind filters (AreProfilesRefused texts profile) fault
 
 -- ---- the readers

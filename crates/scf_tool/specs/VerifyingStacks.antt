@@ -9,35 +9,22 @@ use Rattle.scf_profile.specs.declared.loaded.Loaded.{Loaded}
 use Rattle.scf_profile.specs.Profile.{Profile}
 use Rattle.scf_profile.specs.PlainProfile.{IsPlainProfile}
 use Rattle.scf_profile.specs.Table.{Names}
-use Rattle.scf_profile.specs.declared.relation.Relation.{Relation}
+use Rattle.scf_profile.specs.Scope.{SameAnswersIn}
 use Rattle.scf_profile.specs.declared.scope.Scope.{Scope}
 use Rattle.scf_compare.specs.declared.verdict.Verdict.{Verdict}
 use Rattle.scf_compare.specs.Effort.{effort_of_stack}
-use Rattle.scf_profile.specs.Scope.{RelatedAnswersIn}
-use Rattle.scf_compare.specs.declared.budget.Limit.{Limit}
-use Rattle.scf_compare.specs.declared.budget.Splits.TheVariants.{NoLimit}
-use Rattle.scf_compare.specs.Verdicts.{IsTrueOfStackBy, IsWithin, IsDecided}
 use Rattle.scf_compare.specs.Sides.{profile_behavior, stack_behavior}
-use Rattle.scf_request.specs.declared.request.Limits.{Limits}
-use Rattle.scf_tool.specs.Comparisons.{AreFoundOfTable}
-use Rattle.scf_tool.specs.declared.call_verification.CallsOutcome.{CallsOutcome}
+use Rattle.scf_compare.specs.Verdicts.{IsTrueOfStack, IsWithin, IsDecided}
+use Rattle.scf_request.specs.declared.request.Comparison.{Comparison}
+use Rattle.scf_tool.specs.Comparisons.{AreAsked, AreFoundOfTable, IsFound, limit_of}
+use Rattle.scf_tool.specs.declared.findings.ComparisonOutcome.{ComparisonOutcome}
+use Rattle.scf_tool.specs.declared.findings.Findings.{Findings}
 use Rattle.scf_tool.specs.declared.left_out.LeftOut.{LeftOut}
 use Rattle.scf_tool.specs.declared.verification.Outcome.{Outcome}
 use Rattle.scf_tool.specs.declared.verify_fault.VerifyFault.{VerifyFault}
 use Rattle.scf_tool.specs.declared.verify_fault.VerifyFault.TheVariants.{FilterRead, Check, Stack}
 use Rattle.scf_tool.specs.FilterStacks.{HasStack, HasNoStack, HaveEnded, HaveStopped}
 use Rattle.scf_tool.specs.Verifying.{IsTable, IsLoaded, IsProfileFault}
-
--- A verdict on a relation is true of a stack and a profile over the calls of a scope, and within the limit and the
--- effort. It decides between plain filters and a plain profile, and between any if there is no limit of splits.
-pub record IsComparison (relation : Relation) (stack : List (List Insn)) (p : Profile) (scope : Scope) (limit : Limit)
-    (verdict : Verdict) : Type 0 where
-  pub holds : IsTrueOfStackBy relation stack p scope verdict
-  pub within : IsWithin limit.steps (effort_of_stack stack p) verdict
-  pub decided : All IsPlainProgram stack → IsPlainProfile p
-      → IsDecided (RelatedAnswersIn relation scope (StackAnswers stack) p) limit.steps (effort_of_stack stack p) verdict
-  pub settled : limit.splits ≡ NoLimit
-      → IsDecided (RelatedAnswersIn relation scope (StackAnswers stack) p) limit.steps (effort_of_stack stack p) verdict
 
 -- what is left out of a profile that is loaded
 abbrev pub left_out_of : Loaded → LeftOut
@@ -61,13 +48,6 @@ pub record AreComparedInputs (filters : List (Option (List ℕ))) (table profile
   pub is_left_out : left_out ≡ Some (left_out_of loaded)
   pub compared : holds stack names loaded.profile
 
--- They are compared by a relation, and the verdict is one on that stack and that profile.
-abbrev pub IsVerifiedBy : Relation → List (Option (List ℕ)) → Option (List ℕ) → Option (List ℕ) → Scope → Limit
-    → Outcome → Type 0
-IsVerifiedBy relation filters table profile scope limit outcome =
-    AreComparedInputs filters table profile (Some (outcome_left_out outcome))
-    (λ stack names p. IsComparison relation stack p scope limit outcome.verdict)
-
 -- Why nothing is compared: the filters are no stack, or they are, and this is why.
 abbrev pub IsRefusedBehind : List (Option (List ℕ)) → (VerifyFault → Type 0) → VerifyFault → Type 0
 IsRefusedBehind filters behind fault =
@@ -77,30 +57,40 @@ IsRefusedBehind filters behind fault =
 abbrev pub IsRefusedStack : List (Option (List ℕ)) → Option (List ℕ) → Option (List ℕ) → VerifyFault → Type 0
 IsRefusedStack filters table profile fault = IsRefusedBehind filters (IsProfileFault table profile) fault
 
--- What the comparison of a stack with a profile by a relation, from the bytes of their readers, answers.
-abbrev pub VerifiesBy : Relation → List (Option (List ℕ)) → Option (List ℕ) → Option (List ℕ) → Scope → Limit
+-- A verdict is true of a stack and a profile over the calls of a scope, and within the limit and the effort. It decides
+-- between plain filters and a plain profile.
+pub record IsVerdictOn (stack : List (List Insn)) (p : Profile) (scope : Scope) (limit : ℕ) (verdict : Verdict) : Type 0
+  where
+    pub holds : IsTrueOfStack stack p scope verdict
+    pub within : IsWithin limit (effort_of_stack stack p) verdict
+    pub decided : All IsPlainProgram stack → IsPlainProfile p
+        → IsDecided (SameAnswersIn scope (StackAnswers stack) p) limit (effort_of_stack stack p) verdict
+
+-- What the comparison of a stack with a profile over a scope, from the bytes of their readers, answers.
+abbrev pub VerifiesStack : List (Option (List ℕ)) → Option (List ℕ) → Option (List ℕ) → Scope → ℕ
     → Result Outcome VerifyFault → Type 0
-VerifiesBy relation filters table profile scope limit (Ok outcome) =
-    IsVerifiedBy relation filters table profile scope limit outcome
-VerifiesBy relation filters table profile scope limit (Err fault) = IsRefusedStack filters table profile fault
+VerifiesStack filters table profile scope limit (Ok outcome) =
+    AreComparedInputs filters table profile (Some (outcome_left_out outcome))
+    (λ stack names p. IsVerdictOn stack p scope limit outcome.verdict)
+VerifiesStack filters table profile scope limit (Err fault) = IsRefusedStack filters table profile fault
 
--- ---- the comparison call by call
+-- The findings are true of a stack, a table and a profile, compared as is asked: by a relation, over a scope or call by
+-- call of the table.
+abbrev pub AreFoundOfInputs : Comparison → List (List Insn) → Names → Profile → Findings → Type 0
+AreFoundOfInputs comparison stack names p findings =
+    AreAsked
+    (λ scope. IsFound comparison.relation (stack_behavior stack) (profile_behavior p) scope
+    (limit_of comparison.limits))
+    (AreFoundOfTable comparison.relation X8664 (stack_behavior stack) (profile_behavior p) names comparison.limits)
+    comparison.scopes findings
 
--- They are compared by a relation, call by call of the table, in these limits.
-abbrev pub AreVerifiedCalls : Relation → List (Option (List ℕ)) → Option (List ℕ) → Option (List ℕ) → Limits
-    → CallsOutcome → Type 0
-AreVerifiedCalls relation filters table profile limits outcome =
+-- What that comparison, from the bytes of their readers, answers.
+abbrev pub VerifiesBy : Comparison → List (Option (List ℕ)) → Option (List ℕ) → Option (List ℕ)
+    → Result ComparisonOutcome VerifyFault → Type 0
+VerifiesBy comparison filters table profile (Ok outcome) =
     AreComparedInputs filters table profile outcome.left_out
-    (λ stack names p.
-    AreFoundOfTable relation X8664 (stack_behavior stack) (profile_behavior p) names limits outcome.calls.items)
-
--- What the comparison of a stack with a profile call by call and by a relation, from the bytes of their readers,
--- answers. The faults are those of the comparison of a stack.
-abbrev pub VerifiesCalls : Relation → List (Option (List ℕ)) → Option (List ℕ) → Option (List ℕ) → Limits
-    → Result CallsOutcome VerifyFault → Type 0
-VerifiesCalls relation filters table profile limits (Ok outcome) =
-    AreVerifiedCalls relation filters table profile limits outcome
-VerifiesCalls relation filters table profile limits (Err fault) = IsRefusedStack filters table profile fault
+    (λ stack names p. AreFoundOfInputs comparison stack names p outcome.findings)
+VerifiesBy comparison filters table profile (Err fault) = IsRefusedStack filters table profile fault
 
 -- ---- the readers
 

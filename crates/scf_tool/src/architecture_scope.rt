@@ -7,34 +7,17 @@ ghost use Rattle.scf_tool.specs.ArchitectureScopes as spec;
 use scf_insn::Architecture;
 use scf_profile::Scope;
 
-/// The syscall numbers, as records have them, from `first` to `last`, both included; none if `first` is above `last`.
-#[derive(Clone, Copy, Debug, PartialEq, Eq)]
-pub struct NumberRange {
-    pub first: u32,
-    pub last: u32,
-}
-
-/// The range of numbers of a scope, if it is one.
-pub(crate) fn range_of(scope: Scope) -> Option<NumberRange>
-    ensures { result ≡ spec.range_of scope }
+/// The records of an architecture; if the scope is a range of numbers, those of them with a number in it.
+pub(crate) fn scope_of(scope: Scope, architecture: Architecture) -> Scope
+    ensures { result ≡ spec.scope_of scope architecture }
 {
     match scope {
-        Scope::Numbers { first, last } => Some(NumberRange { first, last }),
-        _ => None,
-    }
-}
-
-/// The records of an architecture with a number in the range, or all of them if there is none.
-pub(crate) fn scope_of(range: Option<NumberRange>, architecture: Architecture) -> Scope
-    ensures { result ≡ spec.scope_of range architecture }
-{
-    match range {
-        None => Scope::Of(architecture),
-        Some(numbers) => Scope::NumbersOf {
+        Scope::Numbers { first, last } => Scope::NumbersOf {
             architecture,
-            first: numbers.first,
-            last: numbers.last,
+            first,
+            last,
         },
+        _ => Scope::Of(architecture),
     }
 }
 

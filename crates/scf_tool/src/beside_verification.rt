@@ -1,27 +1,23 @@
 //! Compares two stacks of filters, from their bytes.
 
-ghost use Rattle.std.specs.Prelude.{IfErr, IfOk, map};
+ghost use Rattle.std.specs.Prelude.{◌≡◌, IfErr, IfOk, length, map};
 ghost use Rattle.scf_tool.specs.VerifyingBeside.{
   AreStacks,
-  AreVerifiedBeside,
   IsRefusedPair,
-  IsTableFault,
   LeavesBesideReaders,
   LeavesFirstReaders,
-  LeavesLastReader,
+  LeavesLastReaders,
   VerifiesBeside,
 };
 
-use crate::call_verification::{CallsOutcome, compare_calls};
 use crate::filter_stack::read_stack;
-use crate::verification::{FindingOutcome, read_table};
+use crate::findings::{ComparisonOutcome, Findings, compare_at_once, compare_calls};
+use crate::verification::read_table;
 use crate::verify_fault::BesideFault;
-use scf_compare::{Limit, Side, compare_sides};
-use scf_facts::WordSets;
+use scf_compare::Side;
 use scf_insn::{Architecture, Source};
 use scf_machine::FilterStack;
-use scf_profile::{Relation, Scope};
-use scf_request::Limits;
+use scf_request::{Comparison, Scopes};
 use std::alloc::Global;
 
 /// Two stacks of filters.
@@ -51,60 +47,51 @@ fn read_stacks<F: Source, B: Source>(
     }
 }
 
-/// Reads two stacks of filters, and compares them over the records of a scope by a relation, within a limit.
+/// Reads two stacks of filters, and compares them as is asked: by a relation, over the records of a scope, or call by
+/// call of a syscall table.
 ///
 /// The readers are in the order of the stacks, the oldest first. Each filter is read, checked and pushed before the
-/// next, those of the first stack before those of the one beside it; the error is the first fault.
+/// next, those of the first stack before those of the one beside it. The table is read last, only call by call, and has
+/// at most 4194304 bytes. The error is the first fault.
 ///
-/// `Holds` says that the relation holds of both stacks' answers to every record of the scope, and `Fails` shows one of
-/// which it doesn't: see `compare_sides`. Plain filters are never left undecided.
-pub fn verify_beside<F: Source, B: Source>(
+/// `Holds` says that the relation holds of both stacks' answers to every record that is compared, and `Fails` shows one
+/// of which it doesn't. The limits are those of `verify_by`. Plain filters are never left undecided.
+pub fn verify_beside<F: Source, B: Source, T: Source>(
     alloc: Global,
     filter_readers: &mut [F],
     beside_readers: &mut [B],
-    scope: Scope,
-    relation: Relation,
-    limit: Limit,
-) -> Result<FindingOutcome, BesideFault>
-    ensures answer { VerifiesBeside relation (map F.remaining filter_readers.old)
-        (map B.remaining beside_readers.old) scope limit result }
+    table_readers: &mut [T],
+    comparison: Comparison,
+) -> Result<ComparisonOutcome, BesideFault>
+    requires { comparison.scopes ≡ Scopes.EachCall → length table_readers.old ≡ 1 }
+    ensures answer { VerifiesBeside comparison (map F.remaining filter_readers.old)
+        (map B.remaining beside_readers.old) (map T.remaining table_readers.old) result }
     ensures filter_readers { LeavesFirstReaders F.remaining F.failures filter_readers.old result filter_readers.new }
     ensures beside_readers { LeavesBesideReaders B.remaining B.failures beside_readers.old result beside_readers.new }
+    ensures table_readers { LeavesLastReaders comparison.scopes T.remaining T.failures
+        table_readers.old result table_readers.new }
 {
     let stacks = read_stacks(alloc, filter_readers, beside_readers)?;
     let left = Side::Stack(stacks.left.filters());
     let right = Side::Stack(stacks.right.filters());
-    let finding = compare_sides::<WordSets>(alloc, &left, &right, scope, relation, limit)?;
-    let left_out = None;
-    Ok(FindingOutcome { finding, left_out })
-}
-
-/// Compares two stacks as `verify_beside` does, call by call: each call that a table names, by itself and in at most
-/// `limits.each` steps. All together take at most `limits.total`: the calls for which no step is left are `Unfinished`.
-///
-/// The table is read last, and has at most 4194304 bytes.
-pub fn verify_calls_beside<F: Source, B: Source, T: Source>(
-    alloc: Global,
-    filter_readers: &mut [F],
-    beside_readers: &mut [B],
-    table_reader: &mut T,
-    relation: Relation,
-    limits: Limits,
-) -> Result<CallsOutcome, BesideFault>
-    ensures calls { IfOk result (AreVerifiedBeside relation (map F.remaining filter_readers.old)
-        (map B.remaining beside_readers.old) (T.remaining table_reader.old) limits) }
-    ensures refused { IfErr result (IsRefusedPair (map F.remaining filter_readers.old)
-        (map B.remaining beside_readers.old) (IsTableFault (T.remaining table_reader.old))) }
-    ensures filter_readers { LeavesFirstReaders F.remaining F.failures filter_readers.old result filter_readers.new }
-    ensures beside_readers { LeavesBesideReaders B.remaining B.failures beside_readers.old result beside_readers.new }
-    ensures table_reader { LeavesLastReader T.remaining T.failures table_reader.old result table_reader.new }
-{
-    let stacks = read_stacks(alloc, filter_readers, beside_readers)?;
-    let table = read_table(alloc, table_reader)?;
-    let left = Side::Stack(stacks.left.filters());
-    let right = Side::Stack(stacks.right.filters());
-    let own = Architecture::X8664;
-    let calls = compare_calls(alloc, &left, &right, own, &table, relation, limits)?;
-    let left_out = None;
-    Ok(CallsOutcome { calls, left_out })
+    let relation = comparison.relation;
+    let limits = comparison.limits;
+    match comparison.scopes {
+        Scopes::AtOnce(scope) => {
+            let finding = compare_at_once(alloc, &left, &right, scope, relation, limits)?;
+            Ok(ComparisonOutcome {
+                findings: Findings::AtOnce(finding),
+                left_out: None,
+            })
+        }
+        Scopes::EachCall => {
+            let table = read_table(alloc, &mut table_readers[0])?;
+            let own = Architecture::X8664;
+            let calls = compare_calls(alloc, &left, &right, own, &table, relation, limits)?;
+            Ok(ComparisonOutcome {
+                findings: Findings::EachCall(calls),
+                left_out: None,
+            })
+        }
+    }
 }

@@ -3,41 +3,20 @@
 ghost use Rattle.std.specs.Prelude.{◌≡◌, ◌++◌, codes, find, map, not, string_bytes, IfOk};
 ghost use Rattle.std.specs.Fmt.{decimal};
 ghost use Rattle.std.specs.List.{flat_map, join_by};
-ghost use Rattle.scf_tool.specs.CallReports.{
-  calls_text,
-  found_text,
-  is_failure,
-  is_holding,
-  joint_of,
-  joint_text,
-  named_line,
-};
+ghost use Rattle.scf_tool.specs.JointFindings.{worst_of_calls, is_failure, is_holding};
+ghost use Rattle.scf_tool.specs.Reports.{found_text, joint_text, named_line};
 ghost use Rattle.scf_tool.specs.internal.Gathering.{Adds};
 
 use crate::buffer::Buffer;
-use crate::call_verification::{CallFinding, CallsOutcome};
+use crate::findings::CallFinding;
 use crate::fragments::Fragment::{Decimal, Text};
+use crate::joint_finding::{fails, holds};
 use crate::lines::add_answer;
-use crate::reporting::{
-    add_answer_line, add_arguments, add_finding, add_left_out, add_word, failing, holding,
-    word_of_right,
-};
+use crate::reporting::{add_answer_line, add_arguments, add_finding, add_word, failing, holding};
 use scf_compare::Finding;
 use scf_insn::{Answer, CallRecord, Memory};
 use scf_profile::{Relation, Texts};
 use std::alloc::{AllocError, Global};
-
-fn fails(finding: &Finding) -> bool
-    ensures { result ≡ is_failure finding.now }
-{
-    matches!(finding, Finding::Fails { .. })
-}
-
-fn holds(finding: &Finding) -> bool
-    ensures { result ≡ is_holding finding.now }
-{
-    matches!(finding, Finding::Holds { .. })
-}
 
 /// The first finding that fails.
 fn first_failure(calls: &[CallFinding]) -> Option<Finding>
@@ -55,9 +34,9 @@ fn first_other(calls: &[CallFinding]) -> Option<Finding>
     findings.find(|finding| !holds(finding))
 }
 
-/// The joint finding: the first that fails, else the first that doesn't hold; `None` if all hold.
-pub(crate) fn joint_finding(calls: &[CallFinding]) -> Option<Finding>
-    ensures { result ≡ joint_of calls.now }
+/// The first finding that fails, else the first that doesn't hold; `None` if all hold.
+pub(crate) fn worst_of_calls(calls: &[CallFinding]) -> Option<Finding>
+    ensures { result ≡ worst_of_calls calls.now }
 {
     first_failure(calls).or(first_other(calls))
 }
@@ -166,27 +145,20 @@ fn add_calls(
     Ok(())
 }
 
-/// The report of an outcome by a relation: the joint finding, then a line for each syscall for which the relation
-/// doesn't hold, one for each skipped name and one for each other architecture, in order.
-///
-/// The joint finding is that the relation holds if it holds for every syscall, that it doesn't if it fails for one,
-/// else the finding on the first one for which it isn't known to hold.
-pub fn report_calls(
+/// Adds the line of the worst finding on calls, then a line for each syscall for which the relation doesn't
+/// hold.
+pub(crate) fn add_findings(
     alloc: Global,
+    text: &mut Buffer,
     relation: Relation,
-    outcome: &CallsOutcome,
-) -> Result<Vec<u8>, Memory>
-    ensures { IfOk result (λ text. text.items ≡ calls_text relation outcome.now) }
+    right_word: &str,
+    calls: &[CallFinding],
+) -> Result<(), Memory>
+    ensures { Adds text.old
+        (joint_text relation right_word.now (worst_of_calls calls.now)
+        ++ flat_map (named_line relation right_word.now) calls.now) result text.new }
 {
-    let right_word = word_of_right(&outcome.left_out);
-    let mut text = Buffer::new(alloc);
-    add_joint(
-        &mut text,
-        relation,
-        right_word,
-        joint_finding(&outcome.calls),
-    )?;
-    add_calls(alloc, &mut text, relation, right_word, &outcome.calls)?;
-    add_left_out(&mut text, &outcome.left_out)?;
-    Ok(text.into_bytes())
+    add_joint(text, relation, right_word, worst_of_calls(calls))?;
+    add_calls(alloc, text, relation, right_word, calls)?;
+    Ok(())
 }

@@ -8,10 +8,10 @@ ghost use Rattle.scf_tool.specs.Reports.{
   answer_line,
   argument_text,
   call_line,
+  finding_text,
   left_out_text,
   name_line,
-  finding_outcome_of,
-  finding_text,
+  outcome_of,
   prefixed,
   report_text,
   said_of,
@@ -20,10 +20,12 @@ ghost use Rattle.scf_tool.specs.Reports.{
 ghost use Rattle.scf_tool.specs.internal.Gathering.{Adds};
 
 use crate::buffer::Buffer;
+use crate::call_reporting::add_findings;
+use crate::findings::{ComparisonOutcome, Findings};
 use crate::fragments::Fragment::{Decimal, Hexadecimal, Text};
 use crate::left_out::LeftOut;
 use crate::lines::add_answer;
-use crate::verification::{FindingOutcome, Outcome};
+use crate::verification::Outcome;
 use scf_compare::{Finding, Verdict, Which};
 use scf_insn::{Answer, CallRecord, Memory};
 use scf_profile::{Relation, Texts};
@@ -218,7 +220,7 @@ pub(crate) fn add_left_out(text: &mut Buffer, left_out: &Option<LeftOut>) -> Res
 /// The report of an outcome: the verdict, then a line for each skipped name and one for each other architecture, in
 /// order.
 pub fn report(alloc: Global, outcome: &Outcome) -> Result<Vec<u8>, Memory>
-    ensures { IfOk result (λ text. text.items ≡ report_text Relation.Same (finding_outcome_of outcome.now)) }
+    ensures { IfOk result (λ text. text.items ≡ report_text Relation.Same (outcome_of outcome.now)) }
 {
     let finding = finding_of(&outcome.verdict);
     let mut text = Buffer::new(alloc);
@@ -228,17 +230,21 @@ pub fn report(alloc: Global, outcome: &Outcome) -> Result<Vec<u8>, Memory>
 }
 
 /// The report of an outcome by a relation: `no more` or `no less` in place of `same`, `more` or `less` in place of
-/// `differs`. `report` is the case of equal answers of filters and a profile.
-pub fn report_finding(
+/// `differs`. Call by call the first line says whether the relation holds of all, and there is a line for each syscall
+/// for which it doesn't hold. `report` is the case of equal answers of filters and a profile, at once.
+pub fn report_by(
     alloc: Global,
     relation: Relation,
-    outcome: &FindingOutcome,
+    outcome: &ComparisonOutcome,
 ) -> Result<Vec<u8>, Memory>
     ensures { IfOk result (λ text. text.items ≡ report_text relation outcome.now) }
 {
     let right_word = word_of_right(&outcome.left_out);
     let mut text = Buffer::new(alloc);
-    add_finding(&mut text, relation, right_word, &outcome.finding)?;
+    match &outcome.findings {
+        Findings::AtOnce(finding) => add_finding(&mut text, relation, right_word, finding)?,
+        Findings::EachCall(calls) => add_findings(alloc, &mut text, relation, right_word, calls)?,
+    }
     add_left_out(&mut text, &outcome.left_out)?;
     Ok(text.into_bytes())
 }

@@ -13,10 +13,8 @@ ghost use Rattle.scf_tool.specs.Verifying.{
 ghost use Rattle.scf_tool.specs.VerifyingFilters.{Verifies};
 
 use crate::filter::read_filter;
-use crate::left_out::LeftOut;
-use crate::reporting::finding_of;
 use crate::verify_fault::VerifyFault;
-use scf_compare::{Finding, Verdict, compare};
+use scf_compare::{Verdict, compare};
 use scf_facts::WordSets;
 use scf_insn::{Source, read_input};
 use scf_profile::{CallTable, Loaded, MAX_TEXT_LEN, Texts, load};
@@ -30,30 +28,6 @@ pub struct Outcome {
     pub skipped: Texts,
     /// The architectures beside SCMP_ARCH_X86_64, each occurrence, in the order of the text.
     pub other_architectures: Texts,
-}
-
-/// The finding of a comparison, and what was left out of the profile, if it is one with a profile.
-#[derive(Debug, Drop)]
-pub struct FindingOutcome {
-    pub finding: Finding,
-    pub left_out: Option<LeftOut>,
-}
-
-impl From<Outcome> for FindingOutcome {
-    ghost use Rattle.std.specs.Prelude.{◌≡◌};
-    ghost use Rattle.scf_tool.specs.Reports.{finding_outcome_of};
-
-    ghost from_gives = { λ outcome own. own ≡ finding_outcome_of outcome };
-
-    fn from(outcome: Outcome) -> FindingOutcome {
-        FindingOutcome {
-            finding: finding_of(&outcome.verdict),
-            left_out: Some(LeftOut {
-                skipped: outcome.skipped,
-                other_architectures: outcome.other_architectures,
-            }),
-        }
-    }
 }
 
 /// Reads a syscall table.

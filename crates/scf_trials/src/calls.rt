@@ -5,6 +5,8 @@
 //! too, the calls that need its answer aren't made. Nothing takes memory before the first call, and printing takes
 //! none.
 
+ghost use Rattle.std.specs.Prelude.{◌≡◌};
+
 use crate::lines::{Lines, tell_twice, twice};
 use crate::{facts, rows};
 use scf_compare::{
@@ -18,9 +20,8 @@ use scf_profile::{ArchitectureTable, CallTable, Loaded, Profile, Texts, load, lo
 use scf_request::{Contents, TableReader, parse};
 use scf_text::{assemble, tokens};
 use scf_tool::{
-    CallsOutcome, FindingOutcome, Limits, NumberRange, Outcome, report, report_calls,
-    report_finding, split, verify, verify_architectures, verify_beside, verify_by, verify_calls,
-    verify_calls_beside, verify_calls_of, verify_stack,
+    Comparison, ComparisonOutcome, Limits, Outcome, Scopes, report, report_by, split, verify,
+    verify_architectures, verify_beside, verify_by, verify_stack,
 };
 use std::alloc::Global;
 use std::io;
@@ -28,15 +29,12 @@ use std::io;
 /// The most steps of a comparison.
 const LIMIT: u64 = 1_000_000;
 
-/// The most steps of each comparison of a syscall, and of all together.
-const LIMITS: Limits = Limits {
-    each: LIMIT,
-    total: LIMIT,
-    splits: 100,
-};
-
-/// The first syscall numbers.
-const RANGE: NumberRange = NumberRange { first: 0, last: 99 };
+/// The scopes that are compared: x86-64's calls, the first numbers, and each call of a table.
+const SCOPES: &[Scopes] = &[
+    Scopes::AtOnce(Scope::Native),
+    Scopes::AtOnce(Scope::Numbers { first: 0, last: 99 }),
+    Scopes::EachCall,
+];
 
 /// A call of x86-64.
 const CALL: CallRecord = CallRecord {
@@ -273,23 +271,30 @@ fn try_verify<R: Print>(lines: &mut Lines<R>, alloc: Global) {
     }
 }
 
-fn report_found<R: Print>(lines: &mut Lines<R>, alloc: Global, outcome: &FindingOutcome) {
+/// What is asked of a comparison over scopes.
+fn comparison(scopes: Scopes) -> Comparison
+    ensures { result.scopes ≡ scopes }
+{
+    Comparison {
+        limits: Limits {
+            each: LIMIT,
+            total: LIMIT,
+            splits: 100,
+        },
+        scopes,
+        relation: Relation::NoMore,
+    }
+}
+
+fn report_found<R: Print>(lines: &mut Lines<R>, alloc: Global, outcome: &ComparisonOutcome) {
     tell_twice!(
         lines,
-        "report_finding",
-        report_finding(alloc, Relation::NoMore, outcome)
+        "report_by",
+        report_by(alloc, Relation::NoMore, outcome)
     );
 }
 
-fn report_calls_found<R: Print>(lines: &mut Lines<R>, alloc: Global, outcome: &CallsOutcome) {
-    tell_twice!(
-        lines,
-        "report_calls",
-        report_calls(alloc, Relation::NoLess, outcome)
-    );
-}
-
-fn try_verify_by<R: Print>(lines: &mut Lines<R>, alloc: Global) {
+fn try_verify_by<R: Print>(lines: &mut Lines<R>, alloc: Global, scopes: Scopes) {
     let verified = twice!(
         lines,
         "verify_by",
@@ -298,13 +303,11 @@ fn try_verify_by<R: Print>(lines: &mut Lines<R>, alloc: Global) {
             &mut [Counted::new(rows::clone())],
             &mut Counted::new(rows::masked()),
             &mut Counted::new(rows::table()),
-            Scope::Native,
-            Relation::NoMore,
-            Limit::of_steps(LIMIT),
+            comparison(scopes),
         )
     );
     if let Some(outcome) = verified {
-        report_found(lines, alloc, &FindingOutcome::from(outcome));
+        report_found(lines, alloc, &outcome);
     }
 }
 
@@ -316,7 +319,24 @@ fn table_reader(architecture: Architecture) -> TableReader<Counted<&'static [u8]
     }
 }
 
-fn try_verify_architectures<R: Print>(lines: &mut Lines<R>, alloc: Global) {
+fn try_verify_architectures<R: Print>(lines: &mut Lines<R>, alloc: Global, scopes: Scopes) {
+    let verified = twice!(
+        lines,
+        "verify_architectures",
+        verify_architectures(
+            alloc,
+            &mut [Counted::new(rows::clone())],
+            &mut Counted::new(rows::config()),
+            &mut [table_reader(Architecture::X32)],
+            comparison(scopes),
+        )
+    );
+    if let Some(outcome) = verified {
+        report_found(lines, alloc, &outcome);
+    }
+}
+
+fn try_two_tables<R: Print>(lines: &mut Lines<R>, alloc: Global) {
     tell_twice!(
         lines,
         "verify_architectures",
@@ -328,24 +348,7 @@ fn try_verify_architectures<R: Print>(lines: &mut Lines<R>, alloc: Global) {
                 table_reader(Architecture::X8664),
                 table_reader(Architecture::X86),
             ],
-            Some(RANGE),
-            Relation::Same,
-            Limit::of_steps(LIMIT),
-        )
-    );
-}
-
-fn try_verify_calls_of<R: Print>(lines: &mut Lines<R>, alloc: Global) {
-    tell_twice!(
-        lines,
-        "verify_calls_of",
-        verify_calls_of(
-            alloc,
-            &mut [Counted::new(rows::clone())],
-            &mut Counted::new(rows::config()),
-            &mut [table_reader(Architecture::X32)],
-            Relation::NoMore,
-            LIMITS,
+            comparison(Scopes::AtOnce(Scope::All)),
         )
     );
 }
@@ -377,28 +380,9 @@ fn report_difference<R: Print>(lines: &mut Lines<R>, alloc: Global) {
         other_architectures: Texts::from_vec(Vec::new(alloc)),
     };
     tell_twice!(lines, "report", report(alloc, &outcome));
-    report_found(lines, alloc, &FindingOutcome::from(outcome));
 }
 
-fn try_verify_calls<R: Print>(lines: &mut Lines<R>, alloc: Global) {
-    let verified = twice!(
-        lines,
-        "verify_calls",
-        verify_calls(
-            alloc,
-            &mut [Counted::new(rows::clone())],
-            &mut Counted::new(rows::masked()),
-            &mut Counted::new(rows::table()),
-            Relation::NoLess,
-            LIMITS,
-        )
-    );
-    if let Some(outcome) = verified {
-        report_calls_found(lines, alloc, &outcome);
-    }
-}
-
-fn try_verify_beside<R: Print>(lines: &mut Lines<R>, alloc: Global) {
+fn try_verify_beside<R: Print>(lines: &mut Lines<R>, alloc: Global, scopes: Scopes) {
     let verified = twice!(
         lines,
         "verify_beside",
@@ -406,9 +390,8 @@ fn try_verify_beside<R: Print>(lines: &mut Lines<R>, alloc: Global) {
             alloc,
             &mut [Counted::new(rows::clone())],
             &mut [Counted::new(rows::allow_all())],
-            Scope::All,
-            Relation::SameDisposition,
-            Limit::of_steps(LIMIT),
+            &mut [Counted::new(rows::table())],
+            comparison(scopes),
         )
     );
     if let Some(outcome) = verified {
@@ -416,21 +399,11 @@ fn try_verify_beside<R: Print>(lines: &mut Lines<R>, alloc: Global) {
     }
 }
 
-fn try_verify_calls_beside<R: Print>(lines: &mut Lines<R>, alloc: Global) {
-    let verified = twice!(
-        lines,
-        "verify_calls_beside",
-        verify_calls_beside(
-            alloc,
-            &mut [Counted::new(rows::clone())],
-            &mut [Counted::new(rows::allow_all())],
-            &mut Counted::new(rows::table()),
-            Relation::NoMore,
-            LIMITS,
-        )
-    );
-    if let Some(outcome) = verified {
-        report_calls_found(lines, alloc, &outcome);
+fn try_comparisons<R: Print>(lines: &mut Lines<R>, alloc: Global) {
+    for scopes in SCOPES {
+        try_verify_by(lines, alloc, *scopes);
+        try_verify_architectures(lines, alloc, *scopes);
+        try_verify_beside(lines, alloc, *scopes);
     }
 }
 
@@ -445,11 +418,7 @@ pub(crate) fn make_all(rt: &HostRuntime) -> io::Result<()> {
     report_difference(&mut lines, alloc);
     try_verify(&mut lines, alloc);
     try_verify_stack(&mut lines, alloc);
-    try_verify_by(&mut lines, alloc);
-    try_verify_architectures(&mut lines, alloc);
-    try_verify_calls_of(&mut lines, alloc);
-    try_verify_calls(&mut lines, alloc);
-    try_verify_beside(&mut lines, alloc);
-    try_verify_calls_beside(&mut lines, alloc);
+    try_comparisons(&mut lines, alloc);
+    try_two_tables(&mut lines, alloc);
     lines.into_outcome()
 }

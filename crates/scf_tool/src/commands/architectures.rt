@@ -23,21 +23,17 @@ ghost use Rattle.scf_tool.specs.Commands.{
 ghost use Rattle.scf_tool.specs.Commands as spec;
 ghost use Rattle.scf_tool.specs.Statuses.{LeavesWhole};
 
-use crate::architecture_call_verification::verify_calls_of;
-use crate::architecture_scope::range_of;
 use crate::architecture_verification::verify_architectures;
-use crate::call_verification::limit_of;
-use crate::commands::compare::{report_of, report_of_calls};
+use crate::commands::compare::report_of;
 use crate::commands::{only, whole_input};
 use crate::compilation::filter_of_each;
 use crate::fault::Fault;
 use crate::loading::load_with_tables;
 use crate::reply::Reply;
-use crate::verification::FindingOutcome;
 use crate::verify_fault::VerifyFault;
 use scf_insn::{Architecture, CallRecord, Source};
-use scf_profile::{LoadedProfiles, Relation, Scope};
-use scf_request::{BundleFault, Comparison, Contents, Limits, PartReader, Scopes, TableReader};
+use scf_profile::LoadedProfiles;
+use scf_request::{BundleFault, Comparison, Contents, PartReader, Scopes, TableReader};
 use std::alloc::Global;
 
 /// The parts of a bundle for several architectures.
@@ -145,48 +141,7 @@ fn loaded(
     load_with_tables(alloc, profile, tables)
 }
 
-/// The report on a stack and a profile, over the calls of each architecture that has a table; if the scope is a range,
-/// over those with a number in it.
-fn compare_at_once(
-    alloc: Global,
-    filters: &mut [PartReader<'_>],
-    profile: &mut PartReader<'_>,
-    tables: &mut [TableReader<PartReader<'_>>],
-    scope: Scope,
-    relation: Relation,
-    limits: Limits,
-) -> Result<Reply, VerifyFault>
-    ensures reply { IfOk result (λ reply. ComparesProfiles (Scopes.AtOnce scope) relation limits
-        (map rest_of filters.old) (rest_of profile.old) (map rest_of_table tables.old) (Ok reply)) }
-    ensures fault { IfErr result (λ fault. ComparesProfiles (Scopes.AtOnce scope) relation limits
-        (map rest_of filters.old) (rest_of profile.old) (map rest_of_table tables.old) (Err (Fault.Verify fault))) }
-{
-    let limit = limit_of(limits);
-    let range = range_of(scope);
-    let outcome = verify_architectures(alloc, filters, profile, tables, range, relation, limit)?;
-    Ok(report_of(alloc, relation, &FindingOutcome::from(outcome))?)
-}
-
-/// The report on a stack and a profile, call by call of the only table.
-fn compare_each_call(
-    alloc: Global,
-    filters: &mut [PartReader<'_>],
-    profile: &mut PartReader<'_>,
-    tables: &mut [TableReader<PartReader<'_>>],
-    relation: Relation,
-    limits: Limits,
-) -> Result<Reply, VerifyFault>
-    requires { length tables.old ≡ 1 }
-    ensures reply { IfOk result (λ reply. ComparesProfiles Scopes.EachCall relation limits
-        (map rest_of filters.old) (rest_of profile.old) (map rest_of_table tables.old) (Ok reply)) }
-    ensures fault { IfErr result (λ fault. ComparesProfiles Scopes.EachCall relation limits
-        (map rest_of filters.old) (rest_of profile.old) (map rest_of_table tables.old) (Err (Fault.Verify fault))) }
-{
-    let outcome = verify_calls_of(alloc, filters, profile, tables, relation, limits)?;
-    Ok(report_of_calls(alloc, relation, &outcome)?)
-}
-
-/// The report on a stack and a profile, over the records that are asked for.
+/// The report on a stack and a profile, for the architectures that have a table.
 fn compare_parts(
     alloc: Global,
     filters: &mut [PartReader<'_>],
@@ -195,23 +150,17 @@ fn compare_parts(
     comparison: Comparison,
 ) -> Result<Reply, VerifyFault>
     requires { comparison.scopes ≡ Scopes.EachCall → length tables.old ≡ 1 }
-    ensures reply { IfOk result (λ reply. ComparesProfiles comparison.scopes comparison.relation comparison.limits
+    ensures reply { IfOk result (λ reply. ComparesProfiles comparison
         (map rest_of filters.old) (rest_of profile.old) (map rest_of_table tables.old) (Ok reply)) }
-    ensures fault { IfErr result (λ fault. ComparesProfiles comparison.scopes comparison.relation comparison.limits
+    ensures fault { IfErr result (λ fault. ComparesProfiles comparison
         (map rest_of filters.old) (rest_of profile.old) (map rest_of_table tables.old) (Err (Fault.Verify fault))) }
 {
-    let limits = comparison.limits;
-    let relation = comparison.relation;
-    match comparison.scopes {
-        Scopes::AtOnce(scope) => compare_at_once(
-            alloc, filters, profile, tables, scope, relation, limits,
-        ),
-        Scopes::EachCall => compare_each_call(alloc, filters, profile, tables, relation, limits),
-    }
+    let outcome = verify_architectures(alloc, filters, profile, tables, comparison)?;
+    Ok(report_of(alloc, comparison.relation, &outcome)?)
 }
 
 /// Whether single calls are compared.
-fn is_call_by_call(over: Scopes) -> bool
+pub(super) fn is_call_by_call(over: Scopes) -> bool
     ensures { result ≡ spec.is_call_by_call over }
 {
     matches!(over, Scopes::EachCall)

@@ -1,58 +1,37 @@
 //! The comparison of a stack of filters with another one.
 
-ghost use Rattle.std.specs.Prelude.{◌∷◌, [], ℕ, List, map, IfErr, IfOk, Ok, Err};
+ghost use Rattle.std.specs.Prelude.{◌≡◌, length, map, IfErr, IfOk, Ok, Err};
 ghost use Rattle.scf_request.specs.Contents.{rest_of};
 ghost use Rattle.scf_tool.specs.Commands.{ComparesBeside, ComparesStacks};
 ghost use Rattle.scf_tool.specs.Statuses.{LeavesWhole};
 
-use crate::beside_verification::{verify_beside, verify_calls_beside};
-use crate::call_verification::limit_of;
-use crate::commands::compare::{report_of, report_of_calls};
-use crate::commands::{only, whole_input};
+use crate::beside_verification::verify_beside;
+use crate::commands::architectures::is_call_by_call;
+use crate::commands::compare::report_of;
+use crate::commands::whole_input;
 use crate::fault::Fault;
 use crate::reply::Reply;
 use crate::verify_fault::BesideFault;
 use scf_insn::Source;
-use scf_profile::{Relation, Scope};
-use scf_request::{Comparison, Contents, Limits, PartReader, Scopes};
+use scf_request::{Comparison, Contents, PartReader, Scopes};
 use std::alloc::Global;
 
-/// The report on two stacks over the records of a scope.
-fn compare_at_once(
+/// The report on two stacks.
+fn compare_stacks(
     alloc: Global,
     filters: &mut [PartReader<'_>],
     beside: &mut [PartReader<'_>],
-    scope: Scope,
-    relation: Relation,
-    limits: Limits,
+    tables: &mut [PartReader<'_>],
+    comparison: Comparison,
 ) -> Result<Reply, BesideFault>
-    ensures reply { (tables : List (List ℕ))
-        → IfOk result (λ reply. ComparesStacks (Scopes.AtOnce scope) relation limits
-        (map rest_of filters.old) (map rest_of beside.old) tables (Ok reply)) }
-    ensures fault { (tables : List (List ℕ))
-        → IfErr result (λ fault. ComparesStacks (Scopes.AtOnce scope) relation limits
-        (map rest_of filters.old) (map rest_of beside.old) tables (Err (Fault.Stacks fault))) }
+    requires { comparison.scopes ≡ Scopes.EachCall → length tables.old ≡ 1 }
+    ensures reply { IfOk result (λ reply. ComparesStacks comparison
+        (map rest_of filters.old) (map rest_of beside.old) (map rest_of tables.old) (Ok reply)) }
+    ensures fault { IfErr result (λ fault. ComparesStacks comparison
+        (map rest_of filters.old) (map rest_of beside.old) (map rest_of tables.old) (Err (Fault.Stacks fault))) }
 {
-    let outcome = verify_beside(alloc, filters, beside, scope, relation, limit_of(limits))?;
-    Ok(report_of(alloc, relation, &outcome)?)
-}
-
-/// The report on two stacks, call by call of a table.
-fn compare_each_call(
-    alloc: Global,
-    filters: &mut [PartReader<'_>],
-    beside: &mut [PartReader<'_>],
-    table: &mut PartReader<'_>,
-    relation: Relation,
-    limits: Limits,
-) -> Result<Reply, BesideFault>
-    ensures reply { IfOk result (λ reply. ComparesStacks Scopes.EachCall relation limits
-        (map rest_of filters.old) (map rest_of beside.old) (rest_of table.old ∷ []) (Ok reply)) }
-    ensures fault { IfErr result (λ fault. ComparesStacks Scopes.EachCall relation limits
-        (map rest_of filters.old) (map rest_of beside.old) (rest_of table.old ∷ []) (Err (Fault.Stacks fault))) }
-{
-    let outcome = verify_calls_beside(alloc, filters, beside, table, relation, limits)?;
-    Ok(report_of_calls(alloc, relation, &outcome)?)
+    let outcome = verify_beside(alloc, filters, beside, tables, comparison)?;
+    Ok(report_of(alloc, comparison.relation, &outcome)?)
 }
 
 /// `compare --beside`: whether a stack of filters answers as another one does, or is no more or no less permissive.
@@ -68,27 +47,9 @@ pub(super) fn compare_beside<R: Source>(
     let contents = Contents::beside(alloc, &bytes, comparison.scopes)?;
     let mut filters = contents.filters;
     let mut beside = contents.beside;
-    match comparison.scopes {
-        Scopes::AtOnce(scope) => Ok(compare_at_once(
-            alloc,
-            &mut filters,
-            &mut beside,
-            scope,
-            comparison.relation,
-            comparison.limits,
-        )?),
-        Scopes::EachCall => {
-            let Some(mut table) = only(contents.tables) else {
-                return Err(Fault::Parts);
-            };
-            Ok(compare_each_call(
-                alloc,
-                &mut filters,
-                &mut beside,
-                &mut table,
-                comparison.relation,
-                comparison.limits,
-            )?)
-        }
+    let mut tables = contents.tables;
+    if is_call_by_call(comparison.scopes) && tables.len() != 1 {
+        return Err(Fault::Parts);
     }
+    Ok(compare_stacks(alloc, &mut filters, &mut beside, &mut tables, comparison)?)
 }

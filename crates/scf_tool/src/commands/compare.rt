@@ -16,29 +16,26 @@ ghost use Rattle.std.specs.Prelude.{
   Ok,
   Err,
 };
-ghost use Rattle.std.specs.Option.{option_map_or};
-ghost use Rattle.scf_tool.specs.CallReports.{joint_of};
-ghost use Rattle.scf_tool.specs.Commands.{Compares, ComparesParts, HoldsBundle, IsCallsReport, IsReport, ReadsInput};
-ghost use Rattle.scf_tool.specs.Reports.{finding_status};
+ghost use Rattle.scf_tool.specs.Commands.{Compares, ComparesParts, HoldsBundle, IsReport, ReadsInput};
+ghost use Rattle.scf_tool.specs.Reports.{finding_status, findings_status};
 ghost use Rattle.scf_tool.specs.Statuses.{LeavesWhole};
 ghost use Rattle.scf_request.specs.Bundle.{IsBundleFault};
 ghost use Rattle.scf_request.specs.Contents.{rest_of};
 ghost use Rattle.scf_request.specs.declared.request.Comparison.{Comparison};
 
-use crate::call_reporting::{joint_finding, report_calls};
-use crate::call_verification::{CallFinding, CallsOutcome, limit_of, verify_calls};
+use crate::call_reporting::worst_of_calls;
 use crate::commands::{only, whole_input};
 use crate::fault::Fault;
+use crate::findings::{ComparisonOutcome, Findings};
 use crate::reply::Reply;
-use crate::reporting::report_finding;
+use crate::reporting::report_by;
 use crate::stack_verification::verify_by;
 use crate::status::Status;
-use crate::verification::FindingOutcome;
 use crate::verify_fault::VerifyFault;
 use scf_compare::Finding;
 use scf_insn::{Memory, Source};
-use scf_profile::{Relation, Scope};
-use scf_request::{BundleFault, Comparison, Contents, Limits, PartReader, Scopes};
+use scf_profile::Relation;
+use scf_request::{BundleFault, Comparison, Contents, PartReader};
 use std::alloc::Global;
 
 /// The exit status that goes with a finding.
@@ -52,85 +49,33 @@ fn status_of_finding(finding: &Finding) -> Status
     }
 }
 
-/// The exit status that goes with the finding that speaks for calls.
-fn status_of_calls(calls: &[CallFinding]) -> Status
-    ensures { result ≡ option_map_or finding_status (joint_of calls.now) Status.Well }
+/// The exit status that goes with findings.
+fn status_of_findings(findings: &Findings) -> Status
+    ensures { result ≡ findings_status findings.now }
 {
-    joint_finding(calls).map_or(Status::Well, |finding| status_of_finding(&finding))
+    match findings {
+        Findings::AtOnce(finding) => status_of_finding(finding),
+        Findings::EachCall(calls) => worst_of_calls(calls).map_or(
+            Status::Well,
+            |finding| status_of_finding(&finding),
+        ),
+    }
 }
 
 /// The report on an outcome.
 pub(super) fn report_of(
     alloc: Global,
     relation: Relation,
-    outcome: &FindingOutcome,
+    outcome: &ComparisonOutcome,
 ) -> Result<Reply, Memory>
     ensures { IfOk result (IsReport relation outcome.now) }
 {
-    let status = status_of_finding(&outcome.finding);
-    let text = report_finding(alloc, relation, outcome)?;
+    let status = status_of_findings(&outcome.findings);
+    let text = report_by(alloc, relation, outcome)?;
     Ok(Reply::Compared { text, status })
 }
 
-/// The report on an outcome call by call.
-pub(super) fn report_of_calls(
-    alloc: Global,
-    relation: Relation,
-    outcome: &CallsOutcome,
-) -> Result<Reply, Memory>
-    ensures { IfOk result (IsCallsReport relation outcome.now) }
-{
-    let status = status_of_calls(&outcome.calls);
-    let text = report_calls(alloc, relation, outcome)?;
-    Ok(Reply::Compared { text, status })
-}
-
-/// The report on a stack and a profile over the records of a scope.
-fn compare_at_once(
-    alloc: Global,
-    filters: &mut [PartReader<'_>],
-    profile: &mut PartReader<'_>,
-    table: &mut PartReader<'_>,
-    scope: Scope,
-    relation: Relation,
-    limits: Limits,
-) -> Result<Reply, VerifyFault>
-    ensures reply { IfOk result (λ reply. ComparesParts (Scopes.AtOnce scope) relation limits
-        (map rest_of filters.old) (rest_of profile.old) (rest_of table.old) (Ok reply)) }
-    ensures fault { IfErr result (λ fault. ComparesParts (Scopes.AtOnce scope) relation limits
-        (map rest_of filters.old) (rest_of profile.old) (rest_of table.old) (Err (Fault.Verify fault))) }
-{
-    let outcome = verify_by(
-        alloc,
-        filters,
-        profile,
-        table,
-        scope,
-        relation,
-        limit_of(limits),
-    )?;
-    Ok(report_of(alloc, relation, &FindingOutcome::from(outcome))?)
-}
-
-/// The report on a stack and a profile, call by call of the table.
-fn compare_each_call(
-    alloc: Global,
-    filters: &mut [PartReader<'_>],
-    profile: &mut PartReader<'_>,
-    table: &mut PartReader<'_>,
-    relation: Relation,
-    limits: Limits,
-) -> Result<Reply, VerifyFault>
-    ensures reply { IfOk result (λ reply. ComparesParts Scopes.EachCall relation limits
-        (map rest_of filters.old) (rest_of profile.old) (rest_of table.old) (Ok reply)) }
-    ensures fault { IfErr result (λ fault. ComparesParts Scopes.EachCall relation limits
-        (map rest_of filters.old) (rest_of profile.old) (rest_of table.old) (Err (Fault.Verify fault))) }
-{
-    let outcome = verify_calls(alloc, filters, profile, table, relation, limits)?;
-    Ok(report_of_calls(alloc, relation, &outcome)?)
-}
-
-/// The report on a stack and a profile, over the records that are asked for.
+/// The report on a stack and a profile.
 fn compare_parts(
     alloc: Global,
     filters: &mut [PartReader<'_>],
@@ -138,19 +83,13 @@ fn compare_parts(
     table: &mut PartReader<'_>,
     comparison: Comparison,
 ) -> Result<Reply, VerifyFault>
-    ensures reply { IfOk result (λ reply. ComparesParts comparison.scopes comparison.relation comparison.limits
+    ensures reply { IfOk result (λ reply. ComparesParts comparison
         (map rest_of filters.old) (rest_of profile.old) (rest_of table.old) (Ok reply)) }
-    ensures fault { IfErr result (λ fault. ComparesParts comparison.scopes comparison.relation comparison.limits
+    ensures fault { IfErr result (λ fault. ComparesParts comparison
         (map rest_of filters.old) (rest_of profile.old) (rest_of table.old) (Err (Fault.Verify fault))) }
 {
-    let limits = comparison.limits;
-    let relation = comparison.relation;
-    match comparison.scopes {
-        Scopes::AtOnce(scope) => compare_at_once(
-            alloc, filters, profile, table, scope, relation, limits,
-        ),
-        Scopes::EachCall => compare_each_call(alloc, filters, profile, table, relation, limits),
-    }
+    let outcome = verify_by(alloc, filters, profile, table, comparison)?;
+    Ok(report_of(alloc, comparison.relation, &outcome)?)
 }
 
 /// The readers of the filters, the profile and the table of a bundle, where it holds one filter or more and one of each

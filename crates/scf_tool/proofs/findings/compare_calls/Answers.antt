@@ -1,0 +1,36 @@
+use Rattle.scf_tool.proofs.Common.{Contains, behavior_of, sym, take_all, take_more}
+use Rattle.scf_tool.proofs.CallLemmas.{has_its_names, has_name, number_fits, one_finding_more}
+use Rattle.scf_tool.specs.Comparisons.{limit_of}
+use Rattle.scf_tool.proofs.findings.compare_calls.Goals as goal
+
+pub number_in-requires-clause-named : goal.number_in-requires-clause-named
+number_in-requires-clause-named c =
+    let among : Contains c.deref-call-items.result.now c.call-item.result =
+    (c.loop-call.call-index, c.loop-call-test.true, sym c.call-item.is) in
+    has_name c.args.table.now c.deref-call-items.result.now c.call-item.result
+    (rw c.deref-call-items.ensures.value c.in_ok-calls.ensures) among
+
+pub number_in-requires-clause-names : goal.number_in-requires-clause-names
+number_in-requires-clause-names c =
+    let among : Contains c.deref-call-items.result.now c.call-item.result =
+    (c.loop-call.call-index, c.loop-call-test.true, sym c.call-item.is) in
+    has_its_names c.args.table.now c.deref-call-items.result.now c.call-item.result
+    (rw c.deref-call-items.ensures.value c.in_ok-calls.ensures) among
+
+pub scope_of_call-over-requires : goal.scope_of_call-over-requires
+scope_of_call-over-requires c = number_fits c.args.architecture c.number_in.result c.number_in.ensures.below
+
+pub loop-call-preserved : goal.loop-call-preserved
+loop-call-preserved c =
+    rw (take_more _ _ c.call-item.result c.loop-call-test.true, c.in_ok-push.ensures.items)
+    (one_finding_more c.args.relation c.args.architecture (behavior_of c.args.left.now) (behavior_of c.args.right.now)
+    (limit_of c.args.limits) _ _ _ _ _ _ _ c.loop-call.invariant
+    (rw (c.scope_of_call-over.ensures, c.number_in.ensures.same, c.call-item.is, c.limit_of-limit.ensures) at c.in_ok-finding.ensures))
+
+pub returns : goal.returns
+returns c = (
+  c.deref-call-items.result.now,
+  rw c.deref-call-items.ensures.value c.in_ok-calls.ensures,
+  c.loop-call.remaining,
+  rw (take_all c.loop-call.call-index _ c.loop-call-test.false) at c.loop-call.invariant,
+)

@@ -1,0 +1,77 @@
+-- The finding that speaks for several, and what it claims of a stack and the profiles of several architectures.
+use Rattle.std.specs.Prelude.{◌≡◌, ℕ, Bool, true, false, not, List, find, map, max, Contains, Option}
+use Rattle.std.specs.List.{AllZip, fold}
+use Rattle.std.specs.Option.{option_map_or, option_or}
+use Rattle.scf_insn.specs.declared.architecture.Architecture.{Architecture}
+use Rattle.scf_insn.specs.Words.{words_of, IsRecord}
+use Rattle.scf_insn.specs.declared.insn.Insn.{Insn}
+use Rattle.scf_insn.specs.declared.record.CallRecord.{CallRecord}
+use Rattle.scf_machine.specs.Precedence.{StackAnswers}
+use Rattle.scf_profile.specs.Profile.{Profile}
+use Rattle.scf_profile.specs.ProfileAnswers.{ProfilesAnswer}
+use Rattle.scf_profile.specs.Relation.{IsRelated}
+use Rattle.scf_profile.specs.declared.relation.Relation.{Relation}
+use Rattle.scf_profile.specs.Scope.{IsInScope}
+use Rattle.scf_profile.specs.declared.scope.Scope.{Scope}
+use Rattle.scf_compare.specs.declared.budget.Limit.{Limit}
+use Rattle.scf_compare.specs.declared.finding.Finding.{Finding}
+use Rattle.scf_compare.specs.declared.finding.Finding.TheVariants.{Holds, Fails, Undecided, Unfinished}
+use Rattle.scf_compare.specs.declared.finding.Which.TheVariants.{Left, Right}
+use Rattle.scf_compare.specs.Sides.{StackCanEndAt, profile_behavior, stack_behavior}
+use Rattle.scf_tool.specs.declared.findings.CallFinding.{CallFinding}
+use Rattle.scf_tool.specs.Comparisons.{IsFound}
+
+abbrev pub is_holding : Finding → Bool
+is_holding (Holds steps) = true
+is_holding finding = false
+
+abbrev pub is_failure : Finding → Bool
+is_failure (Fails call left right) = true
+is_failure finding = false
+
+-- Of several findings, the first that fails, else the first that doesn't hold. None where all do.
+abbrev pub worst_of : List Finding → Option Finding
+worst_of findings =
+    option_or (find is_failure findings) (find (λ finding. not (is_holding finding)) findings)
+
+-- that of the calls of a table
+abbrev pub worst_of_calls : List CallFinding → Option Finding
+worst_of_calls calls = worst_of (map (λ call. call.finding) calls)
+
+-- the steps of Holds
+abbrev pub steps_of : Finding → ℕ
+steps_of (Holds steps) = steps
+steps_of finding = 0
+
+abbrev pub most_steps : List Finding → ℕ
+most_steps findings = fold (λ most finding. max (steps_of finding) most) 0 findings
+
+-- The finding that speaks for several: the worst, else Holds in the most steps that one of them took.
+abbrev pub joint_finding : List Finding → Finding
+joint_finding findings = option_map_or (λ finding. finding) (worst_of findings) (Holds (most_steps findings))
+
+-- What a finding claims of the call records over which each profile is compared, which are those of a scope for its
+-- architecture: that the relation holds of the answers to each; that this record is one of them, and that they answer
+-- it so and so, of which the relation doesn't hold; and that a run of a filter can end at this instruction.
+abbrev pub IsTrueOfEach : Relation → (Architecture → Scope) → List (List Insn) → List Profile → Finding → Type 0
+IsTrueOfEach relation over stack profiles (Holds steps) = (p : Profile) (call : CallRecord) → Contains profiles p
+    → IsRecord call → IsInScope (over p.architecture) call
+    → (filter profile : ℕ) × StackAnswers stack (words_of call) filter
+    × ProfilesAnswer profiles call profile × IsRelated relation filter profile
+IsTrueOfEach relation over stack profiles (Fails call filter profile) = (p : Profile) × Contains profiles p
+    × IsRecord call × IsInScope (over p.architecture) call × StackAnswers stack (words_of call) filter.0
+    × ProfilesAnswer profiles call profile.0 × (IsRelated relation filter.0 profile.0 → ⊥)
+IsTrueOfEach relation over stack profiles (Undecided Left at) = StackCanEndAt stack at
+IsTrueOfEach relation over stack profiles (Undecided Right at) = ⊥
+IsTrueOfEach relation over stack profiles Unfinished = Unit {0}
+
+-- A finding speaks for a stack and several profiles, each compared over the records of the scope for its architecture
+-- within a limit. So it is true of the records of all of them.
+pub record IsJointlyFound (relation : Relation) (over : Architecture → Scope) (stack : List (List Insn))
+    (profiles : List Profile) (limit : Limit) (finding : Finding) : Type 0 where
+  pub findings : List Finding
+  pub each : AllZip
+      (λ p own. IsFound relation (stack_behavior stack) (profile_behavior p) (over p.architecture) limit own) profiles
+      findings
+  pub joint : finding ≡ joint_finding findings
+  pub holds : IsTrueOfEach relation over stack profiles finding

@@ -1,0 +1,167 @@
+//! What comparisons find: at once over a scope, or call by call of a syscall table.
+
+ghost use Rattle.std.specs.Prelude.{◌≡◌, ◌<◌, IfOk, length};
+ghost use Rattle.scf_compare.specs.Sides.{behavior_of};
+ghost use Rattle.scf_insn.specs.Kernel.{x32_syscall_bit};
+ghost use Rattle.scf_profile.specs.NamedCalls.{HasItsNames};
+ghost use Rattle.scf_profile.specs.References.{texts_at};
+ghost use Rattle.scf_tool.specs.Comparisons.{AreFoundOfTable, IsFound, IsFoundOfCall};
+ghost use Rattle.scf_tool.specs.Comparisons as comparisons;
+
+use crate::architecture_scope::scope_of_call;
+use crate::left_out::LeftOut;
+use scf_compare::{Finding, Limit, Side, Splits, compare_sides, compare_sides_within};
+use scf_facts::WordSets;
+use scf_insn::{Architecture, Memory};
+use scf_profile::{CallTable, NamedCall, Relation, Scope, Texts};
+use scf_request::Limits;
+use std::alloc::{AllocError, Global};
+
+/// A call that a table names, and what the comparison over its records comes to.
+#[derive(Debug, Drop)]
+pub struct CallFinding {
+    /// The number of the call.
+    pub number: u32,
+    /// All names that the table has for the number, in the order of their bytes.
+    pub names: Texts,
+    pub finding: Finding,
+}
+
+/// What comparisons find.
+#[derive(Debug, Drop)]
+pub enum Findings {
+    /// The finding of one comparison over all records that are asked for.
+    AtOnce(Finding),
+    /// The calls of a table, by number, each compared by itself.
+    EachCall(Vec<CallFinding>),
+}
+
+/// What comparisons find, and what was left out of the profile, if they are with one.
+#[derive(Debug, Drop)]
+pub struct ComparisonOutcome {
+    pub findings: Findings,
+    pub left_out: Option<LeftOut>,
+}
+
+/// These texts, kept.
+fn kept(alloc: Global, words: &[&str]) -> Result<Texts, AllocError>
+    ensures { IfOk result (λ own. own ≡ texts_at words.now) }
+{
+    let mut list = Vec::new(alloc);
+    for word in words {
+        list.push(String::from_str(alloc, word)?)?;
+    }
+    Ok(Texts::from_vec(list))
+}
+
+/// The number of a call of a table. The table is asked for it, which promises that it is below 0x40000000.
+fn number_in(table: &CallTable, call: &NamedCall<'_>) -> u32
+    requires named { 0 < length call.now.names.items }
+    requires names { HasItsNames table.now call.now }
+    ensures same { result ≡ call.now.number }
+    ensures below { result < x32_syscall_bit }
+{
+    match table.number_of(call.names[0]) {
+        Some(number) => number,
+        None => unreachable!(),
+    }
+}
+
+/// The limit of each comparison; 2^64-1 splits stand for no limit of them.
+fn limit_of(limits: Limits) -> Limit
+    ensures { result ≡ comparisons.limit_of limits }
+{
+    let splits = if limits.splits == u64::MAX {
+        Splits::NoLimit
+    } else {
+        Splits::AtMost(limits.splits)
+    };
+    Limit {
+        steps: limits.each,
+        splits,
+    }
+}
+
+/// Compares two sides over the records of a scope by a relation, within the limit of each comparison.
+pub(crate) fn compare_at_once(
+    alloc: Global,
+    left: &Side<'_>,
+    right: &Side<'_>,
+    over: Scope,
+    relation: Relation,
+    limits: Limits,
+) -> Result<Finding, Memory>
+    ensures { IfOk result (IsFound relation (behavior_of left.now) (behavior_of right.now) over
+        (comparisons.limit_of limits)) }
+{
+    compare_sides::<WordSets>(alloc, left, right, over, relation, limit_of(limits))
+}
+
+/// Compares two sides over the records of a call, which are those of a scope, by a relation, within a limit and in no
+/// more steps than remain, of its own and below splits. Those that it takes are subtracted.
+fn compare_call(
+    alloc: Global,
+    left: &Side<'_>,
+    right: &Side<'_>,
+    over: Scope,
+    call: &NamedCall<'_>,
+    relation: Relation,
+    limit: Limit,
+    remaining: &mut u64,
+    remaining_below: &mut u64,
+) -> Result<CallFinding, Memory>
+    ensures { IfOk result (λ own. IsFoundOfCall relation over (behavior_of left.now) (behavior_of right.now)
+        limit remaining.old call.now own remaining.new) }
+{
+    let finding = compare_sides_within::<WordSets>(
+        alloc,
+        left,
+        right,
+        over,
+        relation,
+        limit,
+        remaining,
+        remaining_below,
+    )?;
+    Ok(CallFinding {
+        number: call.number,
+        names: kept(alloc, &call.names)?,
+        finding,
+    })
+}
+
+/// Compares two sides over the records of each call of an architecture's table by a relation.
+pub(crate) fn compare_calls(
+    alloc: Global,
+    left: &Side<'_>,
+    right: &Side<'_>,
+    architecture: Architecture,
+    table: &CallTable,
+    relation: Relation,
+    limits: Limits,
+) -> Result<Vec<CallFinding>, Memory>
+    ensures { IfOk result (λ calls. AreFoundOfTable relation architecture
+        (behavior_of left.now) (behavior_of right.now) table.now limits calls.items) }
+{
+    let calls = table.calls(alloc)?;
+    let mut findings = Vec::new(alloc);
+    let limit = limit_of(limits);
+    let mut remaining = limits.total;
+    let mut remaining_below = limits.total;
+    for call in &calls {
+        let over = scope_of_call(architecture, number_in(table, call));
+        let finding = compare_call(
+            alloc,
+            left,
+            right,
+            over,
+            call,
+            relation,
+            limit,
+            &mut remaining,
+            &mut remaining_below,
+        )?;
+        findings.push(finding)?;
+    }
+    Ok(findings)
+}
