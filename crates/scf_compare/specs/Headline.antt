@@ -1,5 +1,5 @@
 -- The headline, read off what the contracts promise: of an accepted program by `check`, and of verdicts by
--- `compare_stack` and `compare_by`.
+-- `compare_stack`, and with the law `finding_is_verdict` by `compare_sides`.
 use Rattle.std.specs.Prelude.{◌≤◌, ℕ, List, length}
 use Rattle.scf_insn.specs.declared.answer.Answer.{Answer}
 use Rattle.scf_insn.specs.declared.insn.Insn.{Insn}

@@ -7,7 +7,7 @@ ghost use Rattle.scf_machine.specs.Precedence.{StackAnswers};
 ghost use Rattle.scf_machine.specs.Rules.{IsFilter};
 ghost use Rattle.scf_profile.specs.PlainProfile.{IsPlainProfile};
 ghost use Rattle.scf_profile.specs.SameAnswers.{SameAnswers};
-ghost use Rattle.scf_profile.specs.Scope.{RelatedAnswersIn, SameAnswersIn};
+ghost use Rattle.scf_profile.specs.Scope.{SameAnswersIn};
 ghost use Rattle.scf_compare.specs.Effort.{effort_of, effort_of_stack};
 ghost use Rattle.scf_compare.specs.Findings.{
   AllRelated,
@@ -20,13 +20,7 @@ ghost use Rattle.scf_compare.specs.Findings.{
 };
 ghost use Rattle.scf_compare.specs.Limits.{LeavesStepsBelow};
 ghost use Rattle.scf_compare.specs.Sides.{IsPlainSide, behavior_of, effort_of_sides};
-ghost use Rattle.scf_compare.specs.Verdicts.{
-  IsDecided,
-  IsTrueOf,
-  IsTrueOfStack,
-  IsTrueOfStackBy,
-  IsWithin,
-};
+ghost use Rattle.scf_compare.specs.Verdicts.{IsDecided, IsTrueOf, IsTrueOfStack, IsWithin};
 ghost use Rattle.scf_compare.specs.internal.Comparers.{IsComparison};
 
 use crate::budget::{Limit, Splits};
@@ -308,6 +302,7 @@ pub fn compare<F: WordFacts>(
 /// stack's. `Undecided` gives an instruction index in the oldest filter whose answer isn't known; if all answers are
 /// known, and only the path to them isn't, in the filter whose answer takes precedence; 0 for an empty stack. A store
 /// that starts exact decides stacks of plain programs and plain profiles.
+#[tactic(auto, using(crate::proofs::Verdicts::on_the_left))]
 pub fn compare_stack<F: WordFacts>(
     alloc: Global,
     stack: &FilterStack,
@@ -322,41 +317,9 @@ pub fn compare_stack<F: WordFacts>(
         (SameAnswersIn scope (StackAnswers stack.now) profile.now)
         limit (effort_of_stack stack.now profile.now)) }
 {
-    compare_by::<F>(
-        alloc,
-        stack,
-        profile,
-        scope,
-        Relation::Same,
-        Limit::of_steps(limit),
-    )
-}
-
-/// Compares a stack of filters with a profile over the records of a scope by a relation, in at most `limit` steps.
-///
-/// `Same` says that the relation holds of the answers to every record of the scope; `Differs` shows one, with both
-/// answers, of which it doesn't hold. Everything else is as in `compare_stack`, which is the case of equal answers.
-#[tactic(auto, using(crate::proofs::Verdicts::on_the_left, crate::proofs::Verdicts::true_by))]
-pub fn compare_by<F: WordFacts>(
-    alloc: Global,
-    stack: &FilterStack,
-    profile: &Profile,
-    scope: Scope,
-    relation: Relation,
-    limit: Limit,
-) -> Result<Verdict, Memory>
-    ensures holds { IfOk result (IsTrueOfStackBy relation stack.now profile.now scope) }
-    ensures within { IfOk result (IsWithin limit.steps (effort_of_stack stack.now profile.now)) }
-    ensures decided { IsTrue F.starts_exact → All IsPlainProgram stack.now → IsPlainProfile profile.now
-        → IfOk result (IsDecided
-        (RelatedAnswersIn relation scope (StackAnswers stack.now) profile.now)
-        limit.steps (effort_of_stack stack.now profile.now)) }
-    ensures settled { limit.splits ≡ Splits.NoLimit → IfOk result (IsDecided
-        (RelatedAnswersIn relation scope (StackAnswers stack.now) profile.now)
-        limit.steps (effort_of_stack stack.now profile.now)) }
-{
+    let limit = Limit::of_steps(limit);
     let filters = Side::Stack(stack.filters());
     let profile = Side::Profile(profile);
-    let finding = compare_sides::<F>(alloc, &filters, &profile, scope, relation, limit)?;
+    let finding = compare_sides::<F>(alloc, &filters, &profile, scope, Relation::Same, limit)?;
     Ok(finding.verdict())
 }

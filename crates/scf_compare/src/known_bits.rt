@@ -34,8 +34,8 @@ pub(crate) fn told_bits<F: WordFacts>(facts: &F, word: u8) -> Bits
     bits
 }
 
-/// The bits that `first op second` is known to have: all, if those of both are. Nothing is known of a division by what may
-/// be 0 and of a shift by what may be 32 or more.
+/// The bits that `first op second` is known to have: all, if those of both are. Nothing is known of a division by what
+/// may be 0 and of a shift by what may be 32 or more.
 #[tactic(auto, using(crate::proofs::KnownBits::result_laws))]
 pub(crate) fn known_result(arithmetic: Arithmetic, first: Bits, second: Bits) -> Bits
     ensures within { bit_and result.value result.mask ≡ result.value }
@@ -256,8 +256,8 @@ fn quotient_bits(first: Bits, second: Bits) -> Bits
     )
 }
 
-/// The known bits modulo 2^32 of a number `least..=greatest` that has the low bits of `least`, from bit 0 up to the first
-/// one that the mask lacks: these, and the leading bits that all such numbers have, unless only some of them wrap.
+/// The known bits modulo 2^32 of a number `least..=greatest` that has the low bits of `least`, from bit 0 up to the
+/// first one that the mask lacks: these, and the leading bits that all such numbers have, unless only some of them wrap.
 #[tactic(auto, using(crate::proofs::KnownBits::bit_laws))]
 fn both_ends(mask: u32, least: u64, greatest: u64) -> Bits
     ensures within { bit_and result.value result.mask ≡ result.value }

@@ -8,6 +8,7 @@ ghost use Rattle.scf_insn.specs.Words.{IsRecord, words_of};
 ghost use Rattle.scf_machine.specs.Precedence.{StackAnswers};
 ghost use Rattle.scf_profile.specs.Profile.{Profile, HaveNoConflict};
 ghost use Rattle.scf_profile.specs.ProfileAnswers.{ProfileAnswers};
+ghost use Rattle.scf_compare.specs.Findings.{IsTrueFinding, compared_in};
 ghost use Rattle.scf_compare.specs.Headline.{Headline};
 ghost use Rattle.scf_compare.specs.SideLaws.{
   BothWaysIsOneDisposition,
@@ -16,9 +17,12 @@ ghost use Rattle.scf_compare.specs.SideLaws.{
   SameHoldsByAll,
   SidesHeadline,
 };
+ghost use Rattle.scf_compare.specs.Sides.{profile_behavior, stack_behavior};
 ghost use Rattle.scf_compare.specs.Splits.{SplitsEnd};
+ghost use Rattle.scf_compare.specs.Verdicts.{IsTrueOfStackBy, finding_of};
 ghost use Rattle.scf_profile.specs.Scope.{IsInScope, RelatedAnswersIn, SameAnswersIn};
 
+use crate::verdict::Verdict;
 use scf_profile::{Relation, Scope};
 
 /// A stack that answers as a profile does is no more permissive of any syscall than the profile, and no less.
@@ -41,6 +45,14 @@ pub fn no_more_and_no_less_is_one_disposition()
         → IsRecord call → IsInScope scope call
         → StackAnswers filters (words_of call) filter → ProfileAnswers p call profile
         → disposition_of filter ≡ disposition_of profile }
+{}
+
+/// A finding on a stack and a profile claims what the verdict that it is claims of them.
+#[tactic(auto, using(crate::proofs::Verdicts::true_by))]
+pub fn finding_is_verdict()
+    ensures { (relation : Relation) (filters : List (List Insn)) (p : Profile) (scope : Scope) (verdict : Verdict)
+        → IsTrueFinding (compared_in relation scope (stack_behavior filters) (profile_behavior p)) (finding_of verdict)
+        → IsTrueOfStackBy relation filters p scope verdict }
 {}
 
 /// The headline of any two sides, which follows from what `compare_sides` promises.
@@ -76,7 +88,8 @@ pub fn splits_end()
     ensures { SplitsEnd }
 {}
 
-/// The headline, which follows from what `check`, `compare_stack` and `compare_by` promise.
+/// The headline, which follows from what `check` and `compare_stack` promise, and by other relations from what
+/// `compare_sides` does.
 pub fn headline()
     ensures { Headline }
 {}

@@ -74,7 +74,7 @@ mod value;
 mod verdict;
 
 pub use budget::{Limit, Splits};
-pub use comparer::{compare, compare_by, compare_sides, compare_sides_within, compare_stack};
+pub use comparer::{compare, compare_sides, compare_sides_within, compare_stack};
 pub use finding::{Finding, Which};
 pub use laws::{
     both_ways_is_one_disposition, headline, holds_through, holds_turned,

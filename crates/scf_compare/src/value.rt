@@ -75,8 +75,8 @@ impl Value {
         }
     }
 
-    /// The abstract result of `self op other`, if one of them is a bit slice, the other a constant, and the result a bit
-    /// slice or a constant.
+    /// The abstract result of `self op other`, if one of them is a bit slice, the other a constant, and the result a
+    /// bit slice or a constant.
     #[tactic(auto, using(std::proofs::lemmas::Nat::and_comm))]
     fn bit_slice_result(self, arithmetic: Arithmetic, other: Value) -> Option<Value>
         requires value { IsValue self }

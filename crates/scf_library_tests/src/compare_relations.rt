@@ -1,7 +1,7 @@
 //! Filters against profiles by each relation.
 
 use crate::fixtures::{profile_of, push_answer};
-use scf_compare::{Limit, Relation, Scope, Verdict, compare_by};
+use scf_compare::{Finding, Limit, Relation, Scope, Side, compare_sides};
 use scf_facts::AtomList;
 use scf_insn::Answer;
 use scf_machine::FilterStack;
@@ -112,15 +112,12 @@ fn says(
     holds: bool,
 ) -> bool {
     let scope = Scope::Native;
-    match compare_by::<AtomList>(alloc, stack, profile, scope, relation, Limit::of_steps(8)).expect(
-        rt, "no fault",
-    ) {
-        Verdict::Same { .. } => holds,
-        Verdict::Differs {
-            filter,
-            profile,
-            ..
-        } => !holds && (filter, profile) == answers,
+    let sides = (Side::Stack(stack.filters()), Side::Profile(profile));
+    let limit = Limit::of_steps(8);
+    let finding = compare_sides::<AtomList>(alloc, &sides.0, &sides.1, scope, relation, limit);
+    match finding.expect(rt, "no fault") {
+        Finding::Holds { .. } => holds,
+        Finding::Fails { left, right, .. } => !holds && (left, right) == answers,
         _ => false,
     }
 }

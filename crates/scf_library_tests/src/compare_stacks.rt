@@ -4,7 +4,9 @@
 use crate::fixtures::{holds_of, profile_of, stack_of};
 use scf_compare::Relation::{NoLess, NoMore, Same, SameDisposition};
 use scf_compare::Scope::{All, Call, Native, Numbers, NumbersOf, Of};
-use scf_compare::{Limit, Relation, Scope, Verdict, compare_by, compare_stack, effort_stack};
+use scf_compare::{
+    Finding, Limit, Relation, Scope, Side, Verdict, compare_sides, compare_stack, effort_stack,
+};
 use scf_facts::WordSets;
 use scf_insn::{Answer, Architecture};
 use scf_machine::FilterStack;
@@ -226,36 +228,50 @@ fn is_in_scope(scope: Scope, nr: u32, arch: u32) -> bool {
     }
 }
 
-/// Whether a verdict is the one that is wanted: a call that it shows lies in the scope, and is asked again.
+/// Whether a finding is the one that is wanted: a call that it shows lies in the scope, and is asked again.
 fn is_wanted(
-    verdict: Verdict,
+    finding: Finding,
     stack: &FilterStack,
     profile: &Profile,
     scope: Scope,
     shown: Shown,
 ) -> bool {
-    match (verdict, shown) {
-        (Verdict::Same { .. }, None) => true,
-        (
-            Verdict::Differs {
-                call,
-                filter,
-                profile: stated,
-            },
-            Some((of_stack, of_profile)),
-        ) => {
-            filter == Answer(of_stack)
-                && stated == Answer(of_profile)
-                && stack.decide(&call) == filter
-                && profile.answer(&call) == stated
+    match (finding, shown) {
+        (Finding::Holds { .. }, None) => true,
+        (Finding::Fails { call, left, right }, Some((of_stack, of_profile))) => {
+            left == Answer(of_stack)
+                && right == Answer(of_profile)
+                && stack.decide(&call) == left
+                && profile.answer(&call) == right
                 && is_in_scope(scope, call.nr, call.arch)
         }
         _ => false,
     }
 }
 
-/// Whether the verdict on a stack and a profile by a relation is the one that is wanted, `Unfinished` by no step; and
-/// by the same answers it is what a stack is compared by.
+/// Whether a verdict is this finding.
+fn is_verdict(verdict: Verdict, finding: Finding) -> bool {
+    match (verdict, finding) {
+        (Verdict::Same { steps }, Finding::Holds { steps: found }) => steps == found,
+        (
+            Verdict::Differs {
+                call,
+                filter,
+                profile,
+            },
+            Finding::Fails {
+                call: found,
+                left,
+                right,
+            },
+        ) => call == found && (filter, profile) == (left, right),
+        (Verdict::Unfinished, Finding::Unfinished) => true,
+        _ => false,
+    }
+}
+
+/// Whether the finding on a stack and a profile by a relation is the one that is wanted, `Unfinished` by no step; and
+/// by the same answers it is the verdict on a stack.
 fn says(
     rt: &impl Abort,
     alloc: Global,
@@ -265,24 +281,21 @@ fn says(
     limit: u64,
 ) -> bool {
     let (scope, relation, shown) = wanted;
-    let verdict = compare_by::<WordSets>(
-        alloc,
-        stack,
-        profile,
-        scope,
-        relation,
-        Limit::of_steps(limit),
-    )
-    .expect(rt, "no fault");
+    let left = Side::Stack(stack.filters());
+    let right = Side::Profile(profile);
+    let within = Limit::of_steps(limit);
+    let finding = compare_sides::<WordSets>(alloc, &left, &right, scope, relation, within).expect(
+        rt, "no fault",
+    );
     let same = compare_stack::<WordSets>(alloc, stack, profile, scope, limit).expect(
         rt, "no fault",
     );
     let is_so = if limit == 0 {
-        verdict == Verdict::Unfinished
+        finding == Finding::Unfinished
     } else {
-        is_wanted(verdict, stack, profile, scope, shown)
+        is_wanted(finding, stack, profile, scope, shown)
     };
-    is_so && (relation != Same || same == verdict)
+    is_so && (relation != Same || is_verdict(same, finding))
 }
 
 /// That each verdict on a stack and a profile within a limit is the one that is wanted.

@@ -1,0 +1,14 @@
+use Rattle.scf_profile.specs.declared.relation.Relation.TheVariants.{Same}
+use Rattle.scf_compare.proofs.Verdicts.{decided_in, true_by}
+use Rattle.scf_compare.proofs.comparer.compare_stack.Goals as goal
+
+pub returns-clause-holds : goal.returns-clause-holds
+returns-clause-holds g c =
+    let holds = rw c.filters.ensures.same at c.in_ok-finding.ensures.holds in
+    true_by Same c.args.scope c.args.stack.now c.args.profile.now c.verdict.result (rw c.verdict.ensures holds)
+
+pub returns-clause-decided : goal.returns-clause-decided
+returns-clause-decided g c = λ exact plain plain_profile.
+    let decided = rw (c.filters.ensures.same, c.of_steps-limit.ensures) at c.in_ok-finding.ensures.decided in
+    decided_in Same c.args.scope c.args.stack.now c.args.profile.now c.args.limit _ c.verdict.result
+    (rw c.verdict.ensures (decided exact plain plain_profile))
