@@ -1,5 +1,5 @@
 -- The names that proofs of this crate cite, passed on from one place. Declares nothing.
-pub use Rattle.std.proofs.Common.{◌||◌, All, Bool, Bor, Contains, Err, IfSome, List, None, Option, Some, [], ap, append-nil, append_assoc, ap₂, arith, bytes_eq, codes, drop, eqb, false, find, fold, get_or, if◌then◌else◌, inl, inr, is_some, length, length-append, length-drop, map, not, option_map, option_to_list, refl, rules, subst, suc, sym, take, true, unwrap_or, zero, ℕ, ◌&&◌, ◌++◌, ◌+◌, ◌-◌, ◌<◌, ◌^◌, ◌∙◌, ◌∷◌, ◌≡◌, ◌≢◌, ◌≤◌}
+pub use Rattle.std.proofs.Common.{◌||◌, All, Bool, Bor, Contains, Err, List, None, Option, Some, [], ap, append-nil, append_assoc, ap₂, arith, bytes_eq, codes, drop, eqb, false, find, fold, get_or, if◌then◌else◌, is_some, length, length-append, length-drop, map, not, option_map, option_to_list, refl, rules, subst, suc, sym, take, true, zero, ℕ, ◌&&◌, ◌++◌, ◌+◌, ◌-◌, ◌<◌, ◌^◌, ◌∙◌, ◌∷◌, ◌≡◌, ◌≢◌, ◌≤◌}
 unfoldable pub use Rattle.clap.proofs.OnLiterals.{clap_on_literals}
 pub use Rattle.clap.proofs.WalkLemmas.{first_value-rows}
 pub use Rattle.clap.specs.Faults.{built_fault, check_fault, entered_fault, level_fault, settle_fault, turn_fault}
@@ -8,7 +8,7 @@ pub use Rattle.clap.specs.Kinds.{Kinds, or_else}
 pub use Rattle.clap.specs.Simple.{built, built_leaf, entered, inherited, label_of, marked_built, names_of, rows_at, with_leaf_noted}
 pub use Rattle.clap.specs.Walk.{Rule, Walk, answers_to, finished, idle, nothing_held, settled, stop_after, walk, walk_from}
 unfoldable pub use Rattle.clap.specs.Walk.{walked}
-pub use Rattle.clap.specs.Words.{AddsSubcommand, App, FailsBy, Row, Shape, Text, app_of, first_value, found_of, is_simple_and_free, new_app, rows_of, with_rule, with_subcommand}
+pub use Rattle.clap.specs.Words.{AddsSubcommand, App, Row, Shape, Text, app_of, first_value, found_of, is_simple_and_free, new_app, rows_of, with_rule, with_subcommand}
 pub use Rattle.clap.specs.declared.builder.command.Command.{Command}
 pub use Rattle.clap.specs.declared.parser.matches.Found.{Found}
 pub use Rattle.std.proofs.Math.Nat.{pow-le-pow_right}
@@ -22,7 +22,7 @@ pub use Rattle.std.proofs.lemmas.Slice.Eq.{strip_prefix_is}
 pub use Rattle.std.specs.List.{filter_map}
 pub use Rattle.std.specs.Option.{IfNone, MatchOption}
 pub use Rattle.std.specs.Str.Parse.{AllDigits}
-pub use Rattle.scf_insn.proofs.Common.{ReadsNumber, and_from, and_parts, digits_value, drop_more, eqb-false, is_digit, list_all, ne_eqb, numeral, take-append-drop, take_all, take_more}
+pub use Rattle.scf_insn.proofs.Common.{ReadsNumber, and_from, and_parts, digits_value, drop_more, is_digit, list_all, ne_eqb, numeral, take-append-drop, take_all, take_more}
 pub use Rattle.scf_insn.specs.Architectures.{row_of}
 pub use Rattle.scf_insn.specs.declared.architecture.Architecture.{Architecture}
 pub use Rattle.scf_insn.specs.declared.architecture.Architecture.TheVariants.{X8664, X86, X32, Aarch64, Arm}
