@@ -1,14 +1,16 @@
 """./test, in a made tree with a kit that stands in for rt; and a run that takes too much of a processor fails."""
 import os
 import shutil
+import signal
 import subprocess
 import sys
 
-from common import TOP, Case
+from common import PATIENCE, TOP, Case
 
-# Prints what it is told.
+# Prints what it is told, and makes what the gate takes from it.
 RT = """#!/bin/sh
 [ "$1" = ci ] || exit 1
+for name in scf scf_trials; do mkdir -p "crates/$name/out" && touch "crates/$name/out/$name"; done
 printf '%s\\n' "$CI"
 exit "${CI_STATUS-0}"
 """
@@ -34,81 +36,113 @@ class Gate(Case):
     def setUp(self):
         super().setUp()
         self.tree = os.path.join(self.folder, "tree")
-        os.makedirs(self.tree)
+        for name in ("scf_insn", "scf", "scf_trials"):
+            os.makedirs(os.path.join(self.tree, "crates", name))
         shutil.copy2(os.path.join(TOP, "test"), self.tree)
-        os.chmod(self.file("bin/rt", RT), 0o755)
-        os.chmod(self.file("tree/library/build", "#!/bin/sh\n"), 0o755)
+        self.script("bin/rt", RT)
+        self.script("tree/library/build", "#!/bin/sh\n")
+        self.script("tree/dev/must-fail", "#!/bin/sh\necho '3 passed, 0 failed'\n")
+        self.room = os.path.join(self.folder, "room")
+        os.mkdir(self.room)
+
+    def script(self, name, text):
+        os.chmod(self.file(name, text), 0o755)
+
+    def environment(self, **more):
+        return {**os.environ, "PATH": f"{self.folder}/bin:{os.environ['PATH']}", "TMPDIR": self.room, **more}
 
     def gate(self, first=WELL, second=WELL, ci="7 passed, 0 failed", injection="print('4 passed, 0 failed')\n", **more):
         """The status and the lines of ./test, with these modules of tests."""
         self.file("tree/conformance/test_first.py", first)
         self.file("tree/tools/tests/test_second.py", second)
-        os.chmod(self.file("tree/dev/fault-injection", f"#!/usr/bin/env python3\n{injection}"), 0o755)
-        env = {**os.environ, "PATH": f"{self.folder}/bin:{os.environ['PATH']}", "CI": ci, **more}
-        status, out, _ = self.run_words([os.path.join(self.tree, "test")], env=env)
+        self.script("tree/dev/fault-injection", f"#!/usr/bin/env python3\n{injection}")
+        status, out, _ = self.run_words([os.path.join(self.tree, "test")], env=self.environment(CI=ci, **more))
         return status, out.splitlines()
 
     def test_all_are_counted(self):
-        self.assertEqual(self.gate(ci="proved\n7 passed, 0 failed"),
-                         (0, ["proved", "7 passed, 0 failed", "2 passed, 0 failed", "2 passed, 0 failed",
-                              "4 passed, 0 failed", "15 passed, 0 failed"]))
+        status, lines = self.gate(ci="7 passed, 0 failed")
+        self.assertEqual((status, lines[-1]), (0, "18 passed, 0 failed"))
+        self.assertEqual([line for line in lines if not line.startswith("test: ")],
+                         ["7 passed, 0 failed", "4 passed, 0 failed", "3 passed, 0 failed", "18 passed, 0 failed"])
+
+    def test_it_says_how_far_it_is(self):
+        """Of a crate that is proved a line is shown, of one that isn't all that was printed."""
+        proved = "== scf_insn\nfn f: proved\nlogic=proved\nrt: scf_insn proved"
+        refused = "== scf_insn\nfn f: not proved\nrt: scf_insn NOT PROVED"
+        self.assertIn("scf_insn: proved: crate 1 of 3", "\n".join(self.gate(ci=f"{proved}\n7 passed, 0 failed")[1]))
+        kept = "rt: scf_insn is kept: an earlier run proved it\n1 passed, 0 failed"
+        self.assertIn("scf_insn: proved by an earlier run: crate 1 of 3", "\n".join(self.gate(ci=kept)[1]))
+        self.assertNotIn("fn f: proved", self.gate(ci=f"{proved}\n7 passed, 0 failed")[1])
+        status, lines = self.gate(ci=f"{refused}\n0 passed, 1 failed", CI_STATUS="1")
+        self.assertEqual((status, lines[-1]), (1, "0 passed, 1 failed"))
+        self.assertIn("fn f: not proved", lines)
+        self.assertIn("step 5 of 5: dev/must-fail", "\n".join(self.gate()[1]))
+
+    def test_programs_of_the_gate_are_put_in_place(self):
+        """`rt ci` works in a copy, without what was built here, and the later steps use its programs."""
+        self.file("tree/crates/scf/out/scf", "old\n")
+        self.script("bin/rt", "#!/bin/sh\n[ -e crates/scf/out ] && exit 1\n"
+                    "mkdir crates/scf/out crates/scf_trials/out\necho new >crates/scf/out/scf\necho new >crates/scf_trials/out/scf_trials\n"
+                    "cat \"$HELD\"\necho '1 passed, 0 failed'\n")
+        held = os.path.join(self.tree, "crates/scf/out/scf")
+        self.assertIn("old", self.gate(HELD=held)[1])
+        for name in ("scf", "scf_trials"):
+            with open(os.path.join(self.tree, "crates", name, "out", name), encoding="utf-8") as program:
+                self.assertEqual(program.read(), "new\n")
 
     def test_modules_are_counted_together_and_a_failed_one_is_shown(self):
         status, lines = self.gate(WELL, WELL + MIXED)
-        self.assertEqual((status, lines[-1]), (1, "16 passed, 2 failed, 1 skipped"))
+        self.assertEqual((status, lines[-1]), (1, "19 passed, 2 failed, 1 skipped"))
         self.assertIn("AssertionError: 1 != 2", lines)
-        self.assertTrue([it for it in lines if it.endswith("... skipped 'there is no such thing here'")])
+        self.assertTrue([line for line in lines if line.endswith("... skipped 'there is no such thing here'")])
 
     def test_a_skipped_test_is_no_failure(self):
         skipped = FIRST + "    def test_it(self):\n        self.skipTest('no such thing')\n"
-        self.assertEqual(self.gate(WELL, skipped)[0], 0)
-        self.assertEqual(self.gate(WELL, skipped)[1][-1], "14 passed, 0 failed, 1 skipped")
+        status, lines = self.gate(WELL, skipped)
+        self.assertEqual((status, lines[-1]), (0, "17 passed, 0 failed, 1 skipped"))
 
     def test_a_module_that_ends_early_or_has_no_test_is_a_failure(self):
         for text in ("", "x = 1 /\n", "import os\nos._exit(0)\n", "import os\nos.kill(os.getpid(), 9)\n"):
             status, lines = self.gate(WELL, text)
             self.assertEqual(status, 1, text)
-            self.assertRegex(lines[-1], "^1[34] passed, 1 failed$")
+            self.assertRegex(lines[-1], "^1[67] passed, 1 failed$")
 
-    def test_failures_of_the_kit_and_of_injected_failures_are_counted(self):
+    def test_failures_of_each_step_are_counted(self):
         status, lines = self.gate(ci="5 passed, 2 failed", CI_STATUS="1")
-        self.assertEqual((status, lines[-1]), (1, "5 passed, 3 failed"))
+        self.assertEqual((status, lines[-1]), (1, "5 passed, 2 failed"))
         status, lines = self.gate(injection="import sys\nprint('1 passed, 2 failed')\nsys.exit(1)\n")
-        self.assertEqual((status, lines[-1]), (1, "12 passed, 2 failed"))
+        self.assertEqual((status, lines[-1]), (1, "15 passed, 2 failed"))
+        self.script("tree/dev/must-fail", "#!/bin/sh\necho '2 passed, 1 failed'\nexit 1\n")
+        self.assertEqual(self.gate()[1][-1], "17 passed, 1 failed")
+        self.script("tree/library/build", "#!/bin/sh\n[ \"$1\" = llvm ]\n")
+        self.assertEqual(self.gate()[1][-1], "15 passed, 2 failed")
 
     def test_a_status_without_a_count_is_a_failure(self):
-        for ci, ended, last in (("7 passed, 0 failed", "3", "7 passed, 2 failed"),
-                                ("nothing", "0", "7 passed, 1 failed"), ("", "2", "0 passed, 2 failed")):
+        for ci, ended, last in (("7 passed, 0 failed", "3", "7 passed, 1 failed"),
+                                ("nothing", "0", "0 passed, 1 failed"), ("", "2", "0 passed, 1 failed")):
             status, lines = self.gate(ci=ci, CI_STATUS=ended)
-            self.assertEqual(status, 1, ci)
-            self.assertRegex(lines[-1], last if ended != "0" else r"^\d+ passed, 1 failed$")
-        self.assertEqual(self.gate(injection="import sys\nsys.exit(1)\n")[1][-1], "11 passed, 1 failed")
-
-    def test_a_library_that_is_not_built_is_a_failure(self):
-        self.file("tree/library/build", "#!/bin/sh\n[ \"$1\" = llvm ]\n")
-        self.assertEqual(self.gate()[1][-1], "13 passed, 1 failed")
+            self.assertEqual((status, lines[-1]), (1, last), ci)
+        self.assertEqual(self.gate(injection="import sys\nsys.exit(1)\n")[1][-1], "14 passed, 1 failed")
 
     def test_a_folder_for_temporary_files_with_another_name(self):
         for name in (b"a\xff", b"a\nb", b"a b:c"):
             room = os.path.join(os.fsencode(self.folder), name)
             os.mkdir(room)
             status, lines = self.gate(TMPDIR=os.fsdecode(room))
-            self.assertEqual((status, lines[-1]), (0, "15 passed, 0 failed"))
+            self.assertEqual((status, lines[-1]), (0, "18 passed, 0 failed"))
             self.assertEqual(os.listdir(room), [])
 
-    def test_output_comes_as_it_is_printed(self):
-        """The kit goes on once its first line was read, or after a minute, which it says."""
-        held = self.file("held", b"")
-        self.file("bin/rt", "#!/usr/bin/env python3\nimport os, sys, time\nprint('early')\n"
-                  "until = time.monotonic() + 60 * (sys.argv[1] == 'ci')\n"
-                  f"while os.path.exists({held!r}) and time.monotonic() < until:\n    time.sleep(0.01)\n"
-                  f"print('late' if os.path.exists({held!r}) else 'in time')\nprint('1 passed, 0 failed')\n")
-        env = {**os.environ, "PATH": f"{self.folder}/bin:{os.environ['PATH']}"}
-        with subprocess.Popen([os.path.join(self.tree, "test")], env=env, stdout=subprocess.PIPE,
-                              stderr=subprocess.DEVNULL) as gate:
-            self.assertEqual(gate.stdout.readline(), b"early\n")
-            os.remove(held)
-            self.assertEqual(gate.stdout.read().split(b"\n")[:2], [b"in time", b"1 passed, 0 failed"])
+    def test_output_comes_as_it_is_printed_and_an_interrupt_leaves_nothing(self):
+        """The kit prints a line, then works for an hour."""
+        self.script("bin/rt", "#!/bin/sh\necho early\ntouch \"$TMPDIR/begun\"\nsleep 3600\n")
+        for number in (signal.SIGINT, signal.SIGTERM):
+            with subprocess.Popen([os.path.join(self.tree, "test")], env=self.environment(), stdout=subprocess.PIPE,
+                                  stderr=subprocess.DEVNULL) as gate:
+                self.assertIn(b"step 1 of 5", gate.stdout.readline())
+                self.assertEqual(gate.stdout.readline(), b"early\n")
+                gate.send_signal(number)
+                self.assertEqual(gate.wait(PATIENCE), 128 + number)
+            self.assertEqual(os.listdir(self.room), [])
 
 
 class Seconds(Case):
