@@ -29,7 +29,7 @@ const ALLOW: u16 = (kernel::SECCOMP_RET_ALLOW >> 16) as u16;
 pub struct Answer(pub u32);
 
 /// The action of an answer, in the order of precedence.
-#[derive(Clone, Copy, Debug, PartialEq, Eq)]
+#[derive(Clone, Copy)]
 pub enum Action {
     KillProcess,
     KillThread,
@@ -44,7 +44,7 @@ pub enum Action {
 }
 
 /// What becomes of a syscall, the least permissive first.
-#[derive(Clone, Copy, Debug, PartialEq, Eq)]
+#[derive(Clone, Copy, PartialEq, Eq)]
 pub enum Disposition {
     /// It isn't executed: the process or the thread ends, the thread gets SIGSYS, or the syscall fails.
     Denied,

@@ -9,7 +9,7 @@ use crate::kernel::{
 use crate::record::CallRecord;
 
 /// How many bits of a register are an argument: all 64, or the low 32.
-#[derive(Clone, Copy, Debug, PartialEq, Eq)]
+#[derive(Clone, Copy, PartialEq, Eq)]
 pub enum ArgumentBits {
     Bits32,
     Bits64,
@@ -38,7 +38,7 @@ impl ArgumentBits {
 }
 
 /// An architecture whose syscalls a profile can speak of, in the order of `Architecture::all`.
-#[derive(Clone, Copy, Debug, PartialEq, Eq)]
+#[derive(Clone, Copy)]
 pub enum Architecture {
     X8664,
     X86,

@@ -15,7 +15,7 @@ use std::io;
 use std::io::{Read, Write};
 
 /// When a reader or writer fails.
-#[derive(Clone, Copy, Debug, PartialEq, Eq)]
+#[derive(Clone, Copy)]
 pub enum Failing {
     Never,
     /// Always, after this many bytes read or writes accepted.

@@ -8,7 +8,7 @@ use crate::operation::{Arithmetic, Operand, Operation, Register, Test};
 
 /// An instruction, checked or not: `code` (16 bits), the jump offsets `jt` and `jf` (8 bits, counted from the next
 /// instruction) and `k` (32 bits).
-#[derive(Clone, Copy, Debug, PartialEq, Eq)]
+#[derive(Clone, Copy, PartialEq, Eq)]
 pub struct Insn {
     pub code: u16,
     pub jt: u8,

@@ -5,7 +5,7 @@ ghost use Rattle.scf_insn.specs.Masks.{mask_kind};
 ghost use Rattle.scf_insn.specs.SimpleMask.{IsSimpleMask};
 
 /// How many of the 32 bits a mask has.
-#[derive(Clone, Copy, Debug, PartialEq, Eq)]
+#[derive(Clone, Copy)]
 pub enum MaskKind {
     /// None.
     Empty,

@@ -7,7 +7,7 @@ ghost use Rattle.scf_insn.specs.internal.Numbers.{IsWithinRange};
 use thiserror::Error;
 
 /// Why a text isn't a number.
-#[derive(Clone, Copy, Debug, PartialEq, Eq, Error)]
+#[derive(Clone, Copy, Debug, Error)]
 pub enum NumeralFault {
     #[error("not a number")]
     Malformed,

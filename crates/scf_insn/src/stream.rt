@@ -8,7 +8,7 @@ use std::io::{Read, Write};
 use thiserror::Error;
 
 /// A read or a write failed: the failure count of its reader or writer went up.
-#[derive(Clone, Copy, Debug, PartialEq, Eq, Error)]
+#[derive(Clone, Copy, Debug, Error)]
 #[error("a read or a write failed")]
 pub struct Failed;
 
@@ -46,7 +46,7 @@ pub trait Sink {
 }
 
 /// Why bytes weren't written.
-#[derive(Clone, Copy, Debug, PartialEq, Eq, Error)]
+#[derive(Clone, Copy, Debug, Error)]
 pub enum WriteFault {
     #[error("the output can't be written")]
     Write,

@@ -126,7 +126,7 @@ fn halves_of_arguments(rt: HostRuntime) {
         holds_at(&rt, (answer.0 == 0x7fff_0000) == is_allowed, i);
     }
     let foreign = found.profiles.reason(&record(0xc000_00b7, 135, 8));
-    assert!(rt; foreign == Reason::Foreign);
+    assert!(rt; matches!(foreign, Reason::Foreign));
 }
 
 #[test]

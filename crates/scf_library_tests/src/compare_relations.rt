@@ -136,7 +136,7 @@ fn by_each_relation(
         let wanted = holds(*relation, filter, stated);
         let is_said = says(rt, alloc, stack, profile, *relation, answers, wanted);
         let is_so = is_said && relation.relates(answers.0, answers.1) == wanted;
-        assert!(rt; is_so, "{answers:?} {relation:?}");
+        assert!(rt; is_so, "{answers:?} {wanted}");
     }
 }
 

@@ -307,9 +307,9 @@ fn says_each(
     shown: &[(Scope, Relation, Shown)],
     limit: u64,
 ) {
-    for wanted in shown {
-        let is_so = says(rt, alloc, stack, profile, *wanted, limit);
-        assert!(rt; is_so, "{wanted:?} {limit}");
+    for index in 0..shown.len() {
+        let is_so = says(rt, alloc, stack, profile, shown[index], limit);
+        assert!(rt; is_so, "{index} {limit}");
     }
 }
 

@@ -2,7 +2,6 @@
 //!
 //! Tests run with ample memory. Where one is refused any, or a text isn't what it is to be, the test ends there.
 
-use scf_insn::faults::Failing;
 use scf_insn::{CallRecord, Insn};
 use scf_machine::{FilterStack, Program, check};
 use scf_profile::{CallTable, Loaded, Profile, TableFault, load};
@@ -30,11 +29,6 @@ pub(crate) fn holds_of_both(rt: &impl Abort, is_so: bool, first: &str, second: &
 /// That it is so at a number.
 pub(crate) fn holds_at(rt: &impl Abort, is_so: bool, number: usize) {
     assert!(rt; is_so, "{number}");
-}
-
-/// That it is so where a reader or a writer fails.
-pub(crate) fn holds_where(rt: &impl Abort, is_so: bool, failing: Failing) {
-    assert!(rt; is_so, "{failing:?}");
 }
 
 pub(crate) fn insn(code: u16, jt: u8, jf: u8, k: u32) -> Insn {
@@ -124,7 +118,7 @@ pub(crate) fn allowing(rt: &impl Abort, alloc: Global, numbers: Numbers) -> Prof
 pub(crate) fn assembled(rt: &impl Abort, alloc: Global, head: &str, rest: &str) -> Program {
     let text = format!(in alloc; "{head}{rest}").expect(rt, "no fault");
     let list = assemble(alloc, text.as_bytes()).expect(rt, "no fault");
-    check(alloc, list).expect(rt, "no fault")
+    check(alloc, list).ok().expect(rt, "no fault")
 }
 
 /// One filter more on a stack.
@@ -136,7 +130,7 @@ pub(crate) fn push(rt: &impl Abort, stack: &mut FilterStack, program: Program) {
 /// A filter more that gives one answer to each call.
 pub(crate) fn push_answer(rt: &impl Abort, alloc: Global, stack: &mut FilterStack, answer: u32) {
     let list = vec![in alloc; insn(0x06, 0, 0, answer); 1].expect(rt, "no fault");
-    push(rt, stack, check(alloc, list).expect(rt, "no fault"))
+    push(rt, stack, check(alloc, list).ok().expect(rt, "no fault"))
 }
 
 /// The stack of the filters of these texts, each given in two parts, the oldest first.

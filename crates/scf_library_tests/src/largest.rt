@@ -308,12 +308,12 @@ fn have_a_rule_each(rt: &impl Abort, numbers: &[NumberRules]) {
 /// Whether a profile allows a call by its one entry, or refuses it by its default answer.
 fn allows(profile: &Profile, number: u32, is_allowed: bool) -> bool {
     let one = call(number, X86_64, [0; 6]);
-    let wanted = if is_allowed {
-        (Answer(ALLOW), Reason::Entry(0))
+    let reason = profile.reason(&one);
+    if is_allowed {
+        profile.answer(&one) == Answer(ALLOW) && matches!(reason, Reason::Entry(0))
     } else {
-        (Answer(ERRNO_1), Reason::Default)
-    };
-    (profile.answer(&one), profile.reason(&one)) == wanted
+        profile.answer(&one) == Answer(ERRNO_1) && matches!(reason, Reason::Default)
+    }
 }
 
 /// That a profile allows the numbers from 7 to 4102, and not the ones beside them.

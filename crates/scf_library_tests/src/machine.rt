@@ -37,7 +37,7 @@ fn is_of(program: Program, insns: &[Insn]) -> bool {
 /// The filter of a list.
 fn program_of(rt: &impl Abort, alloc: Global, insns: &[Insn]) -> Program {
     let copy = insns.to_vec(alloc).expect(rt, "no fault");
-    check(alloc, copy).expect(rt, "no fault")
+    check(alloc, copy).ok().expect(rt, "no fault")
 }
 
 /// That the filter of a text is accepted as it stands, and answers so.

@@ -1,6 +1,6 @@
 //! Instructions, records and numbers, and the readers and writers of their bytes.
 
-use crate::fixtures::{holds_at, holds_of, holds_where, insn};
+use crate::fixtures::{holds_at, holds_of, insn};
 use scf_insn::faults::{Failing, Reader, Writer};
 use scf_insn::{
     CallRecord, Counted, Failed, InputFault, Insn, MaskKind, ReadFault, Sink, Source, WriteFault,
@@ -65,7 +65,7 @@ fn is_refused_behind(alloc: Global, count: usize, failing: Failing) -> bool {
 
 /// That a read which fails there, behind so many bytes, is answered so.
 fn refused_behind(rt: &impl Abort, alloc: Global, count: usize, failing: Failing) {
-    holds_where(rt, is_refused_behind(alloc, count, failing), failing);
+    holds_at(rt, is_refused_behind(alloc, count, failing), count);
 }
 
 #[test]
@@ -95,8 +95,8 @@ fn read_once(source: &mut Counted<Reader<'_>>) -> (Result<usize, Failed>, [u8; 4
 /// A reader of std goes on after an interruption, with the next byte.
 fn goes_on_after_interruption(rt: &impl Abort) {
     let mut source = Counted::new(Reader::new(BYTES, 1, Failing::OnceAfter(0)));
-    assert!(rt; read_once(&mut source) == (Err(Failed), [0; 4]));
-    assert!(rt; read_once(&mut source) == (Ok(1), [0x20, 0, 0, 0]));
+    assert!(rt; matches!(read_once(&mut source), (Err(Failed), [0, 0, 0, 0])));
+    assert!(rt; matches!(read_once(&mut source), (Ok(1), [0x20, 0, 0, 0])));
     assert!(rt; source.failures() == 1);
 }
 
@@ -141,7 +141,7 @@ fn limits() -> &'static [(usize, Failing, InputFault)] {
 fn refused_under(rt: &impl Abort, alloc: Global, row: (usize, Failing, InputFault)) {
     let (limit, failing, wanted) = row;
     let is_so = is_input_fault(alloc, limit, failing, wanted);
-    assert!(rt; is_so, "{limit} {failing:?}");
+    holds_at(rt, is_so, limit);
 }
 
 #[test]
@@ -174,7 +174,7 @@ fn cut_files(rt: HostRuntime) {
 /// it.
 fn stops_behind(alloc: Global, count: usize, failing: Failing) -> bool {
     let mut sink = Writer::new(alloc, 1, failing);
-    write_program(&LIST, &mut sink) == Err(WriteFault::Write)
+    matches!(write_program(&LIST, &mut sink), Err(WriteFault::Write))
         && BYTES.get(..count) == Some(sink.taken())
         && sink.failures() == 1
         && sink.asks() == count as u64 + 1
@@ -182,7 +182,7 @@ fn stops_behind(alloc: Global, count: usize, failing: Failing) -> bool {
 
 /// That a write which fails there, behind so many bytes, is answered so.
 fn stopped_behind(rt: &impl Abort, alloc: Global, count: usize, failing: Failing) {
-    holds_where(rt, stops_behind(alloc, count, failing), failing);
+    holds_at(rt, stops_behind(alloc, count, failing), count);
 }
 
 /// Whether the list is written in steps of so many bytes, to a writer that takes no more.
@@ -205,9 +205,9 @@ fn writers_that_fail(rt: HostRuntime) {
 
 /// A writer of std that takes no byte of some has failed, and goes on then.
 fn fails_and_goes_on(rt: &impl Abort, sink: &mut Counted<Writer>) {
-    assert!(rt; write_program(&LIST, sink) == Err(WriteFault::Write));
+    assert!(rt; matches!(write_program(&LIST, sink), Err(WriteFault::Write)));
     assert!(rt; sink.failures() == 1);
-    assert!(rt; Sink::write(sink, b"ab") == Ok(1));
+    assert!(rt; matches!(Sink::write(sink, b"ab"), Ok(1)));
 }
 
 #[test]

@@ -1,7 +1,7 @@
 //! The tokens of a text, and listings to writers that fail. What texts spell, and what is listed, is tested on the
 //! program.
 
-use crate::fixtures::holds_where;
+use crate::fixtures::holds_at;
 use scf_insn::faults::{Failing, Writer};
 use scf_insn::{Insn, WriteFault};
 use scf_text::{Token, disassemble, tokens};
@@ -98,7 +98,7 @@ const LISTING: &str = "ld [4]\njeq #0xc000003e, 1, 0\nraw 0x0094, 0, 0, 0x5\nret
 /// the text, and the writer isn't asked again.
 fn stops_behind(alloc: Global, count: usize, failing: Failing) -> bool {
     let mut sink = Writer::new(alloc, 1, failing);
-    disassemble(&LISTED, &mut sink) == Err(WriteFault::Write)
+    matches!(disassemble(&LISTED, &mut sink), Err(WriteFault::Write))
         && LISTING.as_bytes().get(..count) == Some(sink.taken())
         && sink.failures() == 1
         && sink.asks() == count as u64 + 1
@@ -106,7 +106,7 @@ fn stops_behind(alloc: Global, count: usize, failing: Failing) -> bool {
 
 /// That a write which fails there, behind so many bytes, is answered so.
 fn stopped_behind(rt: &impl Abort, alloc: Global, count: usize, failing: Failing) {
-    holds_where(rt, stops_behind(alloc, count, failing), failing);
+    holds_at(rt, stops_behind(alloc, count, failing), count);
 }
 
 /// Whether the whole listing is written to a writer that takes no more.

@@ -17,7 +17,7 @@ use scf_insn::{Answer, Arithmetic, CallRecord, Insn, Memory, Operand, Operation,
 use std::alloc::Global;
 
 /// The result of a run: its answer, and how many instructions it executed (1 to the program's length).
-#[derive(Clone, Copy, Debug, PartialEq, Eq)]
+#[derive(Clone, Copy)]
 pub struct Ran {
     pub answer: Answer,
     pub steps: u32,

@@ -4,7 +4,7 @@ use scf_insn::Answer;
 
 /// The answer of a run, and the indices of the instructions that it executed, in order. The first is 0, the last is the
 /// returning instruction.
-#[derive(Debug, Drop)]
+#[derive(Drop)]
 pub struct Trace {
     pub answer: Answer,
     pub indices: Vec<usize>,

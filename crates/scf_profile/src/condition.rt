@@ -17,7 +17,7 @@ use std::marker::Model;
 
 /// The operator of a condition (`SCMP_CMP_NE`, `LT`, `LE`, `EQ`, `GE`, `GT`, `MASKED_EQ`). All compare whole unsigned
 /// 64-bit numbers.
-#[derive(Clone, Copy, Debug, PartialEq, Eq)]
+#[derive(Clone, Copy, PartialEq, Eq)]
 pub enum Operator {
     NotEqual,
     Less,
@@ -31,7 +31,7 @@ pub enum Operator {
 
 /// A condition on the argument with index `index`, 0 to 5 in a loaded profile. `value_two` matters to `MaskedEqual`
 /// only.
-#[derive(Clone, Copy, Debug, PartialEq, Eq)]
+#[derive(Clone, Copy, PartialEq, Eq)]
 pub struct Condition {
     pub index: u8,
     pub op: Operator,
@@ -116,7 +116,7 @@ impl Condition {
 }
 
 /// The conditions of a rule: a list.
-#[derive(Debug, Drop)]
+#[derive(Drop)]
 pub struct Conditions {
     list: Vec<Condition>,
 }

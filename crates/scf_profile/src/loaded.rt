@@ -5,7 +5,7 @@ use crate::profiles::Profiles;
 use crate::texts::Texts;
 
 /// A profile, and what was left out of it.
-#[derive(Debug, Drop)]
+#[derive(Drop)]
 pub struct Loaded {
     pub profile: Profile,
     /// The names that the table lacks, each occurrence, in the order of the text.
@@ -15,7 +15,7 @@ pub struct Loaded {
 }
 
 /// The profiles of several architectures, and what was left out of them.
-#[derive(Debug, Drop)]
+#[derive(Drop)]
 pub struct LoadedProfiles {
     /// One for each table, in the order of `Architecture::all`.
     pub profiles: Profiles,

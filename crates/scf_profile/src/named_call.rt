@@ -11,7 +11,7 @@ use std::alloc::{AllocError, Global};
 use std::collections::BTreeMap;
 
 /// A syscall number of a table with its names, in byte order.
-#[derive(Debug, Drop)]
+#[derive(Drop)]
 pub struct NamedCall<'a> {
     pub number: u32,
     pub names: Vec<&'a str>,

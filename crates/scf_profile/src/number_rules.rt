@@ -13,7 +13,7 @@ use std::collections::BTreeMap;
 
 /// A syscall number that a profile has rules for, and these rules in the order of the text. A single rule, the usual
 /// case, needs no allocation.
-#[derive(Debug, Drop)]
+#[derive(Drop)]
 pub struct NumberRules {
     pub number: u32,
     pub rules: SmallVec<Rule, 1>,

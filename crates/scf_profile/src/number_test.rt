@@ -1,7 +1,7 @@
 //! A condition as a test of classic BPF (Linux uapi filter.h).
 
 /// A test of a 64-bit number. Its 32-bit halves decide it, the high one first.
-#[derive(Clone, Copy, Debug, PartialEq, Eq)]
+#[derive(Clone, Copy)]
 pub enum NumberTest {
     /// `n & mask == value`. `value` has no bit outside the mask.
     Masked { mask: u64, value: u64 },

@@ -24,7 +24,7 @@ pub const FOREIGN_ANSWER: Answer = Answer(SECCOMP_RET_KILL_PROCESS);
 /// A loaded profile for an architecture: a default answer, and at most `MAX_RULES` rules in the order of the text. No
 /// record meets two rules with different answers. Syscall numbers are those of the architecture; argument indices are
 /// below 6, none twice in a rule.
-#[derive(Debug, Drop)]
+#[derive(Drop)]
 pub struct Profile {
     architecture: Architecture,
     default_answer: Answer,

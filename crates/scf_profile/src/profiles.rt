@@ -12,7 +12,7 @@ use scf_insn::{Answer, CallRecord};
 use std::marker::Model;
 
 /// Profiles of several architectures, one for each. No record is of two of them.
-#[derive(Debug, Drop)]
+#[derive(Drop)]
 pub struct Profiles {
     list: Vec<Profile>,
 }

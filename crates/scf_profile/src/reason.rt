@@ -1,7 +1,7 @@
 //! Why a profile answers a call as it does.
 
 /// Why a profile answers a record as it does.
-#[derive(Clone, Copy, Debug, PartialEq, Eq)]
+#[derive(Clone, Copy)]
 pub enum Reason {
     /// The record is of another ABI (another architecture, or x32): KILL_PROCESS.
     Foreign,

@@ -6,7 +6,7 @@ ghost use Rattle.scf_profile.specs.Relation.{IsRelated};
 use scf_insn::Answer;
 
 /// Which relation of the left side's answer to the right side's is asked for, as of a filter's to a profile's.
-#[derive(Clone, Copy, Debug, PartialEq, Eq)]
+#[derive(Clone, Copy)]
 pub enum Relation {
     /// Both answers are the same, all 32 bits.
     Same,

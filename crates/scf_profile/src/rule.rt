@@ -12,7 +12,7 @@ use std::alloc::{AllocError, Global};
 use std::default::MadeWith;
 
 /// A rule answers the records of an architecture with its syscall number for which all its conditions hold.
-#[derive(Debug, Drop)]
+#[derive(Drop)]
 pub struct Rule {
     pub number: u32,
     pub conditions: Conditions,

@@ -3,7 +3,7 @@
 use scf_insn::Architecture;
 
 /// A set of call records.
-#[derive(Clone, Copy, Debug, PartialEq, Eq)]
+#[derive(Clone, Copy)]
 pub enum Scope {
     /// Every call record.
     All,

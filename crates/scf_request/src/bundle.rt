@@ -22,7 +22,7 @@ use std::alloc::{AllocError, AllocFailed, Global};
 use thiserror::Error;
 
 /// The kind of a part.
-#[derive(Clone, Copy, Debug, PartialEq, Eq)]
+#[derive(Clone, Copy)]
 pub enum PartKind {
     Filter,
     Profile,
@@ -34,7 +34,7 @@ pub enum PartKind {
 }
 
 /// A part of a bundle: its kind, and the range of its contents, in bytes from the beginning.
-#[derive(Clone, Copy, Debug, PartialEq, Eq)]
+#[derive(Clone, Copy)]
 pub struct Part {
     pub kind: PartKind,
     pub start: usize,
@@ -42,7 +42,7 @@ pub struct Part {
 }
 
 /// Why bytes aren't a bundle.
-#[derive(Clone, Copy, Debug, PartialEq, Eq, Error)]
+#[derive(Clone, Copy, Debug, Error)]
 pub enum BundleFault {
     #[error("no header stands at byte {offset}")]
     Header { offset: usize },

@@ -15,7 +15,7 @@ use scf_profile::{Relation, Scope};
 use thiserror::Error;
 
 /// An option whose text isn't a number in its range.
-#[derive(Clone, Copy, Debug, PartialEq, Eq, Error)]
+#[derive(Clone, Copy, Debug, Error)]
 #[error("the option {name} is no number in its range")]
 pub struct NumberFault {
     pub name: &'static str,

@@ -7,7 +7,7 @@ use crate::options::NumberFault;
 use thiserror::Error;
 
 /// Why arguments that `clap` accepts aren't a request.
-#[derive(Clone, Copy, Debug, PartialEq, Eq, Error)]
+#[derive(Clone, Copy, Debug, Error)]
 pub enum RequestFault {
     /// No command is named.
     #[error("no command is named")]

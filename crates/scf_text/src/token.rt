@@ -13,7 +13,7 @@ use scf_insn::Memory;
 use std::alloc::{AllocError, Global};
 
 /// A token: a slice of the text, and its offset.
-#[derive(Clone, Copy, Debug)]
+#[derive(Clone, Copy)]
 pub struct Token<'a> {
     pub start: usize,
     pub text: &'a [u8],
