@@ -169,20 +169,38 @@ fn run_request(options: &ArgMatches<'_>) -> Result<Request, RequestFault>
     }
 }
 
+/// The request of `decide` with these options.
+fn decide_request(options: &ArgMatches<'_>) -> Result<Request, RequestFault>
+    ensures { AsksFor (Some (codes "decide", rows_of (found_of options.now))) result }
+{
+    let call = record_of(options)?;
+    Ok(Request::Decide(call))
+}
+
+/// The request of the command with this name and these options.
+fn request_named(name: &str, options: &ArgMatches<'_>) -> Result<Request, RequestFault>
+    ensures { AsksFor (Some (name.now, rows_of (found_of options.now))) result }
+{
+    match name {
+        "ask" => ask_request(options),
+        "asm" => Ok(Request::Assemble),
+        "check" => Ok(Request::Check),
+        "compare" => compare_request(options),
+        "compile" => Ok(compile_request(options)),
+        "decide" => decide_request(options),
+        "dis" => Ok(Request::List),
+        "run" => run_request(options),
+        _ => Err(RequestFault::NoCommand),
+    }
+}
+
 /// The request of parsed arguments. The error: no command, the first option whose text isn't a number in its range, or
 /// flags that exclude each other.
 pub fn request_of(matches: &ArgMatches<'_>) -> Result<Request, RequestFault>
     ensures { AsksFor (subcommand_rows_of matches.now) result }
 {
     match matches.subcommand() {
-        Some(("ask", options)) => ask_request(options),
-        Some(("asm", _)) => Ok(Request::Assemble),
-        Some(("check", _)) => Ok(Request::Check),
-        Some(("compare", options)) => compare_request(options),
-        Some(("compile", options)) => Ok(compile_request(options)),
-        Some(("decide", options)) => Ok(Request::Decide(record_of(options)?)),
-        Some(("dis", _)) => Ok(Request::List),
-        Some(("run", options)) => run_request(options),
-        _ => Err(RequestFault::NoCommand),
+        Some((name, options)) => request_named(name, options),
+        None => Err(RequestFault::NoCommand),
     }
 }
