@@ -1,5 +1,5 @@
 -- A header ends at the first line end, so bytes begin with at most one.
-use Rattle.scf_request.proofs.Common.{nat_tests, ◌≡◌, ◌≢◌, ℕ, zero, suc, ◌+◌, ◌<◌, ◌≤◌, ◌^◌, true, List, [], ◌∷◌, ◌++◌, not, eqb, length, get_or, take, drop, codes, Option, Some, Err, refl, sym, ap, ◌∙◌, append_assoc, arith, length-append, list_all, MatchOption, list_all-append, is_digit, digits_value, AllDigits, and_from, and_parts, false≢true, ltb-true, ne_eqb, cond_some, append_cancel_left, append_cancel_right, drop_more, take-append-drop, digits_value-lt, pow-le-pow_right, numeral, ReadsNumber, NumeralFault, PartKind, Beside, Filter, Profile, Table, TableOf, Architecture, X8664, X86, X32, Aarch64, Arm, row_of, kind_word, IsHeader, HasHeader}
+use Rattle.scf_request.proofs.Common.{nat_tests, ◌≡◌, ◌≢◌, ℕ, zero, suc, ◌+◌, ◌<◌, ◌≤◌, ◌^◌, true, List, [], ◌∷◌, ◌++◌, not, eqb, length, get_or, take, drop, codes, Option, Some, Err, refl, sym, ap, ◌∙◌, append_assoc, arith, length-append, list_all, MatchOption, list_all-append, is_digit, digits_value, AllDigits, and_from, and_parts, ltb-true, ne_eqb, cond_some, append_cancel_left, append_cancel_right, drop_more, take-append-drop, digits_value-lt, pow-le-pow_right, numeral, ReadsNumber, NumeralFault, PartKind, Beside, Filter, Profile, Table, TableOf, Architecture, X8664, X86, X32, Aarch64, Arm, row_of, kind_word, IsHeader, HasHeader}
 
 -- ---- the digits of a header
 

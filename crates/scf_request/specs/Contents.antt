@@ -1,5 +1,5 @@
 -- What the parts of a bundle hold, by their kinds.
-use Rattle.std.specs.Prelude.{◌≡◌, ℕ, List, map, Some, None, if◌then◌else◌}
+use Rattle.std.specs.Prelude.{ℕ, List, map, Some, None, if◌then◌else◌}
 use Rattle.std.specs.List.{filter_map}
 use Rattle.scf_insn.specs.Architectures.{row_of}
 use Rattle.scf_insn.specs.declared.architecture.Architecture.{Architecture}

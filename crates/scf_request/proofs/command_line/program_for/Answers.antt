@@ -1,4 +1,4 @@
-use Rattle.scf_request.proofs.Common.{◌≡◌, ◌∙◌, List, ◌∷◌, map, refl, subst, sym, ap, IfOk-weaker, App, Text, app_of, command_word, shape_for, MakesNamed, ReadsAsProgram, scf_with}
+use Rattle.scf_request.proofs.Common.{◌≡◌, ◌∙◌, List, ◌∷◌, map, refl, subst, sym, ap, IfOk-weaker, App, Text, command_word, shape_for, MakesNamed, ReadsAsProgram, scf_with}
 use Rattle.scf_request.proofs.CommandLineLemmas.{bare, behind_first, reads_whole, reads_with}
 use Rattle.scf_request.proofs.command_line.program_for.Goals as goal
 
