@@ -125,8 +125,8 @@ module _ {ps : List Profile} {ss : List Search} {searched dispatched code : List
       let stands = put.put.near.stands in
       record {
         some = omega arith;
-        small = λ long. elim (cases_eq (length ps) 0) [
-          | inl none ↦ absurd (omega (arith, size_of_none ps none, found.small, put.small))
+        sized = elim (cases_eq (length ps) 0) [
+          | inl none ↦ omega (arith, size_of_none ps none, found.small, put.small)
           | inr some ↦ omega (arith, found.small, put.small)
         ];
         sound = λ asked is.

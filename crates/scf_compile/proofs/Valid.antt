@@ -1,5 +1,5 @@
 -- The code of a filter keeps the rules of the checker, and answers within its bounds.
-use Rattle.scf_compile.proofs.Common.{◌≡◌, ℕ, zero, suc, ◌+◌, ◌-◌, ◌<◌, ◌≤◌, true, false, Bool, Some, List, [], ◌∷◌, length, refl, sym, ◌∙◌, arith, get_or, same_Some, slice_get, slice_get-get_or, Insn, Operation, return_with, LoadScratch, bpf_maxinsns, RunAnswers, IsPlainProgram, Stands, IsFine, IsFineAt, IsReturn, IsValidList, KeepsScratchRule, run_once, words_of, subst, sum_by-cons, All, All-cons, CallRecord, Profile, AreOfApart, IsPlainProfile, ProfileAnswers, ProfilesAnswer, foreign, by_profile, by_none, SameAnswers, SameAnswersAsEach, AnswersWithin, search_bound_of, search_bound_of_each, size_bound_of, size_bound_of_each, IsFilterOf, Keeps, IsSound, AreSound}
+use Rattle.scf_compile.proofs.Common.{◌≡◌, ℕ, zero, suc, ◌+◌, ◌-◌, ◌<◌, ◌≤◌, true, false, Bool, Some, List, [], ◌∷◌, length, max, refl, sym, ◌∙◌, arith, get_or, same_Some, slice_get, slice_get-get_or, Insn, Operation, return_with, LoadScratch, bpf_maxinsns, RunAnswers, IsPlainProgram, Stands, IsFine, IsFineAt, IsReturn, IsValidList, KeepsScratchRule, run_once, words_of, subst, sum_by-cons, All, All-cons, CallRecord, Profile, AreOfApart, IsPlainProfile, ProfileAnswers, ProfilesAnswer, foreign, by_profile, by_none, SameAnswers, SameAnswersAsEach, AnswersWithin, search_bound_of, search_bound_of_each, size_bound_of, size_bound_of_each, IsFilterOf, Keeps, IsSound, AreSound}
 
 -- ---- the rules of the checker
 
@@ -102,6 +102,9 @@ module _ (p : Profile) where
 
   pub one_size_bound : size_bound_of_each (p ∷ []) ≡ size_bound_of p
   one_size_bound = omega (arith, sum_by-cons size_bound_of p [])
+
+  pub one_sized : (code : List Insn) → length code ≤ max 2 (size_bound_of_each (p ∷ [])) → length code ≤ size_bound_of p
+  one_sized code few = omega (arith, one_size_bound, few)
 
   pub one_apart : AreOfApart (p ∷ [])
   one_apart i j d lt within = absurd (omega arith)

@@ -1,6 +1,6 @@
 //! From profiles to a filter.
 
-ghost use Rattle.std.specs.Prelude.{◌≡◌, ◌+◌, ◌*◌, ◌^◌, ◌<◌, ◌≤◌, ◌∷◌, All, IfErr, IfOk, List, OnOk, length};
+ghost use Rattle.std.specs.Prelude.{◌≡◌, ◌+◌, ◌*◌, ◌^◌, ◌<◌, ◌≤◌, ◌∷◌, All, IfErr, IfOk, List, OnOk, length, max};
 ghost use Rattle.scf_machine.specs.Machine.{RunAnswers};
 ghost use Rattle.scf_machine.specs.Plain.{IsPlainProgram};
 ghost use Rattle.scf_profile.specs.PlainProfile.{IsPlainProfile};
@@ -81,6 +81,7 @@ fn program_of(alloc: Global, profiles: &[Profile]) -> Result<Program, CompileFau
     ensures same { IfOk result (λ program. SameAnswersAsEach (RunAnswers program) profiles.now) }
     ensures searched { IfOk result (λ program. AnswersWithin program (search_bound_of_each profiles.now)) }
     ensures plain { All IsPlainProfile profiles.now → IfOk result IsPlainProgram }
+    ensures sized { IfOk result (λ program. length program ≤ max 2 (size_bound_of_each profiles.now)) }
     ensures large { IfErr result
         (λ fault. fault ≡ CompileFault.TooLarge → bpf_maxinsns < size_bound_of_each profiles.now) }
 {
@@ -104,25 +105,29 @@ fn program_of(alloc: Global, profiles: &[Profile]) -> Result<Program, CompileFau
 /// Compiles a profile to a filter that answers every call record as the profile does, in all 32 bits; also those of
 /// other architectures. Each run takes at most 8 steps, plus 2 for each binary digit of the count of distinct syscall
 /// numbers, plus, for the rules of one number, 2 for each rule and 8 for each condition. A plain profile gives a plain
-/// program. `TooLarge` comes only if `size_bound` exceeds `BPF_MAXINSNS`, and `Memory` only if an allocation failed.
+/// program. It has at most `size_bound` instructions. `TooLarge` comes only if that exceeds `BPF_MAXINSNS`, and
+/// `Memory` only if an allocation failed.
 pub fn compile(alloc: Global, profile: &Profile) -> Result<Program, CompileFault>
     ensures same { IfOk result (λ program. SameAnswers (RunAnswers program) profile.now) }
     ensures searched { IfOk result (λ program. AnswersWithin program (search_bound_of profile.now)) }
     ensures plain { IsPlainProfile profile.now → IfOk result IsPlainProgram }
+    ensures sized { IfOk result (λ program. length program ≤ size_bound_of profile.now) }
     ensures large { IfErr result (λ fault. fault ≡ CompileFault.TooLarge → bpf_maxinsns < size_bound_of profile.now) }
 {
     program_of(alloc, std::slice::from_ref(profile))
 }
 
 /// Compiles the profiles of several architectures to a filter that answers every call record as the profile of its
-/// architecture does, in all 32 bits, and with KILL_PROCESS if there is none. Each run takes at most as many steps as
-/// `compile` states for the profile that takes the most, plus 2 for each other profile. Plain profiles give a plain
-/// program. `TooLarge` comes only if the sum of their size bounds exceeds `BPF_MAXINSNS`, and `Memory` only if an
-/// allocation failed.
+/// architecture does, in all 32 bits, and with KILL_PROCESS if there is none: also if the text of the profiles lists
+/// its architecture, but no table of it was handed in. Each run takes at most as many steps as `compile` states for the
+/// profile that takes the most, plus 2 for each other profile. Plain profiles give a plain program. It has at most as
+/// many instructions as the sum of their size bounds, or 2 if there is no profile. `TooLarge` comes only if that sum
+/// exceeds `BPF_MAXINSNS`, and `Memory` only if an allocation failed.
 pub fn compile_profiles(alloc: Global, profiles: &Profiles) -> Result<Program, CompileFault>
     ensures same { IfOk result (λ program. SameAnswersAsEach (RunAnswers program) profiles.now) }
     ensures searched { IfOk result (λ program. AnswersWithin program (search_bound_of_each profiles.now)) }
     ensures plain { All IsPlainProfile profiles.now → IfOk result IsPlainProgram }
+    ensures sized { IfOk result (λ program. length program ≤ max 2 (size_bound_of_each profiles.now)) }
     ensures large { IfErr result
         (λ fault. fault ≡ CompileFault.TooLarge → bpf_maxinsns < size_bound_of_each profiles.now) }
 {

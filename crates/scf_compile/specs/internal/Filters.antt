@@ -1,11 +1,10 @@
 -- The instructions of rules, and what is put together of them: searches of the call number, and the whole filter.
-use Rattle.std.specs.Prelude.{◌≡◌, ℕ, ◌+◌, ◌*◌, ◌^◌, ◌<◌, ◌≤◌, All, Bool, List, [], ◌∷◌, ◌++◌, length, sum_by, IsTrue}
+use Rattle.std.specs.Prelude.{◌≡◌, ℕ, ◌+◌, ◌*◌, ◌^◌, ◌<◌, ◌≤◌, All, Bool, List, [], ◌∷◌, ◌++◌, length, max, sum_by, IsTrue}
 use Rattle.scf_insn.specs.Architectures.{IsOf}
 use Rattle.scf_insn.specs.declared.architecture.Architecture.{Architecture}
 use Rattle.scf_insn.specs.declared.insn.Insn.{Insn}
 use Rattle.scf_insn.specs.declared.answer.Answer.{Answer}
 use Rattle.scf_insn.specs.declared.record.CallRecord.{CallRecord}
-use Rattle.scf_insn.specs.Kernel.{bpf_maxinsns}
 use Rattle.scf_insn.specs.Words.{IsRecord, words_of}
 use Rattle.scf_profile.specs.declared.condition.Condition.{Condition}
 use Rattle.scf_profile.specs.declared.rule.Rule.{Rule}
@@ -91,10 +90,10 @@ pub record AnswersCall (ps : List Profile) (code : List Insn) (call : CallRecord
   pub of_words : EndsWithin (words_of call) code 0 answer (search_bound_of_each ps)
   pub of_profiles : ProfilesAnswer ps call answer
 
--- The code answers each call as the profiles do, and within the bound on the steps. Only where the bound on the size is
--- more than a filter may have, the code can be. It is sound, and plain where the profiles are.
+-- The code answers each call as the profiles do, and within the bound on the steps. It is within the bound on the size,
+-- or for no profile has at most two instructions. It is sound, and plain where the profiles are.
 pub record IsFilterOf (ps : List Profile) (code : List Insn) : Type 0 where
   pub some : 0 < length code
-  pub small : bpf_maxinsns < length code → bpf_maxinsns < size_bound_of_each ps
+  pub sized : length code ≤ max 2 (size_bound_of_each ps)
   pub sound : (plain : Bool) → (IsTrue plain → All IsPlainProfile ps) → AreSound plain code
   pub answered : (call : CallRecord) → IsRecord call → AnswersCall ps code call

@@ -1,5 +1,6 @@
-use Rattle.scf_compile.proofs.Common.{◌∷◌, [], IfOk-weaker, RunAnswers, SameAnswers, SameAnswersAsEach}
-use Rattle.scf_compile.proofs.Valid.{one_plain, one_same, one_search_bound}
+use Rattle.scf_compile.proofs.Common.{◌∷◌, [], ◌≤◌, length, max, IfOk-weaker, RunAnswers, SameAnswers}
+use Rattle.scf_compile.proofs.Common.{SameAnswersAsEach, size_bound_of, size_bound_of_each}
+use Rattle.scf_compile.proofs.Valid.{one_plain, one_same, one_search_bound, one_sized}
 use Rattle.scf_compile.proofs.compiler.compile.Goals as goal
 
 pub returns-clause-same : goal.returns-clause-same
@@ -17,3 +18,10 @@ returns-clause-searched c =
 pub returns-clause-plain : goal.returns-clause-plain
 returns-clause-plain c = λ plain.
     (rw c.from_ref.ensures.value at c.program_of.ensures.plain) (one_plain c.args.profile.now plain)
+
+pub returns-clause-sized : goal.returns-clause-sized
+returns-clause-sized c =
+    let p = c.args.profile.now in
+    IfOk-weaker c.program_of.result (λ program. length program ≤ max 2 (size_bound_of_each (p ∷ [])))
+    (λ program. length program ≤ size_bound_of p) (one_sized p)
+    (rw c.from_ref.ensures.value at c.program_of.ensures.sized)

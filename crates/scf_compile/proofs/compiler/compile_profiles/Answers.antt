@@ -11,3 +11,6 @@ returns-clause-searched c = rw c.as_slice.ensures.profiles at c.program_of.ensur
 
 pub returns-clause-plain : goal.returns-clause-plain
 returns-clause-plain c = rw c.as_slice.ensures.profiles at c.program_of.ensures.plain
+
+pub returns-clause-sized : goal.returns-clause-sized
+returns-clause-sized c = rw c.as_slice.ensures.profiles at c.program_of.ensures.sized

@@ -20,3 +20,6 @@ unreachable-requires c =
     omega (arith, ap (λ (l : List Insn). length l) c.as_slice.ensures.value) in
     c.in-Err.ensures.only_where c.in_default.not-Memory (sound_is_valid c.in_ok-code.ensures few)
     (keeps_scratch_rule c.in_ok-code.ensures)
+
+pub returns-in-Ok-clause-sized : goal.returns-in-Ok-clause-sized
+returns-in-Ok-clause-sized c = rw c.in-Ok.ensures.accepted.0 c.in_ok-code.ensures.sized
