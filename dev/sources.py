@@ -288,6 +288,7 @@ class Repository:
                 found[f"{made.path}:{made.first}"] = made
         return found
 
+    @functools.lru_cache(None)
     def stands_on(self, made: Definition) -> dict[str, Definition]:
         """The definitions that a definition cites."""
         file = self.file(made.crate, os.path.relpath(made.path, os.path.join(self.top, "crates", made.crate)))

@@ -210,30 +210,57 @@ a ~~ b = a ≡ b
 -- A number""")
         self.assertIn("Fine.antt:7-8 ◌~~◌\n", self.believe("low::made", "fine", **{FINE: fine})[1])
 
-    PAGE = "# A page\n\n<!-- believe low::made fine -->\n{}<!-- end -->\n\nMore.\n"
+    PAGE = "# A page\n\n<!-- believe low::made fine -->\n{}<!-- end -->\n\n{}More.\n"
     LISTS = ("\n- low/specs/Words.antt: `low`, `by_kinds` (6 lines)\n- low/specs/Fine.antt: `IsFine` (4 lines)\n\n"
              "Together 3 definitions, 10 lines.\n\n")
+    OTHERS = "<!-- believe all other calls -->\n{}<!-- end -->\n\n"
+    OTHER_LISTS = ("\n- low/specs/Words.antt: `Outcome`, `of_kind` (7 lines)\n- top/specs/Alike.antt: `Alike` (2 lines)"
+                   "\n\nTogether 3 definitions, 9 lines.\n\n")
+    WHOLE = PAGE.format(LISTS, OTHERS.format(OTHER_LISTS))
 
     def test_a_page(self):
-        path = self.file("page.md", self.PAGE.format(""))
+        path = self.file("page.md", self.PAGE.format("", self.OTHERS.format("")))
         status, out, err = self.believe("--page", path)
         self.assertEqual((status, err), (1, ""))
         self.assertIn("+- low/specs/Fine.antt: `IsFine` (4 lines)\n", out)
+        self.assertIn("+- top/specs/Alike.antt: `Alike` (2 lines)\n", out)
         self.assertEqual(self.believe("--page", path, "--write"), (0, "", ""))
         with open(path, encoding="utf-8") as file:
-            self.assertEqual(file.read(), self.PAGE.format(self.LISTS))
+            self.assertEqual(file.read(), self.WHOLE)
         self.assertEqual(self.believe("--page", path), (0, "", ""))
         for name, old, new in ((FINE, "by_kinds", "low"), (WORDS, "-- of a word\n", "")):
             self.assertEqual(self.believe("--page", path, **{name: FILES[name].replace(old, new)})[0], 1, name)
 
+    def test_what_no_list_of_a_page_has(self):
+        """What stands behind a public clause has to stand in a list, whose mark is a call's or of all other calls."""
+        path = self.file("page.md", self.PAGE.format(self.LISTS, ""))
+        said = [f"{call} stands on {name} of {file}, which no list has" for call, name, file in (
+            ("low::Made::get", "Outcome", WORDS), ("low::made", "of_kind", WORDS),
+            ("top::Store::put", "Alike", ALIKE))]
+        for words in ([], ["--write"]):
+            status, out, err = self.believe("--page", path, *words)
+            self.assertEqual((status, out.splitlines(), err), (1, said, ""))
+        calls = "".join(f"<!-- believe {call} -->\n<!-- end -->\n" for call in
+                        ("low::made beside low::made fine", "get", "put beside low::made fine"))
+        path = self.file("page.md", self.PAGE.format(self.LISTS, calls))
+        self.assertEqual(self.believe("--page", path, "--write"), (0, "", ""))
+        # a list beside another one has only what that one hasn't, so that both are wanted
+        path = self.file("page.md", calls)
+        status, out, err = self.believe("--page", path, "--write")
+        self.assertEqual((status, err), (1, ""))
+        self.assertIn("low::made stands on IsFine of crates/low/specs/Fine.antt, which no list has\n", out)
+
     def test_lists_beside_others_and_of_files_alone(self):
+        others = self.OTHERS.format("\n- low/specs/Words.antt: `low`, `Outcome`, `of_kind`, `by_kinds` (13 lines)\n"
+                                    "- low/specs/Fine.antt: `IsFine` (4 lines)\n\nTogether 5 definitions, 17 lines.\n\n")
         beside = self.PAGE.replace("low::made fine", "put beside low::made fine")
         path = self.file("page.md", beside.format("\n- top/specs/Alike.antt: `Alike` (2 lines)\n\n"
-                                                  "Together 1 definition, 2 lines.\n\n"))
+                                                  "Together 1 definition, 2 lines.\n\n", others))
         self.assertEqual(self.believe("--page", path), (0, "", ""))
-        brief = self.PAGE.replace("low::made fine", "files of low::made fine")
-        path = self.file("page.md", brief.format(re.sub(r"`low`, `by_kinds`", "2 definitions", self.LISTS).replace(
-            "`IsFine`", "1 definition")))
+        brief = self.WHOLE.replace("believe ", "believe files of ")
+        for names in ("`low`, `by_kinds`", "`Outcome`, `of_kind`"):
+            brief = brief.replace(names, "2 definitions")
+        path = self.file("page.md", re.sub("`(IsFine|Alike)`", "1 definition", brief))
         self.assertEqual(self.believe("--page", path), (0, "", ""))
 
     def test_a_page_that_is_not_utf_8(self):
@@ -249,7 +276,7 @@ a ~~ b = a ≡ b
         self.assertRegex(err, r"^believe: a file of the sources isn't UTF-8: .*\n$")
 
     def test_the_output_fails(self):
-        page = self.file("page.md", self.PAGE.format(""))
+        page = self.file("page.md", self.PAGE.format("", ""))
         begin = [for_developers("believe"), "--repository", self.tree()]
         for words in (["low::made"], ["--page", page], ["--help"]):
             with open("/dev/full", "wb") as full:
@@ -307,6 +334,18 @@ class TrustedBase(Case):
         self.assertEqual(len(paragraphs), 3)
         for name in re.findall(r"`(\w+)`", " ".join(paragraphs)):
             self.assertIn(f"`{name}`", lists)
+
+    def test_a_list_that_is_taken_away_is_noticed(self):
+        """Of each list: what stands behind a public clause stands in another one then, which isn't as the page has it,
+        or in none."""
+        lists = list(re.finditer(r"<!-- believe .*?<!-- end -->\n", self.page(), re.S))
+        self.assertGreater(len(lists), 10)
+        for taken in (it for it in lists if re.match(r"<!-- believe (headline|compile|all other calls)\b", it[0])):
+            page = self.file("page.txt", self.page().replace(taken[0], ""))
+            status, out, err = self.run_words([for_developers("believe"), "--page", page])
+            self.assertEqual((status, err), (1, ""), taken[0])
+            for name in re.findall(r"`(Headline|search_bound_of|HoldsThrough)`", taken[0]):
+                self.assertIn(name, out)
 
     def test_a_definition_that_changes_is_noticed(self):
         tree = os.path.join(self.folder, "tree")
