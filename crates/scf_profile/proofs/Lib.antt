@@ -1,4 +1,5 @@
 pub mod Answering
+pub mod CallsAndRest
 pub mod Common
 pub mod Cuts
 pub mod LeastClash

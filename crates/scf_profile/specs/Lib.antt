@@ -1,3 +1,4 @@
+pub mod CallsAndRest
 pub mod Condition
 pub mod JsonMembers
 pub mod Limits

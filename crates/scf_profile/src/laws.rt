@@ -7,6 +7,7 @@ ghost use Rattle.scf_insn.specs.Kernel.{x32_syscall_bit};
 ghost use Rattle.scf_insn.specs.Words.{IsRecord};
 ghost use Rattle.scf_profile.specs.declared.condition.Condition.{Condition};
 ghost use Rattle.scf_profile.specs.declared.reason.Reason.{Reason};
+ghost use Rattle.scf_profile.specs.CallsAndRest.{CallsAndRest};
 ghost use Rattle.scf_profile.specs.Condition.{condition_holds};
 ghost use Rattle.scf_profile.specs.NumberTests.{comes_to, test_of};
 ghost use Rattle.scf_profile.specs.Profile.{AreOfApart, Profile, HaveNoConflict};
@@ -67,4 +68,9 @@ pub fn numbers_are_native()
         ↔ IsInScope Scope.Native call }
     ensures one { (number : ℕ) (call : CallRecord) → number < x32_syscall_bit
         → IsInScope (Scope.Numbers number number) call ↔ IsInScope (Scope.Call number) call }
+{}
+
+/// Each syscall of a table by itself, and the ranges of numbers between them, have all native records and no others.
+pub fn calls_and_rest()
+    ensures { CallsAndRest }
 {}
