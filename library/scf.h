@@ -203,8 +203,8 @@ enum scf_right_kind { SCF_PROFILE = 1, SCF_FILTERS = 2 };
 struct scf_question {
     uint32_t scope;       /* enum scf_scope */
     uint32_t relation;    /* enum scf_relation */
-    uint32_t first;       /* of SCF_ONE_CALL its number, of SCF_NUMBERS the first */
-    uint32_t last;        /* of SCF_NUMBERS the last; a range that ends before it begins has no call */
+    uint32_t first;       /* of SCF_ONE_CALL its number, of SCF_NUMBERS the first; else not looked at */
+    uint32_t last;        /* of SCF_NUMBERS the last, else not looked at; a range that ends before it begins is empty */
     uint64_t limit;       /* the most steps of a comparison, as SCF_LIMIT */
     uint64_t total_limit; /* of scf_compare_calls: the most steps of all together; UINT64_MAX for no limit */
     uint64_t reserved[2]; /* 0 */
@@ -233,7 +233,7 @@ enum scf_verdict {
     SCF_NO_VERDICT = 0, /* the call didn't end with SCF_OK */
     SCF_HOLDS = 1,      /* proved for every call of the scope */
     SCF_FAILS = 2,      /* `call` shows it, with both answers */
-    SCF_UNDECIDED = 3,  /* more splits are wanted than a comparison makes (10,000) */
+    SCF_UNDECIDED = 3,  /* more splits (10,000) or steps below them are wanted than a comparison makes */
     SCF_UNFINISHED = 4  /* the limit was reached */
 };
 
@@ -242,7 +242,7 @@ struct scf_comparison {
     uint32_t left;    /* of SCF_FAILS: the answer of the filters */
     uint32_t right;   /* of SCF_FAILS: the answer of the right side */
     uint32_t side;    /* of SCF_UNDECIDED: 1 by a filter of the left side, 2 by one of the right side */
-    uint64_t at;      /* of SCF_UNDECIDED: the index of an instruction */
+    uint64_t at;      /* of SCF_UNDECIDED: the index of an instruction where runs of that side can end */
     struct scf_call call;
 };
 
@@ -266,7 +266,7 @@ uint32_t scf_compare_calls(const struct scf_bytes *filters, size_t filters_len, 
 /* ---- several architectures: calls for a profile that lists more than SCMP_ARCH_X86_64
  *
  * They take one table or more, at most one for an architecture, in any order. The profile must list the architecture of
- * each; of others that it lists, nothing is said. */
+ * each. Calls of others that it lists count as foreign: KILL_PROCESS answers them, and they aren't compared. */
 
 enum scf_architecture {
     SCF_X86_64 = 1,
@@ -283,7 +283,8 @@ struct scf_table {
     struct scf_bytes bytes;
 };
 
-/* Hands out a filter that answers every call of these architectures as the profile does, and others by KILL_PROCESS. */
+/* Hands out a filter that answers every call of these architectures as the profile does, and every other one by
+ * KILL_PROCESS: also one of an architecture that the profile lists without a table here. */
 uint32_t scf_compile_architectures(const uint8_t *profile, size_t profile_len, const struct scf_table *tables,
                                    size_t tables_len, uint8_t *filter, size_t room, size_t *needed,
                                    struct scf_fault *fault);

@@ -101,7 +101,7 @@ type Verdict uint32
 const (
 	Holds      Verdict = C.SCF_HOLDS
 	Fails      Verdict = C.SCF_FAILS
-	Undecided  Verdict = C.SCF_UNDECIDED  // more splits are wanted than a comparison makes (10,000)
+	Undecided  Verdict = C.SCF_UNDECIDED  // more splits (10,000) or steps below them are wanted than a comparison makes
 	Unfinished Verdict = C.SCF_UNFINISHED // the limit was reached
 )
 

@@ -36,7 +36,8 @@ abbrev pub right_number : RightKind → ℕ
 right_number Profile = 1
 right_number Filters = 2
 
--- The numbers of a question and of a right side ask for this, and those without a meaning are 0.
+-- The numbers of a question and of a right side ask for this, and the reserved ones are 0. The limits may be any, and
+-- so may `first` and `last` where the scope has no such number.
 pub record IsAsked (question : Question) (right : RightSide) (asked : Asked) : Type 0 where
   pub scope : IsOver question asked.scope
   pub relation : question.relation ≡ relation_number asked.relation
