@@ -1,6 +1,7 @@
 pub mod ArchitectureScopes
 pub mod Commands
 pub mod Comparisons
+pub mod CompiledFilters
 pub mod Faults
 pub mod FilterStacks
 pub mod JointFindings
