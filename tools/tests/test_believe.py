@@ -3,8 +3,12 @@ import os
 import re
 import shutil
 import signal
+import sys
 
 from common import TOP, Case, for_developers
+
+sys.path.append(os.path.join(TOP, "dev"))
+import sources  # noqa: E402
 
 FILES = {
     "crates.txt": "low: thiserror\ntop: low\n",
@@ -214,8 +218,8 @@ a ~~ b = a ≡ b
     LISTS = ("\n- low/specs/Words.antt: `low`, `by_kinds` (6 lines)\n- low/specs/Fine.antt: `IsFine` (4 lines)\n\n"
              "Together 3 definitions, 10 lines.\n\n")
     OTHERS = "<!-- believe all other calls -->\n{}<!-- end -->\n\n"
-    OTHER_LISTS = ("\n- low/specs/Words.antt: `Outcome`, `of_kind` (7 lines)\n- top/specs/Alike.antt: `Alike` (2 lines)"
-                   "\n\nTogether 3 definitions, 9 lines.\n\n")
+    OTHER_LISTS = ("\n- low/specs/Words.antt: `Outcome`, `of_kind` (7 lines)\n"
+                   "- top/specs/Alike.antt: `Alike` (2 lines)\n\nTogether 3 definitions, 9 lines.\n\n")
     WHOLE = PAGE.format(LISTS, OTHERS.format(OTHER_LISTS))
 
     def test_a_page(self):
@@ -252,7 +256,8 @@ a ~~ b = a ≡ b
 
     def test_lists_beside_others_and_of_files_alone(self):
         others = self.OTHERS.format("\n- low/specs/Words.antt: `low`, `Outcome`, `of_kind`, `by_kinds` (13 lines)\n"
-                                    "- low/specs/Fine.antt: `IsFine` (4 lines)\n\nTogether 5 definitions, 17 lines.\n\n")
+                                    "- low/specs/Fine.antt: `IsFine` (4 lines)\n\n"
+                                    "Together 5 definitions, 17 lines.\n\n")
         beside = self.PAGE.replace("low::made fine", "put beside low::made fine")
         path = self.file("page.md", beside.format("\n- top/specs/Alike.antt: `Alike` (2 lines)\n\n"
                                                   "Together 1 definition, 2 lines.\n\n", others))
@@ -334,6 +339,20 @@ class TrustedBase(Case):
         self.assertEqual(len(paragraphs), 3)
         for name in re.findall(r"`(\w+)`", " ".join(paragraphs)):
             self.assertIn(f"`{name}`", lists)
+
+    def test_each_public_call_stands_in_the_table_of_the_page_on_trust(self):
+        """By its own name or by that of its type, in the rows of its crate."""
+        with open(os.path.join(TOP, "docs", "TRUST.md"), encoding="utf-8") as file:
+            table = file.read().partition("## Every public call")[2]
+        rows = dict(re.findall(r"^\| \*\*(\w+)\*\* \|(.*?)(?=^\| \*\*|\Z)", table, re.M | re.S))
+        repository = sources.Repository()
+        for crate in rows:
+            listed = set(re.findall(r"`(?:\w+::)*(\w+)`", rows[crate]))
+            folder = os.path.join(TOP, "crates", crate)
+            for path, names in sources.exported_by(folder).items():
+                file = repository.file(crate, os.path.relpath(path, folder))
+                for call, _ in sources.calls_of(file.text, names):
+                    self.assertTrue(listed.intersection(call.split("::")), f"{crate}: {call}")
 
     def test_a_list_that_is_taken_away_is_noticed(self):
         """Of each list: what stands behind a public clause stands in another one then, which isn't as the page has it,
