@@ -50,11 +50,12 @@ abbrev pub greatest_argument : ArgumentBits → ℕ
 greatest_argument Bits32 = 2 ^ 32 - 1
 greatest_argument Bits64 = 2 ^ 64 - 1
 
--- what a syscall takes of a register of 64 bits: all of it, or its low half
+-- What the conditions of a profile compare of a register of 64 bits: all of it, or its low half. Of x32's syscalls the
+-- kernel hands those below 512 the whole register; libseccomp compares the low half of all, and so does this.
 abbrev pub taken_of : ArgumentBits → ℕ → ℕ
 taken_of Bits32 register = low register
 taken_of Bits64 register = register
 
--- the argument at an index, as the architecture's syscalls take it
+-- the argument at an index, as conditions of the architecture's profile compare it
 abbrev pub argument_in : Architecture → CallRecord → ℕ → ℕ
 argument_in architecture call i = taken_of (row_of architecture).bits (argument call i)
