@@ -13,6 +13,8 @@ pub enum Atom {
     Gt { word: u8, value: u32 },
     /// `word >= value`.
     Ge { word: u8, value: u32 },
+    /// `low <= word && word <= high`.
+    In { word: u8, low: u32, high: u32 },
 }
 
 impl Atom {
@@ -21,7 +23,10 @@ impl Atom {
         ensures { result ≡ word_of self }
     {
         match self {
-            Atom::Eq { word, .. } | Atom::Gt { word, .. } | Atom::Ge { word, .. } => word,
+            Atom::Eq { word, .. }
+            | Atom::Gt { word, .. }
+            | Atom::Ge { word, .. }
+            | Atom::In { word, .. } => word,
         }
     }
 
@@ -33,6 +38,7 @@ impl Atom {
             Atom::Eq { mask, value, .. } => number & mask == value,
             Atom::Gt { value, .. } => number > value,
             Atom::Ge { value, .. } => number >= value,
+            Atom::In { low, high, .. } => low <= number && number <= high,
         }
     }
 }

@@ -28,6 +28,8 @@ impl Query {
         match atom {
             Atom::Gt { value, .. } => Query::within(0, value, false),
             Atom::Ge { value, .. } => Query::within(value, u32::MAX, true),
+            Atom::In { low, high, .. } if low > high => Query::within(0, u32::MAX, false),
+            Atom::In { low, high, .. } => Query::within(low, high, true),
             Atom::Eq { mask, value, .. } if value & mask != value => Query::within(
                 0,
                 u32::MAX,

@@ -1,6 +1,6 @@
 //! What facts as a list of atoms tell and pick.
 
-use crate::script::{ALL_BITS, Step, equal, follow_each, is};
+use crate::script::{ALL_BITS, Step, equal, follow_each, is, within};
 use Step::{IsEmpty, Learn, Picks, PicksNone, Tells};
 use Tell::{Always, Maybe, Never};
 use scf_facts::{Atom, AtomList, Tell};
@@ -31,6 +31,32 @@ const SCRIPTS: &[&'static [Step]] = &[
         Tells(Atom::Gt { word: 4, value: 7 }, Never),
         Tells(Atom::Ge { word: 6, value: 9 }, Always),
         Tells(Atom::Ge { word: 6, value: 8 }, Maybe),
+        Tells(within!(7, 7), Always),
+        Tells(within!(8, u32::MAX), Never),
+        Tells(
+            Atom::In {
+                word: 6,
+                low: 9,
+                high: 12,
+            },
+            Maybe,
+        ),
+        Learn(
+            Atom::In {
+                word: 6,
+                low: 9,
+                high: 12,
+            },
+            false,
+        ),
+        Tells(
+            Atom::In {
+                word: 6,
+                low: 9,
+                high: 12,
+            },
+            Never,
+        ),
         IsEmpty(false),
     ],
     &[

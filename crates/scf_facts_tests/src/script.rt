@@ -40,6 +40,14 @@ macro_rules! at_least {
 
 pub(crate) use at_least;
 
+macro_rules! within {
+    ($low:expr, $high:expr) => {
+        Atom::In { word: 4, low: $low, high: $high }
+    };
+}
+
+pub(crate) use within;
+
 /// What is done with a store of facts, or is so of it.
 #[derive(Clone, Copy)]
 pub(crate) enum Step {

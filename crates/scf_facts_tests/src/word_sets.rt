@@ -1,6 +1,6 @@
 //! What sets of numbers for each word tell, see and pick.
 
-use crate::script::{ALL_BITS, Step, above, at_least, equal, take, take_all};
+use crate::script::{ALL_BITS, Step, above, at_least, equal, take, take_all, within};
 use Step::{IsEmpty, Learn, Mark, Picks, PicksNone, Tells, Undo};
 use Tell::{Always, Maybe, Never};
 use scf_facts::{Atom, Tell, WordFacts, WordSets};
@@ -100,6 +100,28 @@ const BY_INTERVALS: &[Row] = &[
             (above!(1), Never),
         ],
         pick: 1,
+    },
+    Row {
+        learned: &[(within!(3, 9), true), (within!(3, 5), false)],
+        tells: &[
+            (within!(6, 9), Always),
+            (within!(5, 9), Always),
+            (within!(7, 9), Maybe),
+            (within!(0, 5), Never),
+            (at_least!(6), Always),
+        ],
+        pick: 6,
+    },
+    // A range whose ends are exchanged has no number, so that nothing is learned where it doesn't hold.
+    Row {
+        learned: &[(within!(1, 0), false), (within!(u32::MAX, u32::MAX), false)],
+        tells: &[
+            (within!(9, 3), Never),
+            (within!(0, u32::MAX), Always),
+            (within!(0, u32::MAX - 1), Always),
+            (within!(1, u32::MAX), Maybe),
+        ],
+        pick: 0,
     },
     Row {
         learned: &[(equal!(ALL_BITS, u32::MAX), false), (at_least!(3), true)],
@@ -244,6 +266,8 @@ const CONTRADICTIONS: &[[(Atom, bool); 2]] = &[
     [(equal!(0xff, 0), true), (equal!(0x0f, 0), false)],
     [(equal!(3, 0), false), (equal!(7, 0), true)],
     [(equal!(3, 0), false), (equal!(ALL_BITS, 4), true)],
+    [(within!(9, 3), true), (at_least!(0), true)],
+    [(within!(5, 7), true), (within!(8, 9), true)],
 ];
 
 fn contradictions() -> &'static [[(Atom, bool); 2]] {
