@@ -1,3 +1,4 @@
+pub mod AffineTerms
 pub mod Asking
 pub mod BitSlices
 pub mod Budgets

@@ -1,12 +1,13 @@
 //! Bit slices: what a filter takes of one word of the record by masks and shifts.
 
-ghost use Rattle.std.specs.Prelude.{◌≡◌, ◌==◌, ◌↔◌, ◌-◌, ◌*◌, ◌/◌, ◌%◌, ◌<◌, ◌^◌, ℕ, List, IsTrue, bit_and, nat_lt};
+ghost use Rattle.std.specs.Prelude.{◌≡◌, ◌==◌, ◌↔◌, ◌-◌, ◌*◌, ◌/◌, ◌%◌, ◌<◌, ◌≤◌, ◌^◌, ℕ, List, IsTrue, bit_and, nat_lt};
 ghost use Rattle.std.specs.Prelude.{slice_index};
 ghost use Rattle.scf_facts.specs.Bits.{HasBits};
 ghost use Rattle.scf_facts.specs.HighMask.{IsHighMask};
 ghost use Rattle.scf_insn.specs.SimpleMask.{IsSimpleMask};
 ghost use Rattle.scf_insn.specs.Words.{IsWords};
 ghost use Rattle.scf_compare.specs.internal.BitSlices.{IsBitSlice, IsWhole, bit_slice_value};
+ghost use Rattle.scf_compare.specs.internal.AffineTerms.{is_within};
 ghost use Rattle.scf_compare.specs.internal.Values.{IsValue, Abstracts, IsTestDecision, Decides, IsPlainDecision};
 ghost use Rattle.scf_compare.specs.internal.Values.{IsComputedNumber};
 
@@ -164,6 +165,33 @@ impl BitSlice {
             value: (value << self.right & self.mask) + !self.mask,
         };
         Decision::Asks(atom, true)
+    }
+
+    /// The test `low <= self <= high`, as an atom about its word, if the range is one value or has an end that no value
+    /// lies beyond, or if this is the whole word.
+    #[tactic(auto, using(crate::proofs::AffineTerms::slice_laws))]
+    pub(crate) fn is_within(self, low: u32, high: u32) -> Decision
+        requires bit_slice { IsBitSlice self }
+        requires some { low ≤ high }
+        ensures asks { IsTestDecision result }
+        ensures decides { (words : List ℕ) → IsWords words
+            → Decides result words (is_within low high (bit_slice_value self words)) }
+    {
+        if low == 0 {
+            return self.is_above(high).negated();
+        }
+        if high == u32::MAX {
+            return self.is_above(low - 1);
+        }
+        if self.is_whole() {
+            let atom = Atom::In {
+                word: self.word,
+                low,
+                high,
+            };
+            return Decision::Asks(atom, true);
+        }
+        Decision::Open(OpenTest::NONE)
     }
 }
 

@@ -40,6 +40,7 @@
 //! neither of instructions nor of rules. `Verdict` is the finding on a filter, on the left, and a profile (`comparer`).
 #![tactic(auto)]
 
+mod affine_term;
 mod asking;
 mod bit_slice;
 mod budget;

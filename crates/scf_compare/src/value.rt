@@ -5,9 +5,11 @@ ghost use Rattle.scf_insn.specs.SimpleMask.{IsSimpleMask};
 ghost use Rattle.scf_insn.specs.Words.{IsWords};
 ghost use Rattle.scf_machine.specs.Machine.{holds, value_computed};
 ghost use Rattle.scf_compare.specs.internal.BitSlices.{IsBitSlice, IsWhole, bit_slice_value};
+ghost use Rattle.scf_compare.specs.internal.AffineTerms.{IsAffineTerm, affine_value};
 ghost use Rattle.scf_compare.specs.internal.Values.{IsValue, Abstracts, IsPlainValue, IsTestDecision, Decides};
 ghost use Rattle.scf_compare.specs.internal.Values.{IsPlainDecision, IsComputedNumber};
 
+use crate::affine_term::AffineTerm;
 use crate::bit_slice::BitSlice;
 use crate::computed::Computed;
 use crate::known_bits::{known_outcome, told_bits};
@@ -22,6 +24,8 @@ pub(crate) enum Value {
     Known(u32),
     /// A bit slice of a word of the record.
     Slice(BitSlice),
+    /// An affine term of a bit slice.
+    Affine(AffineTerm),
     /// Anything else, by the bits that are known of it.
     Computed(Computed),
 }
@@ -47,6 +51,7 @@ impl Value {
         match self {
             Value::Known(value) => Computed::constant(value),
             Value::Slice(bit_slice) => bit_slice.in_bits(told_bits(facts, bit_slice.word)),
+            Value::Affine(term) => term.in_bits(told_bits(facts, term.bit_slice.word)),
             Value::Computed(computed) => computed,
         }
     }
@@ -66,8 +71,11 @@ impl Value {
             → Abstracts other words v
             → Abstracts result words (value_computed arithmetic a v) }
     {
-        match self.bit_slice_result(arithmetic, other) {
-            Some(value) => value,
+        if let Some(value) = self.bit_slice_result(arithmetic, other) {
+            return value;
+        }
+        match self.affine_result(arithmetic, other) {
+            Some(term) => Value::Affine(term),
             None => self
                 .in_bits(facts)
                 .combined(arithmetic, other.in_bits(facts))
@@ -104,6 +112,37 @@ impl Value {
             (Arithmetic::Div, Value::Slice(bit_slice), Value::Known(v)) => {
                 Some(bit_slice.shifted_right(exponent_of(v)?))
             }
+            _ => None,
+        }
+    }
+
+    /// The value as an affine term, if it is one and no constant.
+    fn affine_term(self) -> Option<AffineTerm>
+        requires { IsValue self }
+        ensures term { IfSome result IsAffineTerm }
+        ensures number { IfSome result (λ term. (words : List ℕ) (x : ℕ) → Abstracts self words x
+            → x ≡ affine_value term words) }
+    {
+        match self {
+            Value::Slice(bit_slice) => Some(AffineTerm::of(bit_slice)),
+            Value::Affine(term) => Some(term),
+            Value::Known(_) | Value::Computed(_) => None,
+        }
+    }
+
+    /// The abstract result of `self op other`, if one of them is an affine term, the other a constant, and the result
+    /// an affine term.
+    fn affine_result(self, arithmetic: Arithmetic, other: Value) -> Option<AffineTerm>
+        requires value { IsValue self }
+        requires other { IsValue other }
+        ensures term { IfSome result IsAffineTerm }
+        ensures number { IfSome result (λ term. (words : List ℕ) (a v : ℕ) → Abstracts self words a
+            → Abstracts other words v
+            → value_computed arithmetic a v ≡ affine_value term words) }
+    {
+        match (self, other) {
+            (_, Value::Known(v)) => self.affine_term()?.computed(arithmetic, v),
+            (Value::Known(v), _) => other.affine_term()?.computed_from(arithmetic, v),
             _ => None,
         }
     }
@@ -175,15 +214,31 @@ impl Value {
             → IsPlainDecision result }
     {
         match (self, other) {
-            (Value::Known(a), Value::Known(v)) => Decision::Known(holds_of(test, a, v)),
-            (Value::Slice(bit_slice), Value::Known(v)) => decide_bit_slice(bit_slice, test, v),
-            (Value::Known(a), Value::Slice(bit_slice)) => match test {
-                Test::Equal => decide_bit_slice(bit_slice, Test::Equal, a),
-                Test::CommonBit => decide_bit_slice(bit_slice, Test::CommonBit, a),
-                Test::Greater => decide_bit_slice(bit_slice, Test::GreaterOrEqual, a).negated(),
-                Test::GreaterOrEqual => decide_bit_slice(bit_slice, Test::Greater, a).negated(),
+            (_, Value::Known(v)) => self.decide_against(test, v),
+            (Value::Known(a), _) => match test {
+                Test::Equal => other.decide_against(Test::Equal, a),
+                Test::CommonBit => other.decide_against(Test::CommonBit, a),
+                Test::Greater => other.decide_against(Test::GreaterOrEqual, a).negated(),
+                Test::GreaterOrEqual => other.decide_against(Test::Greater, a).negated(),
             },
             _ => Decision::Open(OpenTest::NONE),
+        }
+    }
+
+    /// The decision of a test against a constant by what is asked of words of the record.
+    fn decide_against(self, test: Test, v: u32) -> Decision
+        requires { IsValue self }
+        ensures asks { IsTestDecision result }
+        ensures decides { (words : List ℕ) (a : ℕ) → IsWords words
+            → Abstracts self words a
+            → Decides result words (holds test a v) }
+        ensures plain { IsPlainValue self → (test ≡ Test.CommonBit → IsSimpleMask v) → IsPlainDecision result }
+    {
+        match self {
+            Value::Known(a) => Decision::Known(holds_of(test, a, v)),
+            Value::Slice(bit_slice) => decide_bit_slice(bit_slice, test, v),
+            Value::Affine(term) => term.decide(test, v),
+            Value::Computed(_) => Decision::Open(OpenTest::NONE),
         }
     }
 }

@@ -5,13 +5,14 @@ use Rattle.scf_facts.specs.Bits.{HasBits}
 use Rattle.scf_insn.specs.Kernel.{bpf_memwords}
 use Rattle.scf_machine.specs.Machine.{State, word_at}
 use Rattle.scf_compare.specs.declared.value.Value.{Value}
-use Rattle.scf_compare.specs.declared.value.Value.TheVariants.{Known, Slice, Computed}
+use Rattle.scf_compare.specs.declared.value.Value.TheVariants.{Known, Slice, Affine, Computed}
 use Rattle.scf_compare.specs.declared.computed.Computed.{Computed as ComputedBits}
 use Rattle.scf_compare.specs.declared.value.Decision.{Decision}
 use Rattle.scf_compare.specs.declared.value.Decision.TheVariants.{Known as Decided, Asks, Open}
 use Rattle.scf_compare.specs.declared.registers.KnownRegisters.{KnownRegisters}
 use Rattle.scf_compare.specs.internal.Asking.{KeepsEither}
 use Rattle.scf_compare.specs.internal.BitSlices.{IsBitSlice, IsWhole, bit_slice_value}
+use Rattle.scf_compare.specs.internal.AffineTerms.{IsAffineTerm, affine_value}
 
 -- a number of 32 bits has the known bits of a computed value
 abbrev pub IsComputedNumber : ComputedBits → ℕ → Type 0
@@ -21,12 +22,14 @@ IsComputedNumber computed x = (x < 2 ^ 32) × HasBits computed.bits x
 abbrev pub IsValue : Value → Type 0
 IsValue (Known value) = Unit {0}
 IsValue (Slice bit_slice) = IsBitSlice bit_slice
+IsValue (Affine term) = IsAffineTerm term
 IsValue (Computed computed) = Unit {0}
 
 -- over the words a value abstracts a number
 abbrev pub Abstracts : Value → List ℕ → ℕ → Type 0
 Abstracts (Known value) words x = x ≡ value
 Abstracts (Slice bit_slice) words x = x ≡ bit_slice_value bit_slice words
+Abstracts (Affine term) words x = x ≡ affine_value term words
 Abstracts (Computed computed) words x = IsComputedNumber computed x
 
 -- a decision asks of some of the sixteen words
@@ -45,6 +48,7 @@ Decides (Open open_test) words test = Unit {0}
 abbrev pub IsPlainValue : Value → Type 0
 IsPlainValue (Known value) = Unit {0}
 IsPlainValue (Slice bit_slice) = IsWhole bit_slice
+IsPlainValue (Affine term) = ⊥
 IsPlainValue (Computed computed) = ⊥
 
 -- a decision that isn't left open, and that keeps exact facts exact

@@ -1,0 +1,256 @@
+-- Affine terms of bit slices, and the ranges in which they lie.
+use Rattle.std.specs.Prelude.{not}
+use Rattle.std.specs.Int.Bits.{xor_assoc, xor_zero_r}
+use Rattle.std.proofs.Math.Nat.{div-div-eq-div-mul, div-le_self, mul-pos}
+use Rattle.scf_compare.proofs.Common.{◌≡◌, ◌≢◌, ℕ, ◌+◌, ◌-◌, ◌*◌, ◌/◌, ◌%◌, ◌<◌, ◌≤◌, ◌^◌, ◌↔◌, true, false, eqb, leb, nat_lt, refl, sym, ap, ◌∙◌, arith, bit_and, bit_or, bit_xor, add_comm, and_comm, and_le_l, at_bit, beyond_mask, bit_at, bit_at_not, bit_at_ones, cases_eq, div-eq_of_lt, div-lt_iff_lt-mul, div-mul-le_self, div-one, eq-eqb, eqb-true, le-div_iff_mul-le, mod-eq_of_lt, mod-lt, mul-le-mul_left, ne_eqb, cases_lt, of_multiple, one_more, or_comm, or_lt, pow_pos, same_from_bits, same_from_bits_below, same_from_xor, shr_mono, w32, xor_comm, xor_lt, xor_self, word_below, inl, inr}
+use Rattle.scf_compare.proofs.BitSlices.{number_fits}
+use Rattle.scf_compare.proofs.Bits.{each_bit, whole_word}
+use Rattle.scf_compare.proofs.KnownBits.{quotient_grows}
+use Rattle.scf_facts.specs.HighMask.{IsHighMask}
+use Rattle.scf_compare.specs.internal.AffineTerms.{is_within}
+
+-- ---- XOR
+
+-- a number XOR all ones is its complement
+pub xor_all : (x : ℕ) → x < 2 ^ 32 → bit_xor x (2 ^ 32 - 1) ≡ 2 ^ 32 - 1 - x
+xor_all x fits = same_from_bits_below 32 _ _ (xor_lt 32 x (2 ^ 32 - 1) fits (omega arith)) (omega arith)
+    (λ i below. grind (arith, each_bit, bit_at_not w32 x i fits below, bit_at_ones 32 i))
+
+pub xor_complement : (x f : ℕ) → x < 2 ^ 32 → f < 2 ^ 32 → bit_xor x (2 ^ 32 - 1 - f) ≡ 2 ^ 32 - 1 - bit_xor x f
+xor_complement x f fits fits_f =
+    rw (← xor_all f fits_f, ← xor_all (bit_xor x f) (xor_lt 32 x f fits fits_f), xor_assoc) refl
+
+-- a constant under an XOR changes sides
+pub xor_moved : (x f v : ℕ) → (bit_xor x f ≡ v) ↔ (x ≡ bit_xor v f)
+xor_moved x f v = (
+  λ is. rw (← is, xor_assoc, xor_self, xor_zero_r) refl,
+  λ is. rw (is, xor_assoc, xor_self, xor_zero_r) refl,
+)
+
+pub xor_and : (x f v : ℕ) → bit_and (bit_xor x f) v ≡ bit_xor (bit_and x v) (bit_and f v)
+xor_and x f v = same_from_bits _ _ (λ i. grind (arith, each_bit))
+
+pub or_by_xor : (x v : ℕ) → x < 2 ^ 32 → v < 2 ^ 32 → bit_xor (bit_and x (2 ^ 32 - 1 - v)) v ≡ bit_or x v
+or_by_xor x v fits fits_v =
+    same_from_bits_below 32 _ _
+    (xor_lt 32 _ v (omega (arith, and_le_l x (2 ^ 32 - 1 - v))) fits_v) (or_lt 32 x v fits fits_v)
+    (λ i below. grind (arith, each_bit, bit_at_not w32 v i fits_v below))
+
+-- ---- the bit slice itself
+
+pub of_bit_slice : (y : ℕ) → y < 2 ^ 32 → y ≡ (bit_xor y 0 + 0) % 2 ^ 32 / 1
+of_bit_slice y fits = rw (xor_zero_r y, div-one) (omega (arith, fits))
+
+-- the term, where nothing is added and the divisor is 1
+only_xor : (y f a d : ℕ) → y < 2 ^ 32 → f < 2 ^ 32 → a ≡ 0 → d ≡ 1 → (bit_xor y f + a) % 2 ^ 32 / d ≡ bit_xor y f
+only_xor y f a d fits fits_f none one = rw (none, one, div-one) (omega (arith, xor_lt 32 y f fits fits_f))
+
+-- ---- results
+
+pub xor_more : (y f a d v : ℕ) → y < 2 ^ 32 → f < 2 ^ 32 → v < 2 ^ 32 → a ≡ 0 → d ≡ 1
+    → bit_xor ((bit_xor y f + a) % 2 ^ 32 / d) v ≡ (bit_xor y (bit_xor f v) + a) % 2 ^ 32 / d
+xor_more y f a d v fits fits_f fits_v none one =
+    rw (only_xor y f a d fits fits_f none one, only_xor y (bit_xor f v) a d fits (xor_lt 32 f v fits_f fits_v) none one)
+    (xor_assoc y f v)
+
+pub xor_ones : (n v : ℕ) → n < 2 ^ 32 → v ≡ 2 ^ 32 - 1 → bit_xor n v ≡ 2 ^ 32 - 1 - n
+xor_ones n v fits all = rw all (xor_all n fits)
+
+pub complement_sum : (y f a d : ℕ) → y < 2 ^ 32 → f < 2 ^ 32 → a < 2 ^ 32 → d ≡ 1
+    → 2 ^ 32 - 1 - (bit_xor y f + a) % 2 ^ 32 / d ≡ (bit_xor y (2 ^ 32 - 1 - f) + (0 + (2 ^ 32 - a)) % 2 ^ 32) % 2 ^ 32 / d
+complement_sum y f a d fits fits_f fits_a one =
+    let below = xor_lt 32 y f fits fits_f in
+    rw (one, div-one, div-one, xor_complement y f fits fits_f) (omega (arith, below, fits_a))
+
+pub and_xor : (y f a d v : ℕ) → y < 2 ^ 32 → f < 2 ^ 32 → a ≡ 0 → d ≡ 1
+    → bit_and ((bit_xor y f + a) % 2 ^ 32 / d) v ≡ (bit_xor (bit_and y v) (bit_and f v) + a) % 2 ^ 32 / d
+and_xor y f a d v fits fits_f none one =
+    let below : bit_and y v < 2 ^ 32 = omega (arith, and_le_l y v) in
+    let below_f : bit_and f v < 2 ^ 32 = omega (arith, and_le_l f v) in
+    rw (only_xor y f a d fits fits_f none one, only_xor (bit_and y v) (bit_and f v) a d below below_f none one)
+    (xor_and y f v)
+
+-- ---- ranges
+
+pub same_within : (low high n first last m : ℕ) → ((low ≤ n) × (n ≤ high) → (first ≤ m) × (m ≤ last))
+    → ((first ≤ m) × (m ≤ last) → (low ≤ n) × (n ≤ high)) → is_within low high n ≡ is_within first last m
+same_within low high n first last m to from = grind (arith, cases_lt n low, cases_lt high n, cases_lt m first, cases_lt last m)
+
+-- a number lies in a range where another doesn't lie in one
+pub beyond_within : (low high n first last m : ℕ) → ((low ≤ n) × (n ≤ high) → (first ≤ m) × (m ≤ last) → ⊥)
+    → (m < first → (low ≤ n) × (n ≤ high)) → (last < m → (low ≤ n) × (n ≤ high))
+    → is_within low high n ≡ not (is_within first last m)
+beyond_within low high n first last m to below above =
+    grind (arith, cases_lt n low, cases_lt high n, cases_lt m first, cases_lt last m)
+
+pub one_value : (n v : ℕ) → eqb n v ≡ is_within v v n
+one_value n v = grind (arith, cases_eq n v, eq-eqb, ne_eqb)
+
+pub from_least : (n v : ℕ) → n < 2 ^ 32 → not (nat_lt n v) ≡ is_within v (2 ^ 32 - 1) n
+from_least n v fits = grind (arith, cases_lt n v)
+
+pub past_least : (n v : ℕ) → n < 2 ^ 32 → nat_lt v n ≡ is_within (v + 1) (2 ^ 32 - 1) n
+past_least n v fits = grind (arith, cases_lt v n)
+
+-- the same for a range that ends at the greatest number, or begins at 0
+pub past_first : (n v : ℕ) → n < 2 ^ 32 → 0 < v → nat_lt (v - 1) n ≡ is_within v (2 ^ 32 - 1) n
+past_first n v fits some = grind (arith, cases_lt n v)
+
+pub from_first : (n v : ℕ) → not (nat_lt v n) ≡ is_within 0 v n
+from_first n v = grind (arith, cases_lt v n)
+
+-- a number has a bit of a mask of all bits from one on where it is at least that bit
+pub from_lowest_bit : (n v : ℕ) → IsHighMask v → n < 2 ^ 32
+    → not (eqb (bit_and n v) 0) ≡ is_within (2 ^ 32 - 1 - v + 1) (2 ^ 32 - 1) n
+from_lowest_bit n v high fits =
+    let k = high.0 in
+    let lowest : 2 ^ 32 - 1 - v + 1 ≡ 2 ^ k = omega (arith, beyond_mask v k high.1 high.2, pow_pos k) in
+    rw (of_multiple n v k high.1 high.2 fits, lowest)
+    (elim (cases_lt n (2 ^ k)) [
+      | inl below ↦ grind (arith, below, div-eq_of_lt below)
+      | inr above ↦
+          let some : 2 ^ k ≤ n / 2 ^ k * 2 ^ k = omega (arith, mul-le-mul_left (2 ^ k) ((le-div_iff_mul-le {k = 2 ^ k} {x = 1} {y = n} (pow_pos k)).1 (omega arith))) in
+          grind (arith, above, some, pow_pos k, ne_eqb)
+    ])
+
+pub none_past : (n v : ℕ) → n < 2 ^ 32 → v ≡ 2 ^ 32 - 1 → nat_lt v n ≡ false
+none_past n v fits most = grind arith
+
+-- a quotient's range is one of the dividend
+pub quotient_within : (n d low high : ℕ) → 0 < d
+    → is_within low high (n / d) ≡ is_within (low * d) (high * d + (d - 1)) n
+quotient_within n d low high some =
+    let least = le-div_iff_mul-le {k = d} {x = low} {y = n} some in
+    let most = div-lt_iff_lt-mul {k = d} {x = n} {y = high + 1} some in
+    let next = one_more high d in
+    same_within low high (n / d) (low * d) (high * d + (d - 1)) n
+    (λ lies. let below : n / d < high + 1 = omega (arith, lies.1) in
+    (least.0 lies.0, omega (arith, most.0 below, next, some)))
+    (λ lies. let below : n < (high + 1) * d = omega (arith, lies.1, next, some) in
+    (least.1 lies.0, omega (arith, most.1 below)))
+
+-- the sum's range is one of the number that is added to,
+pub sum_within : (y a low high : ℕ) → y < 2 ^ 32 → a < 2 ^ 32 → low ≤ high → high < 2 ^ 32
+    → (low + (2 ^ 32 - a)) % 2 ^ 32 ≤ (high + (2 ^ 32 - a)) % 2 ^ 32
+    → is_within low high ((y + a) % 2 ^ 32)
+    ≡ is_within ((low + (2 ^ 32 - a)) % 2 ^ 32) ((high + (2 ^ 32 - a)) % 2 ^ 32) y
+sum_within y a low high fits fits_a some fits_high order =
+    same_within low high ((y + a) % 2 ^ 32) ((low + (2 ^ 32 - a)) % 2 ^ 32) ((high + (2 ^ 32 - a)) % 2 ^ 32) y
+    (λ lies. (omega (arith, lies.0, lies.1), omega (arith, lies.0, lies.1)))
+    (λ lies. (omega (arith, lies.0, lies.1), omega (arith, lies.0, lies.1)))
+
+-- or all but one, where the ends of it wrap around
+pub sum_beyond : (y a low high : ℕ) → y < 2 ^ 32 → a < 2 ^ 32 → low ≤ high → high < 2 ^ 32
+    → (high + (2 ^ 32 - a)) % 2 ^ 32 < (low + (2 ^ 32 - a)) % 2 ^ 32
+    → is_within low high ((y + a) % 2 ^ 32)
+    ≡ not (is_within ((high + (2 ^ 32 - a)) % 2 ^ 32 + 1) ((low + (2 ^ 32 - a)) % 2 ^ 32 - 1) y)
+sum_beyond y a low high fits fits_a some fits_high order =
+    let first = (low + (2 ^ 32 - a)) % 2 ^ 32 in
+    let last = (high + (2 ^ 32 - a)) % 2 ^ 32 in
+    beyond_within low high ((y + a) % 2 ^ 32) (last + 1) (first - 1) y
+    (λ lies out. omega (arith, lies.0, lies.1, out.0, out.1))
+    (λ out. (omega (arith, out), omega (arith, out)))
+    (λ out. (omega (arith, out), omega (arith, out)))
+
+-- ---- ranges under an XOR
+
+pub xor_equal : (s f v : ℕ) → is_within v v (bit_xor s f) ≡ eqb s (bit_xor v f)
+xor_equal s f v =
+    sym (one_value (bit_xor s f) v) ∙ grind (arith, cases_eq (bit_xor s f) v, cases_eq s (bit_xor v f), xor_moved s f v, eq-eqb, ne_eqb)
+
+pub complement_within : (s f low high : ℕ) → s < 2 ^ 32 → f ≡ 2 ^ 32 - 1 → low ≤ high → high < 2 ^ 32
+    → is_within low high (bit_xor s f) ≡ is_within (2 ^ 32 - 1 - high) (2 ^ 32 - 1 - low) s
+complement_within s f low high fits all some fits_high =
+    rw (all, xor_all s fits)
+    (same_within low high (2 ^ 32 - 1 - s) (2 ^ 32 - 1 - high) (2 ^ 32 - 1 - low) s
+    (λ lies. (omega (arith, lies.0, lies.1), omega (arith, lies.0, lies.1)))
+    (λ lies. (omega (arith, lies.0, lies.1), omega (arith, lies.0, lies.1))))
+
+pub xor_zero : (s f : ℕ) → f ≡ 0 → bit_xor s f ≡ s
+xor_zero s f none = rw none (xor_zero_r s)
+
+-- ---- what fits
+
+pub quotient_fits : (n d : ℕ) → n % 2 ^ 32 / d < 2 ^ 32
+quotient_fits n d = omega (arith, div-le_self (n % 2 ^ 32) d)
+
+pub add_more : (y a d v : ℕ) → d ≡ 1 → ((y + a) % 2 ^ 32 / d + v) % 2 ^ 32 ≡ (y + (a + v) % 2 ^ 32) % 2 ^ 32 / d
+add_more y a d v one = rw (one, div-one, div-one) (omega arith)
+
+pub sum_of_negation : (n v : ℕ) → v < 2 ^ 32 → (n + (0 + (2 ^ 32 - v)) % 2 ^ 32) % 2 ^ 32 ≡ (n + 2 ^ 32 - v) % 2 ^ 32
+sum_of_negation n v fits = omega arith
+
+pub sum_of_complement : (n v : ℕ) → n < 2 ^ 32 → v < 2 ^ 32
+    → (2 ^ 32 - 1 - n + (v + 1) % 2 ^ 32) % 2 ^ 32 ≡ (v + 2 ^ 32 - n) % 2 ^ 32
+sum_of_complement n v fits fits_v = omega arith
+
+pub some_product : (d v : ℕ) → 0 < d → v ≢ 0 → 0 < d * v
+some_product d v some some_v = mul-pos some (omega (arith, some_v))
+
+-- ---- ends of ranges
+
+pub all_within : (n : ℕ) → n < 2 ^ 32 → is_within 0 (2 ^ 32 - 1) n ≡ true
+all_within n fits = grind arith
+
+pub none_within : (n d low high : ℕ) → 0 < d → n < 2 ^ 32 → (2 ^ 32 - 1) / d < low → is_within low high (n / d) ≡ false
+none_within n d low high some fits far =
+    let most : n / d ≤ (2 ^ 32 - 1) / d = quotient_grows n d (2 ^ 32 - 1) d (omega arith) (omega arith) some in
+    grind (arith, cases_lt (n / d) low)
+
+pub to_most : (n d low high : ℕ) → 0 < d → n < 2 ^ 32 → (2 ^ 32 - 1) / d ≤ high
+    → is_within low high (n / d) ≡ is_within (low * d) (2 ^ 32 - 1) n
+to_most n d low high some fits far =
+    let most : n / d ≤ (2 ^ 32 - 1) / d = quotient_grows n d (2 ^ 32 - 1) d (omega arith) (omega arith) some in
+    let least = le-div_iff_mul-le {k = d} {x = low} {y = n} some in
+    same_within low high (n / d) (low * d) (2 ^ 32 - 1) n
+    (λ lies. (least.0 lies.0, omega arith))
+    (λ lies. (least.1 lies.0, omega (arith, most, far)))
+
+pub least_fits : (d low : ℕ) → 0 < d → low ≤ (2 ^ 32 - 1) / d → low * d < 2 ^ 32
+least_fits d low some within = omega (arith, (le-div_iff_mul-le {k = d} {x = low} {y = 2 ^ 32 - 1} some).0 within)
+
+pub last_fits : (d high : ℕ) → 0 < d → high < (2 ^ 32 - 1) / d → high * d + (d - 1) < 2 ^ 32
+last_fits d high some within =
+    omega (arith, (le-div_iff_mul-le {k = d} {x = high + 1} {y = 2 ^ 32 - 1} some).0 (omega arith), one_more high d)
+
+pub last_past : (d low high : ℕ) → low ≤ high → low * d ≤ high * d + (d - 1)
+last_past d low high some = omega (arith, mul-le-mul_left d some)
+
+pub gap : (a low high : ℕ) → a < 2 ^ 32 → low ≤ high → high < 2 ^ 32 → (low ≡ 0 → high ≡ 2 ^ 32 - 1 → ⊥)
+    → (high + (2 ^ 32 - a)) % 2 ^ 32 < (low + (2 ^ 32 - a)) % 2 ^ 32
+    → (high + (2 ^ 32 - a)) % 2 ^ 32 + 1 ≤ (low + (2 ^ 32 - a)) % 2 ^ 32 - 1
+gap a low high fits some fits_high part order =
+    elim (cases_eq low 0) [
+      | inl none ↦
+          let less : high ≢ 2 ^ 32 - 1 = part none in
+          omega (arith, less)
+      | inr more ↦ omega (arith, more)
+    ]
+
+-- ---- what functions cite
+
+pub ruleset of_laws = (of_bit_slice, number_fits)
+
+pub ruleset xor_laws = (xor_more, xor_ones, quotient_fits, number_fits)
+
+pub ruleset complement_laws = (complement_sum, number_fits)
+
+pub ruleset and_laws = (and_xor, number_fits)
+
+pub ruleset or_laws = (or_by_xor, quotient_fits)
+
+pub ruleset reverse_sub_laws = (sum_of_complement, quotient_fits)
+
+pub ruleset div_laws = (div-div-eq-div-mul, some_product)
+
+pub ruleset commuted_laws = (add_comm, and_comm, or_comm, xor_comm)
+
+pub ruleset decide_laws = (one_value, from_least, past_least, none_past, from_lowest_bit, quotient_fits)
+
+pub ruleset quotient_laws = (quotient_within, none_within, to_most, least_fits, last_fits, last_past, mod-lt)
+
+pub ruleset sum_laws = (sum_within, sum_beyond, gap, all_within, xor_lt, number_fits, mod-lt)
+
+pub ruleset xored_laws = (xor_equal, complement_within, xor_zero, number_fits)
+
+pub ruleset slice_laws = (from_first, from_least, past_first, whole_word, word_below, div-one, number_fits)
