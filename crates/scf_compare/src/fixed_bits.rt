@@ -9,7 +9,7 @@ ghost use Rattle.scf_compare.specs.internal.FixedBits.{AreWhole, HaveBits, IsOpe
 ghost use Rattle.scf_compare.specs.Splits.{open_bits};
 
 use crate::known_bits::told_bits;
-use crate::sources::OpenTest;
+use crate::sources::{OpenTest, Sources};
 use scf_facts::{Atom, Bits, WordFacts};
 
 /// A bit of one of the sixteen words: its mask, which has no other bit.
@@ -117,8 +117,9 @@ impl FixedBits {
         Some(WordBit { word, mask })
     }
 
-    /// The next bit to split on, if any isn't fixed: of those on which an open test depends, if there is one, and then
-    /// of all. Bits that the store knows are fixed on the way.
+    /// The next bit to split on, if any isn't fixed: of those on which an open test depends, if there is one, then of
+    /// those of refuted masks, whose values a store may leave open, and then of all. Bits that the store knows are fixed
+    /// on the way.
     pub(crate) fn next_bit<F: WordFacts>(
         &mut self,
         facts: &F,
@@ -138,6 +139,16 @@ impl FixedBits {
             }
             if let Some(bit) = self.open_bit_of(test) {
                 return Some(bit);
+            }
+        }
+        for word in 0..16 {
+            let refuted = facts.refuted_bits(word);
+            if refuted != 0 {
+                self.fix_known(facts, word);
+                let masks = OpenTest::of(Sources::of(word, refuted, 0, 0), false);
+                if let Some(bit) = self.open_bit_of(masks) {
+                    return Some(bit);
+                }
             }
         }
         for word in 0..16 {

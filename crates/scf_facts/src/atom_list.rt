@@ -90,6 +90,11 @@ impl WordFacts for AtomList {
         Bits::NONE
     }
 
+    fn refuted_bits(&self, word: u8) -> u32 {
+        let _ = word;
+        0
+    }
+
     fn is_empty(&self) -> bool {
         false
     }

@@ -98,6 +98,10 @@ pub trait WordFacts: Sized + Drop {
         ensures known { (words : List ℕ) → allows self.now (level self.now) words
             → HasBits result (slice_index words word) };
 
+    /// The bits of this word that refuted masks have. They only say which bits to split on, so no law speaks of them.
+    fn refuted_bits(&self, word: u8) -> u32
+        requires word { word < 16 };
+
     /// Whether no list is known to be allowed: true only if none is.
     fn is_empty(&self) -> bool
         ensures law_empty { IsTrue result → (words : List ℕ) → allows self.now (level self.now) words → ⊥ }

@@ -180,6 +180,15 @@ impl WordSet {
         }
     }
 
+    /// The bits of all refuted masks.
+    pub(crate) fn refuted_bits(&self) -> u32 {
+        let mut mask = 0;
+        for bits in &self.refuted {
+            mask |= bits.mask;
+        }
+        mask
+    }
+
     /// Whether every value is known to have the bits.
     fn has_none_without(&self, bits: Bits) -> bool
         requires within { bit_and bits.value bits.mask ≡ bits.value }

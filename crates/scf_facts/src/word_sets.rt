@@ -84,6 +84,10 @@ impl WordFacts for WordSets {
         self.sets[word as usize].as_set().known_bits()
     }
 
+    fn refuted_bits(&self, word: u8) -> u32 {
+        self.sets[word as usize].as_set().refuted_bits()
+    }
+
     fn is_empty(&self) -> bool {
         self.sets.iter().any(|set| set.as_set().is_empty())
     }

@@ -15,5 +15,12 @@ invariant-loop-word-2 g l = record {
   have : (words : List ℕ) → g.F.WordFacts.allows l.facts (g.F.WordFacts.level l.facts) words
       → HaveBits l.fn.self.words words → HaveBits l.self.words words;
   less : open_bits l.self.words ≤ open_bits l.fn.self.words;
+}
+
+abbrev pub invariant-loop-word-3 : goal.invariant-loop-word-3
+invariant-loop-word-3 g l = record {
+  have : (words : List ℕ) → g.F.WordFacts.allows l.facts (g.F.WordFacts.level l.facts) words
+      → HaveBits l.fn.self.words words → HaveBits l.self.words words;
+  less : open_bits l.self.words ≤ open_bits l.fn.self.words;
   whole : (index : ℕ) → index < l.word → (bits_at l.self.words index).mask ≡ 2 ^ 32 - 1;
 }
