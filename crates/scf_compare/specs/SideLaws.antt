@@ -1,5 +1,5 @@
 -- Laws of comparisons of two sides.
-use Rattle.std.specs.Prelude.{ℕ}
+use Rattle.std.specs.Prelude.{ℕ, ◌+◌}
 use Rattle.scf_insn.specs.declared.answer.Answer.{Answer}
 use Rattle.scf_insn.specs.declared.record.CallRecord.{CallRecord}
 use Rattle.scf_insn.specs.Words.{IsRecord, words_of}
@@ -7,6 +7,7 @@ use Rattle.scf_profile.specs.Profile.{IsProfile}
 use Rattle.scf_profile.specs.declared.relation.Relation.{Relation}
 use Rattle.scf_profile.specs.declared.relation.Relation.TheVariants.{Same, NoMore, NoLess, SameDisposition}
 use Rattle.scf_profile.specs.declared.scope.Scope.{Scope}
+use Rattle.scf_profile.specs.declared.scope.Scope.TheVariants.{Numbers}
 use Rattle.scf_profile.specs.Relation.{IsRelated}
 use Rattle.scf_profile.specs.Scope.{IsInScope}
 use Rattle.scf_compare.specs.declared.finding.Finding.TheVariants.{Holds, Fails}
@@ -77,3 +78,11 @@ HoldsThrough =
     (by : Relation) (over : Scope) (first second third : Side) → IsSide second
     → AllRelated (compared_sides by over first second) → AllRelated (compared_sides by over second third)
     → AllRelated (compared_sides by over first third)
+
+-- what holds over two ranges of numbers, of which the second begins behind the first, holds over both
+abbrev pub HoldsOverRanges : Type 0
+HoldsOverRanges =
+    (by : Relation) (first middle last : ℕ) (left right : Side)
+    → AllRelated (compared_sides by (Numbers first middle) left right)
+    → AllRelated (compared_sides by (Numbers (middle + 1) last) left right)
+    → AllRelated (compared_sides by (Numbers first last) left right)

@@ -12,6 +12,7 @@ ghost use Rattle.scf_compare.specs.Findings.{IsTrueFinding, compared_in};
 ghost use Rattle.scf_compare.specs.Headline.{Headline};
 ghost use Rattle.scf_compare.specs.SideLaws.{
   BothWaysIsOneDisposition,
+  HoldsOverRanges,
   HoldsThrough,
   HoldsTurned,
   SameHoldsByAll,
@@ -81,6 +82,11 @@ pub fn both_ways_is_one_disposition()
 #[tactic(auto, using(crate::proofs::Relations::side_answers_once))]
 pub fn holds_through()
     ensures { HoldsThrough }
+{}
+
+/// Comparisons over two ranges of numbers, one behind the other, are one over both.
+pub fn holds_over_ranges()
+    ensures { HoldsOverRanges }
 {}
 
 /// A comparison makes fewer than 2^512 splits, since each leaves fewer bits that aren't fixed in both halves.

@@ -78,7 +78,7 @@ pub use budget::{Limit, Splits};
 pub use comparer::{compare, compare_sides, compare_sides_within, compare_stack};
 pub use finding::{Finding, Which};
 pub use laws::{
-    both_ways_is_one_disposition, headline, holds_through, holds_turned,
+    both_ways_is_one_disposition, headline, holds_over_ranges, holds_through, holds_turned,
     no_more_and_no_less_is_one_disposition, same_holds_by_all, same_is_no_more_and_no_less,
     sides_headline, splits_end,
 };
