@@ -61,6 +61,11 @@ abbrev pub behavior_of : Side → Behavior
 behavior_of (Stack filters) = stack_behavior filters.now
 behavior_of (OfProfile p) = profile_behavior p.now
 
+-- both sides are stacks of the same filters, in the same order
+abbrev pub AreOneStack : Side → Side → Type 0
+AreOneStack (Stack left) (Stack right) = left.now ≡ right.now
+AreOneStack left right = ⊥
+
 abbrev pub IsPlainSide : Side → Type 0
 IsPlainSide side = (behavior_of side).is_plain
 

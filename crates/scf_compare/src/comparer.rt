@@ -19,7 +19,7 @@ ghost use Rattle.scf_compare.specs.Findings.{
   compared_sides,
 };
 ghost use Rattle.scf_compare.specs.Limits.{LeavesStepsBelow};
-ghost use Rattle.scf_compare.specs.Sides.{IsPlainSide, behavior_of, effort_of_sides};
+ghost use Rattle.scf_compare.specs.Sides.{AreOneStack, IsPlainSide, behavior_of, effort_of_sides};
 ghost use Rattle.scf_compare.specs.Verdicts.{IsDecided, IsTrueOf, IsTrueOfStack, IsWithin};
 ghost use Rattle.scf_compare.specs.internal.Comparers.{IsComparison};
 
@@ -67,6 +67,9 @@ pub fn compare_sides<F: WordFacts>(
     ensures settled { limit.splits ≡ Splits.NoLimit
         → IfOk result (IsFindingDecided (AllRelated (compared_sides by over left.now right.now))
         limit.steps (effort_of_sides left.now right.now)) }
+    ensures of_one { AreOneStack left.now right.now
+        → IfOk result (IsFindingDecided (AllRelated (compared_sides by over left.now right.now))
+        limit.steps (effort_of_sides left.now right.now)) }
 {
     let mut left_over = limit.steps;
     let mut left_below = limit.steps;
@@ -104,6 +107,9 @@ pub fn compare_sides_within<F: WordFacts>(
         → IfOk result (IsFindingDecided (AllRelated (compared_sides by over left.now right.now))
         (min limit.steps left_over.old) (effort_of_sides left.now right.now)) }
     ensures settled { limit.splits ≡ Splits.NoLimit
+        → IfOk result (IsFindingDecided (AllRelated (compared_sides by over left.now right.now))
+        (min limit.steps left_over.old) (effort_of_sides left.now right.now)) }
+    ensures of_one { AreOneStack left.now right.now
         → IfOk result (IsFindingDecided (AllRelated (compared_sides by over left.now right.now))
         (min limit.steps left_over.old) (effort_of_sides left.now right.now)) }
     ensures left { IfOk result (λ finding. LeavesFindingSteps
@@ -148,7 +154,7 @@ fn compare_counted<F: WordFacts>(
 ) -> Result<Finding, Memory>
     ensures { IfOk result (λ finding.
         IsComparison (compared_sides by over left.now right.now)
-        (IsTrue F.starts_exact) limit budget.old finding taken.new budget.new.steps) }
+        (IsTrue F.starts_exact) (AreOneStack left.now right.now) limit budget.old finding taken.new budget.new.steps) }
 {
     let is_same = are_same_stacks(left, right);
     match *left {
@@ -169,7 +175,9 @@ fn compare_counted<F: WordFacts>(
 
 /// Whether both sides are stacks of the same filters.
 fn are_same_stacks(left: &Side<'_>, right: &Side<'_>) -> bool
-    ensures { IsTrue result → (by : Relation) (over : Scope) → AllRelated (compared_sides by over left.now right.now) }
+    ensures related { IsTrue result → (by : Relation) (over : Scope)
+        → AllRelated (compared_sides by over left.now right.now) }
+    ensures all { AreOneStack left.now right.now → IsTrue result }
 {
     match (*left, *right) {
         (Side::Stack(left), Side::Stack(right)) => have_same_filters(left, right),
@@ -181,6 +189,7 @@ fn are_same_stacks(left: &Side<'_>, right: &Side<'_>) -> bool
 fn have_same_filters(left: &[Program], right: &[Program]) -> bool
     ensures same { IsTrue result → left.now ≡ right.now }
     ensures filters { IsTrue result → All IsFilter left.now }
+    ensures all { left.now ≡ right.now → IsTrue result }
 {
     if left.len() != right.len() {
         return false;
@@ -207,7 +216,7 @@ fn compare_with<F: WordFacts, L: SideTree + Drop>(
 ) -> Result<Finding, Memory>
     requires { IsTrue is_same → AllRelated (compared_in by over (L.behavior left) (behavior_of right.now)) }
     ensures { IfOk result (λ finding. IsComparison (compared_in by over (L.behavior left) (behavior_of right.now))
-        (IsTrue F.starts_exact) limit budget.old finding taken.new budget.new.steps) }
+        (IsTrue F.starts_exact) (IsTrue is_same) limit budget.old finding taken.new budget.new.steps) }
 {
     match *right {
         Side::Stack(filters) => {
@@ -247,7 +256,7 @@ fn compare_pair<F: WordFacts, L: SideTree, R: SideTree>(
         (compared_in pair.now.by pair.now.over (L.behavior pair.now.left) (R.behavior pair.now.right)) }
     ensures { IfOk result (λ finding. IsComparison
         (compared_in pair.now.by pair.now.over (L.behavior pair.now.left) (R.behavior pair.now.right))
-        (IsTrue F.starts_exact) limit budget.old finding taken.new budget.new.steps) }
+        (IsTrue F.starts_exact) (IsTrue is_same) limit budget.old finding taken.new budget.new.steps) }
 {
     let facts: F = facts_of(alloc, pair.over)?;
     let (left, start) = pair.left.start();

@@ -11,10 +11,11 @@ abbrev pub effort_between : Compared → ℕ
 effort_between compared = compared.left.size * compared.right.size
 
 -- a finding in so many steps, by a store that is complete if this holds, that leaves so many of a budget's steps
-pub record IsComparison (compared : Compared) (is_complete : Type 0) (limit : ℕ) (budget : Limit) (finding : Finding)
-    (taken left_below : ℕ) : Type 0 where
+pub record IsComparison (compared : Compared) (is_complete are_one : Type 0) (limit : ℕ) (budget : Limit)
+    (finding : Finding) (taken left_below : ℕ) : Type 0 where
   pub explored : IsExplored compared (is_complete × compared.left.is_plain × compared.right.is_plain)
       limit (effort_between compared) taken finding
   pub settled : budget.splits ≡ NoLimit
       → IsFindingDecided (AllRelated compared) limit (effort_between compared) finding
+  pub of_one : are_one → IsFindingDecided (AllRelated compared) limit (effort_between compared) finding
   pub below : LeavesStepsBelow budget.splits budget.steps budget.steps finding left_below

@@ -20,8 +20,8 @@ beside_itself filters by over are = λ call is_record in_scope.
       are_related = related_to_itself by answer.0;
     }
 
-pub returns-in-Stack-Stack : goal.returns-in-Stack-Stack
-returns-in-Stack-Stack c = λ same by over.
+pub returns-in-Stack-Stack-clause-related : goal.returns-in-Stack-Stack-clause-related
+returns-in-Stack-Stack-clause-related c = λ same by over.
     let here = c.in-Stack-Stack in
     rw (here.is-0, here.is-1, ← c.have_same_filters.ensures.same same)
     (beside_itself here.left.now by over (c.have_same_filters.ensures.filters same))

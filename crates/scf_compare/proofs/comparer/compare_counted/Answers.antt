@@ -1,9 +1,34 @@
+use Rattle.std.proofs.lemmas.Result.{IfOk-weaker}
+use Rattle.scf_compare.proofs.Common.{ℕ, Compared, Finding}
+use Rattle.scf_compare.specs.declared.budget.Limit.{Limit}
+use Rattle.scf_compare.specs.internal.Comparers.{IsComparison}
 use Rattle.scf_compare.proofs.comparer.compare_counted.Goals as goal
 
+-- stacks that are one are known to be the same
+of_one : {compared : Compared} {is_complete are_one is_same : Type 0} {limit : ℕ} {budget : Limit}
+    {taken left_below : ℕ} → (are_one → is_same) → (finding : Finding)
+    → IsComparison compared is_complete is_same limit budget finding taken left_below
+    → IsComparison compared is_complete are_one limit budget finding taken left_below
+of_one same finding is = record {
+  explored = is.explored;
+  settled = is.settled;
+  of_one = λ own. is.of_one (same own);
+  below = is.below;
+}
+
 pub returns-in-Profile : goal.returns-in-Profile
-returns-in-Profile g c = rw c.in-Profile.is (rw c.new-left.ensures.profile at c.compare_with-in-Profile.ensures)
+returns-in-Profile g c =
+    rw c.in-Profile.is
+    (IfOk-weaker c.compare_with-in-Profile.result _ _ (of_one (λ own. absurd own))
+    (rw c.new-left.ensures.profile at c.compare_with-in-Profile.ensures))
+
+pub returns-in-Stack : goal.returns-in-Stack
+returns-in-Stack g c =
+    rw c.in-Stack.is
+    (IfOk-weaker c.compare_with.result _ _ (of_one (rw c.in-Stack.is at c.are_same_stacks-is_same.ensures.all))
+    c.compare_with.ensures)
 
 pub compare_with-requires-in-Profile : goal.compare_with-requires-in-Profile
 compare_with-requires-in-Profile g c = λ same.
     rw c.new-left.ensures.profile
-    (rw c.in-Profile.is at (c.are_same_stacks-is_same.ensures same c.args.by c.args.over))
+    (rw c.in-Profile.is at (c.are_same_stacks-is_same.ensures.related same c.args.by c.args.over))

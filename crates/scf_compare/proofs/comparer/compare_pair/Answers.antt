@@ -1,5 +1,5 @@
 use Rattle.std.specs.Prelude.{unwrap_or}
-use Rattle.scf_compare.proofs.Common.{ℕ, Compared, Finding, IfSome, None, Option, Some, Which, arith, inl, refl}
+use Rattle.scf_compare.proofs.Common.{◌≡◌, ℕ, Compared, Finding, IfSome, None, Option, Some, Which, arith, inl, refl, rules}
 use Rattle.scf_compare.proofs.Budgets.{settled_below, undecided_below}
 use Rattle.scf_compare.specs.declared.budget.Limit.{Limit}
 use Rattle.scf_compare.specs.internal.Budgets.{LeavesSteps}
@@ -10,21 +10,24 @@ use Rattle.scf_compare.specs.internal.Stages.{IsExplored}
 use Rattle.scf_compare.proofs.comparer.compare_pair.Goals as goal
 
 -- what a second walk makes of a comparison that the first one leaves undecided
-settled_comparison : (compared : Compared) (is_complete given : Type 0) (limit taken left_below at : ℕ) (budget : Limit)
+settled_comparison : (compared : Compared) (is_complete given are_one : Type 0) (limit taken left_below at : ℕ) (budget : Limit)
     (side : Which) (settled : Option Finding)
     → IsExplored compared given limit (effort_between compared) taken (Undecided side at)
     → (is_complete × compared.left.is_plain × compared.right.is_plain → given)
+    → (are_one → (settled ≡ None → ⊥))
     → IfSome settled (IsSettled compared taken)
     → LeavesSteps budget.splits settled budget.steps left_below
-    → IsComparison compared is_complete limit budget (unwrap_or settled (Undecided side at)) taken left_below
-settled_comparison compared is_complete given limit taken left_below at budget side None first to is left = record {
+    → IsComparison compared is_complete are_one limit budget (unwrap_or settled (Undecided side at)) taken left_below
+settled_comparison compared is_complete given are_one limit taken left_below at budget side None first to one is left = record {
   explored = grind arith;
+  of_one = λ own. absurd (one own refl);
   settled = λ unlimited. absurd (rw unlimited at left);
   below = undecided_below budget.splits budget.steps left_below side at left;
 }
-settled_comparison compared is_complete given limit taken left_below at budget side (Some finding) first to is left =
+settled_comparison compared is_complete given are_one limit taken left_below at budget side (Some finding) first to one is left =
     record {
       explored = grind arith;
+      of_one = λ _. grind arith;
       settled = λ _. grind arith;
       below = settled_below compared budget.splits budget.steps left_below taken finding is left;
     }
@@ -33,17 +36,19 @@ pub returns-in_ok-settled-in-Undecided-2 : goal.returns-in_ok-settled-in-Undecid
 returns-in_ok-settled-in-Undecided-2 g c =
     let undecided = c.in-Undecided-2 in
     let second = c.in_ok-settled-in-Undecided-2 in
-    rw (c.unwrap_or.ensures, undecided.is) (settled_comparison _ _ _ c.args.limit c.explore.new.taken
+    rw (c.unwrap_or.ensures, undecided.is) (settled_comparison _ _ _ _ c.args.limit c.explore.new.taken
     c.settle.new.budget.steps undecided.at c.args.budget.now undecided.side second.settled
     (rw (undecided.is, c.start.ensures.size) at c.in_ok-finding.ensures)
     (λ given. (c.in_ok-facts.ensures.exact given.0, (c.start.ensures.plain given.1, given.2)))
+    (λ own. search rules)
     second.ensures.settled second.ensures.steps)
 
 pub returns-in-Undecided : goal.returns-in-Undecided
 returns-in-Undecided g c =
     let undecided = c.in-Undecided in
-    settled_comparison _ _ _ c.args.limit c.explore.new.taken c.args.budget.now.steps undecided.at c.args.budget.now
+    settled_comparison _ _ _ _ c.args.limit c.explore.new.taken c.args.budget.now.steps undecided.at c.args.budget.now
     undecided.side (Some (Holds c.explore.new.taken))
     (rw (undecided.is, c.start.ensures.size) at c.in_ok-finding.ensures)
     (λ given. (c.in_ok-facts.ensures.exact given.0, (c.start.ensures.plain given.1, given.2)))
+    (λ own none. grind arith)
     (inl (refl, c.requires c.if-is_same.true)) (grind arith)
