@@ -1,4 +1,4 @@
-use Rattle.scf_compare.proofs.Common.{◌≡◌, ◌+◌, ◌∙◌, arith, None}
+use Rattle.scf_compare.proofs.Common.{◌≡◌, ◌+◌, ◌∙◌, arith, inl, inr, None}
 use Rattle.scf_compare.proofs.Stages.{all_related, of_all, of_found}
 use Rattle.scf_compare.proofs.explore.explore.Goals as goal
 
@@ -36,4 +36,17 @@ pub loop-steps-preserved : goal.loop-steps-preserved
 loop-steps-preserved g c =
     let after = c.in_ok-next.ensures in
     let over = rw c.in-At.is at after.stage in
-    grind (arith, over, after.index, after.still, after.exact, c.loop-steps.invariant)
+    let so_far = c.loop-steps.invariant in
+    record {
+      frontier = over.frontier;
+      node = over.node;
+      index = after.index;
+      words = λ words within.
+          elim (so_far.words words within) [
+            | inl seen ↦ grind (arith, seen, after.still)
+            | inr ahead ↦ over.words words ahead
+          ];
+      size = omega (arith, over.size, so_far.size);
+      exact = λ exact plain.
+          let before = so_far.exact exact plain in (after.exact before.1 ∙ before.0, over.exact before.1);
+    }
