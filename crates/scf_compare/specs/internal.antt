@@ -19,3 +19,4 @@ pub mod Stacks
 pub mod Stages
 pub mod Trees
 pub mod Values
+pub mod Walks

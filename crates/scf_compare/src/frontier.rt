@@ -1,6 +1,6 @@
 //! The open branches of a walk.
 
-ghost use Rattle.std.specs.Prelude.{◌≡◌, ◌<◌, ◌↔◌, [], ℕ, Option, List, IsTrue, OnOk, IfOk};
+ghost use Rattle.std.specs.Prelude.{◌≡◌, ◌<◌, ◌↔◌, ◌⊎◌, [], ℕ, Option, List, IsTrue, OnOk, IfOk};
 ghost use Rattle.scf_facts.specs.Levels.{IsSameLevel};
 ghost use Rattle.scf_compare.specs.internal.Leaves.{AreWordsIn, IsLeaf, WereSeen, pair_leaves};
 ghost use Rattle.scf_compare.specs.internal.Frontier.{GivesAnswer, LearnsExactly, IsFrontier};
@@ -116,7 +116,8 @@ pub(crate) fn ask<C: Comparison, F: WordFacts>(
         (AreWordsIn (C.compared comparison.now)) frontier.old }
     requires proper { let step = Step.Branch atom if_true if_false in
         IsProper (C.tree comparison.now known.now) (IsLeaf (C.compared comparison.now)) step }
-    ensures { let compared = C.compared comparison.now in
+    ensures either { IfOk result (λ next. (next ≡ if_true) ⊎ (next ≡ if_false)) }
+    ensures goes { let compared = C.compared comparison.now in
         let tree = C.tree comparison.now in
         let given = F.allows frontier.old.facts (F.level frontier.old.facts) in
         (before : C.Known) (from : C.Node) (found : Option (Which × ℕ))

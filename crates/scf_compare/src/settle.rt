@@ -2,17 +2,19 @@
 
 ghost use Rattle.std.specs.Prelude.{◌≡◌, ◌≤◌, ◌↔◌, ℕ, List, None, IfNone, IfOk, IfSome};
 ghost use Rattle.scf_compare.specs.Findings.{WordsRelated};
-ghost use Rattle.scf_compare.specs.internal.Budgets.{IsTurn, LeavesSteps};
+ghost use Rattle.scf_compare.specs.internal.Budgets.{LeavesSteps};
 ghost use Rattle.scf_compare.specs.internal.FixedBits.{AreWhole, HaveBits, IsOpenBit};
 ghost use Rattle.scf_compare.specs.Splits.{open_bits};
 ghost use Rattle.scf_compare.specs.internal.Frontier.{IsFrontier};
 ghost use Rattle.scf_compare.specs.internal.Leaves.{AreWordsIn};
 ghost use Rattle.scf_compare.specs.internal.Settling.{
   IsSettled,
+  IsTurn,
   StartsAt,
   settling_trees,
 };
 ghost use Rattle.scf_compare.specs.internal.Stages.{IsFound, IsStageAfter};
+ghost use Rattle.scf_compare.specs.internal.Walks.{IsGivenUp};
 
 use crate::budget::Limit;
 use crate::comparison::Comparison;
@@ -65,7 +67,7 @@ fn restart<C: Comparison, F: WordFacts>(
         let trees = settling_trees (C.tree own.comparison.now) own.start own.root in
         (before : C.Known) → IfOk result (λ stage. IfSome stage (IsStageAfter F.WordFacts
         (C.compared own.comparison.now) trees frontier.old frontier.new (trees before) from (trees known.new) None)) }
-    ensures splits { IfOk result (λ stage. IsTurn stage budget.old.splits budget.new.splits) }
+    ensures splits { IfOk result (λ stage. IsTurn from stage budget.old.splits budget.new.splits) }
     ensures steps { budget.new.steps ≡ budget.old.steps }
 {
     if !budget.take_split() {
@@ -109,7 +111,7 @@ fn advance_again<C: Comparison, F: WordFacts>(
         let trees = settling_trees (C.tree own.comparison.now) own.start own.root in
         IfOk result (λ stage. IfSome stage (IsStageAfter F.WordFacts (C.compared own.comparison.now) trees
         frontier.old frontier.new (trees known.old) node (trees known.new) None)) }
-    ensures splits { IfOk result (λ stage. IsTurn stage budget.old.splits budget.new.splits) }
+    ensures splits { IfOk result (λ stage. IsTurn node stage budget.old.splits budget.new.splits) }
     ensures steps { budget.new.steps ≡ budget.old.steps }
 {
     let mut fixed = node.fixed;
@@ -144,7 +146,7 @@ fn advance_again<C: Comparison, F: WordFacts>(
 
 /// Walks the whole tree from a node again, with splits. The finding is `Holds`, with these steps, or `Fails`; there is
 /// none only if the budget was used up.
-#[tactic(auto, using(crate::proofs::Budgets::at_end))]
+#[tactic(auto, using(crate::proofs::Budgets::spent))]
 pub(crate) fn settle<C: Comparison, F: WordFacts>(
     alloc: Global,
     comparison: &C,
@@ -160,6 +162,9 @@ pub(crate) fn settle<C: Comparison, F: WordFacts>(
     ensures settled { IfOk result (λ finding. IfSome finding (IsSettled (C.compared comparison.now) steps)) }
     ensures steps { IfOk result (λ finding.
         LeavesSteps budget.old.splits finding budget.old.steps budget.new.steps) }
+    ensures given_up { let trees = settling_trees (C.tree comparison.now) start root in
+        IfOk result (λ finding. IfNone finding
+        (IsGivenUp F.WordFacts (C.compared comparison.now) trees start root budget.old)) }
 {
     let settling = Settling {
         comparison,

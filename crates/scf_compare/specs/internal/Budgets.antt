@@ -20,15 +20,12 @@ IsSplitTaken taken (AtMost old) (AtMost new) = IsOneTaken taken old new
 IsSplitTaken taken (AtMost old) NoLimit = ⊥
 IsSplitTaken taken NoLimit new = (taken ≡ true) × (new ≡ NoLimit)
 
--- A step of the second walk comes to a stage, and took one split or none; it comes to none only where none was left.
-abbrev pub IsTurn : {A : Type 0} → Option A → Splits → Splits → Type 0
-IsTurn stage old new = MatchOption stage (old ≡ AtMost 0) (λ _. (new ≡ old) ⊎ IsSplitTaken true old new)
-
--- The second walk took no more splits than steps, so far.
-abbrev pub LeavesSplits : Splits → Splits → ℕ → ℕ → Type 0
-LeavesSplits (AtMost first) (AtMost last) old new = (new ≤ old) × (first + new ≤ last + old)
-LeavesSplits (AtMost first) NoLimit old new = ⊥
-LeavesSplits NoLimit last old new = (last ≡ NoLimit) × (new ≡ old)
+-- The splits and steps that are gone, in this order, are as many as these steps and splits; where splits have no limit,
+-- none is counted.
+abbrev pub AreCounted : Splits → Splits → ℕ → ℕ → ℕ → ℕ → Type 0
+AreCounted (AtMost first) (AtMost last) old new steps splits = (new + steps ≡ old) × (last + splits ≡ first)
+AreCounted (AtMost first) NoLimit old new steps splits = ⊥
+AreCounted NoLimit last old new steps splits = (last ≡ NoLimit) × (new ≡ old)
 
 -- So many steps are left of as many: all, if the splits have no limit. If the second walk finds nothing, it took more
 -- than it may make splits, or all of them.

@@ -3,7 +3,7 @@ use Rattle.scf_compare.proofs.explore.advance.Goals as goal
 
 pub returns-in_ok-next-in-Branch-clause-stage : goal.returns-in_ok-next-in-Branch-clause-stage
 returns-in_ok-next-in-Branch-clause-stage g c =
-    c.in_ok-next-in-Branch.ensures c.args.known.now c.args.node _ c.in-Branch.ensures
+    c.in_ok-next-in-Branch.ensures.goes c.args.known.now c.args.node _ c.in-Branch.ensures
 
 pub returns-in-Related-clause-stage : goal.returns-in-Related-clause-stage
 returns-in-Related-clause-stage g c =

@@ -2,8 +2,8 @@ use Rattle.scf_compare.proofs.Common.{arith, ◌∙◌}
 use Rattle.scf_compare.proofs.Branches.{opened}
 use Rattle.scf_compare.proofs.frontier.ask.Goals as goal
 
-pub returns : goal.returns
-returns g c = λ before from found.
+pub returns-clause-goes : goal.returns-clause-goes
+returns-clause-goes g c = λ before from found.
     let tree = g.C.Comparison.tree c.args.comparison.now in
     let marked = c.in_ok-mark.ensures in
     let learned = c.in_ok-learn_answer.ensures in

@@ -5,13 +5,13 @@ pub returns-in_ok-next-in-Branch-Some-default-default-clause-stage :
     goal.returns-in_ok-next-in-Branch-Some-default-default-clause-stage
 returns-in_ok-next-in-Branch-Some-default-default-clause-stage g c =
     let branch = c.in-Branch-Some-default-default in
-    c.in_ok-next-in-Branch-Some-default-default.ensures c.args.known.now c.args.node None
+    c.in_ok-next-in-Branch-Some-default-default.ensures.goes c.args.known.now c.args.node None
     (rw (branch.is, branch.field-0-is) at c.step-step.ensures)
 
 pub returns-in_ok-next-in-None-clause-stage : goal.returns-in_ok-next-in-None-clause-stage
 returns-in_ok-next-in-None-clause-stage g c =
     let forked = c.in-Branch-None-default-default in
-    c.in_ok-next-in-None.ensures c.args.known.now c.args.node None
+    c.in_ok-next-in-None.ensures.goes c.args.known.now c.args.node None
     (rw (forked.is, forked.field-0-is) at c.step-step.ensures)
 
 pub returns-in_ok-take_branch-in-Related-clause-stage : goal.returns-in_ok-take_branch-in-Related-clause-stage

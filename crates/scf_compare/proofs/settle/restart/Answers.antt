@@ -9,7 +9,7 @@ returns-clause-stage g c = λ before.
     let tree = g.C.Comparison.tree own.comparison.now in
     let effort = (tree own.start).size own.root in
     let counts = g.met.C.Comparison.counts own.comparison.now before c.args.from.node in
-    c.in_ok-half.ensures before c.args.from None (record {
+    c.in_ok-half.ensures.goes before c.args.from None (record {
       proper = search rules;
       leads = λ words allowed on.
           let within =

@@ -1,6 +1,6 @@
 use Rattle.scf_compare.proofs.Common.{◌+◌, ◌⊎◌, ℕ, List, AreWordsIn, IsAhead, IsFrontier, None, WereSeen, open_size}
-use Rattle.scf_compare.specs.internal.Budgets.{LeavesSplits}
 use Rattle.scf_compare.specs.internal.Settling.{settling_trees}
+use Rattle.scf_compare.specs.internal.Walks.{HasWalked}
 use Rattle.scf_compare.proofs.settle.settle.Given as goal
 
 abbrev pub invariant-loop-settling : goal.invariant-loop-settling
@@ -13,7 +13,8 @@ invariant-loop-settling g l =
       node : (trees l.known).is_node l.node;
       words : (words : List ℕ) → AreWordsIn compared words
           → WereSeen compared None words ⊎ IsAhead store trees l.frontier ((trees l.known).reaches l.node) words;
-      budget : LeavesSplits l.fn.budget.splits l.budget.splits l.fn.budget.steps l.budget.steps;
+      walked : HasWalked store compared trees l.initial.frontier l.fn.start l.initial.node l.fn.budget l.budget
+          l.frontier l.known l.node;
     }
 
 abbrev pub decreases-loop-settling : goal.decreases-loop-settling
