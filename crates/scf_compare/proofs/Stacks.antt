@@ -1,5 +1,7 @@
 -- The filters of a stack by their indices.
-use Rattle.scf_compare.proofs.Common.{EndsWith, IsSideLeaf, Operation, SideLeaf, control_flow_at, stack_behavior, ◌≡◌, ◌⊎◌, ℕ, ◌+◌, ◌*◌, ◌-◌, ◌<◌, ◌≤◌, List, [], ◌∷◌, length, take, drop, arith, Option, IfSome, slice_get-get_or, Answer, Insn, RunAnswers, StackAnswers, one_answers, stack_paths, tree_size, IsFilterEnd, IsStackLeaf, filter_at}
+use Rattle.std.specs.Prelude.{IfNone}
+use Rattle.scf_compare.specs.Sides.{StackIsOpenAt}
+use Rattle.scf_compare.proofs.Common.{EndsWith, Contains, None, Some, IsSideLeaf, Operation, SideLeaf, control_flow_at, stack_behavior, ◌≡◌, ◌⊎◌, ℕ, ◌+◌, ◌*◌, ◌-◌, ◌<◌, ◌≤◌, List, [], ◌∷◌, length, take, drop, arith, Option, IfSome, slice_get-get_or, Answer, Insn, RunAnswers, StackAnswers, one_answers, stack_paths, tree_size, IsFilterEnd, IsStackLeaf, filter_at}
 use Rattle.scf_compare.proofs.Rules.{contains_here, drop_here}
 use Rattle.scf_insn.specs.declared.operation.Arithmetic.TheVariants.{Div}
 use Rattle.scf_insn.specs.declared.operation.Operand.TheVariants.{Index}
@@ -37,7 +39,25 @@ ending : (operation : Operation) (i : Insn) (at : ℕ) (answer : Option Answer)
     → (operation ≡ ReturnConstant) ⊎ (operation ≡ ReturnAccumulator) ⊎ (operation ≡ Compute Div Index)
 ending operation i at answer ends = grind arith
 
+-- only what it returns from the accumulator isn't known
+open_ending : (operation : Operation) (i : Insn) (at : ℕ) → EndsWith (control_flow_at operation i at) i None
+    → operation ≡ ReturnAccumulator
+open_ending operation i at ends = grind arith
+
+open_at : (filters : List (List Insn)) (one : List Insn) (at : ℕ) (answer : Option Answer) → Contains filters one
+    → IsFilterEnd one (record { answer = answer; at = at }) → IfNone answer (StackIsOpenAt filters at)
+open_at filters one at None contains ends =
+    let returns = open_ending ends.operation ends.insn at ends.ends in
+    (one, contains, record { insn = ends.insn; stands = rw returns at ends.stands })
+open_at filters one at (Some answer) contains ends = tt
+
+open_leaf : (filters : List (List Insn)) (leaf : SideLeaf) → IsStackLeaf filters leaf
+    → IfNone leaf.answer (StackIsOpenAt filters leaf.at)
+open_leaf [] leaf is = rw is tt
+open_leaf (filter ∷ filters) leaf (one, contains, ends) =
+    open_at (filter ∷ filters) one leaf.at leaf.answer contains ends
+
 -- an end of one of the filters is a leaf of the stack as a side
 pub side_leaf : (filters : List (List Insn)) (leaf : SideLeaf) → IsStackLeaf filters leaf
     → IsSideLeaf (stack_behavior filters) leaf
-side_leaf filters leaf is = grind (arith, ending)
+side_leaf filters leaf is = grind (arith, ending, open_leaf)

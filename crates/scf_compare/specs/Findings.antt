@@ -44,7 +44,8 @@ abbrev pub AllRelated : Compared → Type 0
 AllRelated compared =
     (call : CallRecord) → IsRecord call → compared.in_scope call → WordsRelated compared (words_of call)
 
--- An undecided run of this side ends at this instruction: of the right one only where its answer isn't known there.
+-- An undecided run of this side ends at this instruction: of the right one only where it returns the accumulator, whose
+-- value isn't known.
 abbrev pub IsOpenEnd : Compared → Which → ℕ → Type 0
 IsOpenEnd compared Left at = compared.left.ends_at at
 IsOpenEnd compared Right at = compared.right.is_open_at at

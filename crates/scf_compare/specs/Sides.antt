@@ -28,6 +28,16 @@ abbrev pub StackCanEndAt : List (List Insn) → ℕ → Type 0
 StackCanEndAt [] at = at ≡ 0
 StackCanEndAt (filter ∷ filters) at = (one : List Insn) × Contains (filter ∷ filters) one × CanEndAt one at
 
+-- A run of the program can end at this instruction with an answer that isn't known: one that it returns from the
+-- accumulator.
+pub record ReturnsAccumulatorAt (insns : List Insn) (at : ℕ) : Type 0 where
+  pub insn : Insn
+  pub stands : Stands insns at insn ReturnAccumulator
+
+-- so can a run of one of the filters
+abbrev pub StackIsOpenAt : List (List Insn) → ℕ → Type 0
+StackIsOpenAt filters at = (one : List Insn) × Contains filters one × ReturnsAccumulatorAt one at
+
 -- What a side is to a comparison: what it answers to the words of a call, at which instructions it ends, and at which
 -- of them its answer may be unknown, how many steps its whole tree takes, and whether a complete store decides it.
 pub record Behavior : Type 1 where
@@ -42,7 +52,7 @@ abbrev pub stack_behavior : List (List Insn) → Behavior
 stack_behavior filters = record {
   answers = StackAnswers filters;
   ends_at = StackCanEndAt filters;
-  is_open_at = StackCanEndAt filters;
+  is_open_at = StackIsOpenAt filters;
   size = stack_paths filters;
   is_plain = All IsPlainProgram filters;
 }
