@@ -132,20 +132,32 @@ def put_json(value: dict[str, object]) -> None:
 
 
 def replace_file(path: str, text: str) -> None:
-    """Writes a file at once: who reads it meanwhile sees the old one or the new one."""
-    import tempfile  # pylint: disable=import-outside-toplevel
+    """Writes a file at once: who reads it meanwhile sees the old one or the new one.
 
+    Whoever may write in its folder may replace each name in it meanwhile, so the open folder and file are used.
+    """
+    folder, name = os.path.split(path)
     try:
-        file, name = tempfile.mkstemp(prefix=".scf-", dir=os.path.dirname(path) or ".")
+        at = os.open(folder or ".", os.O_PATH | os.O_DIRECTORY | os.O_CLOEXEC)
+        try:
+            _replace_in(at, name, text)
+        finally:
+            os.close(at)
     except OSError as error:
         raise OSError(error.errno, error.strerror, path) from error
+
+
+def _replace_in(folder: int, name: str, text: str) -> None:
+    temporary = f".scf-{os.urandom(8).hex()}"
+    file = os.open(temporary, os.O_WRONLY | os.O_CREAT | os.O_EXCL | os.O_NOFOLLOW | os.O_CLOEXEC, 0o600, dir_fd=folder)
     try:
         with os.fdopen(file, "wb") as opened:
             opened.write(text.encode("utf-8", "backslashreplace"))
-        os.chmod(name, 0o644)
-        os.replace(name, path)
-    except BaseException as error:
-        os.unlink(name)
-        if isinstance(error, OSError):
-            raise OSError(error.errno, error.strerror, path) from error
+            os.fchmod(file, 0o644)
+        os.replace(temporary, name, src_dir_fd=folder, dst_dir_fd=folder)
+    except BaseException:
+        try:
+            os.unlink(temporary, dir_fd=folder)
+        except OSError:
+            pass
         raise

@@ -523,6 +523,24 @@ class Output(Case):
         with self.assertRaises(FileNotFoundError):
             output.replace_file(os.path.join(self.folder, "none", "out.prom"), "new")
 
+    def test_a_link_that_is_put_into_the_folder_meanwhile_is_not_followed(self):
+        secret, folder, path = self.file("secret", "s"), os.path.dirname(self.file("own/x", "")), f"{self.folder}/own/out"
+        os.chmod(secret, 0o600)
+
+        class Meanwhile(str):
+            """A text at whose writing all files of the folder become links to another file."""
+
+            def encode(self, *words):
+                for name in os.listdir(folder):
+                    os.unlink(f"{folder}/{name}")
+                    os.symlink(secret, f"{folder}/{name}")
+                return str.encode(self, *words)
+
+        output.replace_file(path, Meanwhile("new"))
+        self.assertEqual((os.stat(secret).st_mode & 0o777, os.path.getsize(secret)), (0o600, 1))
+        output.replace_file(path, "new")
+        self.assertEqual((os.path.islink(path), os.stat(path).st_mode & 0o777), (False, 0o644))
+
     def test_changes(self):
         before = {("container", "gone"): ("container gone", "weaker"),
                   ("container", "ab" * 32): ("container x", "as configured")}
