@@ -49,20 +49,24 @@ def the_one_stack(found, process):
 
 
 def write(those, folder):
-    """Writes the filters, over no file, and prints their files' names; none is left where one can't be written."""
-    written = []
+    """Writes the filters, over no file, and prints their files' names; none is left where one can't be written.
+
+    Whoever may write beside the folder may replace it meanwhile, so it stays open.
+    """
+    written, at = [], os.open(folder, os.O_PATH | os.O_DIRECTORY | os.O_CLOEXEC)
     try:
         for one in those:
-            name = os.path.join(folder, one.name)
-            with open(name, "xb") as file:
-                written.append(name)
+            with open(one.name, "xb", opener=lambda name, flags: os.open(name, flags, 0o666, dir_fd=at)) as file:
+                written.append(one.name)
                 file.write(one.data)
-    except OSError:
+    except OSError as error:
         for name in written:
-            os.unlink(name)
-        raise
+            os.unlink(name, dir_fd=at)
+        raise OSError(error.errno, error.strerror, os.path.join(folder, one.name)) from error
+    finally:
+        os.close(at)
     for name in written:
-        output.put_line(name)
+        output.put_line(os.path.join(folder, name))
 
 
 def main():

@@ -13,7 +13,7 @@ import unittest
 from common import (ALLOW, EPERM, I386, KILL_PROCESS, PATIENCE, SCF, TOP, X86_64, comes, jeq, jge, load, module,
                     profile_of, ret, tool)
 from confined import CHILD, NEWEST, OLDEST, OTHER, Confined, ended, here, processes, ptrace, status_of
-from scftools import containers
+from scftools import containers, filters
 
 filters_of = module("filters-of")
 ALLOWS_ALL = b'{"defaultAction":"SCMP_ACT_ALLOW"}'
@@ -256,6 +256,24 @@ class FiltersOf(Confined):
             filters_of.write(processes.Stack((OLDEST, NEWEST), False).named, os.path.join(self.folder, "out"))
         self.assertEqual(glob.glob(os.path.join(self.folder, "out/*")), [os.path.join(self.folder, "out/1.bpf")])
         self.assertEqual(self.read("out/1.bpf"), b"old")
+
+    def test_a_link_in_the_place_of_the_folder_is_not_followed(self):
+        os.mkdir(f"{self.folder}/out"), os.mkdir(f"{self.folder}/other")
+
+        class Meanwhile:
+            """A filter at whose writing the folder is replaced by a link to another one."""
+
+            name = "0.bpf"
+
+            @property
+            def data(_):
+                os.rename(f"{self.folder}/out", f"{self.folder}/moved")
+                os.symlink("other", f"{self.folder}/out")
+                return OLDEST
+
+        filters_of.write([Meanwhile(), filters.Filter("1.bpf", NEWEST)], f"{self.folder}/out")
+        self.assertEqual((sorted(os.listdir(f"{self.folder}/moved")), os.listdir(f"{self.folder}/other")),
+                         (["0.bpf", "1.bpf"], []))
 
 
 class VerifyProcess(Confined):
