@@ -52,7 +52,8 @@ install: $(PROGRAM) uninstall
 	install -m 644 LICENSE "$(DOC)"
 	umask 022; python3 -m compileall -q --invalidation-mode checked-hash $(if $(DESTDIR),-s "$(DESTDIR)") \
 	    "$(LIB)/tools/scftools"
-	install scf "$(BIN)"
+	sed 's|^beside=$$|beside=/../lib/scf|' scf >"$(BIN)/scf"
+	chmod 755 "$(BIN)/scf"
 	for it in $(TOOLS); do ln -sf "../lib/scf/tools/$$it" "$(BIN)/scf-$$it" || exit 1; done
 	ln -sf scf-resolve-profile.1 "$(MAN)/scf-plain-profile.1"
 

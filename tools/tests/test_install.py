@@ -78,6 +78,18 @@ class Install(Case):
                 self.assertEqual((status, out), (2, ""))
                 self.assertIn(f"scf-{name}: ", err)
 
+    def test_nothing_that_stands_beside_it_runs_or_is_read(self):
+        self.make("install")
+        for name in ("build", "crates/scf/out/scf", "program/scf", "tools/check", "tools/scftools/launch.py"):
+            os.chmod(self.file(f"a prefix/bin/{name}", "#!/bin/sh\necho a stranger\n"), 0o755)
+        self.file("a prefix/bin/tables/commands", "a stranger\n")
+        for words in (["help"], ["check", self.file("f", filter_of([]))], ["--version"], ["nothing"], []):
+            _, out, err = self.run_installed("scf", *words)
+            self.assertNotIn("stranger", out + err, words)
+        os.remove(os.path.join(self.prefix, "lib/scf/program/scf"))
+        status, out, err = self.run_installed("scf", "--version")
+        self.assertEqual((status, out), (125, ""), err)
+
     @unittest.skipUnless(shutil.which("man"), "there is no man here")
     def test_man_finds_the_pages(self):
         self.make("install")
