@@ -21,10 +21,18 @@ ACTIONS_LOGGED = "/proc/sys/kernel/seccomp/actions_logged"
 KERNEL_LOG = "/dev/kmsg"
 # The most bytes of a message in it (PRINTKRB_RECORD_MAX in include/linux/printk.h is less).
 LONGEST = 1 << 13
+# What may stand before a record, in which a process has no word: of dmesg a level, a facility, a time and a thread; of
+# journald and syslog a time, the machine's name and that of who wrote it; of auditd the machine's name.
+STAMP = (r"(?:[A-Z][a-z]{2} (?:[ 0-9][0-9]|[0-9]{4}-[0-9]{2}-[0-9]{2}) [0-9:.]{8,15}(?: [A-Z0-9+-]{1,6})?|"
+         r"[0-9][0-9T:.,+-]{9,40}Z?|\[[ A-Za-z0-9:.<>+]{1,40}\])")
+LOGGED = rf"(?:{STAMP} )?(?:[A-Za-z0-9_.-]{{1,255}} )?"
+OF_KERNEL = (rf"(?:(?:<[0-9]{{1,3}}>)?(?:[a-z0-9]{{1,9}} {{0,9}}:[a-z]{{1,9}} {{0,9}}: ?)?"
+             rf"(?:{STAMP}(?:\[ {{0,9}}[CT][0-9]{{1,10}}\])? )?|{LOGGED}kernel: (?:{STAMP} )?)")
+OF_AUDITD = rf"(?:{LOGGED}audisp[a-z-]{{1,9}}(?:\[[0-9]{{1,10}}\])?: )?(?:node=\S{{1,255}} )?"
 # How the two kinds of records begin: by their number (linux/audit.h), auditd's name, and journald's, where a record is
 # one that it took from the kernel itself.
-KINDS = Pattern(r"(?:\A|\s)(?:type=(1326|SECCOMP|1300|SYSCALL) (?:msg=)?(?=audit\()|"
-                r"audit(?:\[[0-9]{1,10}\])?: (SECCOMP|SYSCALL) )")
+KINDS = Pattern(rf"\A(?:(?:{OF_KERNEL}(?:audit: )?|{OF_AUDITD})type=(1326|SECCOMP|1300|SYSCALL) (?:msg=)?(?=audit\()|"
+                rf"{LOGGED}audit(?:\[[0-9]{{1,10}}\])?: (SECCOMP|SYSCALL) )")
 SECCOMP, SYSCALL = ("1326", "SECCOMP"), ("1300", "SYSCALL")
 # Records of other types, and ausearch's lines between those of one event.
 OTHER = Pattern(r"(?:\A|\s)type=[A-Z0-9_\[\]]{1,40} (?:msg=)?audit\(|\A(?:----|time->.*|<no matches>)\Z")
@@ -38,7 +46,7 @@ TIME = Pattern(r"audit\(([0-9]{1,12})\.([0-9]{3}):")
 # auditd puts these before what it adds to a record itself, which names what the kernel's part has as numbers.
 ENRICHED = "\x1d"
 # The kernel leaves out records if too many come at once (kauditd_printk_skb in kernel/audit.c).
-SUPPRESSED = Pattern(r"\baudit: kauditd_printk_skb: ([0-9]{1,9}) callbacks suppressed")
+SUPPRESSED = Pattern(rf"\A{OF_KERNEL}audit: kauditd_printk_skb: ([0-9]{{1,9}}) callbacks suppressed")
 # What ausearch -i calls the actions: those that kill alike (auparse/seccomp-code-table.h of audit 3.0).
 CODES = {"kill": ("KILL_PROCESS", "KILL_THREAD"), "trap": ("TRAP",), "errno": ("ERRNO",),
          "user-notify": ("USER_NOTIF",), "trace": ("TRACE",), "log": ("LOG",), "allow": ("ALLOW",)}
@@ -162,8 +170,16 @@ def syscall_in(line: str, at: int, tables: dict[str, Table]) -> Syscall:
                    tuple(f"0x{it}" if re.fullmatch("[0-9a-f]{1,16}", it) else it for it in found.groups()[2:]))
 
 
+def is_own_record(message: bytes) -> bool:
+    """Whether a message of /dev/kmsg is an audit record of the kernel: one of facility 0, which messages that programs
+    write there never have, and that begins as one, since the kernel puts words of processes into others."""
+    head, _, text = message.partition(b";")
+    number = head.partition(b",")[0]
+    return number.isdigit() and int(number) >> 3 == 0 and text.startswith(b"audit: type=")
+
+
 def kernel_lines() -> Iterator[str]:
-    """The lines of this machine's kernel log, oldest first (/dev/kmsg)."""
+    """The audit records in this machine's kernel log, oldest first (/dev/kmsg)."""
     try:
         log = os.open(KERNEL_LOG, os.O_RDONLY | os.O_NONBLOCK | os.O_CLOEXEC)
     except OSError as error:
@@ -178,7 +194,8 @@ def kernel_lines() -> Iterator[str]:
                 continue
             except BlockingIOError:
                 return
-            yield message.partition(b";")[2].partition(b"\n")[0].decode("latin-1")
+            if is_own_record(message):
+                yield message.partition(b";")[2].partition(b"\n")[0].decode("latin-1")
     finally:
         os.close(log)
 

@@ -7,7 +7,8 @@
 
 LINE is what was logged when it happened, and `-` is standard input, with any number of lines:
 
-    - an audit record of seccomp, in the kernel's log (dmesg), in journald's, in auditd's or as ausearch prints it;
+    - an audit record of seccomp, in the kernel's log (dmesg), in journald's, in auditd's or as ausearch prints it, and
+      behind nothing but what these put before it, since other messages have words that processes choose;
     - the end of what strace wrote: the syscall that failed, or that and SIGSYS.
 
 --pid takes the records of a process from this machine's kernel log; while it runs, and no file is given, also its

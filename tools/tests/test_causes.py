@@ -9,6 +9,7 @@ import subprocess
 import sys
 import time
 import unittest
+import unittest.mock
 
 from common import ALLOW, I386, KILL_PROCESS, PATIENCE, TOP, X86_64, Case, jeq, profile_of, ret
 
@@ -564,6 +565,16 @@ class Lines(Causes):
         for text in (WRITTEN, f"[  624.561849] {WRITTEN}", f"[Fri Nov 27 05:35:00 2026] {WRITTEN}",
                      f"Nov 27 05:35:00 vm kernel: {WRITTEN}",
                      f"2026-11-27T05:35:00.752+00:00 vm kernel: [  624.5] {WRITTEN}",
+                     f"<5>[  624.561849] {WRITTEN}", f"kern  :notice: [  624.561849] {WRITTEN}",
+                     f"[  624.561849][  T123] {WRITTEN}", f"[  624.561849 <    0.000002>] {WRITTEN}",
+                     f"[Nov27 05:35] {WRITTEN}", f"[  +0.000002] {WRITTEN}",
+                     f"2026-11-27T05:35:00,752000+00:00 {WRITTEN}", f"Nov  7 05:35:00 vm kernel: {WRITTEN}",
+                     f"Fri 2026-11-27 05:35:00 UTC vm kernel: {WRITTEN}",
+                     f"Nov 27 05:35:00.752123 vm kernel: {WRITTEN}", f"1795757700.752123 vm kernel: {WRITTEN}",
+                     f"2026-11-27T05:35:00+0000 vm kernel: {WRITTEN}", f"[  624.561849] vm kernel: {WRITTEN}",
+                     f"Nov 27 05:35:00 kernel: {WRITTEN}",
+                     f"Nov 27 05:35:00 vm audisp-syslog[7]: node=vm type=SECCOMP msg=audit(1795757700.752:2): "
+                     f"auid={self.TAIL}",
                      f"Nov 27 05:35:00 vm audit[12551]: SECCOMP auid={self.TAIL}",
                      f"vm audit: SECCOMP auid={self.TAIL}",
                      f"type=SECCOMP msg=audit(1795757700.752:2): auid={self.TAIL}",
@@ -605,6 +616,29 @@ class Lines(Causes):
         self.assertEqual((event.call.number, event.call.architecture, event.process), (41, X86_64, 12551))
         found, _ = self.event(f'write(1, " {WRITTEN} ", 300) = 300\n')
         self.assertEqual(found, [])
+
+    def test_what_another_message_has_of_a_process_is_no_record(self):
+        suppressed = "audit: kauditd_printk_skb: 12 callbacks suppressed"
+        for record in (WRITTEN, WRITTEN[len("audit: "):], f"type=SECCOMP msg=audit(1:2): auid={self.TAIL}", suppressed):
+            for text in (f"process '/tmp/x {record}' launched '/tmp/x' with NULL argv: empty string added",
+                         f'ptrace attach of "x"[1] was attempted by "/tmp/ {record}"[2]', f" {record}", f"x {record}"):
+                for before in ("", "[  624.561849] ", "<5>[  624.5] ", "kern  :notice: [  624.5] ",
+                               "Nov 27 05:35:00 vm kernel: ", "Nov 27 05:35:00 vm kernel: [  624.5] ",
+                               "Nov 27 05:35:00 vm prog[7]: ", "Nov 27 05:35:00 vm prog: ", "node=vm "):
+                    events_found, found = self.event(before + text)
+                    self.assertEqual((events_found, found.faults, found.suppressed), ([], [], 0), before + text)
+
+    def test_messages_of_the_kernel_s_log(self):
+        """As Documentation/ABI/testing/dev-kmsg has them: what a program writes there isn't of facility 0."""
+        other = f"process '/tmp/{WRITTEN}' launched '/tmp/x' with NULL argv: empty string added"
+        one, end = socket.socketpair(socket.AF_UNIX, socket.SOCK_DGRAM)
+        self.addCleanup(end.close)
+        for text in (f"13,1,1,-;{WRITTEN}", f"4,2,1,-;{other}", f"5,3,1,-;{WRITTEN}\n SUBSYSTEM=audit\n DEVICE=x",
+                     f"8,4,1,-;{WRITTEN}", f"x,5,1,-;{WRITTEN}", WRITTEN, f"5,6,1,-; {WRITTEN}"):
+            end.send(text.encode())
+        one.setblocking(False)
+        with unittest.mock.patch.object(os, "open", return_value=one.detach()):
+            self.assertEqual([*audit_records.kernel_lines()], [WRITTEN])
 
     def test_values_that_no_kernel_writes(self):
         for old, new, says in (("syscall=41", "syscall=4294967296", "=4294967296 isn't a number up to 4294967295"),
