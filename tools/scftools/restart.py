@@ -29,6 +29,9 @@ RESTART = {X86_64: 219, I386: 0}
 ARGUMENTS = {X86_64: ("rdi", "rsi", "rdx", "r10", "r8", "r9"), I386: ("rbx", "rcx", "rdx", "rsi", "rdi", "rbp")}
 # linux/filter.h: BPF_RET | BPF_A, whose answer is computed; linux/seccomp.h: SECCOMP_RET_USER_NOTIF's high half.
 RETURN_COMPUTED, USER_NOTIF = 0x16, 0x7FC0
+# How often scf is asked about the threads of a process, which are stopped meanwhile; calls beyond begin anew. And how
+# many answers are kept.
+MOST_ASKED, MOST_KEPT = 200, 2000
 
 
 def restart_of(call: Call) -> Call:
@@ -85,6 +88,15 @@ class Restarts:
         self.calls: dict[int, Interrupted] = {}
         self.are_by_number: dict[tuple[tuple[bytes, ...], Call], bool] = {}
         self.answers: dict[tuple[tuple[bytes, ...], Call], Answer | None] = {}
+        # how often scf may still be asked
+        self.left = MOST_ASKED
+
+    def begin(self) -> None:
+        """Before the threads of another process are stopped."""
+        self.left = MOST_ASKED
+        if len(self.answers) > MOST_KEPT:
+            self.answers.clear()
+            self.are_by_number.clear()
 
     def at_stop(self, thread: int) -> None:
         """A thread has stopped. Until it is known what its filters allow, its call begins anew, so that it does even if
@@ -132,30 +144,35 @@ class Restarts:
         return None if answer is None else answer.disposition
 
     def answer(self, filters: tuple[bytes, ...], call: Call) -> Answer | None:
-        """What filters answer to a syscall, None where scf can't tell; if they test only its number, scf is run once
-        for it."""
+        """What filters answer to a syscall, None where scf can't tell or was asked too often; if they test only its
+        number, scf is run once for it."""
         general = Call(call.number, call.architecture)
         if (filters, general) not in self.are_by_number:
-            self.are_by_number[filters, general] = all(is_by_number(data, general) for data in filters)
+            are_by_number = all(self.left > 0 and self.is_by_number(data, general) for data in filters)
+            if self.left <= 0:
+                return None
+            self.are_by_number[filters, general] = are_by_number
         key = filters, general if self.are_by_number[filters, general] else call
         if key not in self.answers:
-            printed = run(["decide", *key[1].words()], bundles.of_stack(filters))
+            if self.left <= 0:
+                return None
+            printed = self.run(["decide", *key[1].words()], bundles.of_stack(filters))
             self.answers[key] = verdicts.decision(printed).answer
         return self.answers[key]
 
+    def is_by_number(self, data: bytes, call: Call) -> bool:
+        """Whether a filter answers a syscall without loading its arguments or its instruction pointer: then every
+        syscall with that number and architecture takes the same path."""
+        lines = client.lines_of(self.run(["run", "--path", *call.words()], data))
+        found = listing.PATH.fullmatch("".join(lines[1:2]))
+        insns = list(INSTRUCTION.iter_unpack(data))
+        return found is not None and not any(
+            insns[int(place)][0] == LOAD_WORD and insns[int(place)][3] >= POINTER[0] for place in found[1].split())
 
-def run(words: Sequence[str], given: bytes) -> str:
-    """What scf prints; nothing if it isn't built, since building it takes long, or can't be run."""
-    try:
-        return client.run(words, given, may_build=False).text
-    except (program.ToolError, OSError):
-        return ""
-
-
-def is_by_number(data: bytes, call: Call) -> bool:
-    """Whether a filter answers a syscall without loading its arguments or its instruction pointer: then every syscall
-    with that number and architecture takes the same path."""
-    found = listing.PATH.fullmatch("".join(client.lines_of(run(["run", "--path", *call.words()], data))[1:2]))
-    insns = list(INSTRUCTION.iter_unpack(data))
-    return found is not None and not any(insns[int(place)][0] == LOAD_WORD and insns[int(place)][3] >= POINTER[0]
-                                         for place in found[1].split())
+    def run(self, words: Sequence[str], given: bytes) -> str:
+        """What scf prints; nothing if it isn't built, since building it takes long, or can't be run."""
+        self.left -= 1
+        try:
+            return client.run(words, given, may_build=False).text
+        except (program.ToolError, OSError):
+            return ""

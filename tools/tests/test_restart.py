@@ -13,7 +13,7 @@ from unittest import mock
 from common import (ALLOW, EPERM, I386, KILL_PROCESS, KILL_THREAD, PATIENCE, X86_64, Case, comes, jeq, load,
                     profile_of, ret)
 from confined import USER_NOTIF, Confined, here, processes, ptrace
-from scftools import hold, program, restart
+from scftools import client, hold, program, restart
 from scftools.calls import Call
 
 TRAP, TRACE, LOG = 0x00030000, 0x7FF00000, 0x7FFC0000
@@ -356,6 +356,24 @@ class Supervised(Confined):
         found = processes.look_at_process(processes.Kernel(), child.pid)
         self.assertEqual((found.asked_again, supervisor.receives(0)), ([], None))
         self.runs_on(child)
+
+
+class Asked(unittest.TestCase):
+    def test_it_is_asked_so_often_for_a_process(self):
+        """Though all calls have other arguments, and however many filters there are; calls beyond begin anew."""
+        filters, answered = (ret(ALLOW),), client.Run(0, b"ALLOW 0\n")
+        for stack, path in ((filters, b""), (filters * 6000, b"ALLOW 0 steps 1\npath 0\n")):
+            restarts = restart.Restarts(None)
+            with mock.patch.object(restart.client, "run") as run:
+                run.side_effect = lambda words, *_, **__: client.Run(0, path) if words[0] == "run" else answered
+                for begin in range(0, 15 * 300, 300):
+                    run.reset_mock()
+                    restarts.begin()
+                    known = [restarts.becomes(stack, Call(35, X86_64, 0, (begin + it, 0, 0, 0, 0, 0)))
+                             for it in range(300)]
+                    self.assertEqual(run.call_count, 200)
+                    self.assertEqual((None in known, "allowed" in known), (True, stack is filters))
+            self.assertLess(len(restarts.answers), 3000)
 
 
 class Numbers(Case):
