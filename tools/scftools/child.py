@@ -10,8 +10,9 @@ from __future__ import annotations
 import _signal as signal
 import os
 import select
+import struct
 import time
-from collections.abc import Callable
+from collections.abc import Callable, Iterator
 
 from .values import Any, NoReturn
 
@@ -22,6 +23,8 @@ ENDING = (signal.SIGHUP, signal.SIGINT, signal.SIGQUIT, signal.SIGTERM)
 # In seconds: how often the tool looks for signals while it waits for the child, and how long a child may take to end by
 # one; how much later than the tool the child's own timer ends it, and how long a child that was killed is waited for.
 PAUSE, TO_END, TIMER_DELAY, LAST_WAIT = 0.05, 1.0, 0.5, 0.2
+# The length of a value, which a child writes before it.
+LENGTH = struct.Struct("<Q")
 
 
 class Interrupted(Exception):
@@ -43,22 +46,29 @@ def look_for_signals() -> None:
         raise Interrupted(came.si_signo)
 
 
-def run(work: Callable[[], Any], seconds: float) -> Any:
-    """The result or exception of a function run in a child process; it calls `look_for_signals` now and then."""
+def run(work: Callable[..., Any], seconds: float, receive: Callable[[Any], object] | None = None) -> Any:
+    """The result or exception of a function run in a child process; it calls `look_for_signals` now and then. With
+    `receive` the function is given another one, by which it sends values: each is received, however the child ends."""
     until = time.monotonic() + seconds
     heeded = {it for it in ENDING if signal.getsignal(it) != signal.SIG_IGN}
     parent = os.getpid()
     mask = set(signal.pthread_sigmask(signal.SIG_BLOCK, signal.valid_signals()))
+    ended: list[tuple[bool, Any]] = []
     try:
         ends = os.pipe()
         child = os.fork()
         if not child:
             os.close(ends[0])
-            _be_child(work, ends[1], seconds, parent)
+            _be_child(work if receive is None else lambda: work(lambda value: _send(ends[1], None, value)), ends[1],
+                      seconds, parent)
         os.close(ends[1])
         signal.pthread_sigmask(signal.SIG_SETMASK, mask | heeded)
         try:
-            data = _output_of(child, ends[0], heeded - mask, until)
+            for is_well, value in _values_of(child, ends[0], heeded - mask, until):
+                if is_well is None and receive is not None:
+                    receive(value)
+                else:
+                    ended.append((is_well, value))
         except BaseException:
             os.kill(child, signal.SIGKILL)
             raise
@@ -67,28 +77,51 @@ def run(work: Callable[[], Any], seconds: float) -> Any:
             _wait_for(child)
     finally:
         signal.pthread_sigmask(signal.SIG_SETMASK, mask)
-    if not data:
+    if not ended:
         raise Died("the inspecting process ended without a result")
-    import pickle  # pylint: disable=import-outside-toplevel
-
-    is_well, result = pickle.loads(data)
+    is_well, result = ended[0]
     if not is_well:
         raise result
     return result
 
 
-def _output_of(child: int, file: int, heeded: set[int], until: float) -> bytes:
+def _send(file: int, is_well: bool | None, value: object) -> None:
+    """Sends a value from the child: its result, an exception, or with None another one."""
+    import pickle  # pylint: disable=import-outside-toplevel
+
+    data = pickle.dumps((is_well, value))
+    rest = memoryview(LENGTH.pack(len(data)) + data)
+    while rest:
+        rest = rest[os.write(file, rest):]
+
+
+def _values_of(child: int, file: int, heeded: set[int], until: float) -> Iterator[tuple[bool | None, Any]]:
+    """All that the child sends, as soon as it is there."""
+    import pickle  # pylint: disable=import-outside-toplevel
+
+    pending = bytearray()
+    for piece in _output_of(child, file, heeded, until):
+        pending += piece
+        while len(pending) >= LENGTH.size:
+            end = LENGTH.size + LENGTH.unpack_from(pending)[0]
+            if len(pending) < end:
+                break
+            yield pickle.loads(pending[LENGTH.size:end])
+            del pending[:end]
+
+
+def _output_of(child: int, file: int, heeded: set[int], until: float) -> Iterator[bytes]:
     """All that the child writes; signals that end this process are passed on to it, and it ends soon then."""
-    pieces: list[bytes] = []
     late: Exception = Late()
     while True:
         left = until - time.monotonic()
         if left <= 0:
             raise late
         if select.select([file], [], [], min(left, PAUSE))[0]:
-            pieces.append(os.read(file, 1 << 16))
-            if not pieces[-1]:
-                return b"".join(pieces)
+            piece = os.read(file, 1 << 16)
+            if not piece:
+                return
+            yield piece
         came = signal.sigtimedwait(heeded, 0) if heeded else None
         if came:
             os.kill(child, came.si_signo)
@@ -109,7 +142,6 @@ def _wait_for(child: int) -> None:
 def _be_child(work: Callable[[], Any], file: int, seconds: float, parent: int) -> NoReturn:
     """Runs the function, with all signals blocked but that of the timer."""
     import ctypes  # pylint: disable=import-outside-toplevel
-    import pickle  # pylint: disable=import-outside-toplevel
 
     try:
         os.setpgid(0, 0)
@@ -124,9 +156,7 @@ def _be_child(work: Callable[[], Any], file: int, seconds: float, parent: int) -
     except BaseException as error:  # pylint: disable=broad-exception-caught
         result = False, error
     try:
-        rest = memoryview(pickle.dumps(result))
-        while rest:
-            rest = rest[os.write(file, rest):]
+        _send(file, *result)
     finally:
         # without the interpreter's end, which would print what the tool is about to print
         os._exit(0)

@@ -27,9 +27,11 @@ SYSCALL_INFO = struct.Struct("<B3xI")
 # thread that isn't the main one of its process is waited for by this alone.
 WALL = 0x40000000
 # linux/nsfs.h
-NS_GET_PARENT = 0xB702
-# linux/proc_ns.h: the number of the initial cgroup namespace.
-PROC_CGROUP_INIT_INO = 0xEFFFFFFB
+NS_GET_PARENT, NS_GET_OWNER_UID = 0xB702, 0xB704
+# linux/proc_ns.h: the numbers of the initial cgroup namespace and user namespace.
+PROC_CGROUP_INIT_INO, PROC_USER_INIT_INO = 0xEFFFFFFB, 0xEFFFFFFD
+# The numbers of execve and execveat: asm/unistd_64.h, with those of x32 (asm/unistd_x32.h), and asm/unistd_32.h.
+EXECUTE, EXECUTE_32 = (59, 322, 0x40000208, 0x40000221), (11, 358)
 # The most bytes of a file of /proc that are read.
 MAX_CONTENTS = 1 << 20
 # A byte of a path in a file of /proc that separates its fields.
@@ -61,6 +63,17 @@ def ticks_at_start(process: int) -> int | None:
     """When a process started, in the kernel's clock ticks (proc_pid_stat(5))."""
     fields = stat_of(process)
     return int(fields[19]) if len(fields) > 19 else None
+
+
+def is_executing(thread: int) -> bool:
+    """Whether a thread waits in execve(2) or execveat(2): then the kernel makes who wants to trace its process wait,
+    too, however long that is (ptrace_attach of kernel/ptrace.c takes cred_guard_mutex)."""
+    # proc_pid_syscall(5): the number, six arguments, the stack pointer and the program counter
+    fields = contents(f"/proc/{thread}/syscall").split()
+    if len(fields) != 9:
+        return False
+    is_32 = all(int(it, 16) >> 32 == 0 for it in fields[7:])
+    return int(fields[0]) in (*EXECUTE, *(EXECUTE_32 if is_32 else ()))
 
 
 class Kernel:
@@ -166,6 +179,25 @@ class Kernel:
         except OSError as error:
             # a kernel without such namespaces
             return error.errno == errno.ENOENT
+
+    def owner_of(self, process: int, user: int) -> int:
+        """The user who answers for a process: its own one, or if it is in another user namespace than the initial one
+        the user who made that, or made the outermost of several."""
+        try:
+            namespace = os.open(f"/proc/{process}/ns/user", os.O_RDONLY | os.O_CLOEXEC)
+        except OSError:
+            return user
+        while True:
+            try:
+                if os.fstat(namespace).st_ino == PROC_USER_INIT_INO:
+                    return user
+                user = int.from_bytes(fcntl.ioctl(namespace, NS_GET_OWNER_UID, bytes(4)), "little")
+                around = fcntl.ioctl(namespace, NS_GET_PARENT)
+            except OSError:
+                return user
+            finally:
+                os.close(namespace)
+            namespace = around
 
     def namespaces_of(self, process: int) -> list[tuple[int, int]]:
         """The PID namespace of a process and those around it that this tool may see, the innermost first."""

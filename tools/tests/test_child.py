@@ -30,6 +30,22 @@ class Child(Case):
         with self.assertRaises(child.Died):
             child.run(lambda: os.kill(os.getpid(), signal.SIGKILL), 60)
 
+    def test_what_it_sends_is_received_however_it_ends(self):
+        def works(send, end=lambda: 7):
+            for value in ("a" * (1 << 20), None, {"b": [1]}):
+                send(value)
+            return end()
+
+        for end, error in ((lambda: 7, None), (lambda: os.kill(os.getpid(), signal.SIGKILL), child.Died),
+                           (lambda: time.sleep(1000), child.Late), (lambda: 1 // 0, ZeroDivisionError)):
+            received = []
+            if error is None:
+                self.assertEqual(child.run(works, 60, received.append), 7)
+            else:
+                with self.assertRaises(error):
+                    child.run(lambda send, end=end: works(send, end), 1 if error is child.Late else 60, received.append)
+            self.assertEqual(received, ["a" * (1 << 20), None, {"b": [1]}])
+
     def fails(self, error):
         raise error
 
