@@ -10,8 +10,8 @@ from . import output
 from .audit import CONTAINER, KINDS, PROGRAM, STRICTER, UNIT, VERDICTS, Audit, Judgement, Part, Row, stack_digest
 from .tables import Table
 
-# At most so many processes of a row are named in a line.
-MOST_NAMED = 3
+# At most so many processes of a row are named in a line, and so many characters of a name, or of a label, are printed.
+MOST_NAMED, MOST_OF_NAME, MOST_OF_LABEL = 3, 200, 256
 PLURALS = {CONTAINER: "containers", UNIT: "units", PROGRAM: "other confined programs"}
 # A metric's name and help, and its values with their labels.
 Metric = "tuple[str, str, list[tuple[list[tuple[str, str | None]], object]]]"
@@ -38,13 +38,13 @@ def about(row: Row) -> list[str]:
         return []
     known = [one.engine, one.image, f"pod {short(one.pod)}" if one.pod else None,
              short(one.identifier) if one.name is not None else None]
-    return [it for it in known if it]
+    return [output.cut(it, MOST_OF_NAME) for it in known if it]
 
 
 def row_text(row: Row) -> str:
     """What a row is called."""
     known = about(row)
-    name = short(row.key) if row.name == row.key else row.name
+    name = output.cut(short(row.key) if row.name == row.key else row.name, MOST_OF_NAME)
     return f"{row.kind} {name}" + (f" ({', '.join(known)})" if known else "")
 
 
@@ -203,8 +203,13 @@ def json_lines(audit: Audit, table: Table) -> Iterator[dict[str, object]]:
 
 
 def _label(text: str) -> str:
-    """A label's value in Prometheus's text format, in which a control character is escaped first."""
-    return output.escaped(text).replace("\\", "\\\\").replace('"', '\\"')
+    """A label's value in Prometheus's text format. Different texts have different ones: control characters are escaped,
+    and so is the backslash by which they are; one that is too long is cut, and ends with its SHA-256."""
+    if len(text) > MOST_OF_LABEL:
+        import hashlib  # pylint: disable=import-outside-toplevel
+
+        text = f"{text[:MOST_OF_LABEL]}..{hashlib.sha256(text.encode('utf-8', 'surrogatepass')).hexdigest()}"
+    return output.escaped(text.replace("\\", "\\\\")).replace("\\", "\\\\").replace('"', '\\"')
 
 
 def _metrics(audit: Audit) -> Iterator[Metric]:
@@ -221,6 +226,7 @@ def _metrics(audit: Audit) -> Iterator[Metric]:
             ("confined_processes", "Processes with a thread that has a seccomp filter.", audit.confined),
             ("unread_processes", "Confined processes whose filters could not be read.", len(audit.snapshot.unread)),
             ("distinct_stacks", "Distinct stacks of filters.", len(audit.stacks)),
+            ("not_looked_at", "What could not be looked at, each thing a line of scf audit.", len(audit.left_out)),
             ("audit_status", "The exit status: 0 as configured, 1 weaker or unconfined, 4 something is not known.",
              audit.status),
             ("audit_seconds", "How long the audit took.", f"{audit.seconds:.3f}"),

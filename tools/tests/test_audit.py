@@ -10,6 +10,7 @@ from common import ALLOW, EPERM, TOP, Case, filter_of, profile_of, ret, tool
 from confined import processes
 from own_machine import OwnMachine, Systemd
 from scftools import audit, audit_output, container_files, machine, output, tables
+from scftools.values import replace
 
 # What is configured for containers, and the same with one call more.
 STATED = {"defaultAction": "SCMP_ACT_ALLOW", "architectures": ["SCMP_ARCH_X86_64"],
@@ -505,9 +506,33 @@ class Output(Case):
         sample = re.compile(r'[a-z_]+(?:\{(?:[a-z]+="(?:[^"\\\n]|\\["\\n])*",?)+\})? [0-9.]+')
         for line in text.splitlines():
             self.assertTrue(line.startswith(("# HELP ", "# TYPE ")) or sample.fullmatch(line), line)
-        self.assertIn('scf_container_verdict{id="' + "ab" * 32 + '",name="a\\"} 1\\\\x0ab\\\\",engine="podman",'
+        self.assertIn('scf_container_verdict{id="' + "ab" * 32 + '",name="a\\"} 1\\\\x0ab\\\\\\\\",engine="podman",'
                       'image="i\\\\x1b[0m",pod="",verdict="not known"} 1\n', text)
         self.assertIn("\nscf_audit_seconds 1.500\n", text)
+        self.assertIn("\nscf_not_looked_at 0\n", text)
+        self.audit.left_out = ["no filters could be read", "x"]
+        self.assertIn("\nscf_not_looked_at 2\n", audit_output.metrics(self.audit))
+
+    def test_labels(self):
+        """Each name has a label of its own, of some length, from which Prometheus reads it back."""
+        long = "x" * (1 << 20)
+        names = ["a\nb", "a\\nb", "a\\x0ab", "a\\\\x0ab", "\udcff", "\\xff", "\xff", "\ud800", "\\", '"', '\\"', "x", long,
+                 f"{long}y", long[:256], long[:257], "\n" * 257, "\n" * 258]
+        label = re.compile(r'name="((?:[^"\\\n]|\\["\\n])*)",engine=')
+        labels = [label.search(self.metrics_of(name))[1] for name in names]
+        self.assertEqual(len({*labels}), len(names))
+        self.assertTrue(all(it.isprintable() for it in labels))
+        self.assertLess(max(map(len, labels)), 2000)
+        self.assertEqual(labels[:3], ["a\\\\x0ab", "a\\\\\\\\nb", "a\\\\\\\\x0ab"])
+
+    def metrics_of(self, name):
+        """The metrics where the container has this name."""
+        self.row.container = replace(self.row.container, name=name)
+        return audit_output.metrics(self.audit)
+
+    def test_a_line_has_no_more_than_some_of_a_name(self):
+        self.row.container = replace(self.row.container, name="x" * (1 << 20), image="y" * (1 << 20))
+        self.assertLess(max(map(len, audit_output.lines(self.audit, self.table))), 1000)
 
     @unittest.skipUnless(shutil.which("promtool"), "there is no promtool here")
     def test_metrics_by_promtool(self):
