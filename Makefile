@@ -18,6 +18,10 @@ BIN = $(TO)/bin
 LIB = $(TO)/lib/scf
 MAN = $(TO)/share/man/man1
 DOC = $(TO)/share/doc/scf
+# (units, which systemd finds there, a hook for podman and alerts for Prometheus; none of them is enabled by this)
+UNITS = $(TO)/lib/systemd/system
+SHARE = $(TO)/share/scf
+HERE = sed 's|/usr/local/bin/scf-|$(PREFIX)/bin/scf-|'
 # (where Debian's shells look below /usr, and below /usr/local)
 BASH = $(TO)/share/bash-completion/completions
 ZSH = $(TO)/share/zsh/$(if $(filter /usr,$(PREFIX)),vendor-completions,site-functions)
@@ -41,7 +45,7 @@ check:
 
 install: $(PROGRAM) uninstall
 	install -d "$(BIN)" "$(LIB)/program" "$(LIB)/tools/scftools" "$(LIB)/tables" "$(LIB)/docs" "$(MAN)" "$(DOC)" \
-	    "$(BASH)" "$(ZSH)" "$(FISH)"
+	    "$(BASH)" "$(ZSH)" "$(FISH)" "$(UNITS)" "$(SHARE)/hooks.d" "$(SHARE)/prometheus"
 	install $(PROGRAM) "$(LIB)/program"
 	install $(TOOLS:%=tools/%) "$(LIB)/tools"
 	install -m 644 tools/scftools/*.py "$(LIB)/tools/scftools"
@@ -50,6 +54,10 @@ install: $(PROGRAM) uninstall
 	install -m 644 docs/scf.1 "$(MAN)"
 	umask 022; dev/manual "$(MAN)" && dev/completion "$(BASH)/scf" "$(ZSH)/_scf" "$(FISH)/scf.fish"
 	install -m 644 LICENSE "$(DOC)"
+	install -m 644 contrib/systemd/scf-audit.timer "$(UNITS)"
+	install -m 644 contrib/prometheus/scf.rules.yml "$(SHARE)/prometheus"
+	umask 022; $(HERE) contrib/systemd/scf-audit.service >"$(UNITS)/scf-audit.service" && \
+	    $(HERE) contrib/hooks.d/scf.json >"$(SHARE)/hooks.d/scf.json"
 	umask 022; python3 -m compileall -q --invalidation-mode checked-hash $(if $(DESTDIR),-s "$(DESTDIR)") \
 	    "$(LIB)/tools/scftools"
 	sed 's|^beside=$$|beside=/../lib/scf|' scf >"$(BIN)/scf"
@@ -60,7 +68,8 @@ install: $(PROGRAM) uninstall
 uninstall:
 	for it in "$(LIB)"/tools/*; do rm -f "$(BIN)/scf-$${it##*/}" "$(MAN)/scf-$${it##*/}.1"; done
 	rm -f "$(BIN)/scf" "$(MAN)/scf.1" "$(MAN)/scf-asm.1" "$(MAN)/scf-dis.1" "$(BASH)/scf" "$(ZSH)/_scf" "$(FISH)/scf.fish"
-	rm -rf "$(LIB)" "$(DOC)"
+	rm -f "$(UNITS)/scf-audit.service" "$(UNITS)/scf-audit.timer"
+	rm -rf "$(LIB)" "$(DOC)" "$(SHARE)"
 
 lib:
 	library/build

@@ -540,6 +540,29 @@ class Output(Case):
                               stdout=subprocess.PIPE, stderr=subprocess.STDOUT, check=False)
         self.assertEqual((done.returncode, done.stdout), (0, b""))
 
+    @unittest.skipUnless(shutil.which("promtool"), "there is no promtool here")
+    def test_alerts_by_promtool(self):
+        """contrib's rules on these metrics: those alerts come that have to, as where the audit sees nothing."""
+        rules = os.path.join(TOP, "contrib", "prometheus", "scf.rules.yml")
+        self.assertIn("SUCCESS: 5 rules found", self.run_words(["promtool", "check", "rules", rules])[1])
+        unit = audit.Row(audit.UNIT, "a.service", [], audit.Expected())
+        unit.parts = [audit.Part(processes.Stack((), False), {}, audit.Judgement("weaker"))]
+        for rows, left_out, step, alerts in (
+                ([], [], 60, []), ([], ["no filters could be read"], 60, ["ScfNotLookedAt"]),
+                ([], [], 0, ["ScfAuditStale"]), ([self.row], [], 60, ["ScfNotKnown"]), (None, [], 60, ["ScfAuditAbsent"]),
+                ([self.row, unit], [], 60, ["ScfNotConfinedAsConfigured", "ScfNotKnown"])):
+            self.audit.rows, self.audit.left_out = rows or [], left_out
+            text = "" if rows is None else audit_output.metrics(self.audit)
+            series = [{"series": name, "values": f"0+{step}x60" if name == "scf_audit_timestamp_seconds" else
+                       f"{value}x60"} for name, _, value in (line.rpartition(" ") for line in text.splitlines())
+                      if name[:1] not in ("", "#")]
+            self.file("test.json", json.dumps({"rule_files": [rules], "evaluation_interval": "1m", "tests": [{
+                "interval": "1m", "input_series": series, "promql_expr_test": [{
+                    "expr": 'count by (alertname) (ALERTS{alertstate="firing"})', "eval_time": "50m",
+                    "exp_samples": [{"labels": f'{{alertname="{it}"}}', "value": 1} for it in alerts]}]}]}))
+            status, out, err = self.run_words(["promtool", "test", "rules", "test.json"])
+            self.assertEqual(status, 0, (alerts, out, err))
+
     def test_a_file_is_replaced_at_once(self):
         path = self.file("out.prom", "old")
         output.replace_file(path, "new")

@@ -1,5 +1,7 @@
 """make install and make uninstall."""
+import json
 import os
+import re
 import shutil
 import stat
 import subprocess
@@ -37,7 +39,9 @@ class Install(Case):
                        *(f"lib/scf/tools/{name}" for name in TOOLS),
                        *(f"lib/scf/tools/scftools/{name}" for name in MODULES),
                        *(f"lib/scf/tables/{name}" for name in TABLES), "lib/scf/docs/FAULTS.md",
-                       "share/doc/scf/LICENSE", "share/man/man1/scf.1",
+                       "share/doc/scf/LICENSE", "share/man/man1/scf.1", "share/scf/hooks.d/scf.json",
+                       "share/scf/prometheus/scf.rules.yml",
+                       *(f"lib/systemd/system/scf-audit.{it}" for it in ("service", "timer")),
                        *(f"share/man/man1/scf-{name}.1" for name in (*TOOLS, *OF_PROGRAM))])
 
     def run_installed(self, *words, given=b""):
@@ -90,6 +94,34 @@ class Install(Case):
         status, out, err = self.run_installed("scf", "--version")
         self.assertEqual((status, out), (125, ""), err)
 
+    def test_the_unit_and_the_hook_name_what_is_installed(self):
+        for prefix in ("/usr", "/usr/local", "/opt/it"):
+            stage = os.path.join(self.folder, prefix.replace("/", "_"))
+            self.make("install", f"PREFIX={prefix}", f"DESTDIR={stage}")
+            with open(f"{stage}{prefix}/lib/systemd/system/scf-audit.service", encoding="ascii") as file:
+                unit = re.findall(r"(?m)^ExecStart=(\S+)", file.read())
+            with open(f"{stage}{prefix}/share/scf/hooks.d/scf.json", encoding="ascii") as file:
+                hook = json.load(file)["hook"]
+            self.assertEqual((unit, hook["path"]), ([f"{prefix}/bin/scf-audit"], f"{prefix}/bin/scf-oci-hook"))
+            for path in (*unit, hook["path"]):
+                self.assertTrue(os.access(f"{stage}{path}", os.X_OK), path)
+
+    def test_the_daemon_set_starts_on_nodes_without_some_of_its_folders(self):
+        """Kubernetes mounts a folder that isn't there only if it may make it; /run is on each."""
+        with open(os.path.join(TOP, "contrib", "daemonset.yaml"), encoding="utf-8") as file:
+            types = dict(re.findall(r"hostPath: \{path: ([^,}]+)(?:, type: (\w+))?\}", file.read()))
+        self.assertEqual(types.pop("/run"), "Directory")
+        self.assertEqual({*types.values()}, {"DirectoryOrCreate"})
+        self.assertEqual(len(types), 3)
+
+    def test_the_hook_is_what_the_tool_prints(self):
+        """But for the place that it is installed at."""
+        self.make("install")
+        with open(f"{self.prefix}/share/scf/hooks.d/scf.json", encoding="utf-8") as file:
+            hook = json.load(file)
+        printed = self.run_installed("scf-oci-hook", "--print-hook", *hook["hook"]["args"][1:])[1]
+        self.assertEqual(json.loads(printed), hook)
+
     @unittest.skipUnless(shutil.which("man"), "there is no man here")
     def test_man_finds_the_pages(self):
         self.make("install")
@@ -124,7 +156,7 @@ class Install(Case):
         for _ in range(2):
             self.make("uninstall")
             self.assertEqual(self.files(), ["bin/scf-mine", "share/man/man1/other.1"])
-        for name in ("lib/scf", "share/doc/scf"):
+        for name in ("lib/scf", "share/doc/scf", "share/scf"):
             self.assertFalse(os.path.exists(os.path.join(self.prefix, name)))
 
     def test_an_older_installation_is_replaced_whole(self):

@@ -57,7 +57,15 @@ class Package(Case):
             self.assertEqual(tool.readline(), b"#!/usr/bin/python3 -IS\n")
         with open(os.path.join(root, "usr", "bin", "scf"), encoding="ascii") as command:
             self.assertEqual(set(re.findall(r"(\S+) -IS", command.read())), {"/usr/bin/python3"})
+        self.places(os.path.join(root, "usr"), "/usr")
         self.example(os.path.join(root, "usr"))
+
+    def places(self, root, prefix):
+        """The unit and the hook below a folder name the programs below this prefix."""
+        for path, name in (("lib/systemd/system/scf-audit.service", "scf-audit"),
+                           ("share/scf/hooks.d/scf.json", "scf-oci-hook")):
+            with open(os.path.join(root, path), encoding="ascii") as file:
+                self.assertEqual(re.findall(rf"/[a-z0-9./_-]*/bin/{name}\b", file.read()), [f"{prefix}/bin/{name}"])
 
     def packages_of_the_library(self, made):
         """The packages of libscf have these files, and a program is compiled and run with what they unpack."""
@@ -102,6 +110,7 @@ class Package(Case):
         self.assertNotIn("NEEDED", self.run_words(["readelf", "-d", program])[1])
         self.assertLessEqual({"include/scf.h", "lib/libscf.a", "lib/libscf.so.0", "lib/pkgconfig/scf.pc",
                               "lib/python3/dist-packages/scf.py"}, listed)
+        self.places(folder, "/usr/local")
         self.example(folder)
 
     def test_usage(self):
