@@ -5,7 +5,12 @@ and -S see to that, and the import path gets the tools' own folder by its real n
 """
 import gc
 import os
+import sys
 
+# (status 125: an older Python's own status, 1, would mean that something differs)
+if sys.version_info < (3, 9):
+    sys.stderr.write("%s: the tools need Python 3.9 or later\n" % os.path.basename(sys.argv[0]))
+    sys.exit(125)
 # (while modules are loaded the collector finds nothing, and takes some milliseconds)
 gc.disable()
 from . import program  # noqa: E402 pylint: disable=wrong-import-position
@@ -15,6 +20,10 @@ from .values import NoReturn  # noqa: E402 pylint: disable=wrong-import-position
 def start(file: str) -> NoReturn:
     """Runs the tool whose program is this file, or a link to it, and exits with its status."""
     name = os.path.basename(os.path.realpath(file)).replace("-", "_")
-    main = __import__(f"scftools.tool_{name}", fromlist=["main"]).main
-    gc.enable()
-    program.start(main)
+
+    def run() -> int:
+        main = __import__(f"scftools.tool_{name}", fromlist=["main"]).main
+        gc.enable()
+        return main()
+
+    program.start(run)

@@ -5,7 +5,7 @@ from __future__ import annotations
 import _signal as signal
 import os
 import sys
-from collections.abc import Callable
+from collections.abc import Callable, Iterator
 
 from . import output
 from .values import NoReturn
@@ -14,8 +14,9 @@ TOP = os.path.dirname(os.path.dirname(os.path.dirname(os.path.realpath(__file__)
 FAULTS = os.path.join(TOP, "docs", "FAULTS.md")
 
 # The statuses of scf and of its tools: all is as it should be; something differs, is found or is refused; a usage
-# error; an input can't be read or the output not written; it isn't known; scf isn't built.
-SUCCESS, NEGATIVE, USAGE_ERROR, IO_ERROR, UNKNOWN, NOT_BUILT = 0, 1, 2, 3, 4, 125
+# error; an input can't be read or the output not written; it isn't known; the tool itself failed (EX_SOFTWARE of
+# sysexits.h); scf isn't built, or Python lacks modules.
+SUCCESS, NEGATIVE, USAGE_ERROR, IO_ERROR, UNKNOWN, INTERNAL, NOT_BUILT = 0, 1, 2, 3, 4, 70, 125
 
 
 def lines_of(table: str) -> list[str]:
@@ -45,6 +46,29 @@ class ToolError(Exception):
     def __init__(self, text: str, status: int = USAGE_ERROR):
         super().__init__(text)
         self.status = status
+
+
+class InternalError(ToolError):
+    """A fault of scf or its tools themselves, of which nothing is concluded."""
+
+    def __init__(self, text: str):
+        super().__init__(f"internal error: {text}; please report it", INTERNAL)
+
+
+def why_it_lacks(error: ImportError) -> str:
+    """The line on a module that Python doesn't have."""
+    return (f"the tools need Python's whole standard library, and this Python lacks {error.name}: install the package "
+            "python3 (python3-minimal isn't enough)")
+
+
+def _of_failure(error: Exception) -> Iterator[str]:
+    """The lines on an exception that nothing expects, with where it was raised: Python's own status for it would mean
+    that something differs."""
+    import traceback  # pylint: disable=import-outside-toplevel
+
+    yield str(InternalError(f"{type(error).__name__}: {error}"))
+    for text in traceback.format_exception(type(error), error, error.__traceback__)[:-1]:
+        yield from text.rstrip().split("\n")
 
 
 # Whether this process is a tool, not a program that imports these modules.
@@ -78,6 +102,12 @@ def start(main: Callable[[], int]) -> NoReturn:
     except OSError as error:
         say(f"{error.strerror}" if error.filename is None else f"'{error.filename}': {error.strerror}")
         status = IO_ERROR
+    except ModuleNotFoundError as error:
+        say(why_it_lacks(error))
+        status = NOT_BUILT
+    except Exception as error:  # pylint: disable=broad-exception-caught
+        say(*_of_failure(error))
+        status = INTERNAL
     finish(status)
 
 

@@ -397,7 +397,7 @@ class Manual(Case):
             self.assertIn(option, text)
         for name in (*TOOLS, *OF_PROGRAM):
             self.assertRegex(text, rf"(?m)^\.BR scf-{name} \(1\)", name)
-        for status in (0, 1, 2, 3, 4, 125):
+        for status in (0, 1, 2, 3, 4, 70, 125):
             self.assertRegex(text, rf"(?m)^\.B {status}$", status)
 
     def examples(self):

@@ -20,6 +20,16 @@ NATIVE = load(4) + jeq(X86_64, 1, 0) + ret(KILL_PROCESS) + load(0) + jge(0x40000
 UNKNOWN = NATIVE + UNKNOWN_ZERO + jeq(0, 1, 0) + ret(EPERM) + ret(ALLOW)
 # A is the number times the number, of which single bits are known. The one number whose square is 49 fails.
 SQUARE = NATIVE + insn(0x07, 0) + insn(0x2C, 0) + jeq(49, 0, 1) + ret(EPERM) + ret(ALLOW)
+# Modules that Debian's python3-minimal lacks, hidden from a tool that is run as its file is.
+LACKING = """import runpy, sys
+class Lacking:
+    def find_spec(self, name, path=None, target=None):
+        if name.partition(".")[0] in {"json", "ctypes", "difflib", "html", "mmap", "resource", "shlex"}:
+            raise ModuleNotFoundError("No module named " + name, name=name)
+sys.meta_path.insert(0, Lacking())
+sys.argv[:1] = []
+runpy.run_path(sys.argv[0], run_name="__main__")
+"""
 LOST = "# the profile's default allows syscalls: the rules for these names are lost\n"
 
 
@@ -455,3 +465,36 @@ class Programs(Case):
                 with open(os.path.join(folder, name), encoding="utf-8") as file:
                     first = next(line for line in file if not line.startswith("#!"))
                 self.assertRegex(first, r'^"""\w.{20}', name)
+
+
+class Python(Case):
+    """What isn't a verdict: a Python without what the tools need, and a fault of a tool itself."""
+
+    def test_python3_minimal(self):
+        starts = self.file("lacking.py", LACKING)
+        with open(os.path.join(TOP, "tables", "commands"), encoding="utf-8") as file:
+            words = re.findall(r"(?m)^  ([a-z-]+) ", file.read())
+        names = [it for it in words if os.path.exists(tool(it))]
+        self.assertIn("verify-process", names)
+        for name in names:
+            self.assertEqual(self.run_words([sys.executable, "-IS", starts, tool(name), "x", "y"]), (
+                125, "", f"{name}: the tools need Python's whole standard library, and this Python lacks json: install "
+                "the package python3 (python3-minimal isn't enough)\n"))
+
+    def test_an_old_python(self):
+        """Even one that can't read the tools' modules."""
+        starts = self.file("old.py", "import runpy, sys\nsys.version_info = (3, 6, 8)\nsys.argv[:1] = []\n"
+                                     "runpy.run_path(sys.argv[0], run_name='__main__')\n")
+        self.assertEqual(self.run_words([sys.executable, "-IS", starts, tool("lint"), "x"]),
+                         (125, "", "lint: the tools need Python 3.9 or later\n"))
+
+    def test_a_fault_of_a_tool_itself(self):
+        """It isn't status 1, which says that something differs."""
+        tree = self.made_tree("#!/bin/sh\nexit 0\n")
+        with open(os.path.join(tree, "tools", "scftools", "tool_lint.py"), "w", encoding="utf-8") as file:
+            file.write("def main():\n    return {}['a\\nb']\n")
+        status, out, err = self.run_words([os.path.join(tree, "tools", "lint"), "x"])
+        self.assertEqual((status, out), (70, ""))
+        self.assertEqual(err.splitlines()[0], "lint: internal error: KeyError: 'a\\nb'; please report it")
+        self.assertTrue(all(it.startswith("lint: ") for it in err.splitlines()), err)
+        self.assertIn("line 2, in main", err)
