@@ -5,7 +5,7 @@ from __future__ import annotations
 import _signal as signal
 import os
 import sys
-from collections.abc import Callable, Iterator
+from collections.abc import Callable
 
 from . import output
 from .values import NoReturn
@@ -17,6 +17,8 @@ FAULTS = os.path.join(TOP, "docs", "FAULTS.md")
 # error; an input can't be read or the output not written; it isn't known; the tool itself failed (EX_SOFTWARE of
 # sysexits.h); scf isn't built, or Python lacks modules.
 SUCCESS, NEGATIVE, USAGE_ERROR, IO_ERROR, UNKNOWN, INTERNAL, NOT_BUILT = 0, 1, 2, 3, 4, 70, 125
+# At most so many characters of an exception's text are printed.
+MOST_OF_REASON = 200
 
 
 def lines_of(table: str) -> list[str]:
@@ -61,14 +63,18 @@ def why_it_lacks(error: ImportError) -> str:
             "python3 (python3-minimal isn't enough)")
 
 
-def _of_failure(error: Exception) -> Iterator[str]:
-    """The lines on an exception that nothing expects, with where it was raised: Python's own status for it would mean
-    that something differs."""
-    import traceback  # pylint: disable=import-outside-toplevel
+def why_it_failed(error: Exception) -> str:
+    """The line on an exception that nothing expects, with the last line of the tools' own modules that was run.
 
-    yield str(InternalError(f"{type(error).__name__}: {error}"))
-    for text in traceback.format_exception(type(error), error, error.__traceback__)[:-1]:
-        yield from text.rstrip().split("\n")
+    Python's own status would mean that something differs.
+    """
+    frame, place = error.__traceback__, "the start"
+    while frame is not None:
+        path = frame.tb_frame.f_code.co_filename
+        if os.path.dirname(path) == os.path.dirname(__file__):
+            place = f"{os.path.basename(path)}, line {frame.tb_lineno}"
+        frame = frame.tb_next
+    return str(InternalError(f"{type(error).__name__}: {output.cut(str(error), MOST_OF_REASON)}, at {place}"))
 
 
 # Whether this process is a tool, not a program that imports these modules.
@@ -106,7 +112,7 @@ def start(main: Callable[[], int]) -> NoReturn:
         say(why_it_lacks(error))
         status = NOT_BUILT
     except Exception as error:  # pylint: disable=broad-exception-caught
-        say(*_of_failure(error))
+        say(why_it_failed(error))
         status = INTERNAL
     finish(status)
 

@@ -19,7 +19,7 @@ FOLDER = os.path.join(TOP, "tools", "scftools")
 # (what takes long is never imported at the start of a tool: Python's dataclasses import inspect)
 DEAR = {"dataclasses", "inspect", "typing"}
 LATE = {"ast", "ctypes", "difflib", "glob", "hashlib", "importlib", "json", "pickle", "resource", "shlex", "signal",
-        "subprocess", "syslog", "tempfile", "threading", "traceback",
+        "subprocess", "syslog", "tempfile", "threading",
         "audit_page", "cores", "pages", "processes", "ptrace", "row_conditions", "stack_comparison"}
 
 
