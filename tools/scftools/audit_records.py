@@ -35,7 +35,8 @@ KINDS = Pattern(rf"\A(?:(?:{OF_KERNEL}(?:audit: )?|{OF_AUDITD})type=(1326|SECCOM
                 rf"{LOGGED}audit(?:\[[0-9]{{1,10}}\])?: (SECCOMP|SYSCALL) )")
 SECCOMP, SYSCALL = ("1326", "SECCOMP"), ("1300", "SYSCALL")
 # Records of other types, and ausearch's lines between those of one event.
-OTHER = Pattern(r"(?:\A|\s)type=[A-Z0-9_\[\]]{1,40} (?:msg=)?audit\(|\A(?:----|time->.*|<no matches>)\Z")
+OTHER = Pattern(rf"\A(?:(?:{OF_KERNEL}(?:audit: )?|{OF_AUDITD})type=[A-Z0-9_\[\]]{{1,40}} (?:msg=)?audit\(|"
+                r"(?:----|time->.*|<no matches>)\Z)")
 # The fields that the kernel writes behind all that a process may choose. A name in quotes has no blank and no quote;
 # one with such characters is in hexadecimal. ausearch -i prints names as they are.
 TAIL = Pattern(r" sig=(\S+)(?: arch=(\S+))? syscall=(\S+) compat=(\S+) ip=(\S+) code=(\S+)")

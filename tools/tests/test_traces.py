@@ -220,6 +220,16 @@ class Lines(unittest.TestCase):
         # a text in an argument is no syscall
         self.assertEqual(calls_of('     0.1 ( 0.1 ms): ls/8 openat(filename: "/7 mount(") = 3')[0], {"openat": 1})
 
+    def test_a_record_in_an_argument_is_none(self):
+        """Of whatever type: the syscall in whose arguments it stands isn't left out."""
+        for record in (SYSCALL.format("c000003e", 41, "0"), "type=PATH msg=audit(1.0:2): item=0",
+                       "audit: type=1326 audit(1.0:2): " + RECORD.format(41),
+                       "audit: kauditd_printk_skb: 12 callbacks suppressed"):
+            for line in ('     0.1 ( 0.1 ms): ls/8 openat(filename: "/ {}") = 3',
+                         "1 05:35:00.1 0 ls (7) > openat dirfd=-100(AT_FDCWD) name=/ {} mode=0"):
+                found, log = calls_of(line.format(record))
+                self.assertEqual((found, log.unread.count, log.lost.count), ({"openat": 1}, 0, 0), line.format(record))
+
     def test_trace_pipe(self):
         """trace_raw_output_sys_enter of the kernel, as its trace and trace_pipe print it."""
         text = "# tracer: nop\n#\n           <...>-7       [001] .....  5.1: sys_enter: NR 41 (10, 3, 9, 0, 0, 0)\n"
