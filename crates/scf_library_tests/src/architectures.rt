@@ -1,9 +1,9 @@
 //! Profiles of several architectures: what is kept of them, and that 32-bit arguments conflict less.
 
+use crate::fixtures::texts::are;
 use crate::fixtures::{holds_at, table};
 use scf_insn::{Architecture, CallRecord};
 use scf_profile::{ArchitectureTable, LoadFault, LoadedProfiles, Profile, Reason, load_profiles};
-use scf_test_fixtures::texts::are;
 use std::alloc::Global;
 use std::process::Abort;
 

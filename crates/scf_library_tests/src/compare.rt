@@ -1,21 +1,21 @@
 //! The comparer on worked pairs of a filter and a profile by a list of atoms, and the effort of a comparison. What is
 //! said by sets of numbers is tested on the program.
 
+use crate::fixtures::filters::{
+    ALLOW_ALL, ARCH_GATE, CLONE_BY_AND, CLONE_BY_FEWER_BITS, CLONE_BY_JSET, DIVISION, GATE,
+    ONE_MASK_TWICE, OVERLAPPING_MASKS,
+};
+use crate::fixtures::kernel::{ALLOW, KILL_THREAD};
+use crate::fixtures::profiles::{
+    CLONE_MASK, CLONE_TABLE, DEFAULT_ALLOW, EXTREMES, ONE_CALL, READ_TABLE, READ_WRITE_TABLE,
+    SOCKET_TABLE, TWO_RULES,
+};
 use crate::fixtures::{APART, assembled, holds_of, holds_of_both, profile_of};
 use scf_compare::{Verdict, compare, effort, is_plain};
 use scf_facts::AtomList;
 use scf_insn::Answer;
 use scf_machine::Program;
 use scf_profile::Profile;
-use scf_test_fixtures::filters::{
-    ALLOW_ALL, ARCH_GATE, CLONE_BY_AND, CLONE_BY_FEWER_BITS, CLONE_BY_JSET, DIVISION, GATE,
-    ONE_MASK_TWICE, OVERLAPPING_MASKS,
-};
-use scf_test_fixtures::kernel::{ALLOW, KILL_THREAD};
-use scf_test_fixtures::profiles::{
-    CLONE_MASK, CLONE_TABLE, DEFAULT_ALLOW, EXTREMES, ONE_CALL, READ_TABLE, READ_WRITE_TABLE,
-    SOCKET_TABLE, TWO_RULES,
-};
 use std::alloc::Global;
 use std::process::Abort;
 

@@ -1,17 +1,17 @@
 //! The steps of a comparison: a limit is spent, and no more than what the facts leave is explored.
 
+use crate::fixtures::filters::{ALLOW_ALL, CLONE_BY_JSET, GATE};
+use crate::fixtures::kernel::X86_64;
+use crate::fixtures::profiles::{
+    CLONE_MASK, CLONE_TABLE, DEFAULT_ALLOW, EXTREMES, ONE_CALL, READ_TABLE, READ_WRITE_TABLE,
+    SOCKET_NOT_40, SOCKET_TABLE, TWO_RULES,
+};
 use crate::fixtures::{allowing, assembled, holds_of_both, profile_of};
 use scf_compare::{Verdict, compare, is_plain};
 use scf_compile::compile;
 use scf_facts::{AtomList, WordFacts, WordSets};
 use scf_machine::Program;
 use scf_profile::Profile;
-use scf_test_fixtures::filters::{ALLOW_ALL, CLONE_BY_JSET, GATE};
-use scf_test_fixtures::kernel::X86_64;
-use scf_test_fixtures::profiles::{
-    CLONE_MASK, CLONE_TABLE, DEFAULT_ALLOW, EXTREMES, ONE_CALL, READ_TABLE, READ_WRITE_TABLE,
-    SOCKET_NOT_40, SOCKET_TABLE, TWO_RULES,
-};
 use std::alloc::Global;
 use std::process::Abort;
 

@@ -1,5 +1,8 @@
 //! Two sides beside each other: stacks of filters and profiles, on either side.
 
+use crate::fixtures::filters::{ALLOW_ALL, GATE, WITHOUT_READ, WITHOUT_WRITE};
+use crate::fixtures::kernel::{ALLOW, ERRNO_1, KILL_PROCESS};
+use crate::fixtures::profiles::{DEFAULT_ALLOW, ONE_CALL, READ_TABLE};
 use crate::fixtures::{holds_at, holds_of_both, profile_of, stack_of};
 use scf_compare::Relation::{NoLess, NoMore, Same};
 use scf_compare::Scope::{All, Call, Native};
@@ -10,9 +13,6 @@ use scf_compare::{
 use scf_facts::WordSets;
 use scf_insn::{Answer, CallRecord};
 use scf_machine::decide;
-use scf_test_fixtures::filters::{ALLOW_ALL, GATE, WITHOUT_READ, WITHOUT_WRITE};
-use scf_test_fixtures::kernel::{ALLOW, ERRNO_1, KILL_PROCESS};
-use scf_test_fixtures::profiles::{DEFAULT_ALLOW, ONE_CALL, READ_TABLE};
 use std::alloc::Global;
 use std::process::Abort;
 

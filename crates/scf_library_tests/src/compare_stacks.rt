@@ -1,6 +1,11 @@
 //! Stacks of filters against a profile, by sets of numbers: efforts, and what the command doesn't show, which wants a
 //! filter at least, and takes single numbers from a table alone.
 
+use crate::fixtures::filters::{ALLOW_ALL, CLONE_BY_AND, GATE, WITHOUT_READ, WITHOUT_WRITE};
+use crate::fixtures::kernel::{ALLOW, ERRNO_1, KILL_PROCESS, X86_64};
+use crate::fixtures::profiles::{
+    ALL_BUT_TWO, CLONE_MASK, CLONE_TABLE, DEFAULT_ALLOW, ONE_CALL, READ_TABLE, READ_WRITE_TABLE,
+};
 use crate::fixtures::{holds_of, profile_of, stack_of};
 use scf_compare::Relation::{NoLess, NoMore, Same, SameDisposition};
 use scf_compare::Scope::{All, Call, Native, Numbers, NumbersOf, Of};
@@ -11,11 +16,6 @@ use scf_facts::WordSets;
 use scf_insn::{Answer, Architecture};
 use scf_machine::FilterStack;
 use scf_profile::Profile;
-use scf_test_fixtures::filters::{ALLOW_ALL, CLONE_BY_AND, GATE, WITHOUT_READ, WITHOUT_WRITE};
-use scf_test_fixtures::kernel::{ALLOW, ERRNO_1, KILL_PROCESS, X86_64};
-use scf_test_fixtures::profiles::{
-    ALL_BUT_TWO, CLONE_MASK, CLONE_TABLE, DEFAULT_ALLOW, ONE_CALL, READ_TABLE, READ_WRITE_TABLE,
-};
 use std::alloc::Global;
 use std::process::Abort;
 

@@ -1,14 +1,14 @@
 //! The compiler: the bound of a filter's size, and the largest filters. What filters answer is tested on the program.
 
+use crate::fixtures::kernel::{ALLOW, ERRNO_1, X86_64};
+use crate::fixtures::profiles::{
+    CLONE_MASK, CLONE_TABLE, DEFAULT_ALLOW, EXTREMES, READ_WRITE_TABLE, SOCKET_TABLE,
+};
 use crate::fixtures::{APART, allowing, call, holds_at, holds_of, profile_of};
 use scf_compile::{CompileFault, compile, size_bound};
 use scf_insn::Answer;
 use scf_machine::{Program, run};
 use scf_profile::Profile;
-use scf_test_fixtures::kernel::{ALLOW, ERRNO_1, X86_64};
-use scf_test_fixtures::profiles::{
-    CLONE_MASK, CLONE_TABLE, DEFAULT_ALLOW, EXTREMES, READ_WRITE_TABLE, SOCKET_TABLE,
-};
 use std::alloc::Global;
 use std::process::Abort;
 

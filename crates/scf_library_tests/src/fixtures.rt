@@ -2,6 +2,11 @@
 //!
 //! Tests run with ample memory. Where one is refused any, or a text isn't what it is to be, the test ends there.
 
+pub(crate) mod filters;
+pub(crate) mod kernel;
+pub(crate) mod profiles;
+pub(crate) mod texts;
+
 use scf_insn::{CallRecord, Insn};
 use scf_machine::{FilterStack, Program, check};
 use scf_profile::{CallTable, Loaded, Profile, TableFault, load};

@@ -1,5 +1,8 @@
 //! Each call once at its largest, with ample memory: the exact answer, worked out beside the libraries.
 
+use crate::fixtures::filters::ALLOW_ALL;
+use crate::fixtures::kernel::{ALLOW, ERRNO, ERRNO_1, X86_64};
+use crate::fixtures::profiles::DEFAULT_ALLOW;
 use crate::fixtures::{
     allowing, assembled, call, holds_at, insn, lacks, profile_of, push_answer, table,
 };
@@ -11,9 +14,6 @@ use scf_insn::{
 };
 use scf_machine::{FilterStack, Program, PushFault, run, trace};
 use scf_profile::{CallTable, NamedCall, NumberRules, Profile, Reason};
-use scf_test_fixtures::filters::ALLOW_ALL;
-use scf_test_fixtures::kernel::{ALLOW, ERRNO, ERRNO_1, X86_64};
-use scf_test_fixtures::profiles::DEFAULT_ALLOW;
 use scf_text::{assemble, disassemble, tokens};
 use std::alloc::{AllocError, Global};
 use std::fmt;

@@ -22,6 +22,14 @@ mod compare_stacks;
 #[cfg(test)]
 mod compile;
 #[cfg(test)]
+mod facts;
+#[cfg(test)]
+mod facts_bits;
+#[cfg(test)]
+mod facts_exact;
+#[cfg(test)]
+mod facts_largest;
+#[cfg(test)]
 mod fixtures;
 #[cfg(test)]
 mod largest;
@@ -32,8 +40,12 @@ mod messages;
 #[cfg(test)]
 mod profile;
 #[cfg(test)]
+mod script;
+#[cfg(test)]
 mod streams;
 #[cfg(test)]
 mod text;
+#[cfg(test)]
+mod word_sets;
 #[cfg(test)]
 mod x86_64_table;

@@ -1,10 +1,10 @@
 //! The checker, the machine and stacks of filters.
 
+use crate::fixtures::filters::{DIVIDED_BY_0, STORED_BOTH_WAYS, STORED_ONE_WAY};
+use crate::fixtures::kernel::{ALLOW, X86_64};
 use crate::fixtures::{call, holds_at, holds_of, insn, push_answer};
 use scf_insn::{Answer, CallRecord, Insn};
 use scf_machine::{CheckFault, FilterStack, Program, check, decide, run, with_newest};
-use scf_test_fixtures::filters::{DIVIDED_BY_0, STORED_BOTH_WAYS, STORED_ONE_WAY};
-use scf_test_fixtures::kernel::{ALLOW, X86_64};
 use scf_text::assemble;
 use std::alloc::Global;
 use std::process::Abort;

@@ -1,12 +1,12 @@
 //! Call tables and profiles: what is kept of them. What is refused, and what a profile answers to calls, is tested on
 //! the program.
 
+use crate::fixtures::profiles::{READ_TABLE, READ_WRITE_TABLE, SOCKET_TABLE, WHOLE_CONFIG};
+use crate::fixtures::texts::are;
 use crate::fixtures::{holds_of, lacks, loaded, profile_of, table};
 use crate::x86_64_table::x86_64_table;
 use scf_insn::Answer;
 use scf_profile::{CallTable, Condition, Conditions, Loaded, NamedCall, Operator, Profile, Rule};
-use scf_test_fixtures::profiles::{READ_TABLE, READ_WRITE_TABLE, SOCKET_TABLE, WHOLE_CONFIG};
-use scf_test_fixtures::texts::are;
 use std::alloc::Global;
 use std::process::Abort;
 

@@ -1,13 +1,13 @@
 //! The comparison of a stack of filters with another one: the printed lines, the faults of either stack, and readers
 //! that fail.
 
+use crate::fixtures::ALLOW_ALL;
 use crate::parts::{ALLOW, NO_TABLE, Part, WITHOUT_WRITE, bundle, filter_of, long_filter};
 use crate::runs::run;
 use scf_compare::{Relation, Scope};
 use scf_insn::ReadFault;
 use scf_insn::faults::{Failing, Reader};
 use scf_machine::PushFault;
-use scf_test_fixtures::filters::ALLOW_ALL;
 use scf_tool::{BesideFault, Comparison, Limits, Scopes, VerifyFault, verify_beside};
 use std::alloc::Global;
 use std::process::Abort;

@@ -1,9 +1,8 @@
 //! The parts of a bundle.
 
+use crate::fixtures::{ALLOW_ALL, DEFAULT_ALLOW};
 use crate::parts::{add, filter_of};
 use crate::runs::prints;
-use scf_test_fixtures::filters::ALLOW_ALL;
-use scf_test_fixtures::profiles::DEFAULT_ALLOW;
 use scf_tool::{Part, PartKind, split};
 use std::alloc::Global;
 use std::process::Abort;

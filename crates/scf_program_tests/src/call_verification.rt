@@ -1,6 +1,7 @@
 //! The comparison of a stack of filters with a profile, call by call, from their bytes: its verdicts, and its faults,
 //! which are those of the comparison of the whole stack.
 
+use crate::fixtures::{ALLOW, DEFAULT_ALLOW, ERRNO, ERRNO_1, READ_TABLE, X86_64, are};
 use crate::parts::{filter_of, long_filter};
 use crate::verification::failing_at;
 use scf_compare::{Finding, Relation, Scope};
@@ -8,9 +9,6 @@ use scf_insn::faults::{Failing, Reader};
 use scf_insn::{Answer, InputFault, ReadFault};
 use scf_machine::{CheckFault, PushFault};
 use scf_profile::{LoadFault, TableFault};
-use scf_test_fixtures::kernel::{ALLOW, ERRNO, ERRNO_1, X86_64};
-use scf_test_fixtures::profiles::{DEFAULT_ALLOW, READ_TABLE};
-use scf_test_fixtures::texts::are;
 use scf_tool::{
     CallFinding, Comparison, ComparisonOutcome, Findings, Limits, Scopes, VerifyFault, verify_by,
     verify_stack,

@@ -1,11 +1,11 @@
 //! Readers and writers that fail.
 
+use crate::fixtures::{ALLOW_ALL, ARCH_GATE};
 use crate::parts::{ALL, ALLOW, NO_TABLE, Part, WITHOUT_WRITE, bundle, filter_of};
 use crate::runs::{
     Ended, asked_once_more, ends, prints, run, run_from, run_from_std, run_into, run_into_std,
 };
 use scf_insn::faults::{Failing, Reader};
-use scf_test_fixtures::filters::{ALLOW_ALL, ARCH_GATE};
 use std::alloc::Global;
 use std::process::Abort;
 

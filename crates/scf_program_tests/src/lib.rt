@@ -20,6 +20,8 @@ mod command_line;
 #[cfg(test)]
 mod faults;
 #[cfg(test)]
+mod fixtures;
+#[cfg(test)]
 mod messages;
 #[cfg(test)]
 mod parts;

@@ -1,6 +1,6 @@
 //! Filters and bundles, made of texts.
 
-use scf_test_fixtures::{filters, profiles};
+use crate::fixtures;
 use scf_text::assemble;
 use std::alloc::Global;
 use std::process::Abort;
@@ -21,15 +21,15 @@ pub(crate) enum Part {
 }
 
 /// Takes every call.
-pub(crate) const ALL: Part = Part::Profile(profiles::DEFAULT_ALLOW);
+pub(crate) const ALL: Part = Part::Profile(fixtures::DEFAULT_ALLOW);
 
 pub(crate) const NO_TABLE: Part = Part::Table("");
 
 /// Allows every call.
-pub(crate) const ALLOW: Part = Part::Filter(filters::ALLOW_ALL);
+pub(crate) const ALLOW: Part = Part::Filter(fixtures::ALLOW_ALL);
 
 /// Allows every call but number 1.
-pub(crate) const WITHOUT_WRITE: Part = Part::Filter(filters::WITHOUT_WRITE);
+pub(crate) const WITHOUT_WRITE: Part = Part::Filter(fixtures::WITHOUT_WRITE);
 
 /// The text so many times. It has no contract, so that no proof writes a text of millions out.
 pub(crate) fn repeated(rt: &impl Abort, alloc: Global, text: &str, count: usize) -> String {
@@ -60,7 +60,7 @@ pub(crate) fn long_filter(rt: &impl Abort, alloc: Global, loads: usize) -> Vec<u
     for _ in 0..loads {
         filter.extend_from_slice(&load).expect(rt, "no fault");
     }
-    add_filter(rt, alloc, &mut filter, filters::ALLOW_ALL);
+    add_filter(rt, alloc, &mut filter, fixtures::ALLOW_ALL);
     filter
 }
 

@@ -1,8 +1,8 @@
 //! The largest inputs, and a word of a million digits, which no system hands to a program.
 
+use crate::fixtures::{ONE_CALL, READ_TABLE};
 use crate::parts::{bundle_of, filter_of, long_filter, repeated};
 use crate::runs::{Ended, ends, prints, run};
-use scf_test_fixtures::profiles::{ONE_CALL, READ_TABLE};
 use std::alloc::Global;
 use std::process::Abort;
 

@@ -1,12 +1,11 @@
 //! The comparison of a filter with a profile, from their bytes.
 
+use crate::fixtures::{ALLOW_ALL, DEFAULT_ALLOW, READ_TABLE};
 use crate::parts::filter_of;
 use scf_insn::faults::{Failing, Reader};
 use scf_insn::{InputFault, ReadFault};
 use scf_machine::CheckFault;
 use scf_profile::{LoadFault, TableFault};
-use scf_test_fixtures::filters::ALLOW_ALL;
-use scf_test_fixtures::profiles::{DEFAULT_ALLOW, READ_TABLE};
 use scf_tool::{VerifyFault, verify};
 use std::alloc::Global;
 use std::process::Abort;

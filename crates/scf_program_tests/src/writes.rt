@@ -1,9 +1,9 @@
 //! Each run hands what it prints to its writer at once.
 
+use crate::fixtures::ARCH_GATE;
 use crate::parts::{ALL, ALLOW, NO_TABLE, Part, bundle, filter_of, long_filter};
 use crate::runs::run_on;
 use scf_insn::faults::{Failing, Reader, Writer};
-use scf_test_fixtures::filters::ARCH_GATE;
 use scf_tool::refuse_words;
 use std::alloc::Global;
 use std::io;

@@ -1,0 +1,35 @@
+//! What several tests need: filters, profiles and tables as texts, and numbers of the kernel's headers.
+
+/// Allows each call.
+pub(crate) const ALLOW_ALL: &str = "ret #0x7fff0000";
+
+/// Kills the process on calls of other architectures, and allows all others, those of x32 too.
+pub(crate) const ARCH_GATE: &str =
+    "ld [4]; jeq #0xc000003e, 1, 0; ret #0x80000000; ret #0x7fff0000";
+
+/// Allows each call but `write`.
+pub(crate) const WITHOUT_WRITE: &str = "ld [0]; jeq #1, 0, 1; ret #0x50001; ret #0x7fff0000";
+
+pub(crate) const READ_TABLE: &str = "read 0\n";
+
+/// The profile that allows each call.
+pub(crate) const DEFAULT_ALLOW: &str = r#"{"defaultAction":"SCMP_ACT_ALLOW"}"#;
+
+/// The profile that allows `read`.
+pub(crate) const ONE_CALL: &str =
+    r#"{"defaultAction":"SCMP_ACT_ERRNO","syscalls":[{"names":["read"],"action":"SCMP_ACT_ALLOW"}]}"#;
+
+/// Answers (Linux uapi seccomp.h): an action, and its data in the low half.
+pub(crate) const ALLOW: u32 = 0x7fff_0000;
+
+pub(crate) const ERRNO: u32 = 0x0005_0000;
+
+pub(crate) const ERRNO_1: u32 = 0x0005_0001;
+
+/// The architecture x86-64 (Linux uapi audit.h).
+pub(crate) const X86_64: u32 = 0xc000_003e;
+
+/// Whether texts are these, in this order.
+pub(crate) fn are(texts: &[String], expected: &[&str]) -> bool {
+    texts.len() == expected.len() && texts.iter().zip(expected).all(|(a, b)| a.as_str() == *b)
+}
