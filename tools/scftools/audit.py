@@ -30,6 +30,8 @@ from .verify import Request
 (UNCONFINED_THOUGH, UNCONFINED, WEAKER, NOT_KNOWN, OTHERWISE, STRICTER, AS_CONFIGURED) = VERDICTS = (
     "unconfined though configured", "unconfined by configuration", "weaker", "not known", "otherwise", "stricter",
     "as configured")
+# Of several verdicts on the filters of one stack the first of these is that on all of them.
+TOGETHER = (WEAKER, NOT_KNOWN, STRICTER, OTHERWISE, AS_CONFIGURED)
 CONTAINER, UNIT, PROGRAM = KINDS = ("container", "unit", "program")
 # What is compared with if nothing is configured: every syscall is allowed.
 ALLOWS_ALL = b'{"defaultAction": "SCMP_ACT_ALLOW"}'
@@ -54,6 +56,10 @@ class Expected:
     source: str | None = None
     # why it isn't known what is expected
     why: str | None = None
+    # what is expected beside the profile, of architectures that it doesn't name
+    others: tuple[Request, ...] = ()
+    # why processes that differ may be as configured
+    doubt: str | None = None
 
     @property
     def digest(self) -> str | None:
@@ -198,7 +204,7 @@ class Judge:
         """The verdict on a stack with filters."""
         asked_of = asked or Request(ALLOWS_ALL, self.table)
         stub = asked_of.applied.stub if asked_of.applied is not None else {}
-        key = stack.filters, asked_of.profile, tuple(stub.items()), relation, asked is None
+        key = (stack.filters, asked_of.profile, tuple(stub.items()), relation, asked is None, asked_of.elsewhere)
         if len(self.known) > MOST_KNOWN:
             self.known.clear()
             self.foreign.clear()
@@ -219,7 +225,7 @@ class Judge:
             return replace(found, shown=None)
         if found.verdict in (WEAKER, NOT_KNOWN):
             return found
-        return self._with_foreign(found, comparison, report.architectures)
+        return self._with_foreign(found, comparison, report.architectures, asked.elsewhere)
 
     def _of_report(self, comparison: Comparison, report: verdicts.Report) -> Judgement:
         """The verdict on what is judged: if some syscalls differ, whether any is more permissive, or any stricter."""
@@ -240,14 +246,15 @@ class Judge:
         return Judgement(OTHERWISE if no_less.holds else STRICTER, shown=verdict if no_less.holds else no_less,
                          comparison=comparison)
 
-    def _with_foreign(self, found: Judgement, comparison: Comparison, names: Sequence[str]) -> Judgement:
-        """The same with syscalls of i386 and x32 that aren't judged: weaker if some are allowed and the profile doesn't
-        name their architecture."""
+    def _with_foreign(self, found: Judgement, comparison: Comparison, names: Sequence[str],
+                      elsewhere: Sequence[str]) -> Judgement:
+        """The same with syscalls of i386 and x32 that aren't judged: weaker if some are allowed and neither the profile
+        nor another one names their architecture."""
         key = tuple(it.data for it in comparison.filters), tuple(comparison.tables.of)
         if key not in self.foreign:
             self.foreign[key] = compare.foreign_of(comparison, comparison.scope)
         for one in self.foreign[key]:
-            if one.kind.of.oci in names:
+            if one.kind.of.oci in names or one.kind.of.oci in elsewhere:
                 continue
             if one.not_denied:
                 return Judgement(WEAKER, why=f"the profile doesn't name {one.kind.of.oci}; {one.describe()}",
@@ -255,6 +262,15 @@ class Judge:
             if not one.is_proved:
                 found = replace(found, verdict=NOT_KNOWN, why=one.describe())
         return replace(found, not_compared=tuple(names))
+
+
+    def judge_all(self, stack: Stack, expected: Expected) -> Judgement:
+        """The verdict on a stack with filters beside all that is expected."""
+        found = [self.judge(stack, expected.asked), *(self.judge(stack, it) for it in expected.others)]
+        worst = min(found, key=lambda it: TOGETHER.index(it.verdict))
+        if expected.doubt is None or worst.verdict in (NOT_KNOWN, AS_CONFIGURED):
+            return worst
+        return replace(worst, verdict=NOT_KNOWN, why=f"it is {worst.verdict}, but {expected.doubt}")
 
 
 def _undecided(verdict: Verdict | None) -> Judgement:
@@ -350,6 +366,11 @@ class Expectations:
         reader = units.Reader(units.all_groups, lambda _: None)
         return {it: self._of_unit(it, shown.get(it), reader) for it in names}
 
+    def _of_group(self, settings: units.Settings, group: Sequence[str]) -> Request:
+        """What is expected of the syscalls of some architectures of a unit."""
+        return Request(units.profile_of(settings, group).encode(), self.options.table, self.options.scope,
+                       elsewhere=tuple(it for it in settings.architectures if it not in group))
+
     def _of_unit(self, name: str, shown: dict[str, str] | None, reader: units.Reader) -> Expected:
         """What a unit states of which systemctl shows this."""
         source = f"systemctl show {name}"
@@ -357,12 +378,14 @@ class Expectations:
             return Expected(source=source, why="systemctl shows no such unit")
         try:
             settings = units.settings_in(shown, name, reader)
-            if settings.filter is None and settings.log is None and not shown.get("SystemCallArchitectures"):
-                return Expected(source=source)
-            profile = units.profile_of(settings).encode()
+            if not settings.have_filters or settings.may_have_none:
+                return Expected(source=source, why=settings.doubt)
+            # (one profile names all if x86-64 alone is judged)
+            groups = settings.groups if self.options.scope is None else [settings.architectures]
+            asked, *others = (self._of_group(settings, group) for group in groups)
         except (units.SettingError, program.ToolError) as why:
             return Expected(source=source, why=str(why))
-        return Expected(Request(profile, self.options.table, self.options.scope), source)
+        return Expected(asked, source, others=tuple(others), doubt=settings.doubt)
 
 
 def rows_of(kernel: Kernel, snapshot: Snapshot, options: Options) -> list[Row]:
@@ -403,7 +426,7 @@ def judged(stack: Stack, expected: Expected, options: Options, judge: Judge) -> 
     if expected.why is not None:
         found = Judgement(NOT_KNOWN, f"what is configured isn't known: {expected.why}")
     else:
-        found = judge.judge(stack, expected.asked)
+        found = judge.judge_all(stack, expected)
     if options.baseline is None:
         return found
     asked = Request(options.baseline[1], options.table, options.scope, NO_MORE)

@@ -1,28 +1,37 @@
 """Prints the resolved profile that a systemd unit's syscall settings describe.
 
-    scf unit-profile UNIT
+    scf unit-profile [--arch ARCH] UNIT
     scf unit-profile --set LIST .. [--errno ERRNO] [--architectures LIST] [--log LIST ..]
 
-The settings are SystemCallFilter=, SystemCallErrorNumber=, SystemCallArchitectures= and SystemCallLog=; systemd.exec(5)
-says what they mean. For a UNIT they are those that `systemctl show` prints. With --set each LIST is an assignment of
-SystemCallFilter=, in order, such as '@system-service' or '~@mount ptrace:EPERM', and the groups are those of
-`systemd-analyze syscall-filter`. What is left out, and why, goes to standard error.
+It says what all filters that systemd adds for the settings answer together: SystemCallFilter=, SystemCallErrorNumber=,
+SystemCallArchitectures=, SystemCallLog=, RestrictNamespaces=, RestrictAddressFamilies=, MemoryDenyWriteExecute=,
+RestrictRealtime=, RestrictSUIDSGID=, LockPersonality=, ProtectClock=, ProtectHostname=, ProtectKernelModules=,
+ProtectKernelLogs=, ProtectKernelTunables= and PrivateDevices=; systemd.exec(5) says what they mean. For a UNIT they are
+those that `systemctl show` prints. With --set each LIST is an assignment of SystemCallFilter=, in order, such as
+'@system-service' or '~@mount ptrace:EPERM', and the groups are those of `systemd-analyze syscall-filter`. What is left
+out, and why, goes to standard error.
 
-To check that a unit's stack is at least as strict, use `scf verify-process --no-more` on its main process: other
-settings, such as RestrictNamespaces=, add filters of their own. `systemctl show` doesn't print which syscalls an
-allow-list denies with an errno of their own, such as ~clone3:EINVAL: these are read from the unit's files. With --set,
-as in systemd, a name that the installed libseccomp doesn't know is left out. The name of another architecture's
-syscall stays in the profile, and scf skips it.
+Whether a unit's process is confined so, `scf verify-process` says of its main process. On i386 systemd applies
+RestrictAddressFamilies= not at all, and MemoryDenyWriteExecute= to other syscalls. No profile can say that of a unit
+that permits i386 syscalls: the one that is printed leaves i386 out, and --arch i386 prints the profile for it.
 
-Exit status: 0 success; 1 an errno or an architecture is unknown; 2 usage error; 3 systemd can't be asked, has no such
-unit, or the output failed; 4 the unit's files can't be read, or changed since systemd read them.
+RestrictNamespaces= and the settings behind it in that list deny what they do in systemd 252.39; of another version a
+line on standard error says so. A command that systemd starts with full privileges (`+`) has none of the filters.
+
+`systemctl show` doesn't print which syscalls an allow-list denies with an errno of their own, such as ~clone3:EINVAL:
+these are read from the unit's files. With --set, as in systemd, a name that the installed libseccomp doesn't know is
+left out. The name of another architecture's syscall stays in the profile, and scf skips it.
+
+Exit status: 0 success; 1 an errno, an architecture or another setting is unknown; 2 usage error; 3 systemd can't be
+asked, has no such unit, or the output failed; 4 the unit's files can't be read, or changed since systemd read them.
 
 Examples:
 
     scf unit-profile --set @system-service ~@mount >profile.json
     scf unit-profile --set ~ptrace --errno EPERM >profile.json
 """
-from . import libseccomp, output, program, units, words
+from . import architectures, libseccomp, output, program, units, words
+from .explanation import join_names
 
 
 def read_words():
@@ -31,19 +40,36 @@ def read_words():
     parser.add_argument("--errno", metavar="ERRNO", help="with --set: SystemCallErrorNumber= [default: kill]")
     parser.add_argument("--architectures", metavar="LIST", help="with --set: SystemCallArchitectures= [default: none]")
     parser.add_argument("--log", metavar="LIST", nargs="+", help="with --set: assignments of SystemCallLog=")
+    parser.add_argument("--arch", metavar="ARCH", help="print the profile for this architecture [default: x86-64]")
     parser.add_argument("unit", metavar="UNIT", nargs="?", help="a unit, as systemctl(1) names it")
     options = parser.parse_args()
     if (options.unit is None) == (options.set is None):
         parser.error("give a unit, or --set and lists")
     if options.unit is not None and (options.errno, options.architectures, options.log) != (None, None, None):
         parser.error("--errno, --architectures and --log go with --set")
+    if options.set is not None and options.arch is not None:
+        parser.error("--arch goes with a unit: what --set says is said of all architectures")
     if options.unit is not None and (not options.unit or set(options.unit) & set("*?[\0")):
         parser.error(f"'{options.unit}' isn't the name of a unit")
     return options
 
 
+def group_of(settings, wanted):
+    """The architectures for which a profile is printed, among them this one; says which others there are."""
+    group = next((it for it in settings.groups if wanted.oci in it), None)
+    if group is None:
+        raise program.ToolError(f"the unit permits no {wanted.name} syscalls", program.NEGATIVE)
+    alike, others = (architectures.names_of([it for it in units.LOCAL if it in settings.architectures
+                                             and (it in group) == is_alike]) for is_alike in (True, False))
+    if others:
+        program.say(f"the profile is for {join_names(alike)} alone: something else is denied on {join_names(others)}, "
+                    f"which --arch {others[0]} prints")
+    return group
+
+
 def main():
     options = read_words()
+    wanted = architectures.judged_in(options.arch or architectures.NATIVE)
     reader = units.Reader(units.all_groups, program.say)
     if options.set is not None:
         try:
@@ -58,10 +84,13 @@ def main():
                                       units.architectures_of(options.architectures or ""),
                                       reader.assigned(options.log or (), None))
         reader.tell_unknown()
-        text = units.profile_of(settings)
+        text = units.profile_of(settings, group_of(settings, wanted))
     except units.SettingError as why:
         raise program.ToolError(str(why), program.NEGATIVE) from why
     if settings.filter is None:
-        program.say("there is no SystemCallFilter: every syscall is allowed")
+        program.say("there is no SystemCallFilter: every syscall is allowed"
+                    + (" that no other setting denies" if settings.restrictions else ""))
+    if settings.doubt is not None:
+        program.say(settings.doubt)
     output.put(text)
     return program.SUCCESS

@@ -1,9 +1,10 @@
-"""systemd units: the profile that their syscall settings describe.
+"""systemd units: the profiles that their syscall settings describe.
 
 The rules are those of systemd.exec(5). SystemCallFilter= is a list of what is allowed, or after `~` of what is denied,
 by SystemCallErrorNumber= or by an errno of its own. SystemCallLog= is a list of what is logged, or after `~` of what
 isn't. SystemCallArchitectures= are the architectures of which calls are permitted, beside the native one; where it is
-empty, all of them are.
+empty, all of them are. What other settings deny stands in unit_restrictions.py; it may be another thing on each
+architecture, and then no profile speaks of all.
 """
 from __future__ import annotations
 
@@ -13,13 +14,16 @@ import os
 import re
 from collections.abc import Callable, Iterator, Sequence
 
-from . import libseccomp, output, program
+from . import libseccomp, output, program, unit_restrictions
 from .answers import ALLOW, KILL_PROCESS, MAX_ERRNO, Answer
 from .architectures import NATIVE
+from .unit_restrictions import Alternative, Restriction, SettingError
 from .values import Pattern, dataclass, field
 
 PROPERTIES = ("Id", "LoadState", "NeedDaemonReload", "FragmentPath", "DropInPaths", "SystemCallFilter",
-              "SystemCallErrorNumber", "SystemCallArchitectures", "SystemCallLog")
+              "SystemCallErrorNumber", "SystemCallArchitectures", "SystemCallLog", *unit_restrictions.PROPERTIES)
+# The manager's version: it is added to what a unit shows.
+VERSION = "Version"
 # The sections of those units that run processes (systemd.exec(5)).
 SECTIONS = {kind: f"[{kind.capitalize()}]" for kind in ("service", "socket", "mount", "swap")}
 # How `systemctl show` prints the error number of what is killed: SECCOMP_ERROR_NUMBER_KILL, which is INT_MAX - 1; older
@@ -46,10 +50,6 @@ MOST_PRINTED, DEEPEST = 1 << 20, 16
 MOST_BYTES, MOST_TOLD = 1 << 20, 20
 
 
-class SettingError(Exception):
-    """What systemd prints, or what is given in its place, isn't as systemd.exec(5) says."""
-
-
 class UnknownSettings(Exception):
     """The contents of a unit's files can't be known."""
 
@@ -73,6 +73,44 @@ class Settings:
     refusal: Answer = KILL_PROCESS
     architectures: Sequence[str] = ()
     log: CallList | None = None
+    # other settings that deny something, each with its text, and the version of systemd
+    restrictions: dict[str, str] = field(default_factory=dict)
+    version: str = ""
+
+    @property
+    def have_filters(self) -> bool:
+        """Whether systemd adds any filter for them."""
+        return bool(self.filter is not None or self.log is not None or self.restrictions
+                    or set(LOCAL) - set(self.architectures))
+
+    @property
+    def may_have_none(self) -> bool:
+        """Whether systemd may also add none, since this one may have prctl(2) do what MemoryDenyWriteExecute= says."""
+        alone = Settings(None, architectures=self.architectures)
+        return self.doubt is not None and self.filter is None and self.log is None and not alone.have_filters and \
+            list(self.restrictions) == ["MemoryDenyWriteExecute"]
+
+    @property
+    def groups(self) -> list[list[str]]:
+        """The architectures, together with those on which the same is denied; the native one is in the first group."""
+        found: list[tuple[unit_restrictions.Rules, list[str]]] = []
+        for one in self.architectures:
+            rules = unit_restrictions.rules_of(self.restrictions, one)
+            group = next((group for its, group in found if its == rules), None)
+            if group is None:
+                found.append((rules, [one]))
+            else:
+                group.append(one)
+        return [group for _, group in found]
+
+    @property
+    def doubt(self) -> str | None:
+        """Why a process may have other filters than these settings tell, if it may."""
+        if not self.restrictions or unit_restrictions.is_modelled(self.version):
+            return None
+        names = ", ".join(f"{name}=" for name in self.restrictions)
+        version = f"systemd {self.version[:64]}" if self.version else "a systemd of unknown version"
+        return f"it is known what {names} deny in systemd {unit_restrictions.VERSION}, and this is {version}"
 
     def answer_of(self, name: str | None) -> Answer:
         """What a call is answered by this name; by None, what one is that no list names."""
@@ -89,6 +127,15 @@ class Settings:
         """The names of all lists, each once."""
         lists = [one.calls for one in (self.filter, self.log) if one is not None]
         yield from dict.fromkeys(name for calls in lists for name in calls)
+
+    def alternatives(self, name: str, restriction: Restriction | None) -> Iterator[tuple[Answer, Alternative]]:
+        """What a call is answered by this name, and on which conditions. What the lists deny they answer."""
+        answer = self.answer_of(name)
+        if restriction is None or answer.denies:
+            yield answer, ()
+            return
+        yield from ((restriction.answer, it) for it in restriction.denied)
+        yield from ((answer, it) for it in restriction.allowed)
 
 
 def answer_of_errno(text: str) -> Answer:
@@ -301,12 +348,19 @@ def denied_by(shown: dict[str, str], allowed: CallList, reader: Reader) -> dict[
     return own
 
 
-def shown_by_systemctl(names: Sequence[str]) -> list[dict[str, str]]:
-    """What systemctl shows of some units, by the names of the properties."""
-    text = printed_by(["systemctl", "--no-pager", "show", *(f"--property={name}" for name in PROPERTIES), "--",
-                       *names])
+def _blocks(text: str) -> list[dict[str, str]]:
     return [{name: value for name, equals, value in (line.partition("=") for line in block.split("\n")) if equals}
             for block in text.split("\n\n")]
+
+
+def shown_by_systemctl(names: Sequence[str]) -> list[dict[str, str]]:
+    """What systemctl shows of some units, by the names of the properties."""
+    show = ["systemctl", "--no-pager", "show"]
+    found = _blocks(printed_by([*show, *(f"--property={name}" for name in PROPERTIES), "--", *names]))
+    if any(map(unit_restrictions.are_set_in, found)):
+        version = _blocks(printed_by([*show, f"--property={VERSION}"]))[0].get(VERSION, "")
+        found = [{**it, VERSION: version} for it in found]
+    return found
 
 
 def settings_in(shown: dict[str, str], unit: str, reader: Reader) -> Settings:
@@ -325,17 +379,21 @@ def settings_in(shown: dict[str, str], unit: str, reader: Reader) -> Settings:
                                     f"own, which systemctl show doesn't print: {why}", program.UNKNOWN) from why
     return Settings(found, refusal_of(shown.get("SystemCallErrorNumber", "")),
                     architectures_of(shown.get("SystemCallArchitectures", "")),
-                    reader.shown(shown.get("SystemCallLog", "~")))
+                    reader.shown(shown.get("SystemCallLog", "~")), unit_restrictions.set_in(shown),
+                    shown.get(VERSION, ""))
 
 
-def profile_of(settings: Settings) -> str:
-    """The text of the profile that the settings describe."""
-    default = settings.answer_of(None)
-    named: dict[Answer, list[str]] = {}
-    for name in settings.names():
-        answer = settings.answer_of(name)
-        if answer != default:
-            named.setdefault(answer, []).append(name)
-    entries = [{"names": names, **answer.members()} for answer, names in named.items()]
-    top = {**default.default(), "architectures": list(settings.architectures), "syscalls": entries}
+def profile_of(settings: Settings, architectures: Sequence[str]) -> str:
+    """The text of the profile that the settings describe, for architectures of one group."""
+    default, rules = settings.answer_of(None), unit_restrictions.rules_of(settings.restrictions, architectures[0])
+    named: dict[tuple[Answer, Alternative], list[str]] = {}
+    for name in dict.fromkeys([*settings.names(), *rules]):
+        for answer, conditions in settings.alternatives(name, rules.get(name)):
+            if answer != default:
+                named.setdefault((answer, conditions), []).append(name)
+    entries = []
+    for (answer, conditions), names in named.items():
+        args = {"args": [it.as_json() for it in conditions]} if conditions else {}
+        entries.append({"names": names, **answer.members(), **args})
+    top = {**default.default(), "architectures": list(architectures), "syscalls": entries}
     return json.dumps(top, indent=4) + "\n"

@@ -59,6 +59,8 @@ class Request:
     scope: str | None = None
     relation: str = verdicts.SAME
     applied: AppliedProfile | None = None
+    # the OCI names of architectures of which another profile speaks
+    elsewhere: tuple[str, ...] = ()
 
     @property
     def remarks(self) -> list[str]:

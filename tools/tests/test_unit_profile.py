@@ -1,4 +1,5 @@
-"""tools/unit-profile: the settings of systemd.exec(5), by stand-ins that print what systemd 252 prints."""
+"""tools/unit-profile: the settings of systemd.exec(5), by stand-ins that print what systemd 252 prints, and by the filters
+of a real systemd."""
 import ctypes.util
 import json
 import os
@@ -8,8 +9,61 @@ import unittest
 
 from common import SCF, TABLE, Case, part, tool
 from own_machine import Systemd
+from test_audit import Audited
 
 ALLOW, ERRNO, KILL, LOG = (f"SCMP_ACT_{name}" for name in ("ALLOW", "ERRNO", "KILL_PROCESS", "LOG"))
+OPEN, EPERM, ENOSYS, NO_FAMILY = (ALLOW, None), (ERRNO, 1), (ERRNO, 38), (ERRNO, 97)
+# The settings that add filters beside SystemCall* (systemd.exec(5), NoNewPrivileges=).
+OTHERS = ("LockPersonality", "MemoryDenyWriteExecute", "PrivateDevices", "ProtectClock", "ProtectHostname",
+          "ProtectKernelLogs", "ProtectKernelModules", "ProtectKernelTunables", "RestrictAddressFamilies",
+          "RestrictNamespaces", "RestrictRealtime", "RestrictSUIDSGID")
+HOLDS = {"EQ": lambda it, one, _: it == one, "NE": lambda it, one, _: it != one, "LT": lambda it, one, _: it < one,
+         "GT": lambda it, one, _: it > one, "MASKED_EQ": lambda it, one, two: it & one == two & one}
+# linux/sched.h, in the order of RestrictNamespaces= in systemd.exec(5): cgroup, ipc, net, mnt, pid, user, uts; and time.
+CGROUP, IPC, NET, MNT, PID, USER, UTS, TIME = (0x2000000, 0x8000000, 0x40000000, 0x20000, 0x20000000, 0x10000000,
+                                               0x4000000, 0x80)
+# What settings answer, from src/shared/seccomp-util.c of systemd 252.39: each a syscall with its first arguments.
+ANSWERS = (
+    ("RestrictNamespaces", "yes", {
+        EPERM: [("clone", flag | 17) for flag in (CGROUP, IPC, NET, MNT, PID, USER, UTS, TIME)]
+        + [("unshare", flag) for flag in (CGROUP, IPC, NET, MNT, PID, USER, UTS, TIME)]
+        + [("setns", 3, 0), ("setns", 3, NET), ("unshare", 1 << 40 | NET)],
+        ENOSYS: [("clone3",)], OPEN: [("clone", 17), ("clone", 0x3d0f00), ("unshare", 0x400), ("clone", 1 << 63)]}),
+    ("RestrictNamespaces", "net user", {
+        EPERM: [("clone", NET | MNT), ("clone", TIME), ("unshare", PID), ("setns", 3, 0), ("setns", 3, UTS),
+                ("setns", 3, UTS | USER), ("setns", 3, TIME)], ENOSYS: [("clone3",)],
+        OPEN: [("clone", NET | USER | 17), ("unshare", NET), ("unshare", 0), ("setns", 3, NET), ("setns", 3, USER),
+               ("setns", 3, 1 << 63), ("setns", 3, 1)]}),
+    ("RestrictAddressFamilies", "AF_INET AF_INET6 AF_UNIX", {
+        NO_FAMILY: [("socket", it) for it in (0, 3, 9, 11, 16, 45, 46, 1 << 32, (1 << 64) - 1)],
+        OPEN: [("socket", 1), ("socket", 2), ("socket", 10), ("socketpair", 16)]}),
+    ("RestrictAddressFamilies", "~AF_NETLINK AF_PACKET AF_ALG", {
+        NO_FAMILY: [("socket", 16), ("socket", 17), ("socket", 38)],
+        OPEN: [("socket", it) for it in (0, 1, 15, 18, 37, 39, 46, 1 << 32 | 16)]}),
+    ("RestrictAddressFamilies", "~AF_PACKET", {NO_FAMILY: [("socket", 17)], OPEN: [("socket", 16), ("socket", 18)]}),
+    ("RestrictAddressFamilies", "", {NO_FAMILY: [("socket", 0), ("socket", 1)]}),
+    ("MemoryDenyWriteExecute", "yes", {
+        EPERM: [("mmap", 0, 0, 6), ("mmap", 0, 0, 7), ("mprotect", 0, 0, 4), ("pkey_mprotect", 0, 0, 5),
+                ("shmat", 0, 0, 0x8000)],
+        OPEN: [("mmap", 0, 0, 4), ("mmap", 0, 0, 3), ("mprotect", 0, 0, 3), ("shmat", 0, 0, 0x4000)]}),
+    ("RestrictRealtime", "yes", {
+        EPERM: [("sched_setscheduler", 0, it) for it in (1, 2, 4, 6, 7, 1 << 32, 0x40000001, (1 << 64) - 1)],
+        OPEN: [("sched_setscheduler", 0, it) for it in (0, 3, 5)] + [("sched_setattr", 0, 1)]}),
+    ("RestrictSUIDSGID", "yes", {
+        EPERM: [("chmod", 0, 0o4755), ("fchmod", 0, 0o2000), ("creat", 0, 0o6000), ("mkdir", 0, 0o2755),
+                ("mknod", 0, 0o104000), ("fchmodat", 0, 0, 0o4000), ("fchmodat2", 0, 0, 0o2000),
+                ("mkdirat", 0, 0, 0o2000), ("mknodat", 0, 0, 0o4000), ("open", 0, 0o101, 0o4000),
+                ("openat", 0, 0, 0o100, 0o2644)], ENOSYS: [("openat2",)],
+        OPEN: [("chmod", 0, 0o1777), ("mknod", 0, 0o100644), ("open", 0, 1, 0o4000), ("open", 0, 0o100, 0o1644),
+               ("openat", 0, 0, 0, 0o6000), ("mkdirat", 0, 0o4000, 0)]}),
+    ("LockPersonality", "yes", {EPERM: [("personality", it) for it in (8, 0x40000, 0xffffffff)],
+                                OPEN: [("personality", 0)]}),
+    ("ProtectClock", "yes", {EPERM: [("adjtimex",), ("clock_adjtime",), ("clock_adjtime64",), ("clock_settime",),
+                                     ("clock_settime64",), ("settimeofday",)], OPEN: [("clock_gettime",)]}),
+    ("ProtectHostname", "yes", {EPERM: [("sethostname",), ("setdomainname",)], OPEN: [("uname",)]}),
+    ("ProtectKernelModules", "yes", {EPERM: [("init_module",), ("finit_module",), ("delete_module",)]}),
+    ("ProtectKernelLogs", "yes", {EPERM: [("syslog",)]}), ("ProtectKernelTunables", "yes", {EPERM: [("_sysctl",)]}),
+    ("PrivateDevices", "yes", {EPERM: [("iopl",), ("ioperm",)], OPEN: [("ioctl",)]}))
 NATIVE, ALL = ["SCMP_ARCH_X86_64"], ["SCMP_ARCH_X86_64", "SCMP_ARCH_X86", "SCMP_ARCH_X32"]
 # What `systemctl show` prints of an error number that isn't set: INT_MAX - 1.
 KILLED = "2147483646"
@@ -80,6 +134,7 @@ class UnitProfile(Case):
     def test_usage(self):
         self.says_usage("unit-profile")
         for words in (("a.service", "--errno", "1"), ("a.service", "--architectures", "x86"), ("a*",), ("",),
+                      ("--arch", "i386", "--set", "read"), ("--arch", "mips", "a.service"),
                       ("a.service", "--log", "read"), ("a.service", "b.service"), ("--errno", "EPERM")):
             self.refused(2, "unit-profile: ", *words)
 
@@ -88,9 +143,9 @@ class UnitProfile(Case):
         with open(os.path.join(self.folder, "systemctl.words"), encoding="ascii") as file:
             asked = file.read().split("\n")[:-1]
         self.assertEqual((asked[:2], asked[-2:]), (["--no-pager", "show"], ["--", "box.service"]))
-        self.assertEqual(sorted(asked[2:-2]), [f"--property={name}" for name in (
-            "DropInPaths", "FragmentPath", "Id", "LoadState", "NeedDaemonReload", "SystemCallArchitectures",
-            "SystemCallErrorNumber", "SystemCallFilter", "SystemCallLog")])
+        self.assertEqual(sorted(asked[2:-2]), sorted(f"--property={name}" for name in (
+            "DropInPaths", "FragmentPath", "Id", "LoadState", "NeedDaemonReload", "Personality",
+            "SystemCallArchitectures", "SystemCallErrorNumber", "SystemCallFilter", "SystemCallLog", *OTHERS)))
         self.assertFalse(os.path.exists(os.path.join(self.folder, "systemd-analyze.words")))
 
     def test_in_a_container_of_the_machine(self):
@@ -227,6 +282,103 @@ class UnitProfile(Case):
         self.assertEqual(self.printed("--set", "read", "--errno", "EPERM", "--architectures", "native x86", "--log",
                                       "brk", "~mount"),
                          ((ERRNO, 1), {(ALLOW, None): {"exit_group", "read"}, (LOG, None): {"brk"}}, ALL[:2], ""))
+
+    def answered(self, *words):
+        """The profile by these words, as a function of a syscall and its arguments, and what is said."""
+        status, out, err = self.run_tool("unit-profile", *words, env=self.env)
+        self.assertEqual(status, 0, err)
+        profile = json.loads(out)
+
+        def answer(name, *arguments):
+            values = [*arguments, *[0] * 6]
+            found = {(one["action"], one.get("errnoRet")) for one in profile["syscalls"] if name in one["names"] and all(
+                HOLDS[it["op"][9:]](values[it["index"]], it["value"], it["valueTwo"]) for it in one.get("args", ()))}
+            self.assertLessEqual(len(found), 1, (name, arguments))
+            return next(iter(found), (profile["defaultAction"], profile.get("defaultErrnoRet")))
+
+        return answer, profile["architectures"], err
+
+    def with_setting(self, name, text, **members):
+        """Has systemctl show a setting; the version is asked for only then."""
+        self.shows(**{name: text, "Version": "252.39-1~deb12u2", **members})
+
+    def test_other_settings(self):
+        """Each by itself, and beside lists of what is allowed: what these deny they answer."""
+        for name, text, answers in ANSWERS:
+            every = sorted({it[0] for calls in answers.values() for it in calls})
+            one = every[0]
+            for calls, number, others, own in (
+                    ("~", KILLED, OPEN, None), (f"~{one}:E2BIG", KILLED, OPEN, (ERRNO, 7)),
+                    (" ".join(every), "1", EPERM, None), (" ".join(every), KILLED, (KILL, None), None),
+                    (" ".join(every[1:]) or "read", "13", (ERRNO, 13), (ERRNO, 13))):
+                self.with_setting(name, text, SystemCallFilter=calls, SystemCallErrorNumber=number)
+                answer, _, err = self.answered("box.service")
+                self.assertNotIn("252", err)
+                for expected, given in answers.items():
+                    for call in given:
+                        shown = own if own is not None and call[0] == one else expected
+                        self.assertEqual(answer(*call), shown, (name, text, calls, call))
+                self.assertEqual(answer("getpid"), others)
+        self.with_setting("ProtectHostname", "yes", SystemCallLog="sethostname uname")
+        answer = self.answered("box.service")[0]
+        self.assertEqual([answer(it) for it in ("sethostname", "uname", "read")], [EPERM, (LOG, None), OPEN])
+
+    def test_settings_that_are_off(self):
+        self.shows(**{**dict.fromkeys(OTHERS, "no"), "RestrictAddressFamilies": "~", "Personality": "x86"},
+                   SystemCallFilter="read")
+        self.assertEqual(self.printed("box.service"), ((KILL, None), {OPEN: {"read"}}, ALL, ""))
+
+    def test_personality(self):
+        """PER_LINUX and PER_LINUX32 (linux/personality.h); what others are called isn't x86-64's."""
+        for text, number in (("", 0), ("x86-64", 0), ("x86", 8)):
+            self.with_setting("LockPersonality", "yes", Personality=text)
+            answer = self.answered("box.service")[0]
+            self.assertEqual([it for it in range(64) if answer("personality", it) == OPEN], [number])
+
+    def test_what_differs_on_i386(self):
+        """There socketcall(2) can't be looked at, mmap(2) is denied as a whole, and mmap2 as mmap elsewhere."""
+        for name, text, on_i386 in (
+                ("RestrictAddressFamilies", "AF_UNIX", {OPEN: [("socket", 2), ("socketcall", 1)]}),
+                ("MemoryDenyWriteExecute", "yes", {
+                    EPERM: [("mmap",), ("mmap2", 0, 0, 6), ("mprotect", 0, 0, 4), ("pkey_mprotect", 0, 0, 4)],
+                    OPEN: [("mmap2", 0, 0, 5), ("shmat", 0, 0, 0x8000)]})):
+            self.with_setting(name, text)
+            _, listed, err = self.answered("box.service")
+            self.assertEqual(listed, [ALL[0], ALL[2]])
+            self.assertIn("for x86-64 and x32 alone: something else is denied on i386, which --arch i386 prints", err)
+            answer, listed, err = self.answered("--arch", "i386", "box.service")
+            self.assertEqual(listed, ALL[1:2])
+            self.assertIn("on x86-64 and x32, which --arch x86-64 prints", err)
+            for expected, calls in on_i386.items():
+                self.assertEqual({answer(*it) for it in calls}, {expected}, name)
+            self.assertEqual(self.answered("--arch", "x32", "box.service")[1], [ALL[0], ALL[2]])
+            # where its syscalls aren't permitted
+            self.with_setting(name, text, SystemCallArchitectures="native")
+            self.assertEqual(self.answered("box.service")[1], NATIVE)
+            self.refused(1, "the unit permits no i386 syscalls", "--arch", "i386", "box.service")
+        self.with_setting("RestrictNamespaces", "yes")
+        self.assertEqual(self.answered("--arch", "i386", "box.service")[1], ALL)
+
+    def test_a_systemd_of_another_version(self):
+        says = "it is known what RestrictNamespaces=, ProtectClock= deny in systemd 252.39, and this is "
+        for version, shown in (("252.38-1~deb12u1", "systemd 252.38-1~deb12u1"), ("257.13-1", "systemd 257.13-1"),
+                               ("252", "systemd 252"), ("252-46.el9", "systemd 252-46.el9"), ("2520.39", "systemd 2520.39"),
+                               (None, "a systemd of unknown version")):
+            self.with_setting("RestrictNamespaces", "yes", ProtectClock="yes", Version=version)
+            self.assertIn(f"unit-profile: {says}{shown}\n", self.answered("box.service")[2])
+        for version in ("252.39-1~deb12u2", "252.40", "252.100"):
+            self.with_setting("RestrictNamespaces", "yes", Version=version)
+            self.assertNotIn("it is known", self.answered("box.service")[2])
+
+    def test_settings_that_are_not_known(self):
+        for name, text, says in (("RestrictNamespaces", "net none", "'net none' aren't namespaces"),
+                                 ("RestrictAddressFamilies", "AF_NONE", "'AF_NONE' aren't address families"),
+                                 ("RestrictAddressFamilies", "~PROT_READ", "'~PROT_READ' aren't address families"),
+                                 ("ProtectHostname", "private", "ProtectHostname=private isn't yes or no")):
+            self.with_setting(name, text)
+            self.refused(1, says, "box.service")
+        self.with_setting("LockPersonality", "yes", Personality="s390x \x1b[2J")
+        self.refused(1, "'s390x \\x1b[2J' isn't a personality of x86-64", "box.service")
 
     def test_what_systemd_ignores(self):
         for lists, says in (("read @none", "@none left out: systemd knows no such group"),
