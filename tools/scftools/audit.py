@@ -14,7 +14,7 @@ from collections import Counter
 from collections.abc import Callable, Iterable, Sequence
 
 from . import (bundles, client, compare, container_files, engines, hold, machine, newer, other_abis, output, program,
-               units, verdicts, verify)
+               unit_profiles, units, verdicts, verify)
 from .compare import Comparison
 from .container_files import Described
 from .filters import Filter
@@ -263,7 +263,6 @@ class Judge:
                 found = replace(found, verdict=NOT_KNOWN, why=one.describe())
         return replace(found, not_compared=tuple(names))
 
-
     def judge_all(self, stack: Stack, expected: Expected) -> Judgement:
         """The verdict on a stack with filters beside all that is expected."""
         found = [self.judge(stack, expected.asked), *(self.judge(stack, it) for it in expected.others)]
@@ -368,7 +367,7 @@ class Expectations:
 
     def _of_group(self, settings: units.Settings, group: Sequence[str]) -> Request:
         """What is expected of the syscalls of some architectures of a unit."""
-        return Request(units.profile_of(settings, group).encode(), self.options.table, self.options.scope,
+        return Request(unit_profiles.profile_of(settings, group).encode(), self.options.table, self.options.scope,
                        elsewhere=tuple(it for it in settings.architectures if it not in group))
 
     def _of_unit(self, name: str, shown: dict[str, str] | None, reader: units.Reader) -> Expected:
@@ -381,7 +380,7 @@ class Expectations:
             if not settings.have_filters or settings.may_have_none:
                 return Expected(source=source, why=settings.doubt)
             # (one profile names all if x86-64 alone is judged)
-            groups = settings.groups if self.options.scope is None else [settings.architectures]
+            groups = unit_profiles.groups_of(settings) if self.options.scope is None else [settings.architectures]
             asked, *others = (self._of_group(settings, group) for group in groups)
         except (units.SettingError, program.ToolError) as why:
             return Expected(source=source, why=str(why))

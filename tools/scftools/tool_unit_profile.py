@@ -30,7 +30,7 @@ Examples:
     scf unit-profile --set @system-service ~@mount >profile.json
     scf unit-profile --set ~ptrace --errno EPERM >profile.json
 """
-from . import architectures, libseccomp, output, program, units, words
+from . import architectures, libseccomp, output, program, unit_profiles, units, words
 from .explanation import join_names
 
 
@@ -56,7 +56,7 @@ def read_words():
 
 def group_of(settings, wanted):
     """The architectures for which a profile is printed, among them this one; says which others there are."""
-    group = next((it for it in settings.groups if wanted.oci in it), None)
+    group = next((it for it in unit_profiles.groups_of(settings) if wanted.oci in it), None)
     if group is None:
         raise program.ToolError(f"the unit permits no {wanted.name} syscalls", program.NEGATIVE)
     alike, others = (architectures.names_of([it for it in units.LOCAL if it in settings.architectures
@@ -84,7 +84,7 @@ def main():
                                       units.architectures_of(options.architectures or ""),
                                       reader.assigned(options.log or (), None))
         reader.tell_unknown()
-        text = units.profile_of(settings, group_of(settings, wanted))
+        text = unit_profiles.profile_of(settings, group_of(settings, wanted))
     except units.SettingError as why:
         raise program.ToolError(str(why), program.NEGATIVE) from why
     if settings.filter is None:

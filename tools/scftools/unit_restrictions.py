@@ -6,7 +6,9 @@ answers some syscalls by an errno and allows all others. The rules are those of 
 in place of the syscalls that they name. The order of clone's arguments is another one on s390, which isn't modelled.
 
 No syscall is denied by two of these settings. Where SystemCallFilter= denies it, too, that answer counts: systemd adds
-that filter last, and of two errnos the kernel takes the one of the newer filter (seccomp(2)).
+that filter last, and of two errnos the kernel takes the one of the newer filter (seccomp(2)). All commands of a unit
+have the filters, with or without NoNewPrivileges=, but those that begin with `+` (needs_sandboxing in exec_child of
+src/core/execute.c).
 """
 from __future__ import annotations
 
@@ -64,17 +66,17 @@ def _compared(index: int, operator: str, value: int) -> Alternative:
     return (Condition(index, f"SCMP_CMP_{operator}", value, 0),)
 
 
-def _among(index: int, values: Iterable[int]) -> list[Alternative]:
+def among(index: int, values: Iterable[int]) -> list[Alternative]:
     """An argument is one of some values."""
     return [_compared(index, "EQ", value) for value in sorted(values)]
 
 
-def _outside(index: int, values: Sequence[int]) -> list[Alternative]:
+def outside(index: int, values: Sequence[int]) -> list[Alternative]:
     """An argument is none of some values."""
     least, greatest = min(values), max(values)
     if least == greatest:
         return [_compared(index, "NE", least)]
-    between = _among(index, set(range(least, greatest)) - set(values))
+    between = among(index, set(range(least, greatest)) - set(values))
     return [*([_compared(index, "LT", least)] if least else []), *between, _compared(index, "GT", greatest)]
 
 
@@ -102,7 +104,7 @@ def _namespaces(text: str, _: str) -> Rules:
     if permitted:
         # a 0 stands for any namespace
         others = [1 << at for at in range(MOST.bit_length()) if 1 << at not in bits]
-        joins = Restriction(EPERM, [*_with_any(1, bits).denied, *_among(1, [0])],
+        joins = Restriction(EPERM, [*_with_any(1, bits).denied, *among(1, [0])],
                             [_masked(1, sum(bits) | bit, bit) for bit in others])
     return {**dict.fromkeys(("clone", "unshare"), _with_any(0, bits)), "setns": joins, "clone3": Restriction(ENOSYS)}
 
@@ -119,7 +121,7 @@ def _families(text: str, architecture: str) -> Rules:
     values = [known[name] for name in names]
     if not values:
         return _whole(["socket"], EAFNOSUPPORT)
-    sides = _among(0, values), _outside(0, values)
+    sides = among(0, values), outside(0, values)
     denied, allowed = sides if text.startswith("~") else sides[::-1]
     return {"socket": Restriction(EAFNOSUPPORT, denied, allowed)}
 
@@ -136,7 +138,7 @@ def _memory(_: str, architecture: str) -> Rules:
 
 
 def _realtime(_: str, __: str) -> Rules:
-    return {"sched_setscheduler": Restriction(EPERM, _outside(1, POLICIES), _among(1, POLICIES))}
+    return {"sched_setscheduler": Restriction(EPERM, outside(1, POLICIES), among(1, POLICIES))}
 
 
 def _created(flags: int, mode: int) -> Restriction:
@@ -158,7 +160,7 @@ def _personality(text: str, _: str) -> Rules:
     if text not in PERSONALITIES:
         raise SettingError(f"'{text[:64]}' isn't a personality of x86-64")
     values = [PERSONALITIES[text]]
-    return {"personality": Restriction(EPERM, _outside(0, values), _among(0, values))}
+    return {"personality": Restriction(EPERM, outside(0, values), among(0, values))}
 
 
 # What the settings deny, each by its text and by the OCI name of an architecture.
@@ -169,27 +171,24 @@ RULES: dict[str, Callable[[str, str], Rules]] = {
     "ProtectHostname": lambda _, __: _whole(["sethostname", "setdomainname"]),
     "ProtectKernelModules": lambda _, __: _whole(MODULE), "ProtectKernelLogs": lambda _, __: _whole(["syslog"]),
     "ProtectKernelTunables": lambda _, __: _whole(["_sysctl"]), "PrivateDevices": lambda _, __: _whole(RAW_IO)}
-PROPERTIES = (*RULES, "Personality")
-# What `systemctl show` prints of a setting that isn't set, if that isn't `no`.
+# Those that aren't `yes` or `no` alone, and what `systemctl show` prints of one that isn't set, if that isn't `no`.
+LISTS = ("RestrictNamespaces", "RestrictAddressFamilies")
 UNSET = {"RestrictAddressFamilies": "~"}
+PROPERTIES = (*RULES, "Personality")
 
 
-def are_set_in(shown: dict[str, str]) -> bool:
-    """Whether a unit of which `systemctl show` prints this has one of these settings."""
-    return any(shown.get(name, UNSET.get(name, "no")) != UNSET.get(name, "no") for name in RULES)
+def texts_in(shown: dict[str, str]) -> dict[str, str]:
+    """What `systemctl show` prints of the settings that a unit has, of all that it prints of the unit."""
+    return {name: shown[name] for name in RULES if shown.get(name) not in (None, UNSET.get(name, "no"))}
 
 
 def set_in(shown: dict[str, str]) -> dict[str, str]:
-    """The settings that deny something, of a unit of which `systemctl show` prints this: each with its text."""
-    found = {}
-    for name in RULES:
-        text = shown.get(name, UNSET.get(name, "no"))
-        if text == UNSET.get(name, "no"):
-            continue
-        if name not in ("RestrictNamespaces", "RestrictAddressFamilies") and text != "yes":
+    """The settings that a unit has, each with its text; that of LockPersonality= is the personality."""
+    found = texts_in(shown)
+    for name, text in found.items():
+        if name not in LISTS and text != "yes":
             raise SettingError(f"{name}={text[:64]} isn't yes or no")
-        found[name] = shown.get("Personality", "") if name == "LockPersonality" else text
-    return found
+    return {**found, **({"LockPersonality": shown.get("Personality", "")} if "LockPersonality" in found else {})}
 
 
 def rules_of(settings: dict[str, str], architecture: str) -> Rules:

@@ -1,15 +1,13 @@
-"""systemd units: the profiles that their syscall settings describe.
+"""systemd units: their syscall settings, as systemd shows them.
 
 The rules are those of systemd.exec(5). SystemCallFilter= is a list of what is allowed, or after `~` of what is denied,
 by SystemCallErrorNumber= or by an errno of its own. SystemCallLog= is a list of what is logged, or after `~` of what
 isn't. SystemCallArchitectures= are the architectures of which calls are permitted, beside the native one; where it is
-empty, all of them are. What other settings deny stands in unit_restrictions.py; it may be another thing on each
-architecture, and then no profile speaks of all.
+empty, all of them are. What other settings deny stands in unit_restrictions.py.
 """
 from __future__ import annotations
 
 import errno
-import json
 import os
 import re
 from collections.abc import Callable, Iterator, Sequence
@@ -17,8 +15,8 @@ from collections.abc import Callable, Iterator, Sequence
 from . import libseccomp, output, program, unit_restrictions
 from .answers import ALLOW, KILL_PROCESS, MAX_ERRNO, Answer
 from .architectures import NATIVE
-from .unit_restrictions import Alternative, Restriction, SettingError
-from .values import Pattern, dataclass, field
+from .unit_restrictions import SettingError
+from .values import Pattern, dataclass, field, replace
 
 PROPERTIES = ("Id", "LoadState", "NeedDaemonReload", "FragmentPath", "DropInPaths", "SystemCallFilter",
               "SystemCallErrorNumber", "SystemCallArchitectures", "SystemCallLog", *unit_restrictions.PROPERTIES)
@@ -86,22 +84,8 @@ class Settings:
     @property
     def may_have_none(self) -> bool:
         """Whether systemd may also add none, since this one may have prctl(2) do what MemoryDenyWriteExecute= says."""
-        alone = Settings(None, architectures=self.architectures)
-        return self.doubt is not None and self.filter is None and self.log is None and not alone.have_filters and \
-            list(self.restrictions) == ["MemoryDenyWriteExecute"]
-
-    @property
-    def groups(self) -> list[list[str]]:
-        """The architectures, together with those on which the same is denied; the native one is in the first group."""
-        found: list[tuple[unit_restrictions.Rules, list[str]]] = []
-        for one in self.architectures:
-            rules = unit_restrictions.rules_of(self.restrictions, one)
-            group = next((group for its, group in found if its == rules), None)
-            if group is None:
-                found.append((rules, [one]))
-            else:
-                group.append(one)
-        return [group for _, group in found]
+        return self.doubt is not None and list(self.restrictions) == ["MemoryDenyWriteExecute"] and \
+            not replace(self, restrictions={}).have_filters
 
     @property
     def doubt(self) -> str | None:
@@ -110,32 +94,26 @@ class Settings:
             return None
         names = ", ".join(f"{name}=" for name in self.restrictions)
         version = f"systemd {self.version[:64]}" if self.version else "a systemd of unknown version"
-        return f"it is known what {names} deny in systemd {unit_restrictions.VERSION}, and this is {version}"
+        return f"the rules of {names} are known of systemd {unit_restrictions.VERSION}, and this is {version}"
 
-    def answer_of(self, name: str | None) -> Answer:
-        """What a call is answered by this name; by None, what one is that no list names."""
+    def answer_of(self, name: str | None, first: str | None = None) -> Answer:
+        """What the lists answer to a call by this name; by None, what to one that none names. A list that has the name
+        `first` goes by that."""
         answer = ALLOW
         if self.filter is not None:
-            is_named = name in self.filter.calls
-            own = self.filter.calls.get(name) if name is not None else None
-            is_denied = own is not None or is_named == self.filter.is_inverted
+            one = first if first in self.filter.calls else name
+            own = self.filter.calls.get(one) if one is not None else None
+            is_denied = own is not None or (one in self.filter.calls) == self.filter.is_inverted
             answer = (own or self.refusal) if is_denied else ALLOW
-        is_logged = self.log is not None and (name in self.log.calls) != self.log.is_inverted
-        return Answer("LOG", 0) if answer == ALLOW and is_logged else answer
+        if answer != ALLOW or self.log is None:
+            return answer
+        is_logged = (name in self.log.calls or first in self.log.calls) != self.log.is_inverted
+        return Answer("LOG", 0) if is_logged else ALLOW
 
     def names(self) -> Iterator[str]:
         """The names of all lists, each once."""
         lists = [one.calls for one in (self.filter, self.log) if one is not None]
         yield from dict.fromkeys(name for calls in lists for name in calls)
-
-    def alternatives(self, name: str, restriction: Restriction | None) -> Iterator[tuple[Answer, Alternative]]:
-        """What a call is answered by this name, and on which conditions. What the lists deny they answer."""
-        answer = self.answer_of(name)
-        if restriction is None or answer.denies:
-            yield answer, ()
-            return
-        yield from ((restriction.answer, it) for it in restriction.denied)
-        yield from ((answer, it) for it in restriction.allowed)
 
 
 def answer_of_errno(text: str) -> Answer:
@@ -357,7 +335,7 @@ def shown_by_systemctl(names: Sequence[str]) -> list[dict[str, str]]:
     """What systemctl shows of some units, by the names of the properties."""
     show = ["systemctl", "--no-pager", "show"]
     found = _blocks(printed_by([*show, *(f"--property={name}" for name in PROPERTIES), "--", *names]))
-    if any(map(unit_restrictions.are_set_in, found)):
+    if any(map(unit_restrictions.texts_in, found)):
         version = _blocks(printed_by([*show, f"--property={VERSION}"]))[0].get(VERSION, "")
         found = [{**it, VERSION: version} for it in found]
     return found
@@ -381,19 +359,3 @@ def settings_in(shown: dict[str, str], unit: str, reader: Reader) -> Settings:
                     architectures_of(shown.get("SystemCallArchitectures", "")),
                     reader.shown(shown.get("SystemCallLog", "~")), unit_restrictions.set_in(shown),
                     shown.get(VERSION, ""))
-
-
-def profile_of(settings: Settings, architectures: Sequence[str]) -> str:
-    """The text of the profile that the settings describe, for architectures of one group."""
-    default, rules = settings.answer_of(None), unit_restrictions.rules_of(settings.restrictions, architectures[0])
-    named: dict[tuple[Answer, Alternative], list[str]] = {}
-    for name in dict.fromkeys([*settings.names(), *rules]):
-        for answer, conditions in settings.alternatives(name, rules.get(name)):
-            if answer != default:
-                named.setdefault((answer, conditions), []).append(name)
-    entries = []
-    for (answer, conditions), names in named.items():
-        args = {"args": [it.as_json() for it in conditions]} if conditions else {}
-        entries.append({"names": names, **answer.members(), **args})
-    top = {**default.default(), "architectures": list(architectures), "syscalls": entries}
-    return json.dumps(top, indent=4) + "\n"

@@ -1,5 +1,5 @@
-"""tools/unit-profile: the settings of systemd.exec(5), by stand-ins that print what systemd 252 prints, and by the filters
-of a real systemd."""
+"""tools/unit-profile: the settings of systemd.exec(5), by stand-ins that print what systemd 252 prints, and by the
+filters of a real systemd."""
 import ctypes.util
 import json
 import os
@@ -9,6 +9,7 @@ import unittest
 
 from common import SCF, TABLE, Case, part, tool
 from own_machine import Systemd
+from scftools import unit_restrictions, units
 from test_audit import Audited
 
 ALLOW, ERRNO, KILL, LOG = (f"SCMP_ACT_{name}" for name in ("ALLOW", "ERRNO", "KILL_PROCESS", "LOG"))
@@ -19,7 +20,7 @@ OTHERS = ("LockPersonality", "MemoryDenyWriteExecute", "PrivateDevices", "Protec
           "RestrictNamespaces", "RestrictRealtime", "RestrictSUIDSGID")
 HOLDS = {"EQ": lambda it, one, _: it == one, "NE": lambda it, one, _: it != one, "LT": lambda it, one, _: it < one,
          "GT": lambda it, one, _: it > one, "MASKED_EQ": lambda it, one, two: it & one == two & one}
-# linux/sched.h, in the order of RestrictNamespaces= in systemd.exec(5): cgroup, ipc, net, mnt, pid, user, uts; and time.
+# The flags of namespaces (linux/sched.h).
 CGROUP, IPC, NET, MNT, PID, USER, UTS, TIME = (0x2000000, 0x8000000, 0x40000000, 0x20000, 0x20000000, 0x10000000,
                                                0x4000000, 0x80)
 # What settings answer, from src/shared/seccomp-util.c of systemd 252.39: each a syscall with its first arguments.
@@ -291,8 +292,9 @@ class UnitProfile(Case):
 
         def answer(name, *arguments):
             values = [*arguments, *[0] * 6]
-            found = {(one["action"], one.get("errnoRet")) for one in profile["syscalls"] if name in one["names"] and all(
-                HOLDS[it["op"][9:]](values[it["index"]], it["value"], it["valueTwo"]) for it in one.get("args", ()))}
+            found = {(one["action"], one.get("errnoRet")) for one in profile["syscalls"] if name in one["names"] and
+                     all(HOLDS[it["op"].removeprefix("SCMP_CMP_")](values[it["index"]], it["value"], it["valueTwo"])
+                         for it in one.get("args", ()))}
             self.assertLessEqual(len(found), 1, (name, arguments))
             return next(iter(found), (profile["defaultAction"], profile.get("defaultErrnoRet")))
 
@@ -328,6 +330,18 @@ class UnitProfile(Case):
                    SystemCallFilter="read")
         self.assertEqual(self.printed("box.service"), ((KILL, None), {OPEN: {"read"}}, ALL, ""))
 
+    def test_whether_there_are_filters(self):
+        """SystemCallArchitectures= adds one only if it leaves out an architecture of the kernel."""
+        others = [({name: text}, True) for name, text, _ in ANSWERS]
+        for members, expected in (({}, False), ({"SystemCallArchitectures": "x86 x32"}, False),
+                                  ({"SystemCallArchitectures": "native"}, True), ({"SystemCallFilter": "read"}, True),
+                                  ({"SystemCallLog": "read"}, True), *others):
+            shown = {"SystemCallFilter": "~", "NeedDaemonReload": "no", "FragmentPath": self.unit_file("u", ""),
+                     **members}
+            settings = units.settings_in(shown, "box.service", units.Reader(dict, self.fail))
+            self.assertEqual((settings.have_filters, settings.may_have_none),
+                             (expected, "MemoryDenyWriteExecute" in members), members)
+
     def test_personality(self):
         """PER_LINUX and PER_LINUX32 (linux/personality.h); what others are called isn't x86-64's."""
         for text, number in (("", 0), ("x86-64", 0), ("x86", 8)):
@@ -359,16 +373,36 @@ class UnitProfile(Case):
         self.with_setting("RestrictNamespaces", "yes")
         self.assertEqual(self.answered("--arch", "i386", "box.service")[1], ALL)
 
+    def test_what_socketcall_and_ipc_make(self):
+        """On i386 a rule of socket is also one of socketcall with SYS_SOCKET, 1 (linux/net.h), and that of shmat one
+        of ipc with SHMAT, 21 (linux/ipc.h), unless the list has socketcall or ipc itself."""
+        killed, logged = (KILL, None), (LOG, None)
+        for calls, log, answers in (
+                ("~socket shmat:E2BIG", "~", {("socketcall", 1): killed, ("socketcall", 2): OPEN, ("socket",): killed,
+                                              ("ipc", 21): (ERRNO, 7), ("ipc", 22): OPEN, ("socketcall", 0): OPEN}),
+                ("bind socket", "~", {("socketcall", 1): OPEN, ("socketcall", 2): OPEN, ("socketcall", 3): killed}),
+                ("socket socketcall", "~", {("socketcall", 1): OPEN, ("socketcall", 3): OPEN}),
+                ("~socket socketcall:E2BIG", "~", {("socketcall", 1): (ERRNO, 7), ("socketcall", 2): (ERRNO, 7)}),
+                ("~", "socket", {("socketcall", 1): logged, ("socketcall", 2): OPEN}),
+                ("~", "~socket", {("socketcall", 1): OPEN, ("socketcall", 2): logged, ("socketcall", 0): logged}),
+                ("socketcall", "socket", {("socketcall", 1): logged, ("socketcall", 2): OPEN}),
+                ("~socket", "socketcall", {("socketcall", 1): killed, ("socketcall", 2): logged})):
+            self.shows(SystemCallFilter=calls, SystemCallLog=log)
+            answer = self.answered("box.service")[0]
+            self.assertEqual({it: answer(*it) for it in answers}, answers, (calls, log))
+        self.shows(SystemCallFilter="~socket", SystemCallArchitectures="native")
+        self.assertEqual(self.printed("box.service")[1], {killed: {"socket"}})
+
     def test_a_systemd_of_another_version(self):
-        says = "it is known what RestrictNamespaces=, ProtectClock= deny in systemd 252.39, and this is "
+        says = "the rules of RestrictNamespaces=, ProtectClock= are known of systemd 252.39, and this is "
         for version, shown in (("252.38-1~deb12u1", "systemd 252.38-1~deb12u1"), ("257.13-1", "systemd 257.13-1"),
-                               ("252", "systemd 252"), ("252-46.el9", "systemd 252-46.el9"), ("2520.39", "systemd 2520.39"),
-                               (None, "a systemd of unknown version")):
+                               ("252", "systemd 252"), ("252-46.el9", "systemd 252-46.el9"),
+                               ("2520.39", "systemd 2520.39"), (None, "a systemd of unknown version")):
             self.with_setting("RestrictNamespaces", "yes", ProtectClock="yes", Version=version)
             self.assertIn(f"unit-profile: {says}{shown}\n", self.answered("box.service")[2])
         for version in ("252.39-1~deb12u2", "252.40", "252.100"):
             self.with_setting("RestrictNamespaces", "yes", Version=version)
-            self.assertNotIn("it is known", self.answered("box.service")[2])
+            self.assertNotIn("are known of", self.answered("box.service")[2])
 
     def test_settings_that_are_not_known(self):
         for name, text, says in (("RestrictNamespaces", "net none", "'net none' aren't namespaces"),
@@ -475,10 +509,43 @@ SystemCallArchitectures=native
 """
 
 
-class RealSystemd(Systemd):
-    """The filters of a real systemd's units are what unit-profile says."""
+UNIT = """[Unit]
+DefaultDependencies=no
+[Service]
+ExecStart=/bin/sleep 300
+{}
+"""
+# Units with each of the other settings, with parts of lists, and with all together.
+EVERY = "\n".join(f"{name}={'AF_UNIX AF_INET' if name == 'RestrictAddressFamilies' else 'yes'}" for name in OTHERS)
+SETTINGS = {**{name: f"{name}=yes" for name in OTHERS if name != "RestrictAddressFamilies"},
+            "families": "RestrictAddressFamilies=AF_UNIX AF_INET AF_INET6",
+            "but-families": "RestrictAddressFamilies=~AF_PACKET AF_NETLINK",
+            "no-family": "RestrictAddressFamilies=none",
+            "namespaces": "RestrictNamespaces=net user", "but-namespaces": "RestrictNamespaces=~user mnt",
+            "personality": "LockPersonality=yes\nPersonality=x86", "dynamic": "DynamicUser=yes",
+            "native": f"{EVERY}\nSystemCallArchitectures=native\nSystemCallFilter=@system-service\n"
+                      "SystemCallErrorNumber=EPERM",
+            "allow": f"{EVERY}\nSystemCallFilter=@system-service @clock\nSystemCallFilter=~clone3:EINVAL",
+            "deny": f"{EVERY}\nSystemCallFilter=~@mount setns:E2BIG unshare shmat:kill socket:E2BIG\n"
+                    "SystemCallLog=sethostname uname"}
+NAMES = {f"scf-{name}.service": text for name, text in SETTINGS.items()}
+# The same settings, and a command that none of them is applied to.
+AS_ROOT = "ExecStart=\nExecStart=+/bin/sleep 300"
+FREE = {f"scf-free-{name}.service": f"{SETTINGS.get(name, SETTINGS['families'])}\n{AS_ROOT}" for name in OTHERS}
+# As systemctl, but of another version.
+ANOTHER = """#!/bin/sh
+/usr/bin/systemctl "$@" | sed 's/^Version=.*/Version=257.13-1/'
+"""
 
-    UNITS = {"scf-allow.service": ALLOWING, "scf-allow.service.d/a.conf": DROP_IN, "scf-deny.service": DENYING}
+
+class OwnUnits(Systemd):
+    """Units of a real systemd, which it starts."""
+
+    def start(self, unit):
+        """Starts a unit; its process."""
+        self.assertEqual(self.on("systemctl", "start", "--no-block", unit)[0], 0)
+        self.assertTrue(self.starts(lambda: self.pid_of(unit)), unit)
+        return self.pid_of(unit)
 
     def pid_of(self, unit):
         """The unit's process, seen from outside."""
@@ -495,10 +562,15 @@ class RealSystemd(Systemd):
                 return name
         return None
 
+
+class RealSystemd(OwnUnits):
+    """The filters of a real systemd's units are what unit-profile says."""
+
+    UNITS = {"scf-allow.service": ALLOWING, "scf-allow.service.d/a.conf": DROP_IN, "scf-deny.service": DENYING}
+
     def test_units(self):
         for unit in ("scf-allow.service", "scf-deny.service"):
-            self.assertEqual(self.on("systemctl", "start", "--no-block", unit)[0], 0)
-            self.assertTrue(self.starts(lambda unit=unit: self.pid_of(unit)), unit)
+            self.start(unit)
             status, out, err = self.on(tool("unit-profile"), unit)
             self.assertEqual(status, 0, err)
             profile = self.file("profile.json", out)
@@ -515,3 +587,78 @@ class RealSystemd(Systemd):
         status, out, err = self.on(tool("unit-profile"), "scf-allow.service")
         self.assertEqual((status, out), (4, ""))
         self.assertIn("run systemctl daemon-reload", err)
+
+
+class OtherSettings(Audited, OwnUnits):
+    """The filters that a real systemd adds for other settings than SystemCall*."""
+
+    UNITS = {unit: UNIT.format(text) for unit, text in {**NAMES, **FREE}.items()}
+
+    def setUp(self):
+        super().setUp()
+        version = self.on("systemctl", "show", "--property=Version", "--value")[1].strip()
+        if not unit_restrictions.is_modelled(version):
+            self.skipTest(f"what systemd {version} denies isn't known")
+
+    def test_profiles(self):
+        """On each architecture that a unit permits, the process answers as the profile says."""
+        for unit in NAMES:
+            process = self.start(unit)
+            for name in ("x86-64", "i386", "x32"):
+                status, out, err = self.on(tool("unit-profile"), "--arch", name, unit)
+                if unit == "scf-native.service" and name != "x86-64":
+                    self.assertEqual((status, out), (1, ""), err)
+                    continue
+                self.assertEqual(status, 0, err)
+                found = self.run_tool("verify-process", process, self.file("profile.json", out))
+                self.assertEqual((found[0], found[1].split("\n")[0]), (0, "same"), (unit, name, found))
+
+    def change(self, texts):
+        """Changes what units state after their start."""
+        for name, text in texts.items():
+            self.file(f"units/scf-{name}.service", UNIT.format(text))
+        self.assertEqual(self.on("systemctl", "daemon-reload")[0], 0)
+
+    def verdicts(self, *words, **settings):
+        rows = self.rows(*words, **settings)
+        return {name: row["verdict"] for (kind, name), row in rows.items() if kind == "unit"}
+
+    def test_audit(self):
+        for unit in (*NAMES, *FREE):
+            self.start(unit)
+        self.assertEqual(self.verdicts(status=1), {**dict.fromkeys(NAMES, "as configured"),
+                                                   **dict.fromkeys(FREE, "unconfined though configured")})
+        self.assertEqual({self.verdicts("--native")[it] for it in NAMES}, {"as configured"})
+        # what is stated is changed: a setting is missing, or less of it is there; one is more; one answers otherwise
+        changes = {"ProtectClock": ("ProtectClock=yes\nPrivateDevices=yes", "weaker", "iopl"),
+                   "namespaces": ("RestrictNamespaces=net", "weaker", "clone"),
+                   "MemoryDenyWriteExecute": ("SystemCallFilter=~mount", "weaker", "mount"),
+                   "families": ("RestrictAddressFamilies=AF_UNIX", "weaker", "socket"),
+                   "RestrictSUIDSGID": ("SystemCallArchitectures=native\nRestrictSUIDSGID=yes", "weaker", None),
+                   "native": ("SystemCallArchitectures=native\nProtectClock=yes", "stricter", None),
+                   "ProtectHostname": ("SystemCallFilter=~sethostname:E2BIG setdomainname:EPERM", "otherwise", None)}
+        self.change({name: text for name, (text, _, _) in changes.items()})
+        rows = self.rows(status=1)
+        for name, (_, verdict, call) in changes.items():
+            row = rows["unit", f"scf-{name}.service"]
+            self.assertEqual(row["verdict"], verdict, name)
+            if call is not None:
+                self.assertIn(call, row["parts"][0]["call"]["names"])
+
+    def test_another_version(self):
+        """Whether what differs from what a version denies is wrong in another isn't known; and newer ones may add no
+        filter for MemoryDenyWriteExecute=."""
+        expected = {"scf-ProtectClock.service": "not known", "scf-ProtectHostname.service": "as configured",
+                    "scf-free-ProtectClock.service": "unconfined though configured",
+                    "scf-MemoryDenyWriteExecute.service": "not known",
+                    "scf-free-MemoryDenyWriteExecute.service": "not known"}
+        for unit in expected:
+            self.start(unit)
+        self.change({"ProtectClock": "ProtectClock=yes\nPrivateDevices=yes"})
+        os.chmod(self.file("bin/systemctl", ANOTHER), 0o755)
+        rows = self.rows(status=1, PATH=f"{self.folder}/bin:/usr/bin:/bin")
+        self.assertEqual({name: rows["unit", name]["verdict"] for name in expected}, expected)
+        (part,) = rows["unit", "scf-ProtectClock.service"]["parts"]
+        self.assertEqual(part["why"], "it is weaker, but the rules of ProtectClock=, PrivateDevices= are known of "
+                                      "systemd 252.39, and this is systemd 257.13-1")
+        self.assertTrue(rows["unit", "scf-free-MemoryDenyWriteExecute.service"]["is_unconfined"])
