@@ -9,6 +9,7 @@ from collections.abc import Iterator
 from . import audit_output, client, compare, output, pages, surfaces
 from .audit import (AS_CONFIGURED, NOT_KNOWN, OTHERWISE, STRICTER, UNIT, WEAKER, Audit, Judgement, Part, Row,
                     stack_digest)
+from .architectures import I386
 from .processes import Stack
 from .surface_output import Groups
 from .pages import Markup, Named, c_call, document, joined, listed, preformatted, table, tag
@@ -33,7 +34,9 @@ def repeat(row: Row, part: Part) -> list[str]:
         return []
     relation = "--no-more " if part.judgement.verdict == WEAKER else ""
     if row.kind == UNIT:
-        return [f"scf unit-profile {shlex.quote(row.key)} >unit.json",
+        comparison = part.judgement.comparison
+        arch = "--arch i386 " if comparison is not None and list(comparison.tables.of) == [I386] else ""
+        return [f"scf unit-profile {arch}{shlex.quote(row.key)} >unit.json",
                 f"scf verify-process {relation}{process} unit.json"]
     runtime = f"--runtime {row.container.runtime} " if row.container is not None and row.container.runtime else ""
     return [f"scf verify-process {relation}{runtime}{process} {shlex.quote(row.expected.source)}"]

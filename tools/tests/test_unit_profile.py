@@ -1,6 +1,7 @@
 """tools/unit-profile: the settings of systemd.exec(5), by stand-ins that print what systemd 252 prints, and by the
 filters of a real systemd."""
 import ctypes.util
+import html
 import json
 import os
 import re
@@ -512,6 +513,7 @@ SystemCallArchitectures=native
 UNIT = """[Unit]
 DefaultDependencies=no
 [Service]
+Type=exec
 ExecStart=/bin/sleep 300
 {}
 """
@@ -539,13 +541,7 @@ ANOTHER = """#!/bin/sh
 
 
 class OwnUnits(Systemd):
-    """Units of a real systemd, which it starts."""
-
-    def start(self, unit):
-        """Starts a unit; its process."""
-        self.assertEqual(self.on("systemctl", "start", "--no-block", unit)[0], 0)
-        self.assertTrue(self.starts(lambda: self.pid_of(unit)), unit)
-        return self.pid_of(unit)
+    """Units of a real systemd."""
 
     def pid_of(self, unit):
         """The unit's process, seen from outside."""
@@ -570,7 +566,8 @@ class RealSystemd(OwnUnits):
 
     def test_units(self):
         for unit in ("scf-allow.service", "scf-deny.service"):
-            self.start(unit)
+            self.assertEqual(self.on("systemctl", "start", "--no-block", unit)[0], 0)
+            self.assertTrue(self.starts(lambda unit=unit: self.pid_of(unit)), unit)
             status, out, err = self.on(tool("unit-profile"), unit)
             self.assertEqual(status, 0, err)
             profile = self.file("profile.json", out)
@@ -600,10 +597,15 @@ class OtherSettings(Audited, OwnUnits):
         if not unit_restrictions.is_modelled(version):
             self.skipTest(f"what systemd {version} denies isn't known")
 
+    def start(self, *names):
+        """Starts units, until each has its process."""
+        self.assertEqual(self.on("systemctl", "start", *names)[0], 0)
+
     def test_profiles(self):
         """On each architecture that a unit permits, the process answers as the profile says."""
+        self.start(*NAMES)
         for unit in NAMES:
-            process = self.start(unit)
+            process = self.pid_of(unit)
             for name in ("x86-64", "i386", "x32"):
                 status, out, err = self.on(tool("unit-profile"), "--arch", name, unit)
                 if unit == "scf-native.service" and name != "x86-64":
@@ -624,15 +626,16 @@ class OtherSettings(Audited, OwnUnits):
         return {name: row["verdict"] for (kind, name), row in rows.items() if kind == "unit"}
 
     def test_audit(self):
-        for unit in (*NAMES, *FREE):
-            self.start(unit)
+        self.start(*NAMES, *FREE)
         self.assertEqual(self.verdicts(status=1), {**dict.fromkeys(NAMES, "as configured"),
                                                    **dict.fromkeys(FREE, "unconfined though configured")})
         self.assertEqual({self.verdicts("--native")[it] for it in NAMES}, {"as configured"})
         # what is stated is changed: a setting is missing, or less of it is there; one is more; one answers otherwise
         changes = {"ProtectClock": ("ProtectClock=yes\nPrivateDevices=yes", "weaker", "iopl"),
                    "namespaces": ("RestrictNamespaces=net", "weaker", "clone"),
-                   "MemoryDenyWriteExecute": ("SystemCallFilter=~mount", "weaker", "mount"),
+                   "LockPersonality": ("SystemCallFilter=~mount", "weaker", "mount"),
+                   "MemoryDenyWriteExecute": ("MemoryDenyWriteExecute=yes\nSystemCallFilter=~mmap2:EPERM", "weaker",
+                                              "mmap2"),
                    "families": ("RestrictAddressFamilies=AF_UNIX", "weaker", "socket"),
                    "RestrictSUIDSGID": ("SystemCallArchitectures=native\nRestrictSUIDSGID=yes", "weaker", None),
                    "native": ("SystemCallArchitectures=native\nProtectClock=yes", "stricter", None),
@@ -644,6 +647,13 @@ class OtherSettings(Audited, OwnUnits):
             self.assertEqual(row["verdict"], verdict, name)
             if call is not None:
                 self.assertIn(call, row["parts"][0]["call"]["names"])
+        # the page has the command that shows it
+        page = f"{self.folder}/page.html"
+        self.assertEqual(self.on(tool("audit"), "--html", page)[0], 1)
+        with open(page, encoding="utf-8") as file:
+            text = html.unescape(file.read())
+        for words in ("scf-LockPersonality.service", "--arch i386 scf-MemoryDenyWriteExecute.service"):
+            self.assertIn(f"scf unit-profile {words} >unit.json", text)
 
     def test_another_version(self):
         """Whether what differs from what a version denies is wrong in another isn't known; and newer ones may add no
@@ -652,8 +662,7 @@ class OtherSettings(Audited, OwnUnits):
                     "scf-free-ProtectClock.service": "unconfined though configured",
                     "scf-MemoryDenyWriteExecute.service": "not known",
                     "scf-free-MemoryDenyWriteExecute.service": "not known"}
-        for unit in expected:
-            self.start(unit)
+        self.start(*expected)
         self.change({"ProtectClock": "ProtectClock=yes\nPrivateDevices=yes"})
         os.chmod(self.file("bin/systemctl", ANOTHER), 0o755)
         rows = self.rows(status=1, PATH=f"{self.folder}/bin:/usr/bin:/bin")
