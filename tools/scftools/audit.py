@@ -377,8 +377,8 @@ class Expectations:
             return Expected(source=source, why="systemctl shows no such unit")
         try:
             settings = units.settings_in(shown, name, reader)
-            if not settings.have_filters or settings.may_have_none:
-                return Expected(source=source, why=settings.doubt)
+            if not settings.have_filters:
+                return Expected(source=source)
             # (one profile names all if x86-64 alone is judged)
             groups = unit_profiles.groups_of(settings) if self.options.scope is None else [settings.architectures]
             asked, *others = (self._of_group(settings, group) for group in groups)

@@ -11,13 +11,13 @@ those that `systemctl show` prints. With --set each LIST is an assignment of Sys
 '@system-service' or '~@mount ptrace:EPERM', and the groups are those of `systemd-analyze syscall-filter`. What is left
 out, and why, goes to standard error.
 
-`scf verify-process` tells whether a unit's main process is confined so. On i386 systemd applies RestrictAddressFamilies=
-not at all, and MemoryDenyWriteExecute= to other syscalls. One profile can't say that of a unit that permits i386
-syscalls: the one that is printed leaves i386 out, and --arch i386 prints the profile for it.
+`scf verify-process` tells whether a unit's main process is confined so. On i386 systemd applies
+RestrictAddressFamilies= not at all, and MemoryDenyWriteExecute= to other syscalls. One profile can't say that of a unit
+that permits i386 syscalls: the one that is printed leaves i386 out, and --arch i386 prints the profile for it.
 
-The rules of RestrictNamespaces= and of the settings after it are those of systemd 252.39 and later ones of that series;
-if another version runs, a line on standard error says so. A command that systemd starts with full privileges (`+`) has
-none of the filters.
+The rules of RestrictNamespaces= and of the settings after it are those of systemd 252.39 and 257.13, and of later ones
+of these series; if another version runs, a line on standard error says so. From 254 on MemoryDenyWriteExecute= adds no
+filter where the kernel has PR_SET_MDWE. A command that systemd starts with full privileges (`+`) has no filter.
 
 `systemctl show` doesn't print which syscalls an allow-list denies with an errno of their own, such as ~clone3:EINVAL:
 these are read from the unit's files. With --set, as in systemd, a name that the installed libseccomp doesn't know is

@@ -2,8 +2,9 @@
 
 For each of these settings systemd adds a filter for each architecture that the kernel runs, or for some of them, which
 answers some syscalls by an errno and allows all others. The rules are those of src/shared/seccomp-util.c of systemd
-252.39 on x86-64, built with a libseccomp that knows fchmodat2. They don't deny what i386's socketcall(2) and ipc(2) do
-in place of the syscalls that they name. The order of clone's arguments is another one on s390, which isn't modelled.
+252.39 and 257.13 on x86-64, built with a libseccomp that knows fchmodat2. They don't deny what i386's socketcall(2) and
+ipc(2) do in place of the syscalls that they name. The order of clone's arguments is another one on s390, which isn't
+modelled.
 
 No syscall is denied by two of these settings. Where SystemCallFilter= denies it, too, that answer counts: systemd adds
 that filter last, and of two errnos the kernel takes the one of the newer filter (seccomp(2)). All commands of a unit
@@ -22,8 +23,11 @@ from .architectures import I386
 from .entries import MOST, Condition
 from .values import dataclass
 
-# The version of systemd whose rules these are; 252.38 and older ones weren't looked at.
-VERSION, KNOWN = "252.39", (252, 39)
+# The versions of systemd whose rules these are, as texts and by the first number; from the second number on.
+VERSIONS, KNOWN = "252.39 and 257.13", {252: 39, 257: 13}
+# From which version on MemoryDenyWriteExecute= has no filter where the kernel has PR_SET_MDWE (NEWS of systemd 254),
+# and PR_GET_MDWE of linux/prctl.h.
+WITH_PRCTL, GET_MDWE = 254, 66
 # Conditions that all hold.
 Alternative = tuple[Condition, ...]
 EPERM, EAFNOSUPPORT = Answer("ERRNO", 1), Answer("ERRNO", 97)
@@ -196,7 +200,21 @@ def rules_of(settings: dict[str, str], architecture: str) -> Rules:
     return {name: it for setting, text in settings.items() for name, it in RULES[setting](text, architecture).items()}
 
 
+def numbers_of(version: str) -> tuple[int, int] | None:
+    """The two first numbers of a version as systemd prints it: 252.39-1~deb12u2, 256~rc1."""
+    found = re.match(r"([0-9]{1,4})(?:\.([0-9]{1,4}))?(?![0-9])", version)
+    return (int(found[1]), int(found[2] or 0)) if found else None
+
+
 def is_modelled(version: str) -> bool:
-    """Whether the rules are those of a version, as systemd prints it."""
-    found = re.match(r"([0-9]{1,4})\.([0-9]{1,4})(?![0-9])", version)
-    return found is not None and int(found[1]) == KNOWN[0] and int(found[2]) >= KNOWN[1]
+    """Whether the rules are those of this version."""
+    numbers = numbers_of(version)
+    return numbers is not None and numbers[1] >= KNOWN.get(numbers[0], numbers[1] + 1)
+
+
+def is_by_prctl(version: str) -> bool:
+    """Whether a systemd of this version applies MemoryDenyWriteExecute= by prctl(2) here, without a filter."""
+    import ctypes  # pylint: disable=import-outside-toplevel
+
+    numbers = numbers_of(version)
+    return numbers is not None and numbers[0] >= WITH_PRCTL and ctypes.CDLL(None).prctl(GET_MDWE, 0, 0, 0, 0) >= 0

@@ -16,7 +16,7 @@ from . import libseccomp, output, program, unit_restrictions
 from .answers import ALLOW, KILL_PROCESS, MAX_ERRNO, Answer
 from .architectures import NATIVE
 from .unit_restrictions import SettingError
-from .values import Pattern, dataclass, field, replace
+from .values import Pattern, dataclass, field
 
 PROPERTIES = ("Id", "LoadState", "NeedDaemonReload", "FragmentPath", "DropInPaths", "SystemCallFilter",
               "SystemCallErrorNumber", "SystemCallArchitectures", "SystemCallLog", *unit_restrictions.PROPERTIES)
@@ -82,19 +82,13 @@ class Settings:
                     or set(LOCAL) - set(self.architectures))
 
     @property
-    def may_have_none(self) -> bool:
-        """Whether systemd may also add none, since this one may have prctl(2) do what MemoryDenyWriteExecute= says."""
-        return self.doubt is not None and list(self.restrictions) == ["MemoryDenyWriteExecute"] and \
-            not replace(self, restrictions={}).have_filters
-
-    @property
     def doubt(self) -> str | None:
         """Why a process may have other filters than these settings tell, if it may."""
         if not self.restrictions or unit_restrictions.is_modelled(self.version):
             return None
         names = ", ".join(f"{name}=" for name in self.restrictions)
         version = f"systemd {self.version[:64]}" if self.version else "a systemd of unknown version"
-        return f"the rules of {names} are known of systemd {unit_restrictions.VERSION}, and this is {version}"
+        return f"the rules of {names} are known of systemd {unit_restrictions.VERSIONS}, and this is {version}"
 
     def answer_of(self, name: str | None, first: str | None = None) -> Answer:
         """What the lists answer to a call by this name; by None, what to one that none names. A list that has the name
@@ -355,7 +349,10 @@ def settings_in(shown: dict[str, str], unit: str, reader: Reader) -> Settings:
         except (UnknownSettings, ValueError) as why:
             raise program.ToolError("it can't be known which syscalls the allow-list denies with an errno of their "
                                     f"own, which systemctl show doesn't print: {why}", program.UNKNOWN) from why
+    restrictions, version = unit_restrictions.set_in(shown), shown.get(VERSION, "")
+    if "MemoryDenyWriteExecute" in restrictions and unit_restrictions.is_by_prctl(version):
+        del restrictions["MemoryDenyWriteExecute"]
+        reader.tell("MemoryDenyWriteExecute= is applied by prctl(2), and has no filter")
     return Settings(found, refusal_of(shown.get("SystemCallErrorNumber", "")),
                     architectures_of(shown.get("SystemCallArchitectures", "")),
-                    reader.shown(shown.get("SystemCallLog", "~")), unit_restrictions.set_in(shown),
-                    shown.get(VERSION, ""))
+                    reader.shown(shown.get("SystemCallLog", "~")), restrictions, version)

@@ -340,8 +340,7 @@ class UnitProfile(Case):
             shown = {"SystemCallFilter": "~", "NeedDaemonReload": "no", "FragmentPath": self.unit_file("u", ""),
                      **members}
             settings = units.settings_in(shown, "box.service", units.Reader(dict, self.fail))
-            self.assertEqual((settings.have_filters, settings.may_have_none),
-                             (expected, "MemoryDenyWriteExecute" in members), members)
+            self.assertEqual(settings.have_filters, expected, members)
 
     def test_personality(self):
         """PER_LINUX and PER_LINUX32 (linux/personality.h); what others are called isn't x86-64's."""
@@ -395,15 +394,28 @@ class UnitProfile(Case):
         self.assertEqual(self.printed("box.service")[1], {killed: {"socket"}})
 
     def test_a_systemd_of_another_version(self):
-        says = "the rules of RestrictNamespaces=, ProtectClock= are known of systemd 252.39, and this is "
-        for version, shown in (("252.38-1~deb12u1", "systemd 252.38-1~deb12u1"), ("257.13-1", "systemd 257.13-1"),
+        says = "the rules of RestrictNamespaces=, ProtectClock= are known of systemd 252.39 and 257.13, and this is "
+        for version, shown in (("252.38-1~deb12u1", "systemd 252.38-1~deb12u1"), ("257.9-1", "systemd 257.9-1"),
                                ("252", "systemd 252"), ("252-46.el9", "systemd 252-46.el9"),
                                ("2520.39", "systemd 2520.39"), (None, "a systemd of unknown version")):
             self.with_setting("RestrictNamespaces", "yes", ProtectClock="yes", Version=version)
             self.assertIn(f"unit-profile: {says}{shown}\n", self.answered("box.service")[2])
-        for version in ("252.39-1~deb12u2", "252.40", "252.100"):
+        for version in ("252.39-1~deb12u2", "252.40", "252.100", "257.13-1~deb13u1"):
             self.with_setting("RestrictNamespaces", "yes", Version=version)
             self.assertNotIn("are known of", self.answered("box.service")[2])
+
+    def test_what_the_kernel_does_without_a_filter(self):
+        """From 254 on MemoryDenyWriteExecute= takes PR_SET_MDWE where the kernel has it (NEWS of systemd 254)."""
+        without = ctypes.CDLL(None).prctl(66, 0, 0, 0, 0) >= 0
+        for version, is_newer in (("252.39-1~deb12u2", False), ("253.15", False), ("254.26-1~bpo12+1", True),
+                                  ("254~rc1", True), ("257.13-1~deb13u1", True), ("", False)):
+            self.with_setting("MemoryDenyWriteExecute", "yes", Version=version)
+            answer, listed, err = self.answered("box.service")
+            if is_newer and without:
+                self.assertEqual((answer("mprotect", 0, 0, 4), listed), (OPEN, ALL))
+                self.assertIn("MemoryDenyWriteExecute= is applied by prctl(2), and has no filter", err)
+            else:
+                self.assertEqual((answer("mprotect", 0, 0, 4), listed), (EPERM, [ALL[0], ALL[2]]))
 
     def test_settings_that_are_not_known(self):
         for name, text, says in (("RestrictNamespaces", "net none", "'net none' aren't namespaces"),
@@ -536,7 +548,7 @@ AS_ROOT = "ExecStart=\nExecStart=+/bin/sleep 300"
 FREE = {f"scf-free-{name}.service": f"{SETTINGS.get(name, SETTINGS['families'])}\n{AS_ROOT}" for name in OTHERS}
 # As systemctl, but of another version.
 ANOTHER = """#!/bin/sh
-/usr/bin/systemctl "$@" | sed 's/^Version=.*/Version=257.13-1/'
+/usr/bin/systemctl "$@" | sed 's/^Version=.*/Version=253.15/'
 """
 
 
@@ -656,12 +668,9 @@ class OtherSettings(Audited, OwnUnits):
             self.assertIn(f"scf unit-profile {words} >unit.json", text)
 
     def test_another_version(self):
-        """Whether what differs from what a version denies is wrong in another isn't known; and newer ones may add no
-        filter for MemoryDenyWriteExecute=."""
+        """Whether what differs from what a version denies is wrong in another isn't known."""
         expected = {"scf-ProtectClock.service": "not known", "scf-ProtectHostname.service": "as configured",
-                    "scf-free-ProtectClock.service": "unconfined though configured",
-                    "scf-MemoryDenyWriteExecute.service": "not known",
-                    "scf-free-MemoryDenyWriteExecute.service": "not known"}
+                    "scf-free-ProtectClock.service": "unconfined though configured"}
         self.start(*expected)
         self.change({"ProtectClock": "ProtectClock=yes\nPrivateDevices=yes"})
         os.chmod(self.file("bin/systemctl", ANOTHER), 0o755)
@@ -669,5 +678,4 @@ class OtherSettings(Audited, OwnUnits):
         self.assertEqual({name: rows["unit", name]["verdict"] for name in expected}, expected)
         (part,) = rows["unit", "scf-ProtectClock.service"]["parts"]
         self.assertEqual(part["why"], "it is weaker, but the rules of ProtectClock=, PrivateDevices= are known of "
-                                      "systemd 252.39, and this is systemd 257.13-1")
-        self.assertTrue(rows["unit", "scf-free-MemoryDenyWriteExecute.service"]["is_unconfined"])
+                                      "systemd 252.39 and 257.13, and this is systemd 253.15")
