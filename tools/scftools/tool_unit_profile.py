@@ -17,7 +17,8 @@ that permits i386 syscalls: the one that is printed leaves i386 out, and --arch 
 
 The rules of RestrictNamespaces= and of the settings after it are those of systemd 252.39 and 257.13, and of later ones
 of these series; if another version runs, a line on standard error says so. From 254 on MemoryDenyWriteExecute= adds no
-filter where the kernel has PR_SET_MDWE. A command that systemd starts with full privileges (`+`) has no filter.
+filter where the kernel has PR_SET_MDWE. From 257.13 on SystemCallFilter= allows write(2), and an allow-list denies by
+ENOSYS what isn't in @known. A command that systemd starts with full privileges (`+`) has no filter.
 
 `systemctl show` doesn't print which syscalls an allow-list denies with an errno of their own, such as ~clone3:EINVAL:
 these are read from the unit's files. With --set, as in systemd, a name that the installed libseccomp doesn't know is

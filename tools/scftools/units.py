@@ -10,18 +10,20 @@ from __future__ import annotations
 import errno
 import os
 import re
-from collections.abc import Callable, Iterator, Sequence
+from collections.abc import Callable, Collection, Iterator, Sequence
 
 from . import libseccomp, output, program, unit_restrictions
-from .answers import ALLOW, KILL_PROCESS, MAX_ERRNO, Answer
+from .answers import ALLOW, ENOSYS, KILL_PROCESS, MAX_ERRNO, Answer
 from .architectures import NATIVE
 from .unit_restrictions import SettingError
 from .values import Pattern, dataclass, field
 
 PROPERTIES = ("Id", "LoadState", "NeedDaemonReload", "FragmentPath", "DropInPaths", "SystemCallFilter",
               "SystemCallErrorNumber", "SystemCallArchitectures", "SystemCallLog", *unit_restrictions.PROPERTIES)
-# The manager's version: it is added to what a unit shows.
-VERSION = "Version"
+# The manager's version, which is added to what a unit shows; and the first one that is known to allow write(2) in each
+# list, and to deny in an allow-list what systemd doesn't know by ENOSYS (src/core/exec-invoke.c, override_default_action
+# of src/shared/seccomp-util.c).
+VERSION, WITH_ENOSYS = "Version", (257, 13)
 # The sections of those units that run processes (systemd.exec(5)).
 SECTIONS = {kind: f"[{kind.capitalize()}]" for kind in ("service", "socket", "mount", "swap")}
 # How `systemctl show` prints the error number of what is killed: SECCOMP_ERROR_NUMBER_KILL, which is INT_MAX - 1; older
@@ -74,6 +76,8 @@ class Settings:
     # other settings that deny something, each with its text, and the version of systemd
     restrictions: dict[str, str] = field(default_factory=dict)
     version: str = ""
+    # of an allow-list the names that `refusal` is for, while others get ENOSYS; None if it is for all
+    known: Collection[str] | None = None
 
     @property
     def have_filters(self) -> bool:
@@ -98,16 +102,17 @@ class Settings:
             one = first if first in self.filter.calls else name
             own = self.filter.calls.get(one) if one is not None else None
             is_denied = own is not None or (one in self.filter.calls) == self.filter.is_inverted
-            answer = (own or self.refusal) if is_denied else ALLOW
+            refusal = self.refusal if self.known is None or one in self.known else ENOSYS
+            answer = (own or refusal) if is_denied else ALLOW
         if answer != ALLOW or self.log is None:
             return answer
         is_logged = (name in self.log.calls or first in self.log.calls) != self.log.is_inverted
         return Answer("LOG", 0) if is_logged else ALLOW
 
     def names(self) -> Iterator[str]:
-        """The names of all lists, each once."""
+        """The names of all lists, and those that are known, each once."""
         lists = [one.calls for one in (self.filter, self.log) if one is not None]
-        yield from dict.fromkeys(name for calls in lists for name in calls)
+        yield from dict.fromkeys(name for calls in (*lists, self.known or ()) for name in calls)
 
 
 def answer_of_errno(text: str) -> Answer:
@@ -185,6 +190,14 @@ class Reader:
         else:
             for member in self.known[name]:
                 yield from self.calls_of(member, depth + 1)
+
+    def known_calls(self) -> list[str]:
+        """The calls of x86-64 that systemd knows: those of @known, but not of the groups in it."""
+        if self.known is None:
+            self.known = self.ask()
+        library = libseccomp.Library()
+        numbers = {name: library.number_of(name) for name in self.known.get("@known", ())}
+        return [name for name, number in numbers.items() if number is not None and number >= 0]
 
     def add(self, found: CallList, word: str, is_inverted: bool) -> None:
         """Adds a word of a list to what was listed before, or takes it away, as systemd merges assignments."""
@@ -329,10 +342,28 @@ def shown_by_systemctl(names: Sequence[str]) -> list[dict[str, str]]:
     """What systemctl shows of some units, by the names of the properties."""
     show = ["systemctl", "--no-pager", "show"]
     found = _blocks(printed_by([*show, *(f"--property={name}" for name in PROPERTIES), "--", *names]))
-    if any(map(unit_restrictions.texts_in, found)):
+    if any(it.get("SystemCallFilter", "~") != "~" or unit_restrictions.texts_in(it) for it in found):
         version = _blocks(printed_by([*show, f"--property={VERSION}"]))[0].get(VERSION, "")
         found = [{**it, VERSION: version} for it in found]
     return found
+
+
+def _restrictions_in(shown: dict[str, str], version: str, reader: Reader) -> dict[str, str]:
+    """The other settings of a unit that have filters."""
+    found = unit_restrictions.set_in(shown)
+    if "MemoryDenyWriteExecute" in found and unit_restrictions.is_by_prctl(version):
+        del found["MemoryDenyWriteExecute"]
+        reader.tell("MemoryDenyWriteExecute= is applied by prctl(2), and has no filter")
+    return found
+
+
+def _as_newer(found: CallList, reader: Reader) -> list[str] | None:
+    """Makes a list what newer versions take it for, which allow write(2); what they know, if it is an allow-list."""
+    if found.is_inverted:
+        found.calls.pop("write", None)
+        return None
+    found.calls["write"] = None
+    return reader.known_calls()
 
 
 def settings_in(shown: dict[str, str], unit: str, reader: Reader) -> Settings:
@@ -349,10 +380,10 @@ def settings_in(shown: dict[str, str], unit: str, reader: Reader) -> Settings:
         except (UnknownSettings, ValueError) as why:
             raise program.ToolError("it can't be known which syscalls the allow-list denies with an errno of their "
                                     f"own, which systemctl show doesn't print: {why}", program.UNKNOWN) from why
-    restrictions, version = unit_restrictions.set_in(shown), shown.get(VERSION, "")
-    if "MemoryDenyWriteExecute" in restrictions and unit_restrictions.is_by_prctl(version):
-        del restrictions["MemoryDenyWriteExecute"]
-        reader.tell("MemoryDenyWriteExecute= is applied by prctl(2), and has no filter")
+    version = shown.get(VERSION, "")
+    is_newer = found is not None and (unit_restrictions.numbers_of(version) or (0, 0)) >= WITH_ENOSYS
+    known = _as_newer(found, reader) if is_newer else None
     return Settings(found, refusal_of(shown.get("SystemCallErrorNumber", "")),
                     architectures_of(shown.get("SystemCallArchitectures", "")),
-                    reader.shown(shown.get("SystemCallLog", "~")), restrictions, version)
+                    reader.shown(shown.get("SystemCallLog", "~")), _restrictions_in(shown, version, reader), version,
+                    known)

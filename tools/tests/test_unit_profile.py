@@ -144,6 +144,8 @@ class UnitProfile(Case):
         self.of_unit(SystemCallFilter="read")
         with open(os.path.join(self.folder, "systemctl.words"), encoding="ascii") as file:
             asked = file.read().split("\n")[:-1]
+        self.assertEqual(asked[-3:], ["--no-pager", "show", "--property=Version"])
+        asked = asked[:-3]
         self.assertEqual((asked[:2], asked[-2:]), (["--no-pager", "show"], ["--", "box.service"]))
         self.assertEqual(sorted(asked[2:-2]), sorted(f"--property={name}" for name in (
             "DropInPaths", "FragmentPath", "Id", "LoadState", "NeedDaemonReload", "Personality",
@@ -416,6 +418,24 @@ class UnitProfile(Case):
                 self.assertIn("MemoryDenyWriteExecute= is applied by prctl(2), and has no filter", err)
             else:
                 self.assertEqual((answer("mprotect", 0, 0, 4), listed), (EPERM, [ALL[0], ALL[2]]))
+
+    @unittest.skipUnless(ctypes.util.find_library("seccomp"), "there is no libseccomp here")
+    def test_what_newer_versions_do_not_know(self):
+        """257.13 allows write(2), and denies by ENOSYS what @known doesn't have by itself, or only i386 has
+        (override_default_action of its seccomp-util.c)."""
+        known = f"{GROUPS}\n@known\n    @inner\n    brk\n    mount\n    read\n    socket\n    write\n    _llseek\n"
+        self.stand_in("systemd-analyze", f"cat <<'END'\n{known}END")
+        for number, denied in ((KILLED, (KILL, None)), ("1", EPERM)):
+            self.shows(SystemCallFilter="brk openat", SystemCallErrorNumber=number, Version="257.13-1~deb13u1")
+            answer = self.answered("box.service")[0]
+            calls = {"brk": OPEN, "openat": OPEN, "write": OPEN, "mount": denied, "read": denied, "chroot": ENOSYS,
+                     "_llseek": ENOSYS, "ipc": ENOSYS, "no_such_call": ENOSYS}
+            self.assertEqual({it: answer(it) for it in calls}, calls)
+            self.assertEqual([answer("socketcall", it) for it in (0, 1, 2)], [ENOSYS, denied, ENOSYS])
+        self.shows(SystemCallFilter="~mount write", Version="257.13-1~deb13u1")
+        self.assertEqual(self.printed("box.service")[:2], (OPEN, {(KILL, None): {"mount"}}))
+        self.shows(SystemCallFilter="brk", Version="252.39-1~deb12u2")
+        self.assertEqual(self.printed("box.service")[:2], ((KILL, None), {OPEN: {"brk"}}))
 
     def test_settings_that_are_not_known(self):
         for name, text, says in (("RestrictNamespaces", "net none", "'net none' aren't namespaces"),
