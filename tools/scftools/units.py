@@ -21,8 +21,8 @@ from .values import Pattern, dataclass, field
 PROPERTIES = ("Id", "LoadState", "NeedDaemonReload", "FragmentPath", "DropInPaths", "SystemCallFilter",
               "SystemCallErrorNumber", "SystemCallArchitectures", "SystemCallLog", *unit_restrictions.PROPERTIES)
 # The manager's version, which is added to what a unit shows; and the first one that is known to allow write(2) in each
-# list, and to deny in an allow-list what systemd doesn't know by ENOSYS (src/core/exec-invoke.c, override_default_action
-# of src/shared/seccomp-util.c).
+# list, and in an allow-list to deny what systemd doesn't know by ENOSYS (apply_syscall_filter of exec-invoke.c, and
+# override_default_action of seccomp-util.c).
 VERSION, WITH_ENOSYS = "Version", (257, 13)
 # The sections of those units that run processes (systemd.exec(5)).
 SECTIONS = {kind: f"[{kind.capitalize()}]" for kind in ("service", "socket", "mount", "swap")}
