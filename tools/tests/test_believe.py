@@ -355,16 +355,13 @@ class TrustedBase(Case):
                     self.assertTrue(listed.intersection(call.split("::")), f"{crate}: {call}")
 
     def test_a_list_that_is_taken_away_is_noticed(self):
-        """Of each list: what stands behind a public clause stands in another one then, which isn't as the page has it,
-        or in none."""
-        lists = list(re.finditer(r"<!-- believe .*?<!-- end -->\n", self.page(), re.S))
-        self.assertGreater(len(lists), 10)
-        for taken in (it for it in lists if re.match(r"<!-- believe (headline|compile|all other calls)\b", it[0])):
-            page = self.file("page.txt", self.page().replace(taken[0], ""))
-            status, out, err = self.run_words([for_developers("believe"), "--page", page])
-            self.assertEqual((status, err), (1, ""), taken[0])
-            for name in re.findall(r"`(Headline|search_bound_of|HoldsThrough)`", taken[0]):
-                self.assertIn(name, out)
+        """What it had is then wanted in the list of all other calls, or stands in none."""
+        for mark, name in (("headline beside compare_sides holds", "Headline"), ("all other calls", "HoldsThrough"),
+                           ("compile beside compare_stack", "search_bound_of")):
+            without = re.sub(f"<!-- believe {mark} -->.*?<!-- end -->", "", self.page(), flags=re.S)
+            status, out, err = self.run_words([for_developers("believe"), "--page", self.file("page.txt", without)])
+            self.assertEqual((status, err), (1, ""), mark)
+            self.assertIn(name, out)
 
     def test_a_definition_that_changes_is_noticed(self):
         tree = os.path.join(self.folder, "tree")
