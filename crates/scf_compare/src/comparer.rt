@@ -22,6 +22,8 @@ ghost use Rattle.scf_compare.specs.Limits.{LeavesStepsBelow};
 ghost use Rattle.scf_compare.specs.Sides.{AreOneStack, IsPlainSide, behavior_of, effort_of_sides};
 ghost use Rattle.scf_compare.specs.Verdicts.{IsDecided, IsTrueOf, IsTrueOfStack, IsWithin};
 ghost use Rattle.scf_compare.specs.internal.Comparers.{IsComparison};
+ghost use Rattle.scf_compare.specs.internal.Pairs.{pair_tree};
+ghost use Rattle.scf_compare.specs.internal.Walks.{IfUndecided, WasGivenUp};
 
 use crate::budget::{Limit, Splits};
 use crate::by_number::ByNumber;
@@ -254,9 +256,13 @@ fn compare_pair<F: WordFacts, L: SideTree, R: SideTree>(
 ) -> Result<Finding, Memory>
     requires { IsTrue is_same → AllRelated
         (compared_in pair.now.by pair.now.over (L.behavior pair.now.left) (R.behavior pair.now.right)) }
-    ensures { IfOk result (λ finding. IsComparison
+    ensures comparison { IfOk result (λ finding. IsComparison
         (compared_in pair.now.by pair.now.over (L.behavior pair.now.left) (R.behavior pair.now.right))
         (IsTrue F.starts_exact) (IsTrue is_same) limit budget.old finding taken.new budget.new.steps) }
+    ensures given_up { let compared =
+        compared_in pair.now.by pair.now.over (L.behavior pair.now.left) (R.behavior pair.now.right) in
+        let tree = pair_tree compared (L.tree pair.now.left) (R.tree pair.now.right) in
+        IfOk result (λ finding. IfUndecided finding (WasGivenUp F.WordFacts compared tree budget.old)) }
 {
     let facts: F = facts_of(alloc, pair.over)?;
     let (left, start) = pair.left.start();

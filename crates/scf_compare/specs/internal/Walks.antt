@@ -3,11 +3,14 @@ use Rattle.std.specs.Prelude.{◌≡◌, ◌+◌, ◌<◌, ◌≤◌, ◌⊎◌,
 use Rattle.scf_facts.specs.declared.word_facts.WordFacts.{Ghosts as Store}
 use Rattle.scf_compare.specs.declared.budget.Limit.{Limit}
 use Rattle.scf_compare.specs.declared.budget.Splits.TheVariants.{AtMost}
+use Rattle.scf_compare.specs.declared.finding.Finding.{Finding}
+use Rattle.scf_compare.specs.declared.finding.Finding.TheVariants.{Undecided}
 use Rattle.scf_compare.specs.declared.frontier.Frontier.{Frontier}
 use Rattle.scf_compare.specs.declared.settling.SettlingNode.{SettlingNode}
 use Rattle.scf_compare.specs.Findings.{Compared}
 use Rattle.scf_compare.specs.Splits.{open_bits}
 use Rattle.scf_compare.specs.internal.Budgets.{AreCounted}
+use Rattle.scf_compare.specs.internal.Settling.{settling_trees}
 use Rattle.scf_compare.specs.internal.Stages.{GoesOver}
 use Rattle.scf_compare.specs.internal.Trees.{Tree}
 
@@ -49,3 +52,15 @@ module _ {F K N : Type 0} (store : Store F) (compared : Compared) (tree : K → 
     pub node : SettlingNode N
     pub walked : HasWalked first start from old left frontier known node
     pub all : (left.steps ≡ 0) ⊎ (left.splits ≡ AtMost 0)
+
+-- a second walk of a tree was given up
+pub record WasGivenUp {F K N : Type 0} (store : Store F) (compared : Compared) (tree : K → Tree N) (old : Limit)
+    : Type 0 where
+  pub start : K
+  pub root : N
+  pub given_up : IsGivenUp store compared (settling_trees tree start root) start root old
+
+-- a fact of an undecided finding
+abbrev pub IfUndecided : Finding → Type 0 → Type 0
+IfUndecided (Undecided side at) fact = fact
+IfUndecided finding fact = Unit {0}

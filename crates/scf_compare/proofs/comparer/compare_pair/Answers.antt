@@ -1,4 +1,4 @@
-use Rattle.std.specs.Prelude.{unwrap_or}
+use Rattle.std.specs.Prelude.{IfNone, unwrap_or}
 use Rattle.scf_compare.proofs.Common.{◌≡◌, ℕ, Compared, Finding, IfSome, None, Option, Some, Which, arith, inl, refl, rules}
 use Rattle.scf_compare.proofs.Budgets.{settled_below, undecided_below}
 use Rattle.scf_compare.specs.declared.budget.Limit.{Limit}
@@ -7,6 +7,7 @@ use Rattle.scf_compare.specs.declared.finding.Finding.TheVariants.{Holds, Undeci
 use Rattle.scf_compare.specs.internal.Comparers.{IsComparison, effort_between}
 use Rattle.scf_compare.specs.internal.Settling.{IsSettled}
 use Rattle.scf_compare.specs.internal.Stages.{IsExplored}
+use Rattle.scf_compare.specs.internal.Walks.{IfUndecided}
 use Rattle.scf_compare.proofs.comparer.compare_pair.Goals as goal
 
 -- what a second walk makes of a comparison that the first one leaves undecided
@@ -32,8 +33,24 @@ settled_comparison compared is_complete given are_one limit taken left_below at 
       below = settled_below compared budget.splits budget.steps left_below taken finding is left;
     }
 
-pub returns-in_ok-settled-in-Undecided-2 : goal.returns-in_ok-settled-in-Undecided-2
-returns-in_ok-settled-in-Undecided-2 g c =
+-- what is undecided after the second walk is so because that was given up
+unsettled : (compared : Compared) (taken at : ℕ) (side : Which) (settled : Option Finding) (given fact : Type 0)
+    → (given → fact) → IfSome settled (IsSettled compared taken) → IfNone settled given
+    → IfUndecided (unwrap_or settled (Undecided side at)) fact
+unsettled compared taken at side None given fact to is given_up = to given_up
+unsettled compared taken at side (Some finding) given fact to is given_up = grind arith
+
+pub returns-in_ok-settled-in-Undecided-2-clause-given_up : goal.returns-in_ok-settled-in-Undecided-2-clause-given_up
+returns-in_ok-settled-in-Undecided-2-clause-given_up g c =
+    let undecided = c.in-Undecided-2 in
+    let second = c.in_ok-settled-in-Undecided-2 in
+    rw (c.unwrap_or.ensures, undecided.is)
+    (unsettled _ c.explore.new.taken undecided.at undecided.side second.settled _ _
+    (λ given_up. record { start = _; root = _; given_up = given_up }) second.ensures.settled second.ensures.given_up)
+
+pub returns-in_ok-settled-in-Undecided-2-clause-comparison :
+    goal.returns-in_ok-settled-in-Undecided-2-clause-comparison
+returns-in_ok-settled-in-Undecided-2-clause-comparison g c =
     let undecided = c.in-Undecided-2 in
     let second = c.in_ok-settled-in-Undecided-2 in
     rw (c.unwrap_or.ensures, undecided.is) (settled_comparison _ _ _ _ c.args.limit c.explore.new.taken
@@ -43,8 +60,8 @@ returns-in_ok-settled-in-Undecided-2 g c =
     (λ own. search rules)
     second.ensures.settled second.ensures.steps)
 
-pub returns-in-Undecided : goal.returns-in-Undecided
-returns-in-Undecided g c =
+pub returns-in-Undecided-clause-comparison : goal.returns-in-Undecided-clause-comparison
+returns-in-Undecided-clause-comparison g c =
     let undecided = c.in-Undecided in
     settled_comparison _ _ _ _ c.args.limit c.explore.new.taken c.args.budget.now.steps undecided.at c.args.budget.now
     undecided.side (Some (Holds c.explore.new.taken))
