@@ -50,8 +50,8 @@ impl AffineTerm {
         self.bit_slice
             .in_bits(word)
             .combined(Arithmetic::Xor, Computed::constant(self.xor_mask))
-            .combined(Arithmetic::Add, Computed::constant(self.addend))
-            .combined(Arithmetic::Div, Computed::constant(self.divisor))
+            .plus(self.addend)
+            .over(self.divisor)
     }
 
     /// `self op v`, if it is an affine term.

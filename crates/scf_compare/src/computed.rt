@@ -1,6 +1,6 @@
 //! Computed values of which only single bits may be known.
 
-ghost use Rattle.std.specs.Prelude.{◌≡◌, ◌<◌, ℕ, List, IfSome};
+ghost use Rattle.std.specs.Prelude.{◌≡◌, ◌+◌, ◌/◌, ◌%◌, ◌<◌, ◌^◌, ℕ, List, IfSome};
 ghost use Rattle.scf_machine.specs.Machine.{value_computed};
 ghost use Rattle.scf_compare.specs.internal.Values.{Abstracts, IsComputedNumber, IsValue};
 
@@ -55,6 +55,28 @@ impl Computed {
             Some(number) => Value::Known(number),
             None => Value::Computed(self),
         }
+    }
+
+    /// Abstract `self + addend`. Nothing that is known of `self` is lost if 0 is added.
+    #[tactic(auto, using(crate::proofs::Bits::sum_with_zero))]
+    pub(crate) fn plus(self, addend: u32) -> Computed
+        ensures { (a : ℕ) → IsComputedNumber self a → IsComputedNumber result ((a + addend) % 2 ^ 32) }
+    {
+        if addend == 0 {
+            return self;
+        }
+        self.combined(Arithmetic::Add, Computed::constant(addend))
+    }
+
+    /// Abstract `self / divisor`. Nothing that is known of `self` is lost if the divisor is 1.
+    #[tactic(auto, using(crate::proofs::Bits::quotient_by_one))]
+    pub(crate) fn over(self, divisor: u32) -> Computed
+        ensures { (a : ℕ) → IsComputedNumber self a → IsComputedNumber result (a / divisor) }
+    {
+        if divisor == 1 {
+            return self;
+        }
+        self.combined(Arithmetic::Div, Computed::constant(divisor))
     }
 
     /// Abstract `self op other`.
