@@ -13,7 +13,7 @@ import time
 from collections import Counter
 from collections.abc import Callable, Iterable, Sequence
 
-from . import (bundles, client, compare, container_files, engines, hold, machine, newer, other_abis, output, program,
+from . import (bundles, client, compare, container_files, engines, hold, machine, other_abis, output, program,
                unit_profiles, units, verdicts, verify)
 from .compare import Comparison
 from .container_files import Described
@@ -216,9 +216,7 @@ class Judge:
     def _judged(self, stack: Stack, asked: Request, relation: str, is_of_nothing: bool) -> Judgement:
         """The verdict; syscalls of other ABIs don't count if nothing is configured."""
         comparison = asked.comparison(stack.named, relation)
-        stub = asked.applied.stub if asked.applied is not None else {}
-        _, report, has_stub = newer.compared_with_stub(comparison, comparison.scope, stub)
-        comparison = replace(comparison, stub=stub if has_stub else {})
+        report = comparison.run()[1]
         found = self._of_report(comparison, report)
         if is_of_nothing:
             # (the call that shows it would be answered by no profile of a user)

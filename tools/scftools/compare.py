@@ -35,7 +35,8 @@ MOST_UNDECIDED = 20
 class Comparison:
     """Filters, oldest first, a profile and x86-64's table; a relation; of a resolved profile the index of each entry in
     the user's, and for each architecture the least number that runc answers with ENOSYS; whether x86-64 alone is
-    judged, whatever the profile names; and the OCI name of the table's architecture, if that isn't x86-64."""
+    judged, whatever the profile names; the OCI name of the table's architecture, if that isn't x86-64; and for each
+    architecture the least number that no entry of the profile answers, whatever it names."""
 
     filters: Sequence[Filter]
     profile: bytes
@@ -45,11 +46,13 @@ class Comparison:
     stub: newer.Bounds = field(default_factory=dict)
     is_native: bool = False
     architecture: str = architectures.NATIVE
+    bounds: newer.Bounds = field(default_factory=dict)
 
     @property
     def tables(self) -> Tables:
-        """The tables of the architectures that are judged."""
-        return tables.of_profile(self.profile, self.table, self.is_native, self.architecture)
+        """The tables of the architectures that are judged, as far as the profile's entries count."""
+        found = tables.of_profile(self.profile, self.table, self.is_native, self.architecture)
+        return found.below(self.bounds) if self.bounds else found
 
     @property
     def scope(self) -> str:
@@ -84,8 +87,11 @@ class Comparison:
     def run(self, scope: str | None = None, relation: str | None = None) -> tuple[int, Report]:
         """scf's exit status and report, for this relation or the comparison's own, by default over all architectures
         that are judged. Over all records the verdict is `undetermined` if the syscall that decides is of an
-        architecture that the profile names, and scf has no table of it."""
+        architecture that the profile names, and scf has no table of it. With a stub the profile counts behind it, or
+        without it where that holds."""
         relation, filters = relation or self.relation, [one.data for one in self.filters]
+        if self.stub:
+            return newer.behind_stub(self, scope or self.scope, relation)[:2]
         if scope == CALLS and not self.tables.is_native:
             return self._run_calls(relation)
         if scope != ALL:
@@ -128,8 +134,8 @@ class Comparison:
     def _reports_on(self, name: str, scope: Sequence[str], relation: str) -> Iterator[Report]:
         """scf's reports on the syscalls of one of the architectures, with a stub those on both sides of its numbers.
         Raises Refusal."""
-        judged = self.tables.only(name)
         for one in newer.around_stub(self):
+            judged = one.tables.only(name)
             status, report = one._run_by(judged, [*judged.words, *scope], [it.data for it in one.filters], relation,
                                          scope == SCOPES[CALLS])
             if report.verdict is None:

@@ -40,7 +40,7 @@ def _can_split(comparison: Comparison, bounds: Bounds) -> bool:
 def _only(comparison: Comparison, bounds: Bounds, answer: Answer, is_beyond: bool) -> Comparison:
     """The comparison of filters that are answered alike below the bounds, or from them on."""
     those = [replace(it, data=_split(it.data, bounds, answer, is_beyond)) for it in comparison.filters]
-    return replace(comparison, filters=those)
+    return replace(comparison, filters=those, stub={})
 
 
 def _default_of(profile: bytes) -> Answer | None:
@@ -50,9 +50,11 @@ def _default_of(profile: bytes) -> Answer | None:
 
 
 def _below(comparison: Comparison, bounds: Bounds) -> Comparison:
-    """The comparison of the numbers below the bounds alone: from them on, the filters answer as the profile does."""
+    """The comparison of the numbers below the bounds alone: from them on, the filters answer as the profile's default
+    does, and so does the profile, whatever it names there."""
     default = _default_of(comparison.profile)
-    return comparison if default is None else _only(comparison, bounds, default, False)
+    return replace(comparison, stub={}) if default is None else \
+        replace(_only(comparison, bounds, default, False), bounds=bounds)
 
 
 def _beyond(comparison: Comparison, bounds: Bounds, answer: Answer) -> Comparison:
@@ -76,25 +78,37 @@ def around_stub(comparison: Comparison) -> list[Comparison]:
     return [_below(comparison, comparison.stub), _beyond(comparison, comparison.stub, ENOSYS)]
 
 
-def compared_with_stub(comparison: Comparison, scope: str, bounds: Bounds) -> tuple[int, Report, bool]:
-    """scf's status and report on filters that may begin with runc's stub, which answers ENOSYS from these numbers on;
-    and whether the stub is there.
+def behind_stub(comparison: Comparison, scope: str, relation: str) -> tuple[int, Report, bool]:
+    """scf's status and report on filters that may begin with the stub of a comparison, and whether they have the
+    relation to the profile behind it.
 
-    The filters are the same with the stub if scf proves two things: that the numbers below are answered as the profile
-    says, and that those from there on all get ENOSYS. If not, they may be the same without one.
+    They have it if scf proves two things: that the numbers below the stub's are answered as the profile says, and those
+    from there on as ENOSYS. libseccomp knows some calls of i386 by no number of their own (those that socketcall and
+    ipc make, too), so the stub may answer some that the profile names. If the two aren't so, the filters may have the
+    relation to the profile without a stub.
     """
-    if not bounds or comparison.relation != SAME or not _can_split(comparison, bounds):
-        return (*comparison.run(scope), False)
-    status, report = _below(comparison, bounds).run(scope)
+    whole = replace(comparison, stub={})
+    if not _can_split(comparison, comparison.stub):
+        return (*whole.run(scope, relation), False)
+    below, beyond = around_stub(comparison)
+    status, report = below.run(scope, relation)
     if report.verdict is None or not report.verdict.holds:
         return status, report, False
-    beyond_status, beyond = _beyond(comparison, bounds, ENOSYS).run(scope)
-    if beyond.verdict is not None and beyond.verdict.holds:
+    beyond_status, beyond_report = beyond.run(scope, relation)
+    if beyond_report.verdict is not None and beyond_report.verdict.holds:
         return status, report, True
-    whole_status, whole = comparison.run(scope)
-    is_other = whole.verdict is not None and whole.verdict.fails
-    return (beyond_status, replace(beyond, skipped=report.skipped, architectures=report.architectures), False) \
-        if is_other else (whole_status, whole, False)
+    whole_status, whole_report = whole.run(scope, relation)
+    if whole_report.verdict is None or not whole_report.verdict.fails:
+        return whole_status, whole_report, False
+    return (beyond_status, replace(beyond_report, skipped=report.skipped, architectures=report.architectures), False)
+
+
+def compared_with_stub(comparison: Comparison, scope: str, bounds: Bounds) -> tuple[int, Report, bool]:
+    """scf's status and report on filters that may begin with runc's stub, which answers ENOSYS from these numbers on;
+    and whether the stub is there: whether they are the same as the profile behind it."""
+    if not bounds or comparison.relation != SAME:
+        return (*comparison.run(scope), False)
+    return behind_stub(replace(comparison, stub=bounds), scope, SAME)
 
 
 def _bounds_of(comparison: Comparison) -> Bounds:

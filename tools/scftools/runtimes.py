@@ -11,14 +11,16 @@ generatePatch of seccomp/patchbpf), and were found by filters that crun 1.8.1 an
 - the calls of x86-64 are confined whether or not `architectures` has it;
 - on i386 socketcall and ipc are answered as the syscalls that they make;
 - where the default denies, runc alone answers each number of an architecture in the list, above all that the profile
-  names, with ENOSYS; x86-64 and x32 have numbers of their own.
+  names, with ENOSYS; x86-64 and x32 have numbers of their own. Of the i386 syscalls that socketcall and ipc make, too,
+  libseccomp tells runc no number above 0: they don't count, and ENOSYS may be the answer to those that are made directly
+  (findLastSyscalls of patchbpf, and __PNR_semget and the like of seccomp.h).
 """
 from __future__ import annotations
 
 import os
 from collections.abc import Callable, Iterator, Sequence
 
-from . import engines, libseccomp, multiplexed, profile_inputs, program, tables
+from . import engines, libseccomp, multiplexed, output, profile_inputs, program, tables
 from .answers import MAX_ERRNO, WITH_ERRNO, Answer
 from .architectures import JUDGED, NATIVE, PREFIX
 from .engines import MAX_RULES, Origin, Refused, Setting, excerpt, excerpts
@@ -115,12 +117,28 @@ class AppliedProfile:
         """The profile's text."""
         return engines.to_bytes(self.handed)
 
+    def stub_notes(self) -> Iterator[str]:
+        """The notes on a filter that begins with its stub."""
+        yield stub_note(self.stub)
+        names = {name for entry in self.handed["syscalls"] for name in entry["names"]}
+        for architecture, first in self.stub.items():
+            table = tables.of_architecture(architecture)
+            numbers = {} if table is None else {it: table.number_of(it) for it in names}
+            covered = sorted(it for it, number in numbers.items()
+                             if number is not None and JUDGED[architecture].first + number >= first)
+            if covered:
+                yield (f"so it answers {JUDGED[architecture].name}'s {output.some(covered, engines.MAX_LISTED)}, though "
+                       f"the profile names them, unless socketcall or ipc makes them: libseccomp tells runc no number "
+                       f"of theirs")
+
     def describe(self) -> Iterator[str]:
         """What is to be known of it, and all that was left out."""
         yield from engines.at_most(self.notes)
         yield from self.remarks
         if self.stub:
-            yield f"not in the profile: {stub_note(self.stub)}"
+            first, *more = self.stub_notes()
+            yield f"not in the profile: {first}"
+            yield from more
 
 
 def stub_note(stub: dict[str, int]) -> str:

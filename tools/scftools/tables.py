@@ -50,6 +50,11 @@ class Table:
     def numbers(self) -> Iterable[int]:
         return self._parsed[0].keys()
 
+    def below(self, number: int) -> Table:
+        """The same without the syscalls from a number on."""
+        entries = [(line, LINE.fullmatch(line)) for line in self.data.split(b"\n")]
+        return Table(b"\n".join(line for line, entry in entries if entry is None or int(entry[2]) < number))
+
 
 def read(name: str | None, one: Architecture = JUDGED[NATIVE]) -> Table:
     """The table in a file, or by default the one of an architecture that comes with scf."""
@@ -110,6 +115,11 @@ class Tables:
     def parts(self) -> list[tuple[str, bytes]]:
         """The parts of a bundle."""
         return [(JUDGED[name].kind, table.data) for name, table in self.of.items()]
+
+    def below(self, bounds: dict[str, int]) -> Tables:
+        """The same without the syscalls from some numbers of records on, by OCI names."""
+        return Tables({name: table.below(bounds[name] - JUDGED[name].first) if name in bounds else table
+                       for name, table in self.of.items()})
 
     def only(self, name: str) -> Tables:
         """The table of one of the architectures."""

@@ -69,22 +69,21 @@ class Request:
 
     def judge(self, stack: Stack) -> Block:
         comparison = self.comparison(stack.named)
-        stub = self.applied.stub if self.applied is not None else {}
-        scope = self.scope or comparison.scope
+        stub, scope = comparison.stub, self.scope or comparison.scope
         status, report, has_stub = newer.compared_with_stub(comparison, scope, stub)
-        return Block(stack, status, replace(comparison, stub=stub), report, stub if has_stub else {}, scope)
+        return Block(stack, status, comparison, report, stub if has_stub else {}, scope)
 
     def comparison(self, stack: Sequence[Filter], relation: str | None = None) -> Comparison:
         """The comparison of filters with the profile."""
-        origins = self.applied.origins if self.applied is not None else None
-        return Comparison(stack, self.profile, self.table, relation or self.relation, origins,
+        origins, stub = (None, {}) if self.applied is None else (self.applied.origins, self.applied.stub)
+        return Comparison(stack, self.profile, self.table, relation or self.relation, origins, stub,
                           is_native=self.scope == verdicts.NATIVE)
 
     def notes(self, block: Block) -> Iterator[str]:
         """What is added to scf's lines."""
         yield from compare.notes(block.comparison, block.report, block.scope)
-        if block.stub:
-            yield runtimes.stub_note(block.stub)
+        if block.stub and self.applied is not None:
+            yield from self.applied.stub_notes()
         yield from compare.of_foreign(block.comparison, block.report, block.scope)
 
     def as_json(self, block: Block) -> dict[str, object]:

@@ -17,9 +17,10 @@ from confined import ended, started
 sys.path.append(os.path.join(TOP, "tools"))
 
 # pylint: disable=wrong-import-position
-from scftools import client, engines, inputs, libseccomp, newer, processes, runtimes, tables  # noqa: E402
+from scftools import client, engines, inputs, libseccomp, newer, processes, runtimes, tables, verdicts  # noqa: E402
 from scftools.compare import NATIVE, Comparison  # noqa: E402
 from scftools.filters import Filter  # noqa: E402
+from scftools.values import replace  # noqa: E402
 
 ALLOW, ERRNO, LOG, TRAP = "SCMP_ACT_ALLOW", "SCMP_ACT_ERRNO", "SCMP_ACT_LOG", "SCMP_ACT_TRAP"
 X86_64, X86, X32 = "SCMP_ARCH_X86_64", "SCMP_ARCH_X86", "SCMP_ARCH_X32"
@@ -100,6 +101,14 @@ def filters_of(runtime, seccomp):
             return None, why
         stacks = processes.look_at_process(processes.Kernel(), process).stacks
         return stacks[0].filters, ""
+
+
+def of_ipc(*more):
+    """A profile with i386 calls above all of the others' numbers, which ipc makes, too."""
+    i386, native = tables.of_architecture(X86), tables.read(None)
+    names = [it for it in NAMES if native.number_of(it) <= 334 and (i386.number_of(it) or 0) <= 386]
+    return {"defaultAction": ERRNO, "architectures": [X86_64, X86, X32],
+            "syscalls": [entry(*names, "semget", "shmat", "msgrcv", *more)]}
 
 
 class Runtimes(Case):
@@ -207,6 +216,36 @@ class Runtimes(Case):
             status, report, has_stub = newer.compared_with_stub(comparison, NATIVE, found.stub)
             self.assertEqual((status, report.printed[0], has_stub, report.verdict.call.number),
                              (1, "differs", False, min(first, 95)))
+
+    def test_i386_syscalls_that_ipc_makes_too(self):
+        """libseccomp tells runc no number of theirs, so its ENOSYS may stand before what the profile says of those that
+        are made directly. Where another name makes the bound greater, or another runtime has none, they are allowed."""
+        given = of_ipc()
+        found = runtimes.applied(given, "runc")
+        self.assertEqual((found.stub[X86], tables.of_architecture(X86).number_of("semget")), (387, 393))
+        self.assertIn("so it answers i386's msgrcv, semget, shmat, though the profile names them, unless socketcall or ipc "
+                      "makes them: libseccomp tells runc no number of theirs", found.describe())
+        self.assertNotIn("so it answers", " ".join(runtimes.applied(of_ipc("futex_waitv"), "runc").describe()))
+        for more in ((), ("futex_waitv",)):
+            for runtime in ("runc", "crun"):
+                verdict, has_stub, _ = self.compared(runtime, of_ipc(*more))
+                self.assertEqual((verdict, has_stub), ("same", runtime == "runc"), more)
+        filters, why = filters_of("runc", given)
+        self.assertIsNotNone(filters, why)
+        comparison = Comparison([Filter("it", it) for it in filters], found.data, tables.read(None), stub=found.stub)
+        for relation in verdicts.SAME, verdicts.NO_MORE, verdicts.NO_LESS:
+            for scope in (verdicts.LISTED, verdicts.CALLS):
+                status, report = comparison.run(scope, relation)
+                self.assertEqual((status, report.printed[0]), (0, relation), scope)
+        self.assertEqual(comparison.of_calls(), [])
+        # what differs elsewhere is only that
+        other = load(0) + jeq(83, 0, 1) + ret(0x00050016) + insn(0, 0) + filters[0]
+        comparison = replace(comparison, filters=[Filter("it", other)])
+        self.assertEqual([comparison.run(None, it)[1].printed[0] for it in (verdicts.SAME, verdicts.NO_MORE,
+                                                                          verdicts.NO_LESS)],
+                         ["differs", "no more", "less"])
+        self.assertEqual({(it.architecture.oci, it.number) for it in comparison.of_calls()},
+                         {(X86_64, 83), (X86, 83)})
 
     def test_what_the_runtimes_refuse(self):
         for runtime, given, says in (
@@ -389,6 +428,23 @@ class VerifyProcess(Case):
             child, _ = started([[self.file("f.bpf", stubbed)]])
             self.addCleanup(ended, child)
             self.assertEqual(self.verify(child.pid, given, "--runtime", "runc")[0], 0)
+
+    def test_i386_syscalls_that_ipc_makes_too(self):
+        given = of_ipc()
+        with container("runc", given) as (process, why):
+            self.assertIsNotNone(process, why)
+            for words in ((), ("--calls",), ("--no-more",), ("--no-less",), ("--json",)):
+                status, out, err = self.verify(process, given, "--runtime", "runc", *words)
+                self.assertEqual((status, err), (0, ""), out)
+            self.assertIn("\n# so it answers i386's msgrcv, semget, shmat, though",
+                          self.verify(process, given, "--runtime", "runc")[1])
+        # a process that has what runc's filter hasn't: each answer that is shown is its own
+        found = runtimes.applied(given, "runc")
+        child, _ = started([[self.file("f.bpf", load(0) + jeq(397, 0, 1) + ret(0x00050016) + insn(0, 0)
+                                       + stub(335) + insn(0, 0) + compiled(found.data))]])
+        self.addCleanup(ended, child)
+        status, out, _ = self.verify(child.pid, given, "--runtime", "runc")
+        self.assertEqual((status, out.splitlines()[0]), (1, "differs"))
 
     def test_an_entry_that_is_never_handed_over(self):
         given = profile(entry("mkdir", action=ERRNO, errno=1), entry("mkdir"))
