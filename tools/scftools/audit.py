@@ -210,7 +210,10 @@ class Judge:
             self.foreign.clear()
         if key not in self.known:
             self.tell(len(self.known))
-            self.known[key] = self._judged(stack, asked_of, relation, asked is None)
+            try:
+                self.known[key] = self._judged(stack, asked_of, relation, asked is None)
+            except program.InternalError as why:
+                self.known[key] = Judgement(NOT_KNOWN, str(why))
         return self.known[key]
 
     def _judged(self, stack: Stack, asked: Request, relation: str, is_of_nothing: bool) -> Judgement:

@@ -35,8 +35,9 @@ MOST_UNDECIDED = 20
 class Comparison:
     """Filters, oldest first, a profile and x86-64's table; a relation; of a resolved profile the index of each entry in
     the user's, and for each architecture the least number that runc answers with ENOSYS; whether x86-64 alone is
-    judged, whatever the profile names; the OCI name of the table's architecture, if that isn't x86-64; and for each
-    architecture the least number that no entry of the profile answers, whatever it names."""
+    judged, whatever the profile names; the OCI name of the table's architecture, if that isn't x86-64; the filters that
+    were given, if these answer some calls in their place; and for each architecture the least number that no entry of
+    the profile answers, whatever it names."""
 
     filters: Sequence[Filter]
     profile: bytes
@@ -46,6 +47,7 @@ class Comparison:
     stub: newer.Bounds = field(default_factory=dict)
     is_native: bool = False
     architecture: str = architectures.NATIVE
+    given: Sequence[Filter] | None = None
     bounds: newer.Bounds = field(default_factory=dict)
 
     @property
@@ -74,7 +76,11 @@ class Comparison:
         done = client.compare([*scope, *RELATIONS[relation]], given)
         known = self.facts if b"\nskipped " in done.out else None
         pointer = None if is_by_call and any(map(looks_at_pointer, filters)) else 0
-        return done.status, verdicts.report(done.text, known.names if known else None, judged.has, pointer)
+        report = verdicts.report(done.text, known.names if known else None, judged.has, pointer)
+        name = next(iter(judged.of))
+        shown = report.on(architectures.JUDGED[name]) if is_by_call and name in architectures.JUDGED else report
+        verdicts.check_answers(shown, [one.data for one in self.given or self.filters])
+        return done.status, report
 
     def _run_others(self, filters: Sequence[bytes], relation: str) -> tuple[int, Report]:
         """The same over all records; those of several architectures that are judged are left out, and a profile denies

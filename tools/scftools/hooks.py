@@ -432,8 +432,8 @@ def run_safely(find: Callable[[], Finding]) -> Finding:
     try:
         return find()
     except (ContainerError, program.ToolError) as why:
-        return failure(str(why), program.NOT_BUILT if getattr(why, "status", None) == program.NOT_BUILT
-                       else program.IO_ERROR)
+        status = getattr(why, "status", None)
+        return failure(str(why), status if status in (program.INTERNAL, program.NOT_BUILT) else program.IO_ERROR)
     except processes.Unreadable as why:
         return failure(f"{why} (--force stops it)" if isinstance(why, hold.Waiting) else str(why))
     except processes.Interrupted as came:
@@ -442,6 +442,9 @@ def run_safely(find: Callable[[], Finding]) -> Finding:
         return failure("out of memory")
     except OSError as error:
         return failure(f"the container can't be inspected: {error.strerror}")
+    except ModuleNotFoundError as error:
+        return failure(program.why_it_lacks(error), program.NOT_BUILT)
     except Exception as error:  # pylint: disable=broad-exception-caught
-        # a fault of this tool's own: nothing fails open
-        return failure(f"{program.name()} itself failed: {type(error).__name__}")
+        # nothing fails open
+        return failure(str(program.InternalError(f"{program.name()} itself failed: {type(error).__name__}")),
+                       program.INTERNAL)

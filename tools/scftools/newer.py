@@ -40,7 +40,7 @@ def _can_split(comparison: Comparison, bounds: Bounds) -> bool:
 def _only(comparison: Comparison, bounds: Bounds, answer: Answer, is_beyond: bool) -> Comparison:
     """The comparison of filters that are answered alike below the bounds, or from them on."""
     those = [replace(it, data=_split(it.data, bounds, answer, is_beyond)) for it in comparison.filters]
-    return replace(comparison, filters=those, stub={})
+    return replace(comparison, filters=those, stub={}, given=comparison.given or comparison.filters)
 
 
 def _default_of(profile: bytes) -> Answer | None:

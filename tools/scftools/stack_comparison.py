@@ -31,7 +31,7 @@ class StackComparison:
         words += [] if numbers is None else [f"--nr-from={numbers[0]}", f"--nr-to={numbers[1]}"]
         done = client.compare(words, given)
         pointer = None if scope == CALLS and any(map(looks_at_pointer, left + right)) else 0
-        return done.status, verdicts.report(done.text, pointer=pointer)
+        return done.status, verdicts.check_answers(verdicts.report(done.text, pointer=pointer), left, right)
 
     def of_numbers(self, first: int, last: int) -> Verdict | None:
         """The verdict on the x86-64 syscalls with numbers from `first` to `last`, both included."""

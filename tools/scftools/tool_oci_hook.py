@@ -30,7 +30,7 @@ since a runtime may call its hooks before the filter is loaded.
 container, and wait longer for it than its own limits allow it to take.
 
 Exit status: 0 confined as configured, 1 not, or the profile is refused, 2 usage error, 3 the state, the configuration
-or the filters can't be read, 4 undecided or not known at the deadline, 125 scf can't be run.
+or the filters can't be read, 4 undecided or not known at the deadline, 70 an internal error, 125 scf can't be run.
 
 Examples:
 

@@ -99,8 +99,9 @@ class OfStates(Hook):
             self.assertEqual((status, child.wait()), (3, -signal.SIGKILL), err)
             self.assertIn("container a\\xed\\xbf\\xbf", err)
             self.assertIn(says, err)
-        with mock.patch.object(hooks, "failure", side_effect=str):
-            self.assertIn("itself failed: KeyError", hooks.run_safely(lambda: {}["none"]))
+        found = hooks.run_safely(lambda: {}["none"])
+        self.assertEqual((found.status, found.verdict), (70, None))
+        self.assertRegex(found.lines()[0], "^internal error: .* itself failed: KeyError; please report it$")
 
     def test_a_process_that_is_gone(self):
         child = subprocess.Popen(["true"])
