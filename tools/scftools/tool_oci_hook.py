@@ -82,8 +82,11 @@ def judge(options, process):
     """Whether the container is confined as its configuration says."""
     config = hooks.configured(process.container)
     if config is None:
+        is_confined = process.kernel.status_of(process.container.pid).get("Seccomp") == "2"
         return hooks.plain_finding(program.SUCCESS if options.allow_unconfined else program.NEGATIVE, "unstated",
-                                   "the configuration has no seccomp profile: the container isn't confined")
+                                   "the configuration has no seccomp profile: " + (
+                                       "the container's first process has a filter that isn't its runtime's"
+                                       if is_confined else "the container isn't confined"))
     asked = verify.request_of(config, options.runtime, options.keep_first, tables.read(options.table),
                               POLICIES[options.policy], verdicts.NATIVE if options.native else None)
     return hooks.finding_of(process.confined(options.wait, options.force), asked, process)
