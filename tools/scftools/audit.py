@@ -33,8 +33,7 @@ from .verify import Request
 # Of several verdicts on the filters of one stack the first of these is that on all of them.
 TOGETHER = (WEAKER, NOT_KNOWN, STRICTER, OTHERWISE, AS_CONFIGURED)
 CONTAINER, UNIT, PROGRAM = KINDS = ("container", "unit", "program")
-# What is compared with if nothing is configured: every syscall is allowed.
-ALLOWS_ALL = b'{"defaultAction": "SCMP_ACT_ALLOW"}'
+ALLOWS_ALL = verify.ALLOWS_ALL
 # How long a process may take to load its filter after its container or unit starts, in seconds.
 TO_CONFINE = 0.5
 # The most comparisons whose results are kept.

@@ -58,7 +58,8 @@ def runs(numbers: Iterable[int]) -> list[tuple[int, int]]:
 
 
 # Verdicts, and how other lines begin that say as much: in green, in red and in yellow (ECMA-48), where there is colour.
-VERDICTS = {"same": 32, "no more": 32, "no less": 32, "differs": 31, "more": 31, "less": 31, "unfinished": 33}
+VERDICTS = {"same": 32, "no more": 32, "no less": 32, "differs": 31, "more": 31, "less": 31, "unfinished": 33,
+            "unconfined by configuration": 31, "unconfined though configured": 31}
 BEGINNINGS = {"accepted ": 32, "fault ": 31, "undecided at ": 33, "undetermined: ": 33}
 # `always`, `never`, or `auto`, which colours at a terminal unless NO_COLOR is set (no-color.org).
 color = "auto"

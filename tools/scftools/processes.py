@@ -145,7 +145,7 @@ def process_of(kernel: Kernel, number: int) -> int:
     """The process of a process's or a thread's number."""
     process = kernel.status_of(number).get("Tgid")
     if process is None:
-        raise Unreadable(f"there is no process {number}")
+        raise Unreadable(f"there is no process {number}: it has ended, or that is its number in another PID namespace")
     return int(process)
 
 
@@ -181,8 +181,14 @@ def look_at_container(kernel: Kernel, container: Container, patience: float = PA
 
 def number_in(text: str, parser: Parser) -> int:
     """The number of a process or a thread among the words of a tool."""
+    if not text:
+        parser.error("'' isn't a process ID: the command that should print one printed nothing")
+    if text == "0":
+        parser.error("'0' isn't a process ID: it is what `podman inspect` prints of a container that doesn't run, and "
+                     "systemctl of a unit")
     if not (text.isascii() and text.isdigit()) or len(text) > 10 or not 0 < int(text) < 2**31:
-        parser.error(f"'{text}' isn't a process ID")
+        parser.error(f"'{text}' isn't a process ID: of a container `podman inspect -f '{{{{.State.Pid}}}}' NAME` prints "
+                     "it, and `docker inspect` so, of a unit `systemctl show -p MainPID --value NAME`")
     return int(text)
 
 

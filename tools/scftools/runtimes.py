@@ -367,9 +367,9 @@ def applied(value: Any, name: str, setting: Setting | None = None) -> AppliedPro
     return replace(found, remarks=remarks, notes=list(dict.fromkeys([*notes, *found.notes])))
 
 
-def read(path: str, name: str, setting: Setting) -> AppliedProfile:
-    """What a runtime makes of the profile in a file; ends the tool where it refuses it."""
+def applied_in(data: bytes, path: str, name: str, setting: Setting) -> AppliedProfile:
+    """What a runtime makes of the profile in what was read of a file; ends the tool where it refuses it."""
     try:
-        return applied(engines.read(profile_inputs.read_engines(path)), name, setting)
+        return applied(engines.read(profile_inputs.plain(data, path)), name, setting)
     except Refused as why:
         raise program.ToolError(f"{path}: {why}", program.NEGATIVE) from why

@@ -24,6 +24,11 @@ these count as `same`, too. With `docker` and `podman` PROFILE may be the engine
 `scf resolve-profile`, for --kernel and --caps, or without --caps for the bounding set of PID; a whole config.json is
 resolved already.
 
+PROFILE may be a container's config.json. If that has no profile, nothing is configured: as `scf audit` says it, a
+process without a filter is then `unconfined by configuration`, and one beside a configured profile `unconfined though
+configured`; one with filters is compared with a profile that allows every syscall. A config.json that is known to be
+that of another container is refused.
+
 With --beside the filters are compared with those that `scf filters-of` wrote into FOLDER, from this process before an
 upgrade or from another one, over each possible record unless --native.
 
@@ -41,10 +46,16 @@ Examples:
     scf verify-process "$PID" profile.json
     scf verify-process --no-more --json "$PID" profile.json
 """
+import os
 import sys
 
-from . import containers, engines, output, processes, profile_inputs, program, runtimes, tables, verify, words
+from . import (containers, engines, inputs, output, processes, profile_inputs, program, runtimes, tables, verify,
+               words)
 from .values import replace
+
+
+# The configuration in a bundle.
+CONFIG = "config.json"
 
 
 def read_words():
@@ -83,15 +94,53 @@ def setting_of(options, kernel):
                    source="the process's bounding set")
 
 
+def seccomp_of(value, name):
+    """What a configuration says about seccomp; ends the tool where runtimes read it otherwise than it is spelled."""
+    try:
+        return verify.seccomp_in(value, name)
+    except verify.ContainerError as why:
+        raise program.ToolError(str(why), program.NEGATIVE) from why
+
+
+def check_owner(kernel, pid, value, name):
+    """Ends the tool where a configuration is known to be another container's than the process is in."""
+    why = verify.why_not_its(kernel, pid, value)
+    if why is not None:
+        raise program.ToolError(f"{why}: `podman inspect -f '{{{{.State.Pid}}}} {{{{.OCIConfigPath}}}}' NAME` prints "
+                                f"the first process of a container and its configuration")
+
+
+def read_profile(name, is_engines):
+    """What is in the file of a profile or a configuration."""
+    if not name:
+        raise program.ToolError("the name of PROFILE is empty: the command that should print it printed nothing")
+    if os.path.basename(name) == CONFIG and not os.path.lexists(name):
+        raise program.ToolError(f"there is no file '{name}': the container has ended, or was removed; of one that runs "
+                                f"`podman inspect -f '{{{{.OCIConfigPath}}}}' NAME` prints it")
+    if os.path.exists(os.path.join(name, CONFIG)):
+        raise program.ToolError(f"'{name}' is a bundle's folder: take the file {CONFIG} in it")
+    return inputs.read_whole(name, "engine's profile") if is_engines else inputs.read(name, "profile")
+
+
 def request_of(options, kernel):
     """How each stack is compared, and with what."""
     settings = tables.read(options.table), options.scope, options.relation
     if options.beside is not None:
         return verify.SavedRequest(verify.read_saved(options.beside), *settings)
-    if options.runtime is None:
-        return verify.Request(profile_inputs.read(options.profile, is_runtimes=True).data, *settings)
-    applied = runtimes.read(options.profile, options.runtime, setting_of(options, kernel))
-    return verify.Request(applied.data, *settings, applied)
+    name, runtime = options.profile, options.runtime
+    data = read_profile(name, runtime is not None)
+    value = verify.configuration_in(data)
+    configured = None
+    if value is not None:
+        check_owner(kernel, options.pid, value, name)
+        configured = seccomp_of(value, name) is not None
+        if not configured:
+            return verify.Request(verify.ALLOWS_ALL, *settings, configured=False)
+    if runtime is None:
+        return verify.Request(profile_inputs.profile_in(data, name, is_runtimes=True).data, *settings,
+                              configured=configured)
+    applied = runtimes.applied_in(data, name, runtime, setting_of(options, kernel))
+    return verify.Request(applied.data, *settings, applied, configured)
 
 
 def main():
@@ -114,7 +163,7 @@ def main():
     if options.json:
         group = None if container is None else container.description
         value = {**verify.as_json(blocks, found, request, group), "status": status, "others": others}
-        if options.runtime is not None:
+        if options.runtime is not None or request.remarks:
             value["remarks"] = request.remarks
         output.put_json({**value, "verdict": None} if is_unknown else value)
         return status

@@ -3,20 +3,32 @@ and the threads that have it."""
 from __future__ import annotations
 
 import json
+import os
 from collections.abc import Callable, Iterator, Sequence
 
 from . import client, compare, engines, filters, newer, output, profiles, program, runtimes, stack_comparison, verdicts
 from .compare import Comparison
 from .filters import Filter
-from .processes import Inspection, Stack, threads_text
+from .processes import Inspection, Kernel, Stack, threads_text
 from .runtimes import AppliedProfile
 from .stack_comparison import StackComparison
 from .tables import Table
-from .values import Any, dataclass, field, replace
+from .values import Any, Pattern, dataclass, field, replace
 from .verdicts import Report
 
 # The sources of faults that no stack causes.
 OF_ALL = ("profile", "table", "number", "command", "input")
+# What is compared with if nothing is configured: every syscall is allowed.
+ALLOWS_ALL = b'{"defaultAction": "SCMP_ACT_ALLOW"}'
+# The verdict on threads without a filter, by whether a container's configuration has a profile; None if the profile
+# isn't that of a configuration.
+UNCONFINED = {None: "unconfined", False: "unconfined by configuration", True: "unconfined though configured"}
+
+
+# The identifiers that engines give containers, and how many digits of them they show.
+IDENTIFIER, SHORT = Pattern("(?<![0-9a-f])[0-9a-f]{64}(?![0-9a-f])"), 12
+# linux/proc_fs.h: the inode of the machine's own PID namespace.
+PROC_PID_INIT_INO = 0xEFFFFFFC
 
 
 class ContainerError(Exception):
@@ -35,6 +47,8 @@ class Block:
     stub: dict[str, int] = field(default_factory=dict)
     # the scope of the comparison
     scope: str = verdicts.NATIVE
+    # whether a container's configuration has a profile, as in UNCONFINED
+    configured: bool | None = None
 
     @property
     def is_of_all(self) -> bool:
@@ -45,7 +59,7 @@ class Block:
     def verdict(self) -> str | None:
         """The verdict; of a stack without filters why there is none."""
         if self.report is None:
-            return "strict" if self.stack.is_strict else "unconfined"
+            return "strict" if self.stack.is_strict else UNCONFINED[self.configured]
         return self.report.verdict.word if self.report.verdict else None
 
 
@@ -61,10 +75,15 @@ class Request:
     applied: AppliedProfile | None = None
     # the OCI names of architectures of which another profile speaks
     elsewhere: tuple[str, ...] = ()
+    # whether the profile is what a container's configuration says, and that has one
+    configured: bool | None = None
 
     @property
     def remarks(self) -> list[str]:
         """Notes on the profile as its runtime applies it."""
+        if self.configured is False:
+            return ["nothing is configured: linux has no seccomp, as with --privileged and seccomp=unconfined; that "
+                    "counts as a profile that allows every syscall"]
         return list(self.applied.remarks) if self.applied is not None else []
 
     def judge(self, stack: Stack) -> Block:
@@ -91,6 +110,16 @@ class Request:
         return {**own, "stub": block.stub} if block.stub else own
 
 
+def configuration_in(data: bytes) -> Any:
+    """A container's configuration (config.json) as JSON; None if a text is something else, or can't be read."""
+    try:
+        value = engines.read(data)
+    except engines.Refused:
+        return None
+    is_other = not isinstance(value, dict) or value.get("defaultAction") is not None
+    return None if is_other or not {"linux", "ociVersion"} & value.keys() else value
+
+
 def seccomp_in(value: Any, name: str) -> dict[str, Any] | None:
     """What a configuration with this name says about seccomp, as a config.json with nothing else in it, or None if it
     says nothing. Runtimes read only `linux.seccomp`, whatever else is in it."""
@@ -107,6 +136,27 @@ def member(value: Any, wanted: str, path: str) -> Any:
     if others:
         raise ContainerError(f"'{path}' has a member '{others[0]}', which runc reads as {wanted} and crun doesn't")
     return value.get(wanted)
+
+
+def why_not_its(kernel: Kernel, process: int, config: dict[str, Any]) -> str | None:
+    """Why a configuration isn't that of the container that a process is in; None if it may be.
+
+    A container's identifier stands in the path that its configuration gives its control group, and in that of the
+    groups of its processes; and where a configuration makes a PID namespace, its processes aren't in the machine's own.
+    """
+    linux = config.get("linux")
+    linux = linux if isinstance(linux, dict) else {}
+    who = f"process {process} ({output.escaped(kernel.name_of(process))})"
+    path, spaces = linux.get("cgroupsPath"), linux.get("namespaces")
+    stated = [it[0] for it in IDENTIFIER.finditer(path)] if isinstance(path, str) else []
+    known = [it[0] for group in kernel.groups_of(process).values() for it in IDENTIFIER.finditer(os.fsdecode(group))]
+    if stated and known and stated[-1] not in known:
+        return (f"the configuration is that of the container {stated[-1][:SHORT]}, and {who} is in the container "
+                f"{known[-1][:SHORT]}")
+    makes_space = isinstance(spaces, list) and {"type": "pid"} in spaces
+    if makes_space and [inode for _, inode in kernel.namespaces_of(process)] == [PROC_PID_INIT_INO]:
+        return f"{who} is in no container with this configuration, which has a PID namespace of its own"
+    return None
 
 
 def request_of(config: dict[str, Any], runtime: str | None, keeps_first: bool, table: Table, relation: str,
@@ -146,6 +196,7 @@ class SavedRequest:
     scope: str | None
     relation: str
     remarks: Sequence[str] = ()
+    configured: bool | None = None
 
     def judge(self, stack: Stack) -> Block:
         comparison = StackComparison(stack.named, self.saved, self.table, self.relation)
@@ -176,7 +227,7 @@ def blocks_of(found: Inspection, judge: Callable[[Stack], Any], unfiltered: Call
 
 def blocks(found: Inspection, request: Request | SavedRequest) -> list[Block]:
     """The blocks of stacks that are compared."""
-    return blocks_of(found, request.judge, Block)
+    return blocks_of(found, request.judge, lambda stack, status: Block(stack, status, configured=request.configured))
 
 
 def of_threads(stack: Stack, found: Inspection) -> Iterator[str]:
@@ -209,6 +260,8 @@ def lines(made: Sequence[Block], found: Inspection, request: Request | SavedRequ
             is_printed = is_printed or report.verdict is not None
             yield from report.printed if is_verbose else report.brief
             yield from output.notes(request.notes(replace(block, report=report)))
+        elif request.configured is not None:
+            yield block.verdict or ""
         yield from output.notes(of_threads(block.stack, found))
     yield from output.notes(found.notes)
 

@@ -38,6 +38,9 @@ def comments(out):
     return [line[2:] for line in out.split("\n") if line.startswith("# ")]
 
 
+NO_PROCESS = "there is no process {}: it has ended, or that is its number in another PID namespace"
+
+
 class Programs(Confined):
     """Both tools, as far as they are alike."""
 
@@ -61,10 +64,10 @@ class Programs(Confined):
         child.wait()
         profile = self.file("p", ALLOWS_ALL)
         self.assertEqual(self.run_tool("filters-of", str(child.pid), "out"),
-                         (3, "", f"filters-of: there is no process {child.pid}\n"))
+                         (3, "", f"filters-of: {NO_PROCESS.format(child.pid)}\n"))
         for words in ((), ("--all",)):
             self.assertEqual(self.run_tool("verify-process", *words, str(child.pid), profile),
-                             (3, "", f"verify-process: there is no process {child.pid}\n"))
+                             (3, "", f"verify-process: {NO_PROCESS.format(child.pid)}\n"))
 
     @here
     def test_json_of_a_process_that_has_ended(self):
@@ -75,7 +78,7 @@ class Programs(Confined):
         zombie.kill()
         self.wait_for(zombie.pid, "Z")
         profile = self.file("p", ALLOWS_ALL)
-        for pid, why in ((ended_child.pid, f"there is no process {ended_child.pid}"),
+        for pid, why in ((ended_child.pid, NO_PROCESS.format(ended_child.pid)),
                          (zombie.pid, f"process {zombie.pid} is a zombie: it has ended, and waits for its parent")):
             for name, words in (("verify-process", (str(pid), profile)), ("surface", ("--pid", str(pid)))):
                 status, out, err = self.run_tool(name, "--json", *words)

@@ -354,6 +354,66 @@ class Podman(Containers):
                     self.is_same(pid, PODMAN, "--runtime", "podman", "--caps", ",".join(held))
                 self.podman("rm", "--force", "--time", "0", self.name)
 
+    def started(self, runtime, name, *words):
+        """A container of podman: its identifier, its first process and its configuration."""
+        self.addCleanup(self.podman, "rm", "--force", "--time", "0", name)
+        status, said = self.podman("--runtime", shutil.which(runtime), "run", "--detach", "--name", name, *words,
+                                   "--rootfs", f"{self.where}/rootfs", "sleep", "1000")
+        if status:
+            self.skipTest(f"podman starts no container here: {said.strip()}")
+        shown = self.podman("inspect", "--format", "{{.Id}} {{.State.Pid}} {{.OCIConfigPath}}", name)[1]
+        return shown.split()
+
+    def says(self, runtime, identifier, pid, path, expected):
+        """What verify-process, audit, filters-of and oci-hook say of a container: whether it is confined by its
+        configuration, or unconfined by that."""
+        status, word = (0, "same") if expected == "as configured" else (1, expected)
+        for given in ((), ("--all",), ("--no-more",)):
+            found, out, err = self.run_tool("verify-process", "--runtime", runtime, *given, pid, path)
+            self.assertEqual((found, out.splitlines()[0], err), (
+                status, "no more" if given == ("--no-more",) and word == "same" else word, ""))
+        found = json.loads(self.run_tool("verify-process", "--runtime", runtime, "--json", pid, path)[1])
+        self.assertEqual((found["status"], found["verdict"]), (status, word))
+        rows = json.loads(self.run_tool("audit", "--json")[1])["rows"]
+        self.assertEqual([it["verdict"] for it in rows if it.get("id") == identifier], [expected])
+        found, out, err = self.run_tool("filters-of", pid, f"filters-{identifier}")
+        self.assertEqual((found, len(out.splitlines()), err), (0, 1, "") if word == "same" else
+                         (3, 0, f"filters-of: process {pid} has no filter\n"))
+        state = json.dumps({"ociVersion": "1.0.2", "id": identifier, "status": "running", "pid": int(pid),
+                            "bundle": os.path.dirname(path)})
+        found, _, err = self.run_tool("oci-hook", "--runtime", runtime, "--wait=0", given=state.encode())
+        self.assertEqual((found, self.lines(err)[0].rpartition(" (")[2]), (
+            status, "same)" if word == "same" else "unstated)"))
+
+    def test_with_and_without_a_profile(self):
+        """A container, one in a pod, a privileged one, and one without a profile, by both runtimes."""
+        for it in ("podman", "runc", "crun"):
+            if not shutil.which(it):
+                self.skipTest(f"there is no {it} here")
+        self.addCleanup(self.remove_groups)
+        pod, parent = f"{self.name}-pod", ("--cgroup-parent", f"/{self.name}")
+        self.addCleanup(self.podman, "pod", "rm", "--force", pod)
+        status, said = self.podman("pod", "create", "--infra=false", "--name", pod, *parent)
+        if status:
+            self.skipTest(f"podman makes no pod here: {said.strip()}")
+        known = []
+        for runtime, name, words, expected in (
+                ("crun", "plain", parent, "as configured"), ("crun", "in", ("--pod", pod), "as configured"),
+                ("crun", "all", ("--privileged", *parent), "unconfined by configuration"),
+                ("crun", "open", ("--security-opt", "seccomp=unconfined", *parent), "unconfined by configuration"),
+                ("runc", "runc", parent, "as configured"),
+                ("runc", "runc-all", ("--privileged", *parent), "unconfined by configuration")):
+            with self.subTest(name):
+                identifier, pid, path = self.started(runtime, f"{self.name}-{name}", *words)
+                self.says("podman" if runtime == "crun" else runtime, identifier, pid, path, expected)
+                known.append((identifier, pid, path))
+        # the configuration of another container
+        for (one, pid, _), (other, _, path) in zip(known, known[1:]):
+            status, out, err = self.run_tool("verify-process", "--runtime", "podman", pid, path)
+            self.assertEqual((status, out), (2, ""))
+            self.assertIn(f"the configuration is that of the container {other[:12]}, and process {pid} (sleep) is in the "
+                          f"container {one[:12]}: `podman inspect", err)
+
     def remove_groups(self):
         """Podman leaves the control group that holds its containers'."""
         for path in glob.glob(f"/sys/fs/cgroup/{self.name}") + glob.glob(f"/sys/fs/cgroup/*/{self.name}"):

@@ -1,0 +1,196 @@
+"""tools/verify-process beside the configuration (config.json) of a container: what is said where nothing is configured,
+and of the mistakes that users make."""
+import json
+import os
+import unittest
+
+from confined import FakeKernel, here
+from test_filters_of import MOUNT, Confined, comments, refuses, refusing
+from scftools import verify
+
+ONE, TWO = "01" * 32, "ef" * 32
+BY_CONFIGURATION, THOUGH = "unconfined by configuration", "unconfined though configured"
+NOTHING = ("nothing is configured: linux has no seccomp, as with --privileged and seccomp=unconfined; that counts as a "
+           "profile that allows every syscall")
+# runc 1.1 and crun 1.8 start a container without seccomp for each of these.
+WITHOUT = ({"linux": {}}, {"linux": {"seccomp": None}}, {"ociVersion": "1.0.2", "linux": None},
+           {"ociVersion": "1.0.2", "process": {"args": ["true"]}})
+RUNTIMES = ((), ("--runtime", "podman"), ("--runtime", "docker"), ("--runtime", "runc"), ("--runtime", "crun"))
+
+
+def config(*names, **members):
+    """A configuration whose profile refuses these calls."""
+    seccomp = {**json.loads(refuses(*names)), "architectures": ["SCMP_ARCH_X86_64"]}
+    return {"ociVersion": "1.0.2", "linux": {"seccomp": seccomp, **members}}
+
+
+@here
+class Configurations(Confined):
+    def verify(self, child, given, *words):
+        path = self.file("config.json", json.dumps(given))
+        status, out, err = self.run_tool("verify-process", *words, str(child.pid), path)
+        self.assertEqual(err, "")
+        return status, out
+
+    def test_nothing_is_configured_and_no_filter_is_there(self):
+        child = self.child([])
+        for given in WITHOUT:
+            for words in RUNTIMES:
+                status, out = self.verify(child, given, *words)
+                self.assertEqual((status, out.splitlines()[0]), (1, BY_CONFIGURATION), (given, words))
+                self.assertIn(f"# process {child.pid} (", out)
+                self.assertIn(f"# {NOTHING}\n", out)
+                status, out = self.verify(child, given, "--json", *words)
+                found = json.loads(out)
+                self.assertEqual((status, found["status"], found["verdict"], found["stacks"][0]["verdict"],
+                                  found["remarks"]), (1, 1, BY_CONFIGURATION, BY_CONFIGURATION, [NOTHING]))
+        for words in (("--no-more",), ("--no-less",), ("--calls",), ("--native",)):
+            self.assertEqual(self.verify(child, WITHOUT[0], *words)[0], 1, words)
+
+    def test_nothing_is_configured_and_a_filter_is_there(self):
+        """It is stricter than what is configured; `audit` says so, too."""
+        child = self.child([refusing(MOUNT)])
+        for words in RUNTIMES:
+            status, out = self.verify(child, WITHOUT[0], *words)
+            self.assertEqual((status, out.splitlines()[0], out.splitlines()[2:4]),
+                             (1, "differs", ["filter ERRNO 1", "profile ALLOW 0"]))
+            self.assertIn("it is stricter, and never more permissive than the profile", comments(out))
+            self.assertIn(NOTHING, comments(out))
+            self.assertEqual(self.verify(child, WITHOUT[0], "--no-more", *words)[1].splitlines()[0], "no more")
+            found = json.loads(self.verify(child, WITHOUT[0], "--json", *words)[1])
+            self.assertEqual((found["verdict"], found["stacks"][0]["no_more"], found["remarks"]),
+                             ("differs", "no more", [NOTHING]))
+
+    def test_something_is_configured_and_no_filter_is_there(self):
+        child = self.child([])
+        for words in RUNTIMES:
+            status, out = self.verify(child, config("mount"), *words)
+            self.assertEqual((status, out.splitlines()[0]), (1, THOUGH))
+            self.assertNotIn(NOTHING, out)
+            found = json.loads(self.verify(child, config("mount"), "--json", *words)[1])
+            self.assertEqual((found["status"], found["verdict"]), (1, THOUGH))
+
+    def test_a_thread_beside_others(self):
+        child = self.child([refusing(MOUNT)], [])
+        for given, word in ((config("mount"), THOUGH), ({"linux": {}}, BY_CONFIGURATION)):
+            status, out = self.verify(child, given)
+            self.assertEqual(status, 1)
+            self.assertIn(word, out.splitlines())
+            found = json.loads(self.verify(child, given, "--json")[1])
+            self.assertIn(word, [it["verdict"] for it in found["stacks"]])
+
+    def test_a_profile_alone_configures_nothing(self):
+        """A profile isn't a container's configuration: nothing is said of one."""
+        child = self.child([])
+        path = self.file("p.json", refuses("mount"))
+        status, out, _ = self.run_tool("verify-process", str(child.pid), path)
+        self.assertEqual((status, len(out.splitlines())), (1, 1), out)
+        found = json.loads(self.run_tool("verify-process", "--json", str(child.pid), path)[1])
+        self.assertEqual(found["verdict"], "unconfined")
+
+    def test_what_only_some_runtimes_read(self):
+        child = self.child([])
+        for given, says in (({"linux": {"Seccomp": {}}}, "has a member 'Seccomp', which runc reads as seccomp"),
+                            ({"ociVersion": "1", "Linux": {}}, "has a member 'Linux', which runc reads as linux"),
+                            ({"linux": 7}, "isn't a container's configuration")):
+            path = self.file("config.json", json.dumps(given))
+            for words in RUNTIMES:
+                status, out, err = self.run_tool("verify-process", *words, str(child.pid), path)
+                self.assertEqual((status, out), (1, ""), given)
+                self.assertIn(says, err)
+
+    def test_a_filter_that_the_configuration_of_a_hook_lacks(self):
+        """The hook doesn't say that it isn't there."""
+        state = {"ociVersion": "1.0.2", "id": "box", "status": "running", "bundle": self.folder}
+        self.file("config.json", json.dumps(WITHOUT[0]))
+        for filters, says in (([], "the container isn't confined"),
+                              ([refusing(MOUNT)], "the container's first process has a filter that isn't its "
+                                                  "runtime's")):
+            given = json.dumps({**state, "pid": self.child(filters).pid}).encode()
+            status, _, err = self.run_tool("oci-hook", "--wait=0", given=given)
+            self.assertEqual(status, 1)
+            self.assertIn(f"oci-hook: the configuration has no seccomp profile: {says}\n", err)
+
+
+class Owners(unittest.TestCase):
+    """Which process a configuration is known not to be of, by the groups and namespaces of the process."""
+
+    def why_not(self, groups, linux, spaces=((4, 0xEFFFFFFC),)):
+        kernel = FakeKernel()
+        kernel.groups_of = lambda _: {"": groups.encode()}
+        kernel.namespaces_of, kernel.name_of = lambda _: list(spaces), lambda _: b"sl\x1beep"
+        return verify.why_not_its(kernel, 7, {"linux": linux})
+
+    def test_identifiers(self):
+        """As podman and Docker state a group, by either driver, and as the kernel shows the process's."""
+        for stated in (f"/libpod_parent/libpod-{ONE}", f"machine.slice:libpod:{ONE}", f"/docker/{ONE}",
+                       f"/kubepods/pod{TWO}/{ONE}"):
+            for shown in (f"/libpod_parent/libpod-{TWO}", f"/machine.slice/libpod-{TWO}.scope/container",
+                          f"/docker/{TWO}/init.scope"):
+                self.assertEqual(self.why_not(shown, {"cgroupsPath": stated}),
+                                 "the configuration is that of the container 010101010101, and process 7 (sl\\x1beep) "
+                                 "is in the container efefefefefef")
+                self.assertIsNone(self.why_not(shown.replace(TWO, ONE), {"cgroupsPath": stated}))
+            # a container in a container, and a process whose group names none
+            self.assertIsNone(self.why_not(f"/docker/{TWO}/docker/{ONE}", {"cgroupsPath": stated}))
+            self.assertIsNone(self.why_not("/", {"cgroupsPath": stated}))
+        for linux in ({}, {"cgroupsPath": 7}, {"cgroupsPath": "/box"}, {"namespaces": 7}, None):
+            self.assertIsNone(self.why_not(f"/docker/{TWO}", linux))
+
+    def test_namespaces(self):
+        """conmon, and the number of a process in the container taken for one of the machine's."""
+        own = {"namespaces": [{"type": "mount"}, {"type": "pid"}]}
+        self.assertEqual(self.why_not("/", own), "process 7 (sl\\x1beep) is in no container with this configuration, "
+                                                 "which has a PID namespace of its own")
+        for linux, spaces in ((own, [(4, 0xF0000001), (4, 0xEFFFFFFC)]), (own, [(4, 0xF0000001)]), (own, []),
+                              ({"namespaces": [{"type": "pid", "path": "/proc/1/ns/pid"}]}, [(4, 0xEFFFFFFC)]),
+                              ({"namespaces": [{"type": "mount"}]}, [(4, 0xEFFFFFFC)])):
+            self.assertIsNone(self.why_not("/", linux, spaces))
+
+
+class Mistakes(Confined):
+    """What users type in place of a process and of a configuration: the line says what to do."""
+
+    def says(self, *words):
+        status, out, err = self.run_tool("verify-process", "--runtime", "podman", "--", *words)
+        self.assertEqual((status, out), (2, ""), words)
+        return err.splitlines()[-1]
+
+    def test_a_process(self):
+        path = self.file("p.json", refuses("mount"))
+        for word, says in (("box", "'box' isn't a process ID: of a container `podman inspect -f '{{.State.Pid}}' NAME` "
+                                   "prints it, and `docker inspect` so, of a unit `systemctl show -p MainPID --value "
+                                   "NAME`"),
+                           ("", "'' isn't a process ID: the command that should print one printed nothing"),
+                           ("0", "'0' isn't a process ID: it is what `podman inspect` prints of a container that "
+                                 "doesn't run, and systemctl of a unit")):
+            self.assertEqual(self.says(word, path), f"verify-process: {says}")
+
+    def test_a_configuration(self):
+        own = str(os.getpid())
+        self.assertEqual(self.says(own, ""), "verify-process: the name of PROFILE is empty: the command that should "
+                                             "print it printed nothing")
+        path = os.path.join(self.folder, "none", "config.json")
+        self.assertEqual(self.says(own, path),
+                         f"verify-process: there is no file '{path}': the container has ended, or was removed; of one "
+                         "that runs `podman inspect -f '{{.OCIConfigPath}}' NAME` prints it")
+        self.file("bundle/config.json", "{}")
+        self.assertEqual(self.says(own, f"{self.folder}/bundle"),
+                         f"verify-process: '{self.folder}/bundle' is a bundle's folder: take the file config.json in it")
+        self.assertEqual(self.says(own, f"{self.folder}/p.json"),
+                         f"verify-process: there is no file '{self.folder}/p.json'")
+
+    @here
+    def test_the_configuration_of_another_container(self):
+        child = self.child([])
+        path = self.file("config.json", json.dumps(config("mount", namespaces=[{"type": "pid"}])))
+        with open("/proc/self/ns/pid", "rb") as file:
+            is_first = os.fstat(file.fileno()).st_ino == 0xEFFFFFFC
+        if not is_first:
+            self.skipTest("this isn't the machine's own PID namespace")
+        self.assertIn(" is in no container with this configuration, which has a PID namespace of its own: `podman inspect "
+                      "-f '{{.State.Pid}} {{.OCIConfigPath}}' NAME` prints", self.says(str(child.pid), path))
+
+
+if __name__ == "__main__":
+    unittest.main()
