@@ -143,6 +143,13 @@ def request_of(options, kernel):
     return verify.Request(applied.data, *settings, applied, configured)
 
 
+def other_runtime(options, kernel, request, worst):
+    """The line, where filters aren't as configured, that another runtime than was said reads the configuration."""
+    if request.configured and worst.report is not None and worst.status == program.NEGATIVE:
+        known = [*verify.identifiers_of(kernel, options.pid), *verify.identifiers_in(options.profile)]
+        yield from filter(None, [verify.other_runtime(known, options.runtime)])
+
+
 def main():
     options = read_words()
     kernel = processes.Kernel()
@@ -160,15 +167,16 @@ def main():
     others = None if container is None else containers.others_note(kernel, container)
     is_unknown = others is not None and blocks[0].status == program.SUCCESS
     status = program.UNKNOWN if is_unknown else blocks[0].status
+    remarks = [*request.remarks, *other_runtime(options, kernel, request, blocks[0])]
     if options.json:
         group = None if container is None else container.description
         value = {**verify.as_json(blocks, found, request, group), "status": status, "others": others}
-        if options.runtime is not None or request.remarks:
-            value["remarks"] = request.remarks
+        if options.runtime is not None or remarks:
+            value["remarks"] = remarks
         output.put_json({**value, "verdict": None} if is_unknown else value)
         return status
     output.put_lines(verify.lines(blocks, found, request, options.verbose))
-    output.put_lines(output.notes(request.remarks))
+    output.put_lines(output.notes(remarks))
     if others is not None:
         output.put_line(f"# {others}")
     if container is not None:

@@ -27,6 +27,8 @@ UNCONFINED = {None: "unconfined", False: "unconfined by configuration", True: "u
 
 # The identifiers that engines give containers, and how many digits of them they show.
 IDENTIFIER, SHORT = Pattern("(?<![0-9a-f])[0-9a-f]{64}(?![0-9a-f])"), 12
+# The file that a runtime keeps of a container of root's, in a folder with its identifier below /run/RUNTIME.
+STATES = {"runc": "state.json", "crun": "status"}
 # linux/proc_fs.h: the inode of the machine's own PID namespace.
 PROC_PID_INIT_INO = 0xEFFFFFFC
 
@@ -138,6 +140,27 @@ def member(value: Any, wanted: str, path: str) -> Any:
     return value.get(wanted)
 
 
+def identifiers_in(text: str) -> list[str]:
+    """The identifiers of containers in a text."""
+    return [it[0] for it in IDENTIFIER.finditer(text)]
+
+
+def identifiers_of(kernel: Kernel, process: int) -> list[str]:
+    """The identifiers of containers in the paths of a process's control groups."""
+    return [it for group in kernel.groups_of(process).values() for it in identifiers_in(os.fsdecode(group))]
+
+
+def other_runtime(identifiers: Sequence[str], runtime: str | None) -> str | None:
+    """The line about the runtime of a container with one of these identifiers, where its own files show that another one
+    than was said reads its profile."""
+    program = runtimes.RUNTIMES[runtime].program if runtime is not None else None
+    for name, file in STATES.items():
+        folder = next((f"/run/{name}/{it}" for it in identifiers if os.path.exists(f"/run/{name}/{it}/{file}")), None)
+        if folder is not None and name != program:
+            return f"the container's runtime is {name}, by {folder}: --runtime {name} reads the profile as it does"
+    return None
+
+
 def why_not_its(kernel: Kernel, process: int, config: dict[str, Any]) -> str | None:
     """Why a configuration isn't that of the container that a process is in; None if it may be.
 
@@ -148,8 +171,7 @@ def why_not_its(kernel: Kernel, process: int, config: dict[str, Any]) -> str | N
     linux = linux if isinstance(linux, dict) else {}
     who = f"process {process} ({output.escaped(kernel.name_of(process))})"
     path, spaces = linux.get("cgroupsPath"), linux.get("namespaces")
-    stated = [it[0] for it in IDENTIFIER.finditer(path)] if isinstance(path, str) else []
-    known = [it[0] for group in kernel.groups_of(process).values() for it in IDENTIFIER.finditer(os.fsdecode(group))]
+    stated, known = identifiers_in(path) if isinstance(path, str) else [], identifiers_of(kernel, process)
     if stated and known and stated[-1] not in known:
         return (f"the configuration is that of the container {stated[-1][:SHORT]}, and {who} is in the container "
                 f"{known[-1][:SHORT]}")

@@ -3,6 +3,7 @@ and of the mistakes that users make."""
 import json
 import os
 import unittest
+from unittest import mock
 
 from confined import FakeKernel, here
 from test_filters_of import MOUNT, Confined, comments, refuses, refusing
@@ -146,6 +147,23 @@ class Owners(unittest.TestCase):
                               ({"namespaces": [{"type": "pid", "path": "/proc/1/ns/pid"}]}, [(4, 0xEFFFFFFC)]),
                               ({"namespaces": [{"type": "mount"}]}, [(4, 0xEFFFFFFC)])):
             self.assertIsNone(self.why_not("/", linux, spaces))
+
+
+class OtherRuntimes(unittest.TestCase):
+    """The runtime that a container really has, by the folders that runc and crun keep for root."""
+
+    def other(self, found, runtime):
+        with mock.patch("os.path.exists", lambda path: path == found):
+            return verify.other_runtime([TWO, ONE], runtime)
+
+    def test_the_folders(self):
+        for name, state in (("runc", f"/run/runc/{ONE}/state.json"), ("crun", f"/run/crun/{ONE}/status")):
+            for runtime in (None, "runc", "crun", "docker", "podman"):
+                is_it = runtime in {"runc": ("runc", "docker"), "crun": ("crun", "podman")}[name]
+                self.assertEqual(self.other(state, runtime), None if is_it else (
+                    f"the container's runtime is {name}, by /run/{name}/{ONE}: --runtime {name} reads the profile as it "
+                    "does"))
+        self.assertIsNone(self.other("/run/runc/x/state.json", "crun"))
 
 
 class Mistakes(Confined):
