@@ -279,6 +279,9 @@ def finding_of(found: Inspection, request: verify.Request, process: Process) -> 
     if others is not None and status == program.SUCCESS:
         status, verdict = program.UNKNOWN, None
     remarks = [*request.remarks, *process.members.remarks, *([others] if others else [])]
+    if status == program.NEGATIVE and blocks[0].report is not None:
+        runtime = request.applied.runtime.name if request.applied is not None else None
+        remarks += filter(None, [verify.other_runtime([process.container.name], runtime)])
 
     def lines() -> list[str]:
         own = [line for line in verify.lines(blocks, found, request)

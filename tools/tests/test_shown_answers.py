@@ -36,6 +36,7 @@ class Tools(Confined):
         super().setUp()
         self.tree = self.made_tree(LIES)
         self.filter = self.file("f.bpf", refusing(MOUNT))
+        self.other = self.file("others/f.bpf", refusing(MOUNT, MOUNT + 1))
         self.profile = self.file("p.json", refuses("mount"))
 
     def run_lying(self, name, *words, given=b"", side="profile"):
@@ -49,18 +50,17 @@ class Tools(Confined):
     def test_compare_and_diff(self):
         for words in ((), ("--native",), ("--calls",), ("--all",), ("--json",), ("--no-more",)):
             self.fails("compare", *words, self.filter, self.profile)
-            self.fails("compare", *words, self.filter, "--beside", self.filter, side="beside")
+            self.fails("compare", *words, self.filter, "--beside", self.other, side="beside")
             if words != ("--all",):
-                self.fails("diff", *words, self.filter, self.filter, side="beside")
-        other = self.file("other.bpf", refusing(165, 166))
-        self.fails("compare", self.filter, other, self.profile)
+                self.fails("diff", *words, self.filter, self.other, side="beside")
+        self.fails("compare", self.filter, self.other, self.profile)
 
     @here
     def test_verify_process_and_oci_hook(self):
         child = self.child([refusing(MOUNT)])
         for words in ((), ("--json",), ("--calls",)):
             self.fails("verify-process", *words, str(child.pid), self.profile)
-        self.fails("verify-process", str(child.pid), "--beside", self.folder, side="beside")
+        self.fails("verify-process", str(child.pid), "--beside", f"{self.folder}/others", side="beside")
         config = {"ociVersion": "1.0.2", "linux": {"seccomp": json.loads(refuses("mount"))}}
         self.file("box/config.json", json.dumps(config))
         state = {"ociVersion": "1.0.2", "id": "box", "status": "running", "pid": child.pid,
