@@ -54,10 +54,6 @@ from . import (containers, engines, inputs, output, processes, profile_inputs, p
 from .values import replace
 
 
-# The configuration in a bundle.
-CONFIG = "config.json"
-
-
 def read_words():
     parser = words.Parser(__doc__, processes.NEEDS)
     parser.scope("x86-64 syscalls alone, whatever architectures the profile names")
@@ -94,15 +90,20 @@ def setting_of(options, kernel):
                    source="the process's bounding set")
 
 
-def seccomp_of(value, name):
-    """What a configuration says about seccomp; ends the tool where runtimes read it otherwise than it is spelled."""
+def is_configured(data, name, kernel, pid):
+    """Whether a configuration has a profile; None of what is no configuration. Ends the tool where it isn't that of the
+    process, or runtimes read it otherwise than it is spelled."""
     try:
-        return verify.seccomp_in(value, name)
+        value = verify.configuration_in(data)
+        if value is None:
+            return None
+        check_owner(kernel, pid, value)
+        return verify.seccomp_in(value, name) is not None
     except verify.ContainerError as why:
-        raise program.ToolError(str(why), program.NEGATIVE) from why
+        raise program.ToolError(f"{inputs.label(name)}: {why}", program.NEGATIVE) from why
 
 
-def check_owner(kernel, pid, value, name):
+def check_owner(kernel, pid, value):
     """Ends the tool where a configuration is known to be another container's than the process is in."""
     why = verify.why_not_its(kernel, pid, value)
     if why is not None:
@@ -114,11 +115,11 @@ def read_profile(name, is_engines):
     """What is in the file of a profile or a configuration."""
     if not name:
         raise program.ToolError("the name of PROFILE is empty: the command that should print it printed nothing")
-    if os.path.basename(name) == CONFIG and not os.path.lexists(name):
+    if os.path.basename(name) == verify.CONFIG and not os.path.lexists(name):
         raise program.ToolError(f"there is no file '{name}': the container has ended, or was removed; of one that runs "
                                 f"`podman inspect -f '{{{{.OCIConfigPath}}}}' NAME` prints it")
-    if os.path.exists(os.path.join(name, CONFIG)):
-        raise program.ToolError(f"'{name}' is a bundle's folder: take the file {CONFIG} in it")
+    if os.path.exists(os.path.join(name, verify.CONFIG)):
+        raise program.ToolError(f"'{name}' is a bundle's folder: take the file {verify.CONFIG} in it")
     return inputs.read_whole(name, "engine's profile") if is_engines else inputs.read(name, "profile")
 
 
@@ -129,13 +130,9 @@ def request_of(options, kernel):
         return verify.SavedRequest(verify.read_saved(options.beside), *settings)
     name, runtime = options.profile, options.runtime
     data = read_profile(name, runtime is not None)
-    value = verify.configuration_in(data)
-    configured = None
-    if value is not None:
-        check_owner(kernel, options.pid, value, name)
-        configured = seccomp_of(value, name) is not None
-        if not configured:
-            return verify.Request(verify.ALLOWS_ALL, *settings, configured=False)
+    configured = is_configured(data, name, kernel, options.pid)
+    if configured is False:
+        return verify.Request(verify.ALLOWS_ALL, *settings, configured=False)
     if runtime is None:
         return verify.Request(profile_inputs.profile_in(data, name, is_runtimes=True).data, *settings,
                               configured=configured)

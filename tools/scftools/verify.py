@@ -25,6 +25,8 @@ ALLOWS_ALL = b'{"defaultAction": "SCMP_ACT_ALLOW"}'
 UNCONFINED = {None: "unconfined", False: "unconfined by configuration", True: "unconfined though configured"}
 
 
+# The configuration in a bundle.
+CONFIG = "config.json"
 # The identifiers that engines give containers, and how many digits of them they show.
 IDENTIFIER, SHORT = Pattern("(?<![0-9a-f])[0-9a-f]{64}(?![0-9a-f])"), 12
 # The file that a runtime keeps of a container of root's, in a folder with its identifier below /run/RUNTIME.
@@ -112,14 +114,22 @@ class Request:
         return {**own, "stub": block.stub} if block.stub else own
 
 
-def configuration_in(data: bytes) -> Any:
-    """A container's configuration (config.json) as JSON; None if a text is something else, or can't be read."""
+def configuration_in(data: bytes) -> dict[str, Any] | None:
+    """A container's configuration (config.json) as JSON; None if a text is something else, or can't be read. Raises
+    ContainerError if it is a container's state."""
     try:
         value = engines.read(data)
     except engines.Refused:
         return None
-    is_other = not isinstance(value, dict) or value.get("defaultAction") is not None
-    return None if is_other or not {"linux", "ociVersion"} & value.keys() else value
+    if not isinstance(value, dict) or value.get("defaultAction") is not None:
+        return None
+    if "linux" in value or "ociVersion" in value and {"process", "root"} & value.keys():
+        return value
+    if {"pid", "init_process_pid"} & value.keys():
+        bundle = value.get("bundle")
+        where = os.path.join(bundle, CONFIG) if isinstance(bundle, str) else f"the {CONFIG} of its bundle"
+        raise ContainerError(f"it is a container's state, which says nothing about seccomp: take {where}")
+    return None
 
 
 def seccomp_in(value: Any, name: str) -> dict[str, Any] | None:

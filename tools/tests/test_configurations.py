@@ -92,8 +92,14 @@ class Configurations(Confined):
     def test_what_only_some_runtimes_read(self):
         child = self.child([])
         for given, says in (({"linux": {"Seccomp": {}}}, "has a member 'Seccomp', which runc reads as seccomp"),
-                            ({"ociVersion": "1", "Linux": {}}, "has a member 'Linux', which runc reads as linux"),
-                            ({"linux": 7}, "isn't a container's configuration")):
+                            ({"ociVersion": "1", "process": {}, "Linux": {}}, "has a member 'Linux', which runc reads as linux"),
+                            ({"linux": 7}, "isn't a container's configuration"),
+                            # what `runc state` prints, and the files that runc and crun keep
+                            ({"ociVersion": "1.0.2", "id": "x", "pid": 7, "status": "running", "bundle": "/b"},
+                             "it is a container's state, which says nothing about seccomp: take /b/config.json\n"),
+                            ({"id": "x", "init_process_pid": 7, "config": {}},
+                             "it is a container's state, which says nothing about seccomp: take the config.json of its "
+                             "bundle\n"), ({"pid": 7, "bundle": "/b"}, "take /b/config.json\n")):
             path = self.file("config.json", json.dumps(given))
             for words in RUNTIMES:
                 status, out, err = self.run_tool("verify-process", *words, str(child.pid), path)
