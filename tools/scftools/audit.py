@@ -209,17 +209,17 @@ class Judge:
             self.foreign.clear()
         if key not in self.known:
             self.tell(len(self.known))
-            try:
-                self.known[key] = self._judged(stack, asked_of, relation, asked is None)
-            except program.InternalError as why:
-                self.known[key] = Judgement(NOT_KNOWN, str(why))
+            self.known[key] = self._judged(stack, asked_of, relation, asked is None)
         return self.known[key]
 
     def _judged(self, stack: Stack, asked: Request, relation: str, is_of_nothing: bool) -> Judgement:
         """The verdict; syscalls of other ABIs don't count if nothing is configured."""
         comparison = asked.comparison(stack.named, relation)
-        report = comparison.run()[1]
-        found = self._of_report(comparison, report)
+        try:
+            report = comparison.run()[1]
+            found = self._of_report(comparison, report)
+        except program.InternalError as why:
+            return Judgement(NOT_KNOWN, str(why))
         if is_of_nothing:
             # (the call that shows it would be answered by no profile of a user)
             return replace(found, shown=None)

@@ -137,7 +137,7 @@ def request_of(options, kernel):
         return verify.Request(profile_inputs.profile_in(data, name, is_runtimes=True).data, *settings,
                               configured=configured)
     applied = runtimes.applied_in(data, name, runtime, setting_of(options, kernel))
-    return verify.Request(applied.data, *settings, applied, configured)
+    return verify.Request(applied.data, *settings, applied, configured=configured)
 
 
 def other_runtime(options, kernel, request, worst):
