@@ -434,6 +434,7 @@ case "$*" in
 compare*) cat >"$KEPT"; echo "$@" >"$KEPT.words"; echo differs
     echo call nr 39 arch 0xc000003e ip 0x0 args 0x0 0x0 0x0 0x0 0x0 0x0
     echo filter ALLOW 0; echo profile ERRNO 1; exit 1 ;;
+'decide --nr=0x27 '*) cat >/dev/null; echo ALLOW 0 ;;
 esac
 """
 

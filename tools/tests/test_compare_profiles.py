@@ -239,6 +239,7 @@ compile) printf 12345678 ;;
     printf 'differs\\n1 write differs args 0x1 0x0 0x0 0x0 0x0 0x0 filter ALLOW 0 profile ERRNO 1\\n'
     exit 1 ;;
 ask*) echo ALLOW 0 entry 0 ;;
+decide*) echo ALLOW 0 ;;
 *) echo undecided at 3; exit 4 ;;
 esac
 """)
