@@ -46,11 +46,12 @@ DELEGATE, EQUAL = Answer("TRACE", 1), "SCMP_CMP_EQ"
 ALWAYS = ("restart_syscall", "rt_sigreturn", "exit", "exit_group", "sigreturn")
 # What a container runtime itself calls behind the filter, before it executes the container's program; runc is written
 # in Go, whose own calls come and go. Taken from the kernel's records of containers of runc 1.1 and crun 1.8 under a
-# profile that logs, with and without noNewPrivileges, as root and as a user, with and without a terminal.
+# profile that logs, with and without noNewPrivileges, as root and as a user, with and without a terminal, and created
+# and started by podman: crun waits for the start in pselect6 and read.
 OF_RUNTIMES = {
     "runc": "capget capset chdir close epoll_ctl execve faccessat2 fchown fcntl fstat fstatfs futex getcwd getdents64 "
             "getpid getppid newfstatat openat prctl read setgid setgroups setuid write",
-    "crun": "capset close execve prctl rt_sigaction rt_sigprocmask setresgid setresuid write",
+    "crun": "capset close execve prctl pselect6 read rt_sigaction rt_sigprocmask setresgid setresuid write",
 }
 
 

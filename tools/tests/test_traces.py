@@ -342,8 +342,8 @@ class Containers(Case):
         self.assertEqual((status, err), (0, ""))
         return {**json.loads(out), "architectures": ["SCMP_ARCH_X86_64"]}
 
-    def run_container(self, runtime, seccomp, **process):
-        """What a container prints."""
+    def run_container(self, runtime, seccomp, is_created=False, **process):
+        """What a container prints, on request one that is created and then started, as engines have it done."""
         folder = tempfile.mkdtemp(dir=self.folder)
         name = f"scf-traces-{os.path.basename(folder)}"
         words = [*ALONE, "crun", "--cgroup-manager", "disabled"] if runtime == "crun" else [runtime]
@@ -355,10 +355,16 @@ class Containers(Case):
         whole["process"].update(args=["/busybox", "echo", "begun"], **process)
         with open(os.path.join(folder, "config.json"), "w", encoding="utf-8") as file:
             json.dump(whole, file)
+        read, write = os.pipe()
         try:
-            done = subprocess.run([*words, "run", "--bundle", folder, name], stdin=subprocess.DEVNULL,
-                                  stdout=subprocess.PIPE, stderr=subprocess.PIPE, check=False)
-            return done.stdout.decode()
+            done = subprocess.run([*words, "create" if is_created else "run", "--bundle", folder, name],
+                                  stdin=subprocess.DEVNULL, stdout=write, stderr=subprocess.DEVNULL, check=False)
+            if is_created and not done.returncode:
+                subprocess.run([*words, "start", name], stdin=subprocess.DEVNULL, stdout=subprocess.DEVNULL,
+                               stderr=subprocess.DEVNULL, check=False)
+            os.close(write)
+            with os.fdopen(read, encoding="utf-8") as file:
+                return file.read()
         finally:
             subprocess.run([*words, "delete", "--force", name], stdin=subprocess.DEVNULL, stdout=subprocess.DEVNULL,
                            stderr=subprocess.DEVNULL, check=False)
@@ -368,7 +374,8 @@ class Containers(Case):
             self.skipTest(f"there is no {runtime} here")
         least = self.least("--runtime", runtime)
         for process in ({}, {"noNewPrivileges": True}, {"user": {"uid": 1000, "gid": 1000, "additionalGids": [5]}}):
-            self.assertEqual(self.run_container(runtime, least, **process), "begun\n", process)
+            for is_created in (False, True):
+                self.assertEqual(self.run_container(runtime, least, is_created, **process), "begun\n", process)
         self.assertEqual(self.run_container(runtime, self.least()), "")
 
     def test_runc(self):
