@@ -117,11 +117,11 @@ class AppliedProfile:
         """The profile's text."""
         return engines.to_bytes(self.handed)
 
-    def stub_notes(self) -> Iterator[str]:
-        """The notes on a filter that begins with its stub."""
-        yield stub_note(self.stub)
+    def stub_notes(self, stub: dict[str, int]) -> Iterator[str]:
+        """The notes on a filter that begins with a stub at these numbers."""
+        yield stub_note(stub)
         names = {name for entry in self.handed["syscalls"] for name in entry["names"]}
-        for architecture, first in self.stub.items():
+        for architecture, first in stub.items():
             table = tables.of_architecture(architecture)
             numbers = {} if table is None else {it: table.number_of(it) for it in names}
             covered = sorted(it for it, number in numbers.items()
@@ -136,7 +136,7 @@ class AppliedProfile:
         yield from engines.at_most(self.notes)
         yield from self.remarks
         if self.stub:
-            first, *more = self.stub_notes()
+            first, *more = self.stub_notes(self.stub)
             yield f"not in the profile: {first}"
             yield from more
 

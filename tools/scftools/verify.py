@@ -106,7 +106,7 @@ class Request:
         """What is added to scf's lines."""
         yield from compare.notes(block.comparison, block.report, block.scope)
         if block.stub and self.applied is not None:
-            yield from self.applied.stub_notes()
+            yield from self.applied.stub_notes(block.stub)
         yield from compare.of_foreign(block.comparison, block.report, block.scope)
 
     def as_json(self, block: Block) -> dict[str, object]:
