@@ -161,12 +161,12 @@ def identifiers_of(kernel: Kernel, process: int) -> list[str]:
 
 
 def other_runtime(identifiers: Sequence[str], runtime: str | None) -> str | None:
-    """The line about the runtime of a container with one of these identifiers, where its own files show that another one
-    than was said reads its profile."""
-    program = runtimes.RUNTIMES[runtime].program if runtime is not None else None
+    """The line on the runtime of a container with one of these identifiers, where its own files show that it is another
+    one than was said."""
+    said = runtimes.RUNTIMES[runtime].program if runtime is not None else None
     for name, file in STATES.items():
         folder = next((f"/run/{name}/{it}" for it in identifiers if os.path.exists(f"/run/{name}/{it}/{file}")), None)
-        if folder is not None and name != program:
+        if folder is not None and name != said:
             return f"the container's runtime is {name}, by {folder}: --runtime {name} reads the profile as it does"
     return None
 
