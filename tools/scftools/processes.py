@@ -187,8 +187,8 @@ def number_in(text: str, parser: Parser) -> int:
         parser.error("'0' isn't a process ID: it is what `podman inspect` prints of a container that doesn't run, and "
                      "systemctl of a unit")
     if not (text.isascii() and text.isdigit()) or len(text) > 10 or not 0 < int(text) < 2**31:
-        parser.error(f"'{text}' isn't a process ID: of a container `podman inspect -f '{{{{.State.Pid}}}}' NAME` prints "
-                     "it, and `docker inspect` so, of a unit `systemctl show -p MainPID --value NAME`")
+        parser.error(f"'{text}' isn't a process ID: of a container `podman inspect -f '{{{{.State.Pid}}}}' NAME` "
+                     "prints it, and `docker inspect` so, of a unit `systemctl show -p MainPID --value NAME`")
     return int(text)
 
 

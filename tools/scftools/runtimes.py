@@ -12,8 +12,8 @@ generatePatch of seccomp/patchbpf), and were found by filters that crun 1.8.1 an
 - on i386 socketcall and ipc are answered as the syscalls that they make;
 - where the default denies, runc alone answers each number of an architecture in the list, above all that the profile
   names, with ENOSYS; x86-64 and x32 have numbers of their own. Of the i386 syscalls that socketcall and ipc make, too,
-  libseccomp tells runc no number above 0: they don't count, and ENOSYS may be the answer to those that are made directly
-  (findLastSyscalls of patchbpf, and __PNR_semget and the like of seccomp.h).
+  libseccomp tells runc no number above 0: they don't count, and ENOSYS may be the answer to those that are made
+  directly (findLastSyscalls of patchbpf, and __PNR_semget and the like of seccomp.h).
 """
 from __future__ import annotations
 
@@ -127,9 +127,9 @@ class AppliedProfile:
             covered = sorted(it for it, number in numbers.items()
                              if number is not None and JUDGED[architecture].first + number >= first)
             if covered:
-                yield (f"so it answers {JUDGED[architecture].name}'s {output.some(covered, engines.MAX_LISTED)}, though "
-                       f"the profile names them, unless socketcall or ipc makes them: libseccomp tells runc no number "
-                       f"of theirs")
+                shown = output.some(covered, engines.MAX_LISTED)
+                yield (f"so it answers {JUDGED[architecture].name}'s {shown}, though the profile names them, unless "
+                       "socketcall or ipc makes them: libseccomp tells runc no number of theirs")
 
     def describe(self) -> Iterator[str]:
         """What is to be known of it, and all that was left out."""

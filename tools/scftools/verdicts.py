@@ -239,9 +239,9 @@ def decision(text: str) -> Decision:
 
 
 def check_answers(found: Report, filters: Sequence[bytes], others: Sequence[bytes] | None = None) -> Report:
-    """The same report, once filters, oldest first, have answered each call in it again, and so have the others that they
-    were compared with. The tools compare more filters than those that they are given; raises InternalError where what
-    would be shown isn't the answer of these."""
+    """The same report, once filters, oldest first, have answered each call in it again, and so have the others that
+    they were compared with. The tools compare more filters than those that they are given; raises InternalError where
+    what would be shown isn't the answer of these."""
     shown = [it for it in (found.verdict, *(call.verdict for call in found.calls)) if it is not None]
     for call, left, right in dict.fromkeys((it.call, it.filters, it.profile) for it in shown):
         # (a record without its instruction pointer can't be answered)
@@ -255,5 +255,5 @@ def check_answers(found: Report, filters: Sequence[bytes], others: Sequence[byte
 def _check_answer(call: Call, answer: Answer | None, filters: Sequence[bytes]) -> None:
     again = decision(client.run(["decide", *call.words()], bundles.of_stack(filters)).text)
     if answer is None or again.answer != answer:
-        raise program.InternalError(f"the filters answer {again.answer or again.line} where {answer} would be shown, to "
-                                    f"{' '.join(call.words())}")
+        raise program.InternalError(f"the filters answer {again.answer or again.line} where {answer} would be shown, "
+                                    f"to {' '.join(call.words())}")
