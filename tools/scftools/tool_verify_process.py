@@ -115,12 +115,15 @@ def read_profile(name, is_engines):
     """What is in the file of a profile or a configuration."""
     if not name:
         raise program.ToolError("the name of PROFILE is empty: the command that should print it printed nothing")
-    if os.path.basename(name) == verify.CONFIG and not os.path.lexists(name):
-        raise program.ToolError(f"there is no file '{name}': the container has ended, or was removed; of one that runs "
-                                f"`podman inspect -f '{{{{.OCIConfigPath}}}}' NAME` prints it")
     if os.path.exists(os.path.join(name, verify.CONFIG)):
         raise program.ToolError(f"'{name}' is a bundle's folder: take the file {verify.CONFIG} in it")
-    return inputs.read_whole(name, "engine's profile") if is_engines else inputs.read(name, "profile")
+    try:
+        return inputs.read_whole(name, "engine's profile") if is_engines else inputs.read(name, "profile")
+    except program.ToolError as why:
+        if not isinstance(why.__cause__, FileNotFoundError) or os.path.basename(name) != verify.CONFIG:
+            raise
+        raise program.ToolError(f"{why}: the container has ended, or was removed; of one that runs `podman inspect -f "
+                                f"'{{{{.OCIConfigPath}}}}' NAME` prints it") from why
 
 
 def request_of(options, kernel):

@@ -198,6 +198,9 @@ class Mistakes(Confined):
         self.assertEqual(self.says(own, path),
                          f"verify-process: there is no file '{path}': the container has ended, or was removed; of one "
                          "that runs `podman inspect -f '{{.OCIConfigPath}}' NAME` prints it")
+        # what isn't a folder, and so no file in it either, is another matter
+        self.file("folder", b"")
+        self.assertNotIn("has ended", self.says(own, f"{self.folder}/folder/config.json"))
         self.file("bundle/config.json", "{}")
         self.assertEqual(self.says(own, f"{self.folder}/bundle"),
                          f"verify-process: '{self.folder}/bundle' is a bundle's folder: take the file config.json in it")
