@@ -137,8 +137,8 @@ def request_of(options, kernel):
     if configured is False:
         return verify.Request(verify.ALLOWS_ALL, *settings, configured=False)
     if runtime is None:
-        return verify.Request(profile_inputs.profile_in(data, name, is_runtimes=True).data, *settings,
-                              configured=configured)
+        request = verify.Request(profile_inputs.profile_in(data, name, is_runtimes=True).data, *settings)
+        return replace(request, configured=True) if configured and request.is_accepted else request
     applied = runtimes.applied_in(data, name, runtime, setting_of(options, kernel))
     return verify.Request(applied.data, *settings, applied, configured=configured)
 

@@ -6,7 +6,8 @@ import json
 import os
 from collections.abc import Callable, Iterator, Sequence
 
-from . import client, compare, engines, filters, newer, output, profiles, program, runtimes, stack_comparison, verdicts
+from . import (client, compare, engines, filters, newer, output, profiles, program, runtimes, stack_comparison, tables,
+               verdicts)
 from .compare import Comparison
 from .filters import Filter
 from .processes import Inspection, Kernel, Stack, threads_text
@@ -86,9 +87,15 @@ class Request:
     def remarks(self) -> list[str]:
         """Notes on the profile as its runtime applies it."""
         if self.configured is False:
-            return ["nothing is configured: linux has no seccomp, as with --privileged and seccomp=unconfined; that "
-                    "counts as a profile that allows every syscall"]
+            return ["nothing is configured (linux.seccomp), as with --privileged and seccomp=unconfined; that counts as "
+                    "a profile that allows every syscall"]
         return list(self.applied.remarks) if self.applied is not None else []
+
+    @property
+    def is_accepted(self) -> bool:
+        """Whether scf takes the profile."""
+        judged = tables.of_profile(self.profile, self.table, self.scope == verdicts.NATIVE)
+        return compare.left_out(self.profile, judged).fault is None
 
     def judge(self, stack: Stack) -> Block:
         comparison = self.comparison(stack.named)
@@ -134,10 +141,13 @@ def configuration_in(data: bytes) -> dict[str, Any] | None:
 
 def seccomp_in(value: Any, name: str) -> dict[str, Any] | None:
     """What a configuration with this name says about seccomp, as a config.json with nothing else in it, or None if it
-    says nothing. Runtimes read only `linux.seccomp`, whatever else is in it."""
+    says nothing. Runtimes read only `linux.seccomp`, whatever else is in it; runc takes one without an action and
+    without syscalls for none (SetupSeccomp of specconv), and crun starts no container with it."""
     linux = member(value, "linux", name)
     seccomp = None if linux is None else member(linux, "seccomp", name)
-    return None if seccomp is None else {"linux": {"seccomp": seccomp}}
+    says = [profiles.folded(it) for it in ("defaultAction", "syscalls")]
+    is_empty = isinstance(seccomp, dict) and not any(it for one, it in seccomp.items() if profiles.folded(one) in says)
+    return None if seccomp is None or is_empty else {"linux": {"seccomp": seccomp}}
 
 
 def member(value: Any, wanted: str, path: str) -> Any:

@@ -11,11 +11,12 @@ from scftools import verify
 
 ONE, TWO = "01" * 32, "ef" * 32
 BY_CONFIGURATION, THOUGH = "unconfined by configuration", "unconfined though configured"
-NOTHING = ("nothing is configured: linux has no seccomp, as with --privileged and seccomp=unconfined; that counts as a "
-           "profile that allows every syscall")
-# runc 1.1 and crun 1.8 start a container without seccomp for each of these.
+NOTHING = ("nothing is configured (linux.seccomp), as with --privileged and seccomp=unconfined; that counts as a profile "
+           "that allows every syscall")
+# runc 1.1 starts a container without seccomp for each of these, and crun 1.8 for each that it takes.
 WITHOUT = ({"linux": {}}, {"linux": {"seccomp": None}}, {"ociVersion": "1.0.2", "linux": None},
-           {"ociVersion": "1.0.2", "process": {"args": ["true"]}})
+           {"ociVersion": "1.0.2", "process": {"args": ["true"]}}, {"linux": {"seccomp": {}}},
+           {"linux": {"seccomp": {"architectures": ["SCMP_ARCH_X86_64"], "defaultAction": "", "syscalls": []}}})
 RUNTIMES = ((), ("--runtime", "podman"), ("--runtime", "docker"), ("--runtime", "runc"), ("--runtime", "crun"))
 
 
@@ -94,6 +95,7 @@ class Configurations(Confined):
         for given, says in (({"linux": {"Seccomp": {}}}, "has a member 'Seccomp', which runc reads as seccomp"),
                             ({"ociVersion": "1", "process": {}, "Linux": {}}, "has a member 'Linux', which runc reads as linux"),
                             ({"linux": 7}, "isn't a container's configuration"),
+                            ({"linux": {"seccomp": {"DefaultAction": "SCMP_ACT_ALLOW"}}}, "'DefaultAction'"),
                             # what `runc state` prints, and the files that runc and crun keep
                             ({"ociVersion": "1.0.2", "id": "x", "pid": 7, "status": "running", "bundle": "/b"},
                              "it is a container's state, which says nothing about seccomp: take /b/config.json\n"),
@@ -105,6 +107,17 @@ class Configurations(Confined):
                 status, out, err = self.run_tool("verify-process", *words, str(child.pid), path)
                 self.assertEqual((status, out), (1, ""), given)
                 self.assertIn(says, err)
+
+    def test_a_profile_that_is_refused(self):
+        """Nothing is said of a configuration that no runtime takes."""
+        child = self.child([])
+        for seccomp in (7, {"syscalls": [{}]}, {"defaultAction": "SCMP_ACT_X"}):
+            path = self.file("config.json", json.dumps({"linux": {"seccomp": seccomp}}))
+            status, out, err = self.run_tool("verify-process", str(child.pid), path)
+            self.assertEqual((status, out), (1, f"# process {child.pid} (python3) has no filter: it isn't confined, and "
+                                                "every syscall is allowed\n"), err)
+            for words in RUNTIMES[1:]:
+                self.assertEqual(self.run_tool("verify-process", *words, str(child.pid), path)[:2], (1, ""))
 
     def test_a_filter_that_the_configuration_of_a_hook_lacks(self):
         """The hook doesn't say that it isn't there."""
