@@ -72,6 +72,15 @@ class Configurations(Confined):
             found = json.loads(self.verify(child, config("mount"), "--json", *words)[1])
             self.assertEqual((found["status"], found["verdict"]), (1, THOUGH))
 
+    def test_two_answers_to_a_syscall(self):
+        """As the default profiles of engines have: the runtimes take them."""
+        given = config("mount")
+        given["linux"]["seccomp"]["syscalls"].append({"names": ["mount"], "action": "SCMP_ACT_TRAP"})
+        child = self.child([])
+        for words in RUNTIMES:
+            status, out = self.verify(child, given, *words)
+            self.assertEqual((status, out.splitlines()[0]), (1, THOUGH), words)
+
     def test_a_thread_beside_others(self):
         child = self.child([refusing(MOUNT)], [])
         for given, word in ((config("mount"), THOUGH), ({"linux": {}}, BY_CONFIGURATION)):
