@@ -1,5 +1,5 @@
 -- What is left of the splits of a comparison, and of the steps below them.
-use Rattle.std.specs.Prelude.{◌≡◌, ◌+◌, ◌≤◌, ◌⊎◌, ℕ, Bool, true, false, Option, None, Some, MatchOption, min}
+use Rattle.std.specs.Prelude.{◌≡◌, ◌+◌, ◌≤◌, ℕ, Bool, true, false, Option, None, Some, min}
 use Rattle.scf_compare.specs.declared.budget.Splits.{Splits}
 use Rattle.scf_compare.specs.declared.budget.Splits.TheVariants.{AtMost, NoLimit}
 use Rattle.scf_compare.specs.declared.finding.Finding.{Finding}

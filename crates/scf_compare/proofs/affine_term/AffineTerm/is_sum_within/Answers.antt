@@ -1,4 +1,4 @@
-use Rattle.scf_compare.proofs.Common.{◌<◌, ◌^◌, ◌≡◌, ℕ, List, subst, sym, arith, slice_index, xor_lt, Decides}
+use Rattle.scf_compare.proofs.Common.{◌<◌, ◌^◌, subst, sym, arith, slice_index, xor_lt, Decides}
 use Rattle.scf_compare.proofs.BitSlices.{number_fits}
 use Rattle.scf_compare.proofs.AffineTerms.{sum_beyond, sum_within}
 use Rattle.scf_compare.specs.internal.BitSlices.{bit_slice_value}

@@ -1,4 +1,4 @@
-use Rattle.scf_compare.proofs.Common.{◌<◌, ◌^◌, ◌≤◌, ℕ, List, subst, sym, arith, Decides}
+use Rattle.scf_compare.proofs.Common.{◌<◌, ◌^◌, subst, sym, arith, Decides}
 use Rattle.scf_compare.proofs.AffineTerms.{quotient_within, to_most}
 use Rattle.scf_compare.specs.internal.AffineTerms.{sum_value}
 use Rattle.scf_compare.proofs.affine_term.AffineTerm.is_within.Goals as goal
