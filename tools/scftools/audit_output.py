@@ -37,15 +37,16 @@ def about(row: Row) -> list[str]:
     if one is None:
         return []
     known = [one.engine, one.image, f"pod {short(one.pod)}" if one.pod else None,
-             short(one.identifier) if one.name is not None else None]
+             short(one.identifier) if one.name is not None else None,
+             f"of user {one.user}" if one.user is not None else None,
+             row.place if row.key != one.identifier else None]
     return [it for it in known if it]
 
 
 def row_text(row: Row) -> str:
     """What a row is called."""
     known = about(row)
-    name = short(row.key) if row.name == row.key else row.name
-    return f"{row.kind} {name}" + (f" ({', '.join(known)})" if known else "")
+    return f"{row.kind} {short(row.name)}" + (f" ({', '.join(known)})" if known else "")
 
 
 def judgement_text(judgement: Judgement, table: Table) -> str:
@@ -164,8 +165,9 @@ def row_json(row: Row, numbers: dict[int, int], table: Table) -> dict[str, objec
                                 "is_unconfined": row.is_unconfined}
     if one is not None:
         found.update((name, None if value is None else output.escaped(value)) for name, value in (
-            ("id", one.identifier), ("engine", one.engine), ("runtime", one.runtime), ("image", one.image),
+            ("id", row.key), ("engine", one.engine), ("runtime", one.runtime), ("image", one.image),
             ("pod", one.pod)))
+        found["user"] = one.user
     found["profile"] = {"source": None if row.expected.source is None else output.escaped(row.expected.source),
                         "sha256": row.expected.digest,
                         **({"why": output.escaped(row.expected.why)} if row.expected.why is not None else {})}
@@ -220,6 +222,7 @@ def _metrics(audit: Audit) -> Iterator[Metric]:
             ("unconfined_processes", "Processes with a thread that has no seccomp filter.", audit.unconfined),
             ("confined_processes", "Processes with a thread that has a seccomp filter.", audit.confined),
             ("unread_processes", "Confined processes whose filters could not be read.", len(audit.snapshot.unread)),
+            ("not_looked_at", "Lines that say what was not looked at.", len(audit.left_out)),
             ("distinct_stacks", "Distinct stacks of filters.", len(audit.stacks)),
             ("audit_status", "The exit status: 0 as configured, 1 weaker or unconfined, 4 something is not known.",
              audit.status),

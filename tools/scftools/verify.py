@@ -161,8 +161,8 @@ class SavedRequest:
 
 
 def blocks_of(found: Inspection, judge: Callable[[Stack], Any], unfiltered: Callable[[Stack, int], Any]) -> list[Any]:
-    """A block for each distinct stack, the worst first, and before all that of the threads that aren't confined; a fault
-    of all stacks is reported once."""
+    """A block for each distinct stack, the worst first, and before all that of threads that aren't confined; a fault of
+    all stacks is reported once."""
     # strict mode allows four syscalls, which no profile can express
     unconfined = [unfiltered(it, program.NEGATIVE) for it in found.stacks if not it.filters and not it.is_strict]
     made: list[Any] = [unfiltered(it, program.UNKNOWN) for it in found.stacks if it.is_strict]
