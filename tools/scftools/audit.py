@@ -595,7 +595,8 @@ class Assessor:
         def work() -> object:
             client.begin_limits(SECONDS_OF_SCF, False)
             found = self._judged(row, stacks)
-            return found, {key: it for key, it in self.judge.known.values.items() if key not in known}
+            return found, {key: it for key, it in self.judge.known.values.items()
+                           if key not in known and it.verdict != NOT_KNOWN}
 
         try:
             if seconds > 0:

@@ -46,7 +46,8 @@ def about(row: Row) -> list[str]:
 def row_text(row: Row) -> str:
     """What a row is called."""
     known = about(row)
-    return f"{row.kind} {short(row.name)}" + (f" ({', '.join(known)})" if known else "")
+    name = short(row.key) if row.name == row.key else row.name
+    return f"{row.kind} {name}" + (f" ({', '.join(known)})" if known else "")
 
 
 def judgement_text(judgement: Judgement, table: Table) -> str:
@@ -222,8 +223,8 @@ def _metrics(audit: Audit) -> Iterator[Metric]:
             ("unconfined_processes", "Processes with a thread that has no seccomp filter.", audit.unconfined),
             ("confined_processes", "Processes with a thread that has a seccomp filter.", audit.confined),
             ("unread_processes", "Confined processes whose filters could not be read.", len(audit.snapshot.unread)),
-            ("not_looked_at", "Lines that say what was not looked at.", len(audit.left_out)),
             ("distinct_stacks", "Distinct stacks of filters.", len(audit.stacks)),
+            ("not_looked_at", "What could not be looked at, each thing a line of scf audit.", len(audit.left_out)),
             ("audit_status", "The exit status: 0 as configured, 1 weaker or unconfined, 4 something is not known.",
              audit.status),
             ("audit_seconds", "How long the audit took.", f"{audit.seconds:.3f}"),

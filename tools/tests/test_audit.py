@@ -5,6 +5,7 @@ import os
 import re
 import shutil
 import subprocess
+import time
 import unittest
 from unittest import mock
 
@@ -799,6 +800,84 @@ class Files(unittest.TestCase):
         found = self.of(f"/var/lib/containers/storage/overlay-containers/{IDENTIFIER}/userdata", **{
             "io.container.manager": "libpod", "io.kubernetes.cri-o.SandboxID": "ab" * 32})
         self.assertEqual(found, ("podman", None, None, "ab" * 32))
+
+
+class Limits(Case):
+    """What ends in time, and what is kept."""
+
+    def setUp(self):
+        super().setUp()
+        self.options = audit.Options(tables.read(None))
+        self.stack = processes.Stack((filter_of([0]),), False, {7: [7]})
+        self.snapshot = machine.Snapshot({7: process()}, {(self.stack.filters, False): self.stack})
+
+    def row(self, user):
+        return audit.Row(audit.CONTAINER, "box", [process()], audit.Expected(), container_files.Described(
+            "box", "crun", "crun", 7, "/config.json", folder="/box", user=user))
+
+    def assessed(self, rows, work):
+        """An assessor that has judged rows; `work` is done in place of reading a container's files."""
+        assessor = audit.Assessor(self.snapshot, audit.Expectations(self.options), audit.Judge(self.options.table))
+        with mock.patch.object(container_files, "with_config", work):
+            assessor.fill(rows)
+        return assessor
+
+    def test_states_that_take_for_ever(self):
+        """As in a file system of the user's own that doesn't answer: a line says so, and the others are read."""
+        for work, seconds in ((lambda *_: time.sleep(60), 0.2), (lambda *_: os._exit(1), 10)):
+            began = time.monotonic()
+            with mock.patch.object(container_files, "_in_roots", work), \
+                    mock.patch.object(container_files, "SECONDS_FOR_STATES", seconds):
+                found = container_files._in_child(None, [], "of user 5")
+            self.assertEqual((found.described, len(found.left_out)), ([], 1))
+            self.assertIn("the folders of containers of user 5: they can't be read", found.left_out[0])
+            self.assertLess(time.monotonic() - began, 5)
+
+    def test_a_user_who_takes_for_ever(self):
+        """Root's row is judged before, and the user's isn't known; another user has time left."""
+        def work(one):
+            if one.user == 5:
+                time.sleep(60)
+            return container_files.replace(one, why="read")
+
+        began, rows = time.monotonic(), [self.row(5), self.row(None), self.row(6)]
+        with mock.patch.object(audit, "SECONDS_OF_A_USER", 0.5):
+            assessor = self.assessed(rows, work)
+        self.assertLess(time.monotonic() - began, 10)
+        self.assertEqual([it.expected.why for it in rows],
+                         ["it isn't looked at: what user 5 describes takes too long", "read", "read"])
+        self.assertEqual({it.verdict for it in rows}, {"not known"})
+        self.assertEqual(len(assessor.left_out), 1)
+        self.assertTrue(assessor.left_out[0].startswith("1 row of user 5: judging what this user describes takes"))
+
+    def test_all_users_together(self):
+        """Each has a part of what is left for all."""
+        budgets = audit.Budgets()
+        self.assertEqual(budgets.of_user(5, 2), audit.SECONDS_OF_A_USER)
+        budgets.spend(5, audit.SECONDS_OF_USERS - 4)
+        self.assertEqual((budgets.of_user(6, 2), budgets.of_user(7, 1)), (2, 4))
+        self.assertLess(budgets.of_user(5, 1), 0)
+
+    def test_what_is_raised(self):
+        for error in (KeyError("x"), MemoryError(), RecursionError(), AttributeError("y")):
+            row = self.row(None)
+            self.assessed([row], mock.Mock(side_effect=error))
+            self.assertEqual((row.verdict, row.expected.why),
+                             ("not known", f"'/config.json' can't be read: {type(error).__name__}"))
+
+    def test_what_is_kept(self):
+        """Some results, and some bytes; what isn't known is asked again."""
+        with mock.patch.object(audit, "MOST_KNOWN", 3), mock.patch.object(audit, "MOST_BYTES", 100):
+            for sizes, left in (([10] * 5, 1), ([60, 30], 2), ([60, 30, 20], 1)):
+                kept = audit.Kept()
+                for at, size in enumerate(sizes):
+                    kept.keep((at,), at, size)
+                self.assertEqual((len(kept.values), kept.values[len(sizes) - 1,]), (left, len(sizes) - 1), sizes)
+        judge = audit.Judge(self.options.table)
+        judge.keep((1,), audit.Judgement(audit.NOT_KNOWN))
+        judge.keep((2,), audit.Judgement(audit.WEAKER))
+        judge.forget_unknown()
+        self.assertEqual(list(judge.known.values), [(2,)])
 
 
 class Output(Case):
