@@ -28,8 +28,8 @@ ROOTS = ("/run/runc", "/run/crun", "/run/containerd/runc/*", "/run/docker/runtim
 OF_USERS, ROOTS_OF_USERS = "/run/user", ("runc", "crun")
 # The file in such a folder, and which runtime writes it.
 STATES = {"state.json": "runc", "status": "crun"}
-# systemd's slice of a user (systemd.special(7)), in which that user may make groups.
-SLICE, OF_A_USER = b"/user.slice/user-%d.slice/", Pattern(rb"/user\.slice/user-[0-9]+\.slice/")
+# systemd's slices of users (systemd.special(7)), in which these may make groups.
+OF_A_USER = Pattern(rb"/user\.slice/user-[0-9]+\.slice/")
 # Bundles of containerd, also one that k3s or Docker starts itself, with a namespace for each client; and of the storage
 # of podman and CRI-O.
 CONTAINERD = ("/run/containerd", "/run/k3s/containerd", "/run/docker/containerd/daemon")
@@ -382,11 +382,9 @@ def _named_group(process: Process) -> containers.Group | None:
 
 def place_of(kernel: Kernel, one: Described, process: Process) -> Place:
     """Where the processes of a container are, given its first one. A group that has this tool or the machine's first
-    process in it isn't the container's own: the container was started without one. A user's file isn't believed: it
-    could state a group of others, so of a user's groups only one counts that a runtime names in the user's slice."""
+    process in it isn't the container's own: the container was started without one. What a user's file states isn't
+    believed: it could be a group of others."""
     group = (_stated_group(one, process) if one.user is None else None) or _named_group(process)
-    if group is not None and one.user is not None and not group.path.startswith(SLICE % one.user):
-        group = None
     if group is not None and any(group.has(kernel.groups_of(it)) for it in (1, os.getpid())):
         group = None
     is_first = process.inner == 1 and len(process.spaces) > 1

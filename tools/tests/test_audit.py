@@ -364,9 +364,12 @@ class Users(Audited, OwnMachine):
         self.assertEqual(len({it["id"] for it in rows}), 2)
 
     def test_processes_of_others(self):
-        """A user's file that names a process of root, a pipe in place of a file, and a link."""
+        """A user's file that names a process of root, as the first one of all, a pipe in place of a file, and a
+        link."""
         numbers = self.crowd(("alpha", [filter_of([0])], 1, 1))
         self.says("a", numbers[0], self.users_bundle())
+        self.process("x")
+        self.says("d", 1, self.users_bundle())
         state = self.file("state", json.dumps({"pid": numbers[0], "bundle": self.folder}))
         script = f"mkdir b c; mkfifo b/status; ln -s {state} c/status; chown -hR {self.USER} ."
         self.assertEqual(self.on("sh", "-c", f"cd /run/user/{self.USER}/crun && {script}")[0], 0)
@@ -386,6 +389,15 @@ class Users(Audited, OwnMachine):
         self.says("mine", number, self.users_bundle())
         (row,) = self.audit("--allow-unconfined", status=1)["rows"]
         self.assertEqual((row["name"], row["verdict"], row["user"]), ("web", "unconfined though configured", None))
+        # the first process of a container of root's
+        self.on("kill", "-9", str(number))
+        self.container("runc", "inner", None, change=lambda it: it["process"].update(
+            user={"uid": self.USER, "gid": self.USER}))
+        self.restate("inner", STATED)
+        rows = {it["name"]: it for it in self.audit(status=1)["rows"]}
+        self.says("mine", rows["inner"]["parts"][0]["processes"][0]["process"], self.users_bundle())
+        rows = {it["name"]: it for it in self.audit("--allow-unconfined", status=1)["rows"]}
+        self.assertEqual((set(rows), rows["inner"]["verdict"]), ({"web", "inner"}, "unconfined though configured"))
 
     def test_what_only_root_can_read(self):
         """A link in the bundle's path, a bundle that isn't the user's, and a link to a file: nothing of it is shown."""
@@ -712,12 +724,13 @@ class Descriptions(Case):
     USER = 12345
     OWN = f"/user.slice/user-{USER}.slice/user@{USER}.service/user.slice/libpod-{IDENTIFIER}.scope"
 
-    def belongs(self, path, *described, is_stated=False, number=7, other=(8, "/"), user=USER, **settings):
+    def belongs(self, path, *described, is_stated=False, number=7, other=(8, "/"), user=USER, real=None, **settings):
         """The name of the container of a process in this group, beside another process of the user's; descriptions are
         of a name, a first process and a user, and may state a group."""
         kernel = mock.Mock()
         kernel.groups_of.side_effect = lambda _: {"": b"/init.scope"}
-        kernel.status_of.side_effect = lambda it: {"Uid": f"{every[it].user}\t" * 4}
+        kernel.status_of.side_effect = lambda it: {
+            "Uid": f"{every[it].user if real is None else real}\t{every[it].user}\t0\t0"}
         every = {number: process(number, groups={"": path.encode()}, user=user, **settings),
                  other[0]: process(other[0], groups={"": other[1].encode()}, user=self.USER)}
         made = [container_files.Described(name, "crun", "crun", first, "", folder=f"/{name}", user=its_user,
@@ -736,14 +749,15 @@ class Descriptions(Case):
         # another user's process, and one that runs as root, as sudo does
         self.assertIsNone(self.belongs("/", user, user=1))
         self.assertIsNone(self.belongs("/", user, user=0))
+        self.assertIsNone(self.belongs("/", user, user=0, real=self.USER))
         # a descendant of the user's first process, in a namespace of a container of root's
         space = {"spaces": ((1, 5), (1, 1)), "inner": 1}
         self.assertEqual(self.belongs("/", user, root, **space), "root")
         self.assertEqual(self.belongs("/", ("user", 8, self.USER), parent=8), "user")
 
     def test_a_group_that_a_user_states(self):
-        """It isn't believed, and a named one only in the user's own slice."""
-        self.assertIsNone(self.belongs("/x", ("user", 8, self.USER, "/x")))
+        """It isn't believed, and a named one only in the slices of users."""
+        self.assertIsNone(self.belongs("/x", ("user", 8, self.USER, "/x"), other=(8, "/x")))
         self.assertEqual(self.belongs("/x", ("root", 7, None, "/x")), "root")
         named = f"/machine.slice/libpod-{IDENTIFIER}.scope"
         self.assertEqual(self.belongs(named, ("user", 7, self.USER)), IDENTIFIER)
