@@ -362,13 +362,14 @@ class Place:
 
 def _stated_group(one: Described, process: Process) -> containers.Group | None:
     """The control group that a runtime's file states, if the container's first process is in it or below."""
-    for hierarchy in containers.HIERARCHIES:
+    paths: dict[str, bytes] = {}
+    for hierarchy in (*containers.HIERARCHIES, *process.groups):
         path = process.groups.get(hierarchy, b"/")
-        while path not in (b"/", b""):
+        while path not in (b"/", b"") and hierarchy not in paths:
             if any(it.endswith(path) for it in one.groups):
-                return containers.Group(hierarchy, path, True)
+                paths[hierarchy] = path
             path = path.rpartition(b"/")[0]
-    return None
+    return containers.Group.of(next(iter(paths)), paths, process.groups, True) if paths else None
 
 
 def _named_group(process: Process) -> containers.Group | None:
@@ -376,7 +377,7 @@ def _named_group(process: Process) -> containers.Group | None:
     for hierarchy in containers.HIERARCHIES:
         found = containers.NAMED.match(process.groups.get(hierarchy, b""))
         if found:
-            return containers.Group(hierarchy, found[0], True)
+            return containers.Group.of(hierarchy, {hierarchy: found[0]}, process.groups, True)
     return None
 
 

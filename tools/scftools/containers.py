@@ -35,6 +35,11 @@ ENDED = ("Z", "X")
 MOST_SHOWN = 5
 
 
+def is_within(path: bytes, group: bytes) -> bool:
+    """Whether a control group is another one, or below it."""
+    return (path + b"/").startswith(group + b"/")
+
+
 @dataclass(frozen=True)
 class Group:
     """A control group that is taken for the container's own."""
@@ -43,14 +48,21 @@ class Group:
     path: bytes
     # whether it is known to be a container's
     is_of_container: bool
-    # the container's groups with other paths in further hierarchies of version 1
+    # the container's groups in further hierarchies of version 1
     others: tuple[tuple[str, bytes], ...] = ()
+
+    @classmethod
+    def of(cls, hierarchy: str, paths: dict[str, bytes], groups: dict[str, bytes], is_of_container: bool) -> Group:
+        """The group of a container given its paths in some hierarchies, and the groups of one of its processes: in a
+        further hierarchy it has the same path if that process is there, too."""
+        path = paths[hierarchy]
+        same = {name: path for name, its_path in groups.items() if is_within(its_path, path)}
+        return cls(hierarchy, path, is_of_container, tuple({**same, **paths}.items()))
 
     def has(self, groups: dict[str, bytes]) -> bool:
         """Whether a process with these groups, by their hierarchies, is in it or in a group below, in any hierarchy: in
         version 1 a process may be moved out of the container's group in one of them and stay there in another."""
-        return any((groups[name] + b"/").startswith(path + b"/")
-                   for name, path in (*((it, self.path) for it in groups), *self.others) if name in groups)
+        return any(is_within(groups.get(name, b""), path) for name, path in ((self.hierarchy, self.path), *self.others))
 
 
 @dataclass
@@ -94,7 +106,7 @@ def known_groups(roots: Sequence[bytes], path: bytes) -> Iterator[bytes]:
     """The groups at or above a process's that are known to be a container's, given the roots of the mounts of control
     groups that the process sees."""
     for root in roots:
-        if root != b"/" and (path + b"/").startswith(root + b"/"):
+        if root != b"/" and is_within(path, root):
             yield root
     named = NAMED.match(path)
     if named:
@@ -117,9 +129,9 @@ def group_of(kernel: Kernel, process: int) -> Group | None:
             raise Unreadable(why_no_group(process, path))
     known = {name: min(known_groups(roots, path), key=len, default=b"") for name, path in groups.items()}
     for name in (it for it in (*HIERARCHIES, *groups) if known.get(it)):
-        return Group(name, known[name], True, tuple((it, path) for it, path in known.items() if path))
+        return Group.of(name, {it: path for it, path in known.items() if path}, groups, True)
     if inside:
-        return Group(inside[0], groups[inside[0]], False)
+        return Group.of(inside[0], {inside[0]: groups[inside[0]]}, groups, False)
     if any(name in groups for name in HIERARCHIES) and not kernel.is_root_the_first():
         raise Unreadable(why_no_group(process, b"/"))
     return None
