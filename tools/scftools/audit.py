@@ -3,11 +3,13 @@ whether its processes are confined as configured.
 
 The expected profile of a container is that of its config.json as its runtime applies it, that of a unit is what its
 settings state, and of other programs nothing is expected. Each pair of a distinct stack and a distinct profile is
-compared once, by scf. What users describe comes after all else, and each user has a budget of time for it.
+compared once, by scf. What users describe and what only their processes have comes after all else, and each user has a
+budget of time for it.
 """
 from __future__ import annotations
 
 import json
+import math
 import os
 import time
 from collections import Counter
@@ -37,9 +39,10 @@ ALLOWS_ALL = b'{"defaultAction": "SCMP_ACT_ALLOW"}'
 TO_CONFINE = 0.5
 # The most results that are kept, and the most bytes of the profiles in them.
 MOST_KNOWN, MOST_BYTES = 2000, 1 << 26
-# How long what one user describes may take, and what all users describe, in seconds; and how much of that scf's own
-# comparisons may take with all their steps.
-SECONDS_OF_A_USER, SECONDS_OF_USERS, SECONDS_OF_SCF = 5.0, 20.0, 3.0
+# How long the rows of one user may take, and of all users, in seconds, what each has in any case, and how much of it
+# scf's comparisons may take with all their steps.
+SECONDS_OF_A_USER, SECONDS_OF_USERS, LEAST_SECONDS, SECONDS_OF_SCF = 5.0, 20.0, 0.25, 3.0
+BEYOND = "it isn't looked at: to judge all of this user takes too long"
 STRICT = "it is in seccomp's strict mode, which no profile expresses"
 
 
@@ -57,18 +60,22 @@ class Expected:
     source: str | None = None
     # why it isn't known what is expected
     why: str | None = None
-    # the SHA-256 of the profile as scf is given it, which stays when the profile itself isn't kept
-    digest: str | None = None
+    # the SHA-256 of a profile that isn't kept
+    dropped: str | None = None
+
+    @property
+    def digest(self) -> str | None:
+        """The SHA-256 of the profile as scf is given it."""
+        return _sha256(self.asked.profile) if self.asked is not None else self.dropped
 
     @property
     def is_stated(self) -> bool:
         """Whether it is stated how the processes are confined, or isn't known whether it is."""
         return self.digest is not None or self.why is not None
 
-    @classmethod
-    def of(cls, asked: Request, source: str) -> Expected:
-        """A profile that is expected."""
-        return cls(asked, source, None, _sha256(asked.profile))
+    def without_profile(self) -> Expected:
+        """The same when all is judged."""
+        return replace(self, asked=None, dropped=self.digest)
 
 
 @dataclass(frozen=True)
@@ -367,7 +374,7 @@ class Expectations:
 
     def _of_config(self, config: dict[str, Any], runtime: str | None, source: str) -> Expected:
         asked = self._asked(config, runtime)
-        return Expected(source=source, why=asked) if isinstance(asked, str) else Expected.of(asked, source)
+        return Expected(source=source, why=asked) if isinstance(asked, str) else Expected(asked, source)
 
     def of_all(self, runtime: str | None = None) -> Expected | None:
         """What --expect says of all, which a container's runtime applies in its own way."""
@@ -375,7 +382,7 @@ class Expectations:
             return None
         name, data = self.options.expected
         if runtime is None:
-            return Expected.of(Request(data, self.options.table, self.options.scope), name)
+            return Expected(Request(data, self.options.table, self.options.scope), name)
         value = json.loads(data)
         linux = value.get("linux") if isinstance(value, dict) else None
         return self._of_config({"linux": linux if isinstance(linux, dict) else {"seccomp": value}}, runtime, name)
@@ -430,7 +437,7 @@ class Expectations:
             profile = units.profile_of(settings).encode()
         except (units.SettingError, program.ToolError) as why:
             return Expected(source=source, why=str(why))
-        return Expected.of(Request(profile, self.options.table, self.options.scope), source)
+        return Expected(Request(profile, self.options.table, self.options.scope), source)
 
 
 def rows_of(kernel: Kernel, snapshot: Snapshot, expectations: Expectations) -> tuple[list[Row], list[str]]:
@@ -491,90 +498,99 @@ def judged(stack: Stack, expected: Expected, options: Options, judge: Judge) -> 
 
 
 class Budgets:
-    """How long what users describe may still take, in seconds."""
+    """How long the rows of users may still take, in seconds."""
 
     def __init__(self) -> None:
         self.left = SECONDS_OF_USERS
         self.of: dict[int, float] = {}
 
     def of_user(self, user: int, count: int) -> float:
-        """What a user has, one of so many who still wait."""
-        return min(self.of.get(user, SECONDS_OF_A_USER), self.left / count)
+        """What a user has, the first of so many, each of whom has a little in any case."""
+        return min(self.of.get(user, SECONDS_OF_A_USER), self.left - LEAST_SECONDS * (count - 1))
 
     def spend(self, user: int, seconds: float) -> None:
         self.left -= seconds
         self.of[user] = self.of.get(user, SECONDS_OF_A_USER) - seconds
 
 
-# What is judged at once: a row, and some distinct stacks of its threads.
-Task = "tuple[Row, list[tuple[Stack, dict[int, list[int]]]]]"
+# Distinct stacks, each with the threads of a row that have it; and what is judged at once: a row, and some of them.
+Stacks = "list[tuple[Stack, dict[int, list[int]]]]"
+Task = "tuple[Row, Stacks]"
 
 
 class Assessor:
-    """Judges rows: first what root describes, then what each user does, in a child process and within a budget."""
+    """Judges rows: first what root describes and what root's processes have, then the rest of each user, within a
+    budget."""
 
     def __init__(self, snapshot: Snapshot, expectations: Expectations, judge: Judge) -> None:
         self.snapshot, self.expectations, self.judge = snapshot, expectations, judge
         self.budgets = Budgets()
-        # what isn't looked at, by users
+        # how many rows weren't looked at as a whole, by users
         self.beyond: Counter[int] = Counter()
-        client.begin_limits()
-        judge.forget_unknown()
 
     @property
     def left_out(self) -> list[str]:
         """Lines on what wasn't looked at."""
-        return [f"{count} row{'s' * (count > 1)} of user {user}: judging what this user describes takes longer than "
-                f"{SECONDS_OF_A_USER:g} seconds, or all users' than {SECONDS_OF_USERS:g}"
+        return [f"{count} row{'s' * (count > 1)} of user {user}: to judge all of this user takes longer than "
+                f"{SECONDS_OF_A_USER:g} seconds, or of all users than {SECONDS_OF_USERS:g}"
                 for user, count in sorted(self.beyond.items())]
 
     def fill(self, rows: Iterable[Row]) -> None:
         """Adds the parts of rows."""
+        self.judge.forget_unknown()
+        client.begin_limits()
         tasks = self._tasks(rows)
-        users = sorted(it for it in tasks if it is not None)
-        for task in tasks.get(None, ()):
+        for task in tasks.pop(None, ()):
             self._add(*task, *self._judged(*task))
-        for at, user in enumerate(users):
-            left = self.budgets.of_user(user, len(users) - at)
+        for at, user in enumerate(sorted(it for it in tasks if it is not None)):
+            client.begin_limits(SECONDS_OF_SCF, False)
+            began = time.monotonic()
+            until = began + self.budgets.of_user(user, len(tasks) - at)
             for task in tasks[user]:
-                began = time.monotonic()
-                self._add(*task, *self._judged_in_time(user, left, *task))
-                left -= time.monotonic() - began
-                self.budgets.spend(user, time.monotonic() - began)
+                judge = self._judged if task[0].container is None else self._judged_in_child
+                self._add(*task, *judge(*task, until))
+                self.beyond[user] += any(it.judgement.why == BEYOND for it in task[0].parts)
+            self.budgets.spend(user, time.monotonic() - began)
+        self.beyond = +self.beyond
 
     def _tasks(self, rows: Iterable[Row]) -> dict[int | None, list[Task]]:
-        """What is to be judged, by who describes it; of a program what only a user's processes have is that user's."""
+        """What is to be judged, by whose it is: a container is its user's if only a user describes it; of a unit and a
+        program a stack is a user's if no process of root's has it."""
         found: dict[int | None, list[Task]] = {}
         for row in rows:
             row.parts = [Part(Stack((), False), {it.number: []}, Judgement(NOT_KNOWN, self.snapshot.unread[it.number]))
                          for it in row.processes if it.number in self.snapshot.unread]
-            by_user: dict[int | None, list[tuple[Stack, dict[int, list[int]]]]] = {}
+            by_user: dict[int | None, Stacks] = {}
             for stack, threads in self.snapshot.stacks_of(it.number for it in row.processes):
-                users = {it.user for it in row.processes if it.number in threads} if row.kind == PROGRAM else {0}
-                by_user.setdefault(row.user if 0 in users else min(users), []).append((stack, threads))
+                least = min(it.user for it in row.processes if it.number in threads) or None
+                user = least if row.container is None else row.user
+                by_user.setdefault(user, []).append((stack, threads))
             for user, stacks in by_user.items():
                 found.setdefault(user, []).append((row, stacks))
         return found
 
-    def _add(self, row: Row, stacks: list[tuple[Stack, dict[int, list[int]]]], container: Described | None,
-             expected: Expected, judgements: Iterable[Judgement]) -> None:
+    def _add(self, row: Row, stacks: Stacks, container: Described | None, expected: Expected,
+             judgements: Iterable[Judgement]) -> None:
         """Adds what was judged to a row."""
         row.container, row.expected = container, expected
         row.parts += [Part(stack, threads, it) for (stack, threads), it in zip(stacks, judgements)]
         row.parts.sort(key=lambda it: it.judgement.order)
 
-    def _judged(self, row: Row, stacks: list[tuple[Stack, dict[int, list[int]]]]) -> \
+    def _judged(self, row: Row, stacks: Stacks, until: float = math.inf) -> \
             tuple[Described | None, Expected, list[Judgement]]:
         """What a row's container is, what is expected of it, and the verdict on each stack. The config.json is read
         here, and isn't kept."""
         container, expected = row.container, row.expected
-        if container is not None:
-            container, expected = self.expectations.of_container(container)
-        judgements = [self._judgement(stack, expected) for stack, _ in stacks]
-        return container, replace(expected, asked=None) if container is not None else expected, judgements
+        if container is None:
+            return None, expected, [self._judgement(stack, expected, until) for stack, _ in stacks]
+        container, expected = self.expectations.of_container(container)
+        judgements = [self._judgement(stack, expected, until) for stack, _ in stacks]
+        return container, expected.without_profile(), judgements
 
-    def _judgement(self, stack: Stack, expected: Expected) -> Judgement:
+    def _judgement(self, stack: Stack, expected: Expected, until: float) -> Judgement:
         """The verdict on a stack of a row; whatever is raised meanwhile, it isn't known."""
+        if stack.filters and time.monotonic() > until:
+            return Judgement(NOT_KNOWN, BEYOND)
         try:
             return judged(stack, expected, self.expectations.options, self.judge)
         except child.Interrupted:
@@ -582,14 +598,13 @@ class Assessor:
         except program.ToolError as why:
             if why.status == program.NOT_BUILT:
                 raise
-            return Judgement(NOT_KNOWN, str(why), is_unconfined=not stack.filters and not stack.is_strict)
+            return Judgement(NOT_KNOWN, str(why))
         except Exception as error:  # pylint: disable=broad-exception-caught
             return Judgement(NOT_KNOWN, f"it can't be compared: {type(error).__name__}")
 
-    def _judged_in_time(self, user: int, seconds: float, row: Row,
-                        stacks: list[tuple[Stack, dict[int, list[int]]]]) -> \
+    def _judged_in_child(self, row: Row, stacks: Stacks, until: float) -> \
             tuple[Described | None, Expected, list[Judgement]]:
-        """The same within so many seconds, in a child process."""
+        """The same of what a user describes, in a child process, which ends in time."""
         known = set(self.judge.known.values)
 
         def work() -> object:
@@ -599,18 +614,16 @@ class Assessor:
                            if key not in known and it.verdict != NOT_KNOWN}
 
         try:
-            if seconds > 0:
-                found, news = child.run(work, seconds)
+            left = until - time.monotonic()
+            if left > 0:
+                found, news = child.run(work, left)
                 for key, judgement in news.items():
                     self.judge.keep(key, judgement)
                 return found
         except (child.Late, child.Died):
             pass
-        self.beyond[user] += 1
-        why = f"it isn't looked at: what user {user} describes takes too long"
-        expected = replace(row.expected, why=why) if row.container is not None else row.expected
-        return row.container, expected, [Judgement(NOT_KNOWN, why, is_unconfined=not it.filters and not it.is_strict)
-                                         for it, _ in stacks]
+        return row.container, replace(row.expected, why=BEYOND), [
+            Judgement(NOT_KNOWN, BEYOND, is_unconfined=not it.filters and not it.is_strict) for it, _ in stacks]
 
 
 def _look_again(kernel: Kernel, snapshot: Snapshot, rows: Iterable[Row], options: Options) -> list[Row]:

@@ -477,7 +477,7 @@ class Users(Audited, OwnMachine):
         self.assertLess(seconds, 15)
         self.assertLess(size, 300 << 20)
         (line,) = [it for it in value["left_out"] if f"of user {self.USER}" in it]
-        self.assertRegex(line, r"\A[0-9]+ rows of user 12345: judging what this user describes takes longer than 5 s")
+        self.assertRegex(line, r"\A[0-9]+ rows of user 12345: to judge all of this user takes longer than 5 s")
         path = f"{self.folder}/scf.prom"
         self.on(tool("audit"), "--prometheus", path)
         with open(path, encoding="ascii") as file:
@@ -859,18 +859,42 @@ class Limits(Case):
             assessor = self.assessed(rows, work)
         self.assertLess(time.monotonic() - began, 10)
         self.assertEqual([it.expected.why for it in rows],
-                         ["it isn't looked at: what user 5 describes takes too long", "read", "read"])
+                         ["it isn't looked at: to judge all of this user takes too long", "read", "read"])
         self.assertEqual({it.verdict for it in rows}, {"not known"})
         self.assertEqual(len(assessor.left_out), 1)
-        self.assertTrue(assessor.left_out[0].startswith("1 row of user 5: judging what this user describes takes"))
+        self.assertTrue(assessor.left_out[0].startswith("1 row of user 5: to judge all of this user takes"))
 
     def test_all_users_together(self):
-        """Each has a part of what is left for all."""
+        """Each has some time, whatever the others before took."""
         budgets = audit.Budgets()
-        self.assertEqual(budgets.of_user(5, 2), audit.SECONDS_OF_A_USER)
-        budgets.spend(5, audit.SECONDS_OF_USERS - 4)
-        self.assertEqual((budgets.of_user(6, 2), budgets.of_user(7, 1)), (2, 4))
-        self.assertLess(budgets.of_user(5, 1), 0)
+        for user in range(100, 140):
+            left = budgets.of_user(user, 140 - user)
+            self.assertGreaterEqual(left, audit.LEAST_SECONDS)
+            self.assertLessEqual(left, audit.SECONDS_OF_A_USER)
+            budgets.spend(user, left)
+        self.assertEqual((budgets.left, budgets.of_user(100, 1)), (0, 0))
+
+    def test_filters_of_a_user(self):
+        """Those of a program and of a unit that only a user's processes have come after root's, and have a budget."""
+        stacks = [processes.Stack((filter_of([0, at]),), False, {at: [at]}) for at in range(7, 12)]
+        self.snapshot = machine.Snapshot({it: process(it) for it in range(7, 12)},
+                                         {(it.filters, False): it for it in stacks})
+        rows = [audit.Row(kind, "x", [process(it, user=5) for it in numbers], audit.Expected())
+                for kind, numbers in ((audit.PROGRAM, (7, 8)), (audit.UNIT, (9, 10)))]
+        rows[0].processes.append(process(11))
+        order = []
+
+        def judge(stack, *_):
+            order.extend(stack.threads)
+            time.sleep(0 if 11 in stack.threads else 0.3)
+            return audit.Judgement(audit.STRICTER)
+
+        with mock.patch.object(audit, "SECONDS_OF_A_USER", 0.7), mock.patch.object(audit, "judged", judge):
+            assessor = self.assessed(rows, None)
+        self.assertEqual(order, [11, 7, 8, 9])
+        self.assertEqual([[it.judgement.verdict for it in row.parts] for row in rows],
+                         [["stricter"] * 3, ["not known", "stricter"]])
+        self.assertEqual(assessor.beyond, {5: 1})
 
     def test_what_is_raised(self):
         for error in (KeyError("x"), MemoryError(), RecursionError(), AttributeError("y")):
