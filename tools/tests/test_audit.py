@@ -566,16 +566,41 @@ runroot = "/run/podman-of-tests"
 """
 
 
-class Node(Audited, Systemd):
-    """A machine with all of it: units of a real systemd, containers of runc, crun, podman and a user, and others."""
-
-    UNITS = {f"scf-{name}.service": UNIT.format(setting) for name, setting in (
-        ("same", "SystemCallFilter=~mount ptrace"), ("more", "SystemCallFilter=~mount"), ("none", ""))}
+class Podman(Audited):
+    """A podman with folders of its own."""
 
     def podman(self, *words):
         settings = {f"CONTAINERS_{name}": self.file(f"podman/{name}", text.format(f"{self.folder}/podman"))
                     for name, text in (("CONF", CONTAINERS), ("STORAGE_CONF", STORAGE))}
         return self.on("podman", "--runtime", "runc", *words, **settings)
+
+
+class Pods(Podman, OwnMachine):
+    def test_a_pod(self):
+        """Its containers have rows, and no other row has what watches them, which is in the pod's group on cgroupfs."""
+        self.runtime("podman")
+        rootfs = f"{self.bundle('pod', None)}/rootfs"
+        self.on("tar", "-C", rootfs, "-cf", f"{self.folder}/rootfs.tar", ".")
+        first = ("--infra-image", "first", "--infra-command", "sleep 1000", "--share", "ipc")
+        for words in (("import", f"{self.folder}/rootfs.tar", "first"),
+                      ("pod", "create", "--name", "two", "--cgroup-parent", f"/{self.group}", *first),
+                      ("run", "--detach", "--pod", "two", "--name", "front", "--rootfs", rootfs, "sleep", "1000")):
+            status, _, err = self.podman(*words)
+            if status:
+                self.skipTest(f"podman starts no pod here: {err.strip()}")
+        watching = self.on("sh", "-c", "grep -lx conmon /proc/[0-9]*/comm | cut -d / -f 3")[1].split()
+        groups = "".join(self.on("cat", f"/proc/{it}/cgroup")[1] for it in watching)
+        self.assertRegex(groups, f"/{self.group}/[0-9a-f]{{64}}/conmon\n")
+        rows = self.audit("--allow-unconfined", status=4)["rows"]
+        self.assertEqual([it["verdict"] for it in rows], ["as configured"] * 2, rows)
+        self.assertEqual({it["name"][-5:] for it in rows}, {"front", "infra"})
+
+
+class Node(Podman, Systemd):
+    """A machine with all of it: units of a real systemd, containers of runc, crun, podman and a user, and others."""
+
+    UNITS = {f"scf-{name}.service": UNIT.format(setting) for name, setting in (
+        ("same", "SystemCallFilter=~mount ptrace"), ("more", "SystemCallFilter=~mount"), ("none", ""))}
 
     def start_units(self):
         """Starts the units; what one of them states is changed after that."""
