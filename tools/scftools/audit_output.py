@@ -31,15 +31,19 @@ def short(identifier: str) -> str:
     return identifier[:12] if re.fullmatch("[0-9a-f]{64}", identifier) else identifier
 
 
+def whose(row: Row) -> list[str]:
+    """The user who alone describes a container, and where, if one before it has the same identifier."""
+    found = [] if row.user is None else [f"of user {row.user}"]
+    return found if row.container is None or row.key == row.container.identifier else [*found, row.place]
+
+
 def about(row: Row) -> list[str]:
     """What is known of a container beside its name."""
     one = row.container
     if one is None:
         return []
-    known = [one.engine, one.image, f"pod {short(one.pod)}" if one.pod else None,
-             short(one.identifier) if one.name is not None else None,
-             f"of user {one.user}" if one.user is not None else None,
-             row.place if row.key != one.identifier else None]
+    known = [one.engine, *whose(row), one.image, f"pod {short(one.pod)}" if one.pod else None,
+             short(one.identifier) if one.name is not None else None]
     return [it for it in known if it]
 
 
