@@ -29,8 +29,6 @@ NAMED = Pattern(rb".*/(?![a-z]+-conmon-)(?:(?:[a-z-]+-|(?<!/libpod_parent/))[0-9
 # systemd's groups (systemd.special(7)) if they aren't at the top, and aren't those of a user's service manager.
 OF_SYSTEMD = Pattern(rb"(/.*?[^/]+)/(?:init\.scope|system\.slice)(?:/|\Z)")
 OF_A_USER = Pattern(rb".*/user@[^/]*\.service")
-# The states of a thread that has ended (proc_pid_status(5)).
-ENDED = ("Z", "X")
 # At most so many processes that weren't checked are listed.
 MOST_SHOWN = 5
 
@@ -96,9 +94,9 @@ def groups_of(kernel: Kernel, process: int) -> dict[str, bytes]:
 
 def living_thread(kernel: Kernel, process: int) -> int:
     """The first thread of a process that hasn't ended; its main thread if all have."""
-    if kernel.status_of(process).get("State", "Z")[:1] not in ENDED:
+    if kernel.status_of(process).get("State", "Z")[:1] not in "ZX":
         return process
-    return next((it for it in kernel.threads_of(process) if kernel.status_of(it).get("State", "Z")[:1] not in ENDED),
+    return next((it for it in kernel.threads_of(process) if kernel.status_of(it).get("State", "Z")[:1] not in "ZX"),
                 process)
 
 

@@ -15,7 +15,7 @@ import re
 import time
 from collections.abc import Callable, Iterable, Iterator
 
-from . import child, containers, processes
+from . import child, processes
 from .hold import PF_KTHREAD, Unreadable, why_no_filters
 from .processes import Kernel, Stack
 from .ptrace import contents
@@ -113,10 +113,10 @@ def described(kernel: Kernel, number: int) -> Process | None:
     if status.get("Tgid") != str(number) or kernel.flags_of(number) & PF_KTHREAD:
         return None
     first, inner = number, status.get("NSpid", str(number)).split()[-1]
-    if status["State"][:1] in containers.ENDED:
+    if status["State"][:1] in "ZX":
         # the kernel has let go what the main thread had: another one shows the executable and the control groups
         states = {it: kernel.status_of(it) for it in threads}
-        threads = [it for it, its_status in states.items() if its_status.get("State", "Z")[:1] not in containers.ENDED]
+        threads = [it for it, its_status in states.items() if its_status.get("State", "Z")[:1] not in "ZX"]
         if not threads:
             return None
         first, status = threads[0], states[threads[0]]
