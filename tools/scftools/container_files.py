@@ -340,7 +340,9 @@ def with_engine(one: Described, names: Names) -> Described:
 
 
 def with_config(one: Described) -> Described:
-    """The same with its config.json."""
+    """The same with its config.json, if it isn't known already why there is none."""
+    if one.why is not None:
+        return one
     if not one.config:
         return replace(one, why="its runtime's files name no bundle")
     try:

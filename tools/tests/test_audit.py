@@ -361,6 +361,7 @@ class Users(Audited, OwnMachine):
         rows = self.audit("--allow-unconfined", status=1)["rows"]
         self.assertEqual({(it["engine"], it["verdict"]) for it in rows},
                          {("runc", "unconfined though configured"), ("podman", "not known")})
+        self.assertEqual([it["profile"].get("why") for it in rows], [None, "no file of a runtime describes it"])
         self.assertEqual(len({it["id"] for it in rows}), 2)
 
     def test_processes_of_others(self):
