@@ -14,6 +14,7 @@ from __future__ import annotations
 import fcntl
 import json
 import os
+import time
 from collections.abc import Callable, Iterable, Iterator
 
 from . import child, containers, engines, owned_files
@@ -47,9 +48,9 @@ SANDBOX = ("io.kubernetes.cri-o.SandboxID", "io.kubernetes.cri.sandbox-id")
 # The most bytes of a runtime's file (runc's has the profile again: 35 KB with podman's) of a user and of root, of a
 # config.json, and of a file of an engine, of which storage has one for all containers.
 STATE_BYTES, STATE_BYTES_OF_ROOT, CONFIG_BYTES, ENGINE_BYTES = 1 << 16, 1 << 22, 1 << 22, 1 << 22
-# The most folders of containers of a user that are looked at, and how long reading what their runtimes' files say may
-# take, in seconds.
-MOST_OF_A_USER, SECONDS_FOR_STATES = 200, 2.0
+# The most folders of containers of a user that are looked at; and how long reading what a user's runtimes have in them
+# may take, and of all users, and what each user has in any case, in seconds.
+MOST_OF_A_USER, SECONDS_OF_A_USER, SECONDS_OF_USERS, LEAST_SECONDS = 200, 2.0, 10.0, 0.25
 # linux/nsfs.h: the user ID of a user namespace's owner.
 NS_GET_OWNER_UID = 0xB704
 # The count of IDs in the initial user namespace, and the ID that stands for none (user_namespaces(7)).
@@ -119,10 +120,10 @@ def is_mapped(process: int, user: int) -> bool:
 
 
 def matching(pattern: str) -> list[str]:
-    """The paths that match a pattern (glob(7)), in order."""
+    """The paths that match a pattern (glob(7)), in order; a path without wildcards, whether or not it is there."""
     import glob  # pylint: disable=import-outside-toplevel
 
-    return sorted(glob.glob(pattern))
+    return sorted(glob.glob(pattern)) if glob.has_magic(pattern) else [pattern]
 
 
 def _object(read: Callable[[str, int], bytes], path: str, most: int) -> Any:
@@ -259,7 +260,11 @@ def _in_roots(kernel: Kernel, patterns: Iterable[str], whose: str) -> Found:
     """The containers in folders of runtimes that may be a user's, with a line for all that can't be read."""
     found, more = Found(), []
     for root in (path for it in patterns for path in matching(it)):
-        names, is_all = owned_files.names_in(root, MOST_OF_A_USER)
+        try:
+            names, is_all = owned_files.names_in(root, MOST_OF_A_USER)
+        except Unreadable as why:
+            found.left_out.append(str(why))
+            continue
         for folder in (os.path.join(root, it) for it in sorted(names)):
             found.add(lambda folder=folder: _state_in(kernel, folder), folder)
         if not is_all:
@@ -269,21 +274,24 @@ def _in_roots(kernel: Kernel, patterns: Iterable[str], whose: str) -> Found:
     return found
 
 
-def _in_child(kernel: Kernel, patterns: Iterable[str], whose: str) -> Found:
-    """The same, read in a child process, which ends in time."""
+def _in_child(kernel: Kernel, patterns: Iterable[str], whose: str, seconds: float) -> Found:
+    """The same, read in a child process, which ends in time whatever file system a user has put there."""
     try:
-        return child.run(lambda: _in_roots(kernel, patterns, whose), SECONDS_FOR_STATES)
+        return child.run(lambda: _in_roots(kernel, patterns, whose), seconds)
     except (child.Late, child.Died):
-        return Found([], [f"the folders of containers {whose}: they can't be read within {SECONDS_FOR_STATES:g} "
-                          f"seconds"])
+        return Found([], [f"the folders of containers {whose}: they can't be read within {seconds:.2g} seconds"])
 
 
 def all_described(kernel: Kernel, more_roots: tuple[str, ...] = ()) -> Found:
     """The containers that run, each once, those first that only root could have described; `more_roots` are further
     folders in which runtimes keep theirs."""
-    every = [_of_root(kernel), *(_in_child(kernel, [os.path.abspath(it)], f"in {it}") for it in more_roots)]
+    until, every = time.monotonic() + SECONDS_OF_USERS, [_of_root(kernel)]
+    places = [([os.path.abspath(it)], f"in {it}") for it in more_roots]
     for user in owned_files.names_in(OF_USERS, 0)[0]:
-        every.append(_in_child(kernel, [os.path.join(OF_USERS, user, it) for it in ROOTS_OF_USERS], f"of user {user}"))
+        places.append(([os.path.join(OF_USERS, user, it) for it in ROOTS_OF_USERS], f"of user {user}"))
+    for patterns, whose in places:
+        left = max(LEAST_SECONDS, min(SECONDS_OF_A_USER, until - time.monotonic()))
+        every.append(_in_child(kernel, patterns, whose, left))
     first_of: dict[int, Described] = {}
     for one in sorted((it for found in every for it in found.described), key=lambda it: it.user is not None):
         first_of.setdefault(one.first, one)

@@ -6,7 +6,8 @@ import os
 import stat
 from itertools import islice
 
-from .values import dataclass
+from .ptrace import contents
+from .values import Pattern, dataclass
 
 # Stands for any user: what a folder or file has that others than its owner may write.
 ANYONE = -1
@@ -14,6 +15,9 @@ ANYONE = -1
 MOST_LINKS = 40
 # Opens a file or folder without reading it, nor waiting for what is a pipe or a device.
 BY_PATH = os.O_PATH | os.O_NOFOLLOW | os.O_CLOEXEC
+# A file system in user space (fuse(4)), and the user who answers for it, in a line of /proc/self/mountinfo.
+FUSE = Pattern(rb" - fuse(?:\.\S*)? \S* (?:\S*,)?user_id=([0-9]+)")
+MOUNT = Pattern(rb"mnt_id:\s*([0-9]+)")
 
 
 class Unreadable(Exception):
@@ -43,33 +47,42 @@ def _writers(status: os.stat_result) -> set[int]:
     return {ANYONE} if is_of_others and not is_sticky else set()
 
 
+def _refuse_users_mount(path: str, file: int) -> None:
+    """Refuses what is in a file system in user space of a user, which may answer anything, or never. It isn't asked."""
+    found = MOUNT.search(contents(f"/proc/self/fdinfo/{file}"))
+    start = b"%s " % (found[1] if found else b"")
+    for line in contents("/proc/self/mountinfo").splitlines():
+        of_user = FUSE.search(line) if line.startswith(start) else None
+        if of_user and int(of_user[1]) not in (0, os.geteuid()):
+            raise Unreadable(f"'{path}' leads into a file system of user {int(of_user[1])}")
+
+
 def _opened(path: str) -> Place:
     """What stands at an absolute path. Links are followed where only root could have made them."""
-    here, users = os.open("/", BY_PATH), frozenset()
-    parts, links = path.split("/")[::-1], 0
+    users, parts, links = frozenset(), path.split("/")[::-1], 0
+    files = [os.open("/", BY_PATH)]
     try:
         while parts:
             name = parts.pop()
             if name == ".." and users:
                 raise Unreadable(f"'{path}' leads out of a user's folder")
-            file = os.open(name or ".", BY_PATH, dir_fd=here)
-            status = os.fstat(file)
+            files.append(os.open(name or ".", BY_PATH, dir_fd=files[-1]))
+            _refuse_users_mount(path, files[-1])
+            status = os.fstat(files[-1])
             if not stat.S_ISLNK(status.st_mode):
-                os.close(here)
-                here, users = file, users | _writers(status)
+                users |= _writers(status)
                 continue
-            target, links = os.readlink("", dir_fd=file), links + 1
-            os.close(file)
+            target, links = os.readlink("", dir_fd=files[-1]), links + 1
+            os.close(files.pop())
             if users or status.st_uid or links > MOST_LINKS:
                 raise Unreadable(f"'{path}' leads through a link of a user, or through too many")
             if target.startswith("/"):
-                os.close(here)
-                here = os.open("/", BY_PATH)
+                files.append(os.open("/", BY_PATH))
             parts += target.split("/")[::-1]
-    except BaseException:
-        os.close(here)
-        raise
-    return Place(here, os.fstat(here), users)
+        return Place(files[-1], os.fstat(files.pop()), users)
+    finally:
+        for file in files:
+            os.close(file)
 
 
 def opened(path: str) -> Place:
@@ -108,13 +121,13 @@ def names_in(path: str, most_of_users: int) -> tuple[list[str], bool]:
     where it isn't there."""
     try:
         place = opened(path)
-    except Unreadable:
+    except Absent:
         return [], True
     try:
         with os.scandir(f"/proc/self/fd/{place.file}") as entries:
             names = [it.name for it in (islice(entries, most_of_users + 1) if place.users else entries)]
-    except OSError:
-        return [], True
+    except OSError as error:
+        raise Unreadable(f"'{path}' can't be read: {error.strerror}") from error
     finally:
         os.close(place.file)
     is_all = not place.users or len(names) <= most_of_users

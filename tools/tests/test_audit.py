@@ -54,6 +54,16 @@ ctypes.CDLL(None).syscall(60, 0)
 """
 
 
+# Mounts a file system in user space (fuse(4)) that answers nothing.
+HANGING = """
+import ctypes, os, sys, time
+file = os.open(\"/dev/fuse\", os.O_RDWR)
+words = b\"fd=%d,rootmode=40000,user_id=12345,group_id=12345,allow_other\" % file
+print(ctypes.CDLL(None).mount(b\"x\", os.fsencode(sys.argv[1]), b\"fuse\", 0, words), flush=True)
+for it in (0, 1, 2):
+    os.close(it)
+time.sleep(1000)
+"""
 # How the output of verify-process begins beside a process that isn't confined.
 NO_FILTER = r"\A(unconfined though configured\n)?# process {} \({}\) has no filter: it isn't confined"
 
@@ -428,6 +438,24 @@ class Users(Audited, OwnMachine):
         (row,) = self.audit(status=1)["rows"]
         self.assertEqual(row["verdict"], "not known")
         self.assertTrue(row["profile"]["why"].endswith(f"config.json' may be changed by user {self.USER}"), row)
+
+    def test_a_file_system_that_does_not_answer(self):
+        """One of the user's own in place of the folder of the user's containers, or on the way to the configuration of
+        one of root's: nothing waits for it."""
+        for name in ("web", "other"):
+            self.container("runc", name, STATED)
+        for where in (f"/run/user/{self.USER}/crun", f"{self.folder}/bundles/other"):
+            script = f"mkdir -p {where}; timeout 100 /usr/bin/python3 -c '{HANGING}' {where} & sleep 1"
+            if self.on("sh", "-c", script)[1] != "0\n":
+                self.skipTest("no file system in user space can be mounted here")
+            self.addCleanup(self.on, "umount", "-l", where)
+        value = self.audit(status=4)
+        self.assertEqual([(it["name"], it["verdict"]) for it in value["rows"]],
+                         [("other", "not known"), ("web", "as configured")])
+        self.assertIn(f"1 of the folders of containers of user {self.USER}: '/run/user/{self.USER}/crun' leads into a "
+                      f"file system of user {self.USER}", value["left_out"])
+        self.assertIn(f"leads into a file system of user {self.USER}", value["rows"][0]["profile"]["why"])
+        self.assertLess(value["seconds"], 10)
 
     def hostile(self, count, make):
         """The audit of a machine on which a user has so many containers, and root has one that isn't confined as
@@ -866,9 +894,8 @@ class Limits(Case):
         """As in a file system of the user's own that doesn't answer: a line says so, and the others are read."""
         for work, seconds in ((lambda *_: time.sleep(60), 0.2), (lambda *_: os._exit(1), 10)):
             began = time.monotonic()
-            with mock.patch.object(container_files, "_in_roots", work), \
-                    mock.patch.object(container_files, "SECONDS_FOR_STATES", seconds):
-                found = container_files._in_child(None, [], "of user 5")
+            with mock.patch.object(container_files, "_in_roots", work):
+                found = container_files._in_child(None, [], "of user 5", seconds)
             self.assertEqual((found.described, len(found.left_out)), ([], 1))
             self.assertIn("the folders of containers of user 5: they can't be read", found.left_out[0])
             self.assertLess(time.monotonic() - began, 5)

@@ -100,8 +100,9 @@ class Files(Case):
         names, is_all = owned_files.names_in(where, 2)
         self.assertEqual((len(names), is_all), (2, False))
         self.assertEqual(owned_files.names_in(where, 4)[1], True)
-        for name in ("none", "a/b/c"):
-            self.assertEqual(owned_files.names_in(os.path.join(self.folder, name), 2), ([], True))
+        self.assertEqual(owned_files.names_in(os.path.join(self.folder, "none"), 2), ([], True))
+        with self.assertRaises(Unreadable):
+            owned_files.names_in(os.path.join(self.folder, "a/b/c"), 2)
         self.assertTrue(stat.S_ISDIR(os.stat(where).st_mode))
 
 
