@@ -466,10 +466,11 @@ def rows_of(kernel: Kernel, snapshot: Snapshot, expectations: Expectations) -> t
 
 
 def _tell_apart(rows: Iterable[Row]) -> None:
-    """Adds to the key of a container where its description stands, if one before it has the key too; those come first
-    that only root could have described."""
+    """Adds to the key of a container where its description stands, if one before it has the key too: those come first
+    that root's files describe, then those that only a group's name tells, then users'."""
     seen: set[str] = set()
-    for row in sorted((it for it in rows if it.container is not None), key=lambda it: (it.user is not None, it.user)):
+    for row in sorted((it for it in rows if it.container is not None), key=lambda it: (
+            it.user is not None, not it.container.folder, it.user or 0, it.place)):
         if row.key in seen:
             row.key = f"{row.key} of {row.place}"
         seen.add(row.key)

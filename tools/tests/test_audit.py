@@ -372,7 +372,9 @@ class Users(Audited, OwnMachine):
         self.assertEqual({(it["engine"], it["verdict"]) for it in rows},
                          {("runc", "unconfined though configured"), ("podman", "not known")})
         self.assertEqual([it["profile"].get("why") for it in rows], [None, "no file of a runtime describes it"])
-        self.assertEqual(len({it["id"] for it in rows}), 2)
+        ids = {it["engine"]: it["id"] for it in rows}
+        self.assertEqual(ids["runc"], IDENTIFIER)
+        self.assertTrue(ids["podman"].startswith(f"{IDENTIFIER} of /{self.group}/mine/libpod-"), ids)
 
     def test_processes_of_others(self):
         """A user's file that names a process of root, as the first one of all, a pipe in place of a file, and a
