@@ -548,9 +548,10 @@ class Assessor:
             began = time.monotonic()
             until = began + self.budgets.of_user(user, len(tasks) - at)
             for task in tasks[user]:
-                judge = self._judged if task[0].container is None else self._judged_in_child
-                self._add(*task, *judge(*task, until))
-                self.beyond[user] += any(it.judgement.why == BEYOND for it in task[0].parts)
+                work = self._judged if task[0].container is None else self._judged_in_child
+                container, expected, judgements = work(*task, until)
+                self._add(*task, container, expected, judgements)
+                self.beyond[user] += any(it.why == BEYOND for it in judgements)
             self.budgets.spend(user, time.monotonic() - began)
         self.beyond = +self.beyond
 

@@ -88,7 +88,7 @@ class Described:
     # the folder of its runtime's files, and the control groups that these state, as paths or ends of paths
     folder: str = ""
     groups: tuple[bytes, ...] = ()
-    # the ID of the user who could have written its runtime's files; None if only root could, and ANYONE if any user
+    # the ID of the user who could have written its runtime's files; None if only root could
     user: int | None = None
 
     @property
@@ -278,8 +278,13 @@ def _in_child(kernel: Kernel, patterns: Iterable[str], whose: str, seconds: floa
     """The same, read in a child process, which ends in time whatever file system a user has put there."""
     try:
         return child.run(lambda: _in_roots(kernel, patterns, whose), seconds)
+    except child.Interrupted:
+        raise
     except (child.Late, child.Died):
-        return Found([], [f"the folders of containers {whose}: they can't be read within {seconds:.2g} seconds"])
+        why = f"within {seconds:.2g} seconds"
+    except Exception as error:  # pylint: disable=broad-exception-caught
+        why = type(error).__name__
+    return Found([], [f"the folders of containers {whose}: they can't be read ({why})"])
 
 
 def all_described(kernel: Kernel, more_roots: tuple[str, ...] = ()) -> Found:
@@ -287,8 +292,11 @@ def all_described(kernel: Kernel, more_roots: tuple[str, ...] = ()) -> Found:
     folders in which runtimes keep theirs."""
     until, every = time.monotonic() + SECONDS_OF_USERS, [_of_root(kernel)]
     places = [([os.path.abspath(it)], f"in {it}") for it in more_roots]
-    for user in owned_files.names_in(OF_USERS, 0)[0]:
-        places.append(([os.path.join(OF_USERS, user, it) for it in ROOTS_OF_USERS], f"of user {user}"))
+    try:
+        users = owned_files.names_in(OF_USERS, 0)[0]
+    except Unreadable as why:
+        users, every = [], [*every, Found([], [str(why)])]
+    places += [([os.path.join(OF_USERS, user, it) for it in ROOTS_OF_USERS], f"of user {user}") for user in users]
     for patterns, whose in places:
         left = max(LEAST_SECONDS, min(SECONDS_OF_A_USER, until - time.monotonic()))
         every.append(_in_child(kernel, patterns, whose, left))

@@ -894,7 +894,7 @@ class Limits(Case):
 
     def test_states_that_take_for_ever(self):
         """As in a file system of the user's own that doesn't answer: a line says so, and the others are read."""
-        for work, seconds in ((lambda *_: time.sleep(60), 0.2), (lambda *_: os._exit(1), 10)):
+        for work, seconds in ((lambda *_: time.sleep(60), 0.2), (lambda *_: os._exit(1), 10), (lambda *_: 1 / 0, 10)):
             began = time.monotonic()
             with mock.patch.object(container_files, "_in_roots", work):
                 found = container_files._in_child(None, [], "of user 5", seconds)
