@@ -15,8 +15,8 @@ import time
 from collections import Counter
 from collections.abc import Callable, Iterable, Sequence
 
-from . import (bundles, child, client, compare, container_files, engines, hold, machine, newer, other_abis, output,
-               program, units, verdicts, verify)
+from . import (bundles, child, client, compare, container_files, engines, hold, machine, newer, output, program, units,
+               verdicts, verify)
 from .compare import Comparison
 from .container_files import Described
 from .filters import Filter
