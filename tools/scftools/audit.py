@@ -3,17 +3,19 @@ whether its processes are confined as configured.
 
 The expected profile of a container is that of its config.json as its runtime applies it, that of a unit is what its
 settings state, and of other programs nothing is expected. Each pair of a distinct stack and a distinct profile is
-compared once, by scf.
+compared once, by scf. What users describe and what only their processes have comes after all else, and each user has a
+budget of time for it.
 """
 from __future__ import annotations
 
 import json
+import math
 import os
 import time
 from collections import Counter
 from collections.abc import Callable, Iterable, Sequence
 
-from . import (bundles, client, compare, container_files, engines, hold, machine, other_abis, output, program,
+from . import (bundles, child, client, compare, container_files, engines, hold, machine, output, program,
                unit_profiles, units, verdicts, verify)
 from .compare import Comparison
 from .container_files import Described
@@ -36,8 +38,12 @@ CONTAINER, UNIT, PROGRAM = KINDS = ("container", "unit", "program")
 ALLOWS_ALL = verify.ALLOWS_ALL
 # How long a process may take to load its filter after its container or unit starts, in seconds.
 TO_CONFINE = 0.5
-# The most comparisons whose results are kept.
-MOST_KNOWN = 2000
+# The most results that are kept, and the most bytes of the profiles in them.
+MOST_KNOWN, MOST_BYTES = 2000, 1 << 26
+# How long the rows of one user may take, and of all users, in seconds, what each has in any case, and how much of it
+# scf's comparisons may take with all their steps.
+SECONDS_OF_A_USER, SECONDS_OF_USERS, LEAST_SECONDS, SECONDS_OF_SCF = 5.0, 20.0, 0.25, 3.0
+BEYOND = "it isn't looked at: to judge all of this user takes too long"
 STRICT = "it is in seccomp's strict mode, which no profile expresses"
 
 
@@ -59,11 +65,22 @@ class Expected:
     others: tuple[Request, ...] = ()
     # why processes that differ may be as configured
     doubt: str | None = None
+    # the SHA-256 of a profile that isn't kept
+    dropped: str | None = None
 
     @property
     def digest(self) -> str | None:
         """The SHA-256 of the profile as scf is given it."""
-        return _sha256(self.asked.profile) if self.asked is not None else None
+        return _sha256(self.asked.profile) if self.asked is not None else self.dropped
+
+    @property
+    def is_stated(self) -> bool:
+        """Whether it is stated how the processes are confined, or isn't known whether it is."""
+        return self.digest is not None or self.why is not None
+
+    def without_profile(self) -> Expected:
+        """The same when all is judged."""
+        return replace(self, asked=None, dropped=self.digest)
 
 
 @dataclass(frozen=True)
@@ -82,6 +99,11 @@ class Judgement:
     # whether the threads have neither a filter nor the strict mode
     is_unconfined: bool = False
 
+    @property
+    def order(self) -> tuple[bool, int]:
+        """The unconfined first, then by the verdict."""
+        return not self.is_unconfined, VERDICTS.index(self.verdict)
+
 
 @dataclass
 class Part:
@@ -98,7 +120,8 @@ class Row:
     """A container, a unit or a program."""
 
     kind: str
-    # the container's identifier, the unit's name, the path of the executable
+    # the container's identifier, with where its description stands if another one has it too; the unit's name; the
+    # path of the executable
     key: str
     processes: list[Process]
     expected: Expected
@@ -107,7 +130,12 @@ class Row:
 
     @property
     def worst(self) -> Judgement:
-        return min((it.judgement for it in self.parts), key=lambda it: VERDICTS.index(it.verdict))
+        return min((it.judgement for it in self.parts), key=lambda it: it.order)
+
+    @property
+    def user(self) -> int | None:
+        """The user who alone describes it, if one does."""
+        return self.container.user if self.container is not None else None
 
     @property
     def verdict(self) -> str:
@@ -139,7 +167,12 @@ class Row:
     @property
     def name(self) -> str:
         """What people call it."""
-        return (self.container.name if self.container is not None else None) or self.key
+        return self.key if self.container is None else self.container.name or self.container.identifier
+
+    @property
+    def place(self) -> str:
+        """Where the description of a container stands: a folder, or the control group whose name is all."""
+        return "" if self.container is None else self.container.folder or os.fsdecode(b"".join(self.container.groups))
 
 
 @dataclass
@@ -190,27 +223,55 @@ def stack_digest(stack: Stack) -> str:
     return _sha256(bundles.of_stack(stack.filters))
 
 
+class Kept:
+    """Results by what they are of, as long as they take no more than some memory."""
+
+    def __init__(self) -> None:
+        self.values: dict[tuple[object, ...], Any] = {}
+        self.size = 0
+
+    def keep(self, key: tuple[object, ...], value: Any, size: int) -> Any:
+        """Keeps a result that takes about so many bytes, and hands it back."""
+        if len(self.values) > MOST_KNOWN or self.size + size > MOST_BYTES:
+            self.values.clear()
+            self.size = 0
+        self.values[key] = value
+        self.size += size
+        return value
+
+
 class Judge:
     """Compares stacks with profiles, each pair once; `tell` is called with the number of comparisons."""
 
     def __init__(self, table: Table, tell: Callable[[int], None] = lambda _: None) -> None:
         self.table = table
         self.tell = tell
-        self.known: dict[tuple[object, ...], Judgement] = {}
-        self.foreign: dict[tuple[tuple[object, ...], ...], list[other_abis.Known]] = {}
+        # by digests of the filters and the profile
+        self.known = Kept()
+        self.foreign = Kept()
+
+    def keep(self, key: tuple[object, ...], judgement: Judgement) -> Judgement:
+        """Keeps a verdict, and hands it back."""
+        comparison = judgement.comparison
+        return self.known.keep(key, judgement, len(comparison.profile) if comparison is not None else 0)
+
+    def forget_unknown(self) -> None:
+        """Forgets what isn't known: it may have taken too long, and may be known with more time."""
+        for key in [key for key, it in self.known.values.items() if it.verdict == NOT_KNOWN]:
+            del self.known.values[key]
+        for key in [key for key, those in self.foreign.values.items() if not all(it.is_proved for it in those)]:
+            del self.foreign.values[key]
 
     def judge(self, stack: Stack, asked: Request | None, relation: str = SAME) -> Judgement:
         """The verdict on a stack with filters."""
         asked_of = asked or Request(ALLOWS_ALL, self.table)
         stub = asked_of.applied.stub if asked_of.applied is not None else {}
-        key = (stack.filters, asked_of.profile, tuple(stub.items()), relation, asked is None, asked_of.elsewhere)
-        if len(self.known) > MOST_KNOWN:
-            self.known.clear()
-            self.foreign.clear()
-        if key not in self.known:
-            self.tell(len(self.known))
-            self.known[key] = self._judged(stack, asked_of, relation, asked is None)
-        return self.known[key]
+        key = (stack_digest(stack), _sha256(asked_of.profile), tuple(stub.items()), relation, asked is None,
+               asked_of.elsewhere)
+        if key in self.known.values:
+            return self.known.values[key]
+        self.tell(len(self.known.values))
+        return self.keep(key, self._judged(stack, asked_of, relation, asked is None))
 
     def _judged(self, stack: Stack, asked: Request, relation: str, is_of_nothing: bool) -> Judgement:
         """The verdict; syscalls of other ABIs don't count if nothing is configured."""
@@ -233,7 +294,7 @@ class Judge:
         if verdict is None:
             return Judgement(NOT_KNOWN, f"scf says: {report.lines[0] if report.lines else 'nothing'}")
         if verdict.holds:
-            return Judgement(AS_CONFIGURED, comparison=comparison)
+            return Judgement(AS_CONFIGURED)
         if not verdict.fails:
             return _undecided(verdict)
         no_more = verdict if comparison.relation == NO_MORE else comparison.run(None, NO_MORE)[1].verdict
@@ -250,15 +311,14 @@ class Judge:
                       elsewhere: Sequence[str]) -> Judgement:
         """The same with syscalls of i386 and x32 that aren't judged: weaker if some are allowed and neither the profile
         nor another one names their architecture."""
-        key = tuple(it.data for it in comparison.filters), tuple(comparison.tables.of)
-        if key not in self.foreign:
-            self.foreign[key] = compare.foreign_of(comparison, comparison.scope)
-        for one in self.foreign[key]:
+        key = _sha256(bundles.of_stack([it.data for it in comparison.filters])), tuple(comparison.tables.of)
+        if key not in self.foreign.values:
+            self.foreign.keep(key, compare.foreign_of(comparison, comparison.scope), 0)
+        for one in self.foreign.values[key]:
             if one.kind.of.oci in names or one.kind.of.oci in elsewhere:
                 continue
             if one.not_denied:
-                return Judgement(WEAKER, why=f"the profile doesn't name {one.kind.of.oci}; {one.describe()}",
-                                 comparison=found.comparison)
+                return Judgement(WEAKER, why=f"the profile doesn't name {one.kind.of.oci}; {one.describe()}")
             if not one.is_proved:
                 found = replace(found, verdict=NOT_KNOWN, why=one.describe())
         return replace(found, not_compared=tuple(names))
@@ -310,18 +370,23 @@ class Expectations:
 
     def __init__(self, options: Options) -> None:
         self.options = options
-        self.known: dict[tuple[str, str | None], Request | str] = {}
+        self.known = Kept()
+        self.names = container_files.Names()
 
     def _asked(self, config: dict[str, Any], runtime: str | None) -> Request | str:
         """The question about a configuration, once for each distinct one; or why there is none."""
-        key = json.dumps(config), runtime
-        if key not in self.known:
-            try:
-                self.known[key] = verify.request_of(config, runtime, False, self.options.table, SAME,
-                                                    self.options.scope)
-            except verify.ContainerError as why:
-                self.known[key] = str(why)
-        return self.known[key]
+        text = json.dumps(config).encode()
+        key = _sha256(text), runtime
+        if key in self.known.values:
+            return self.known.values[key]
+        try:
+            asked = verify.request_of(config, runtime, False, self.options.table, SAME, self.options.scope)
+        except verify.ContainerError as why:
+            return self.known.keep(key, str(why), 0)
+        if asked.applied is not None:
+            # (what it was made of isn't needed any more)
+            asked = replace(asked, applied=replace(asked.applied, profile={}, handed={}, notes=()))
+        return self.known.keep(key, asked, len(asked.profile))
 
     def _of_config(self, config: dict[str, Any], runtime: str | None, source: str) -> Expected:
         asked = self._asked(config, runtime)
@@ -338,8 +403,19 @@ class Expectations:
         linux = value.get("linux") if isinstance(value, dict) else None
         return self._of_config({"linux": linux if isinstance(linux, dict) else {"seccomp": value}}, runtime, name)
 
-    def of_container(self, one: Described) -> Expected:
-        """What a container's config.json says."""
+    def of_container(self, one: Described) -> tuple[Described, Expected]:
+        """What a container's config.json says, and what its engine says of it. Whatever is raised meanwhile, it isn't
+        known."""
+        try:
+            one = container_files.with_engine(container_files.with_config(one), self.names)
+            return replace(one, configuration=None), self._of_container(one)
+        except child.Interrupted:
+            raise
+        except Exception as error:  # pylint: disable=broad-exception-caught
+            why = f"'{one.config}' can't be read: {type(error).__name__}"
+            return replace(one, configuration=None), Expected(source=one.config or None, why=why)
+
+    def _of_container(self, one: Described) -> Expected:
         stated = self.of_all(one.runtime)
         if stated is not None:
             return stated
@@ -387,30 +463,40 @@ class Expectations:
         return Expected(asked, source, others=tuple(others), doubt=settings.doubt)
 
 
-def rows_of(kernel: Kernel, snapshot: Snapshot, options: Options) -> list[Row]:
-    """The rows without their parts."""
+def rows_of(kernel: Kernel, snapshot: Snapshot, expectations: Expectations) -> tuple[list[Row], list[str]]:
+    """The rows without their parts, and lines on what couldn't be read. The config.json of containers is read later."""
+    options, every = expectations.options, list(snapshot.processes.values())
     described = container_files.all_described(kernel, options.roots)
-    members = container_files.Membership(kernel, described, snapshot.processes)
-    found: dict[tuple[str, str], Row] = {}
-    unknown = Expected()
-    for process in snapshot.processes.values():
-        container = members.container_of(process) or container_files.named_container(process)
-        unit = container_files.unit_of(process) if container is None else None
+    members = container_files.Membership(kernel, described.described, snapshot.processes)
+    of_units = expectations.of_units(sorted({it for it in map(container_files.unit_of, every) if it is not None}))
+    found: dict[tuple[object, ...], Row] = {}
+    for process in every:
+        unit = container_files.unit_of(process)
+        container = members.container_of(process, unit is not None and of_units[unit].is_stated)
         if container is not None:
-            kind, key = CONTAINER, container.identifier
+            row = Row(CONTAINER, container.identifier, [], Expected(), container)
         elif unit is not None:
-            kind, key = UNIT, unit
+            row = Row(UNIT, unit, [], of_units[unit])
         elif process.is_confined:
-            kind, key = PROGRAM, os.fsdecode(process.executable) or f"unknown ({os.fsdecode(process.name)})"
+            path = os.fsdecode(process.executable) or f"unknown ({os.fsdecode(process.name)})"
+            row = Row(PROGRAM, path, [], expectations.of_all() or Expected())
         else:
             continue
-        found.setdefault((kind, key), Row(kind, key, [], unknown, container)).processes.append(process)
-    expectations = Expectations(options)
-    of_units = expectations.of_units([key for kind, key in found if kind == UNIT])
-    for row in found.values():
-        row.expected = of_units[row.key] if row.kind == UNIT else expectations.of_container(row.container) \
-            if row.container is not None else expectations.of_all() or Expected()
-    return list(found.values())
+        key = (row.kind, *(container.place if container is not None else (row.key,)))
+        found.setdefault(key, row).processes.append(process)
+    _tell_apart(found.values())
+    return list(found.values()), described.left_out
+
+
+def _tell_apart(rows: Iterable[Row]) -> None:
+    """Adds to the key of a container where its description stands, if one before it has the key too: those come first
+    that root's files describe, then those that only a group's name tells, then users'."""
+    seen: set[str] = set()
+    for row in sorted((it for it in rows if it.container is not None), key=lambda it: (
+            it.user is not None, not it.container.folder, it.user or 0, it.place)):
+        if row.key in seen:
+            row.key = f"{row.key} of {row.place}"
+        seen.add(row.key)
 
 
 def judged(stack: Stack, expected: Expected, options: Options, judge: Judge) -> Judgement:
@@ -435,44 +521,168 @@ def judged(stack: Stack, expected: Expected, options: Options, judge: Judge) -> 
     return found
 
 
-def fill(row: Row, snapshot: Snapshot, options: Options, judge: Judge) -> None:
-    """Adds the parts of a row."""
-    row.parts = [Part(stack, threads, judged(stack, row.expected, options, judge))
-                 for stack, threads in snapshot.stacks_of(it.number for it in row.processes)]
-    unread = {it.number: snapshot.unread[it.number] for it in row.processes if it.number in snapshot.unread}
-    for number, why in unread.items():
-        row.parts.append(Part(Stack((), False), {number: []}, Judgement(NOT_KNOWN, why)))
-    row.parts.sort(key=lambda it: VERDICTS.index(it.judgement.verdict))
+class Budgets:
+    """How long the rows of users may still take, in seconds."""
+
+    def __init__(self) -> None:
+        self.left = SECONDS_OF_USERS
+        self.of: dict[int, float] = {}
+
+    def of_user(self, user: int, count: int) -> float:
+        """What a user has, the first of so many, each of whom has a little in any case."""
+        return min(self.of.get(user, SECONDS_OF_A_USER), self.left - LEAST_SECONDS * (count - 1))
+
+    def spend(self, user: int, seconds: float) -> None:
+        self.left -= seconds
+        self.of[user] = self.of.get(user, SECONDS_OF_A_USER) - seconds
 
 
-def _look_again(kernel: Kernel, snapshot: Snapshot, rows: Iterable[Row], options: Options) -> bool:
-    """Reads those processes again that have no filter though one is configured: they may just be starting."""
+# Distinct stacks, each with the threads of a row that have it; and what is judged at once: a row, and some of them.
+Stacks = "list[tuple[Stack, dict[int, list[int]]]]"
+Task = "tuple[Row, Stacks]"
+
+
+class Assessor:
+    """Judges rows: first what root describes and what root's processes have, then the rest of each user, within a
+    budget."""
+
+    def __init__(self, snapshot: Snapshot, expectations: Expectations, judge: Judge) -> None:
+        self.snapshot, self.expectations, self.judge = snapshot, expectations, judge
+        self.budgets = Budgets()
+        # how many rows weren't looked at as a whole, by users
+        self.beyond: Counter[int] = Counter()
+
+    @property
+    def left_out(self) -> list[str]:
+        """Lines on what wasn't looked at."""
+        return [f"{count} row{'s' * (count > 1)} of user {user}: to judge all of this user takes longer than "
+                f"{SECONDS_OF_A_USER:g} seconds, or of all users than {SECONDS_OF_USERS:g}"
+                for user, count in sorted(self.beyond.items())]
+
+    def fill(self, rows: Iterable[Row]) -> None:
+        """Adds the parts of rows."""
+        self.judge.forget_unknown()
+        client.begin_limits()
+        tasks = self._tasks(rows)
+        for task in tasks.pop(None, ()):
+            self._add(*task, *self._judged(*task))
+        for at, user in enumerate(sorted(it for it in tasks if it is not None)):
+            client.begin_limits(SECONDS_OF_SCF, False)
+            began = time.monotonic()
+            until = began + self.budgets.of_user(user, len(tasks) - at)
+            for task in tasks[user]:
+                work = self._judged if task[0].container is None else self._judged_in_child
+                container, expected, judgements = work(*task, until)
+                self._add(*task, container, expected, judgements)
+                self.beyond[user] += any(it.why == BEYOND for it in judgements)
+            self.budgets.spend(user, time.monotonic() - began)
+        self.beyond = +self.beyond
+
+    def _tasks(self, rows: Iterable[Row]) -> dict[int | None, list[Task]]:
+        """What is to be judged, by whose it is: a container is its user's if only a user describes it; of a unit and a
+        program a stack is a user's if no process of root's has it."""
+        found: dict[int | None, list[Task]] = {}
+        for row in rows:
+            row.parts = [Part(Stack((), False), {it.number: []}, Judgement(NOT_KNOWN, self.snapshot.unread[it.number]))
+                         for it in row.processes if it.number in self.snapshot.unread]
+            by_user: dict[int | None, Stacks] = {}
+            for stack, threads in self.snapshot.stacks_of(it.number for it in row.processes):
+                least = min(it.user for it in row.processes if it.number in threads) or None
+                user = least if row.container is None else row.user
+                by_user.setdefault(user, []).append((stack, threads))
+            for user, stacks in by_user.items():
+                found.setdefault(user, []).append((row, stacks))
+        return found
+
+    def _add(self, row: Row, stacks: Stacks, container: Described | None, expected: Expected,
+             judgements: Iterable[Judgement]) -> None:
+        """Adds what was judged to a row."""
+        row.container, row.expected = container, expected
+        row.parts += [Part(stack, threads, it) for (stack, threads), it in zip(stacks, judgements)]
+        row.parts.sort(key=lambda it: it.judgement.order)
+
+    def _judged(self, row: Row, stacks: Stacks, until: float = math.inf) -> \
+            tuple[Described | None, Expected, list[Judgement]]:
+        """What a row's container is, what is expected of it, and the verdict on each stack. The config.json is read
+        here, and isn't kept."""
+        container, expected = row.container, row.expected
+        if container is None:
+            return None, expected, [self._judgement(stack, expected, until) for stack, _ in stacks]
+        container, expected = self.expectations.of_container(container)
+        judgements = [self._judgement(stack, expected, until) for stack, _ in stacks]
+        return container, expected.without_profile(), judgements
+
+    def _judgement(self, stack: Stack, expected: Expected, until: float) -> Judgement:
+        """The verdict on a stack of a row; whatever is raised meanwhile, it isn't known."""
+        if stack.filters and time.monotonic() > until:
+            return Judgement(NOT_KNOWN, BEYOND)
+        try:
+            return judged(stack, expected, self.expectations.options, self.judge)
+        except child.Interrupted:
+            raise
+        except program.ToolError as why:
+            if why.status == program.NOT_BUILT:
+                raise
+            return Judgement(NOT_KNOWN, str(why))
+        except Exception as error:  # pylint: disable=broad-exception-caught
+            return Judgement(NOT_KNOWN, f"it can't be compared: {type(error).__name__}")
+
+    def _judged_in_child(self, row: Row, stacks: Stacks, until: float) -> \
+            tuple[Described | None, Expected, list[Judgement]]:
+        """The same of what a user describes, in a child process, which ends in time."""
+        known = set(self.judge.known.values)
+
+        def work() -> object:
+            client.begin_limits(SECONDS_OF_SCF, False)
+            found = self._judged(row, stacks)
+            return found, {key: it for key, it in self.judge.known.values.items()
+                           if key not in known and it.verdict != NOT_KNOWN}
+
+        try:
+            left = until - time.monotonic()
+            if left > 0:
+                found, news = child.run(work, left)
+                for key, judgement in news.items():
+                    self.judge.keep(key, judgement)
+                return found
+        except (child.Late, child.Died):
+            pass
+        return row.container, replace(row.expected, why=BEYOND), [
+            Judgement(NOT_KNOWN, BEYOND, is_unconfined=not it.filters and not it.is_strict) for it, _ in stacks]
+
+
+def _look_again(kernel: Kernel, snapshot: Snapshot, rows: Iterable[Row], options: Options) -> list[Row]:
+    """Reads those processes again that have no filter though one is configured, since they may just be starting: the
+    rows that have them."""
     stack = snapshot.stacks.get(((), False))
-    early = [it.number for row in rows if row.expected.asked is not None for it in row.processes
-             if stack is not None and it.number in stack.threads]
-    if not early:
-        return False
+    early = {id(row): [it.number for it in row.processes if stack is not None and it.number in stack.threads]
+             for row in rows if row.expected.digest is not None}
+    numbers = [number for those in early.values() for number in those]
+    if not numbers:
+        return []
     time.sleep(TO_CONFINE)
-    for number in early:
+    for number in numbers:
         snapshot.forget(number)
-    machine.read_more(kernel, snapshot, early, options.is_forced, hold.why_no_filters(kernel))
-    return True
+    machine.read_more(kernel, snapshot, numbers, options.is_forced, hold.why_no_filters(kernel))
+    again = [row for row in rows if early.get(id(row))]
+    for row in again:
+        row.processes = [snapshot.processes[it.number] for it in row.processes if it.number in snapshot.processes]
+    return again
 
 
 def of_machine(options: Options, judge: Judge) -> Audit:
     """Audits the machine; `judge` keeps its results for the next time."""
-    client.begin_limits()
     began, kernel = time.monotonic(), Kernel()
     found = Audit([], machine.read(kernel, options.is_forced), time.time(),
                   allows_unconfined=options.allows_unconfined)
     found.snapshot.notes += [f"no folder is --runtime-root {output.escaped(it)}" for it in options.roots
                              if not any(map(os.path.isdir, container_files.matching(it)))]
-    rows = rows_of(kernel, found.snapshot, options)
-    if _look_again(kernel, found.snapshot, rows, options):
-        rows = rows_of(kernel, found.snapshot, options)
-    for row in rows:
-        fill(row, found.snapshot, options, judge)
+    expectations = Expectations(options)
+    rows, left_out = rows_of(kernel, found.snapshot, expectations)
+    assessor = Assessor(found.snapshot, expectations, judge)
+    assessor.fill(rows)
+    assessor.fill(_look_again(kernel, found.snapshot, rows, options))
     found.rows = sorted((it for it in rows if it.parts), key=lambda it: it.order)
-    found.left_out = list(found.snapshot.left_out)
+    found.left_out = [*found.snapshot.left_out, *left_out, *assessor.left_out]
     found.seconds = time.monotonic() - began
     return found

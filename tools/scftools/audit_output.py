@@ -31,12 +31,18 @@ def short(identifier: str) -> str:
     return identifier[:12] if re.fullmatch("[0-9a-f]{64}", identifier) else identifier
 
 
+def whose(row: Row) -> list[str]:
+    """The user who alone describes a container, and where, if one before it has the same identifier."""
+    found = [] if row.user is None else [f"of user {row.user}"]
+    return found if row.container is None or row.key == row.container.identifier else [*found, row.place]
+
+
 def about(row: Row) -> list[str]:
     """What is known of a container beside its name."""
     one = row.container
     if one is None:
         return []
-    known = [one.engine, one.image, f"pod {short(one.pod)}" if one.pod else None,
+    known = [one.engine, *whose(row), one.image, f"pod {short(one.pod)}" if one.pod else None,
              short(one.identifier) if one.name is not None else None]
     return [output.cut(it, MOST_OF_NAME) for it in known if it]
 
@@ -164,8 +170,9 @@ def row_json(row: Row, numbers: dict[int, int], table: Table) -> dict[str, objec
                                 "is_unconfined": row.is_unconfined}
     if one is not None:
         found.update((name, None if value is None else output.escaped(value)) for name, value in (
-            ("id", one.identifier), ("engine", one.engine), ("runtime", one.runtime), ("image", one.image),
+            ("id", row.key), ("engine", one.engine), ("runtime", one.runtime), ("image", one.image),
             ("pod", one.pod)))
+        found["user"] = one.user
     found["profile"] = {"source": None if row.expected.source is None else output.escaped(row.expected.source),
                         "sha256": row.expected.digest,
                         **({"why": output.escaped(row.expected.why)} if row.expected.why is not None else {})}

@@ -69,11 +69,11 @@ def _stacks_of(row: Row, audit: Audit) -> Markup:
 
 def _row(row: Row, audit: Audit) -> list[object]:
     capabilities = row.capabilities
-    digest = row.expected.digest
-    source = [row.expected.source or "nothing is configured", " "]
-    source += [tag("code", digest[:DIGITS], title=digest)] if digest else []
-    if row.expected.why is not None:
-        source += [" ", row.expected.why]
+    expected, digest = row.expected, row.expected.digest
+    source: list[object] = [expected.source or ("nothing is configured" if expected.why is None else
+                                                "what is configured isn't known:")]
+    source += [" ", tag("code", digest[:DIGITS], title=digest)] if digest else []
+    source += [" ", expected.why] if expected.why is not None else []
     processes = [f"{number} {output.escaped(name)}" for number, name in row.names.items()]
     count = audit_output.number_text(len(processes), "process", "processes")
     return [_coloured(row.verdict), joined([row.kind, " ", tag("strong", row.name, class_="long")]),

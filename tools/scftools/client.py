@@ -30,8 +30,9 @@ SPENT = (f"all comparisons together took {SECONDS} s of CPU time, the most witho
          f"don't decide is unfinished")
 FAULT = Pattern(r"fault ([a-z]+) ([A-Za-z0-9]+)((?: [a-z]+ [0-9]+)*)")
 _is_spent_reported = False
-# The CPU time that was taken before the limits began to count, in seconds.
-_seconds_before = 0.0
+# The CPU time of scf's comparisons since the limits began to count, in seconds; None if they count from the start of
+# the tool on, with its own time.
+_seconds_of_scf: float | None = None
 
 
 def lines_of(text: str) -> list[str]:
@@ -194,16 +195,22 @@ def compile_profile(profile: bytes, tables: Tables) -> bytes:
     return done.out
 
 
-def begin_limits() -> None:
-    """Has the limits count from now on, for a tool that does its work again and again."""
-    global _is_spent_reported, _seconds_before  # pylint: disable=global-statement
-    _is_spent_reported, _seconds_before = False, sum(os.times()[:4])
+def begin_limits(seconds: float = SECONDS, is_reported: bool = True) -> None:
+    """Has the limits count from now on, and scf's time alone, for a tool that does its work again and again; so many
+    seconds are left until comparisons have few steps."""
+    global _is_spent_reported, _seconds_of_scf  # pylint: disable=global-statement
+    _is_spent_reported, _seconds_of_scf = not is_reported, SECONDS - seconds
+
+
+def _seconds_taken() -> float:
+    """The CPU time that counts, of this process and its ended children or of scf alone."""
+    return sum(os.times()[:4]) if _seconds_of_scf is None else _seconds_of_scf
 
 
 def compare(words: Sequence[str], bundle: bytes) -> Run:
     """`scf compare` within the limits of the command line; a tool without --limit has scf's own while there is time,
     and reports once that it is up."""
-    global _is_spent_reported  # pylint: disable=global-statement
+    global _is_spent_reported, _seconds_of_scf  # pylint: disable=global-statement
     words = ["compare", *words, *(f"--{name}={text}" for name, text in limits.items())]
     if "limit" in limits or not program.is_tool:
         return run(words, bundle)
@@ -211,9 +218,10 @@ def compare(words: Sequence[str], bundle: bytes) -> Run:
         # the time to build it doesn't count
         run(["--version"])
     for steps, until in (([], SECONDS), ([f"--limit={FEW_STEPS}"], ALL_SECONDS)):
-        # (of this process and its ended children)
-        left = until + _seconds_before - sum(os.times()[:4])
+        left, before = until - _seconds_taken(), sum(os.times()[2:4])
         done = run([*words, *steps], bundle, left) if left > 0 else None
+        if _seconds_of_scf is not None:
+            _seconds_of_scf += sum(os.times()[2:4]) - before
         if done is not None and done.out:
             return done
         if not _is_spent_reported:

@@ -1,9 +1,9 @@
 """Containers as the files of their runtimes and engines describe them, and which container or unit a process is of.
 
 runc and crun keep a folder for each container, in which they name its first process and its bundle; the bundle holds
-config.json, which the engine wrote. podman, CRI-O, containerd and Docker keep names, images and pods beside it. Files
-below /run/user, and those that they name, are a user's own: they are read without following links or waiting, and
-describe only processes of that user.
+config.json, which the engine wrote. podman, CRI-O, containerd and Docker keep names, images and pods beside it. What a
+user could have written describes only processes of that user, and no process that root's files or a unit's settings
+speak of. It is read in a child process (`child`), which ends in time.
 
 A container's own control group is the one that its runtime's file states, or that a runtime names so; of a container
 without one, the processes are those of its PID namespace; and of one with neither, its first process and that one's
@@ -14,21 +14,23 @@ from __future__ import annotations
 import fcntl
 import json
 import os
-import stat
-from collections.abc import Iterable, Iterator
+import time
+from collections.abc import Callable, Iterable, Iterator
 
-from . import containers, engines
+from . import child, containers, engines, owned_files
 from .machine import Process
-from .ptrace import Kernel, ticks_at_start
-from .values import Any, Pattern, dataclass, replace
+from .owned_files import ANYONE, Absent, Unreadable
+from .ptrace import Kernel, contents, ticks_at_start
+from .values import Any, Pattern, dataclass, field, replace
 
 # Where runtimes keep the folders of containers: runc and crun for root, containerd and Docker by namespaces, and both
-# for each user.
-ROOTS = ("/run/runc", "/run/crun", "/run/containerd/runc/*", "/run/docker/runtime-runc/*", "/run/user/*/runc",
-         "/run/user/*/crun")
-OF_A_USER = Pattern(r"/run/user/([0-9]+)/")
+# for each user in a folder called by the user's ID.
+ROOTS = ("/run/runc", "/run/crun", "/run/containerd/runc/*", "/run/docker/runtime-runc/*")
+OF_USERS, ROOTS_OF_USERS = "/run/user", ("runc", "crun")
 # The file in such a folder, and which runtime writes it.
 STATES = {"state.json": "runc", "status": "crun"}
+# systemd's slices of users (systemd.special(7)), in which these may make groups.
+OF_A_USER = Pattern(rb"/user\.slice/user-[0-9]+\.slice/")
 # Bundles of containerd, also one that k3s or Docker starts itself, with a namespace for each client; and of the storage
 # of podman and CRI-O.
 CONTAINERD = ("/run/containerd", "/run/k3s/containerd", "/run/docker/containerd/daemon")
@@ -43,10 +45,16 @@ IMAGE = ("io.kubernetes.cri.image-name", "io.kubernetes.cri-o.ImageName")
 POD = (("io.kubernetes.pod.namespace", "io.kubernetes.pod.name"),
        ("io.kubernetes.cri.sandbox-namespace", "io.kubernetes.cri.sandbox-name"))
 SANDBOX = ("io.kubernetes.cri-o.SandboxID", "io.kubernetes.cri.sandbox-id")
-# The most bytes of such a file; storage has one for all containers.
-MOST_BYTES = 1 << 24
+# The most bytes of a runtime's file (runc's has the profile again: 35 KB with podman's) of a user and of root, of a
+# config.json, and of a file of an engine, of which storage has one for all containers.
+STATE_BYTES, STATE_BYTES_OF_ROOT, CONFIG_BYTES, ENGINE_BYTES = 1 << 16, 1 << 22, 1 << 22, 1 << 22
+# The most folders of containers of a user that are looked at; and how long reading what a user's runtimes have in them
+# may take, and of all users, and what each user has in any case, in seconds.
+MOST_OF_A_USER, SECONDS_OF_A_USER, SECONDS_OF_USERS, LEAST_SECONDS = 200, 2.0, 10.0, 0.25
 # linux/nsfs.h: the user ID of a user namespace's owner.
 NS_GET_OWNER_UID = 0xB704
+# The count of IDs in the initial user namespace, and the ID that stands for none (user_namespaces(7)).
+NO_USER = (1 << 32) - 1
 # The units that run processes of their own (systemd.exec(5)), as the name of a control group has them; systemd puts `_`
 # before a name that would mean something else there (cg_escape of its basic/cgroup-util.c).
 UNIT = Pattern(rb"_?([A-Za-z0-9:_.\\@-]{1,255}\.(?:service|socket|mount|swap))")
@@ -80,38 +88,48 @@ class Described:
     # the folder of its runtime's files, and the control groups that these state, as paths or ends of paths
     folder: str = ""
     groups: tuple[bytes, ...] = ()
+    # the ID of the user who could have written its runtime's files; None if only root could
+    user: int | None = None
+
+    @property
+    def place(self) -> tuple[object, ...]:
+        """Where the description stands: a folder and a process, or else the control group whose name is all."""
+        return (self.folder, self.first) if self.folder else self.groups
+
+    def read(self, path: str, most: int) -> bytes:
+        """The bytes of a file that says more about it: of a user's container only one that this user could have
+        written, and of root's only one that no user could have."""
+        data, users = owned_files.read(path, most)
+        others = {it for it in users - {self.user} if not is_mapped(self.first, it)}
+        if self.user is not None and (not users or others - {ANYONE}):
+            raise Unreadable(f"'{path}' isn't user {self.user}'s own")
+        if self.user is None and others - {0}:
+            raise Unreadable(f"'{path}' may be changed by {named_users(others - {0})}")
+        return data
 
 
-class Unreadable(Exception):
-    """A file can't be read, and why."""
+def named_users(users: Iterable[int]) -> str:
+    """Users by their IDs."""
+    return " and ".join("any user" if it == ANYONE else f"user {it}" for it in sorted(users))
+
+
+def is_mapped(process: int, user: int) -> bool:
+    """Whether a user ID is one of a process's own user namespace, and not of the initial one: the container's."""
+    ranges = [tuple(map(int, line.split())) for line in contents(f"/proc/{process}/uid_map").splitlines()]
+    return any(first <= user < first + count for _, first, count in ranges if count < NO_USER)
 
 
 def matching(pattern: str) -> list[str]:
-    """The paths that match a pattern (glob(7)), in order."""
+    """The paths that match a pattern (glob(7)), in order; a path without wildcards, whether or not it is there."""
     import glob  # pylint: disable=import-outside-toplevel
 
-    return sorted(glob.glob(pattern))
+    return sorted(glob.glob(pattern)) if glob.has_magic(pattern) else [pattern]
 
 
-def read(path: str) -> bytes:
-    """The bytes of a regular file that is no link, without waiting for a pipe."""
-    try:
-        file = os.open(path, os.O_RDONLY | os.O_NONBLOCK | os.O_NOFOLLOW | os.O_CLOEXEC)
-    except (OSError, ValueError) as error:
-        raise Unreadable(f"'{path}' can't be read: {getattr(error, 'strerror', error)}") from error
-    with os.fdopen(file, "rb") as opened:
-        if not stat.S_ISREG(os.fstat(file).st_mode):
-            raise Unreadable(f"'{path}' isn't a regular file")
-        data = opened.read(MOST_BYTES + 1)
-    if len(data) > MOST_BYTES:
-        raise Unreadable(f"'{path}' has more than {MOST_BYTES} bytes")
-    return data
-
-
-def _object(path: str) -> Any:
+def _object(read: Callable[[str, int], bytes], path: str, most: int) -> Any:
     """The JSON of a file, or None if it can't be read or isn't JSON."""
     try:
-        return json.loads(read(path).decode("utf-8"))
+        return json.loads(read(path, most).decode("utf-8"))
     except (Unreadable, ValueError, RecursionError):
         return None
 
@@ -137,14 +155,15 @@ def _owner_of(process: int) -> int | None:
 def _is_of_user(kernel: Kernel, process: int, user: int) -> bool:
     """Whether a process is a user's: it runs as that user, or in a user namespace of that user."""
     shown = kernel.status_of(process).get("Uid", "").split()
-    return str(user) in shown[:1] or user != 0 and _owner_of(process) == user
+    return shown[:2] == [str(user)] * 2 or _owner_of(process) == user != 0
 
 
 def _of_runc(value: Any) -> tuple[Any, str | None, Any, Any]:
     """The first process, the bundle, the time of the start, and the control groups, of a state.json."""
     config, groups = value.get("config"), value.get("cgroup_paths")
     labels = config.get("labels") if isinstance(config, dict) else None
-    bundles = [it[7:] for it in labels or () if isinstance(it, str) and it.startswith("bundle=")]
+    bundles = [it[7:] for it in labels if isinstance(it, str) and it.startswith("bundle=")] \
+        if isinstance(labels, list) else []
     return (value.get("init_process_pid"), next(iter(bundles), None), value.get("init_process_start"),
             groups.values() if isinstance(groups, dict) else ())
 
@@ -155,60 +174,165 @@ def _of_crun(value: Any) -> tuple[Any, str | None, Any, Any]:
             [value.get("cgroup-path")])
 
 
+def _user_of(path: str, users: frozenset[int]) -> int | None:
+    """The user who could have written a file, None if only root could."""
+    if len(users) > 1 or ANYONE in users:
+        raise Unreadable(f"'{path}' may be changed by {named_users(users - {0})}")
+    return next(iter(users), None)
+
+
+def _runs(first: Any, started: Any) -> bool:
+    """Whether the first process of a container still runs, given its number and the time of its start."""
+    ticks = ticks_at_start(first) if type(first) is int and 0 < first < 2**31 else None
+    return ticks is not None and not (type(started) is int and started and started != ticks)
+
+
 def _state_in(kernel: Kernel, folder: str) -> Described | None:
-    """The container of a runtime's folder, if its first process runs."""
+    """The container of a runtime's folder, if its first process runs. Raises Unreadable if a file is there that isn't
+    the runtime's."""
     for name, runtime in STATES.items():
-        value = _object(os.path.join(folder, name))
-        if not isinstance(value, dict):
+        path = os.path.join(folder, name)
+        try:
+            data, users = owned_files.read(path, STATE_BYTES_OF_ROOT, STATE_BYTES)
+        except Absent:
             continue
+        user = _user_of(path, users)
+        try:
+            value = json.loads(data.decode("utf-8"))
+        except (ValueError, RecursionError) as error:
+            raise Unreadable(f"'{path}' isn't JSON") from error
+        if not isinstance(value, dict):
+            raise Unreadable(f"'{path}' isn't an object")
         first, bundle, started, groups = _of_runc(value) if runtime == "runc" else _of_crun(value)
-        if type(first) is not int or not 0 < first < 2**31 or ticks_at_start(first) is None:
-            return None
-        if type(started) is int and started and started != ticks_at_start(first):
-            return None
-        user = OF_A_USER.match(folder + "/")
-        if user and not _is_of_user(kernel, first, int(user[1])):
+        if not _runs(first, started) or user is not None and not _is_of_user(kernel, first, user):
             return None
         config = os.path.join(bundle, "config.json") if bundle and bundle.startswith("/") else ""
-        return Described(os.path.basename(folder), runtime, runtime, first, config, folder=folder,
-                         groups=tuple(os.fsencode(it) for it in groups if isinstance(it, str) and it not in ("", "/")))
+        stated = tuple(it.encode("utf-8", "backslashreplace") for it in groups if isinstance(it, str) and it.strip("/"))
+        return Described(os.path.basename(folder), runtime, runtime, first, config, folder=folder, groups=stated,
+                         user=user)
     return None
 
 
-def _bundles_of_engines(kernel: Kernel) -> Iterator[Described]:
-    """Containers of which only an engine's own files are known: those of containerd with another runtime."""
-    tasks = (matching(f"{it}/io.containerd.runtime.v2.task/*/*") for it in CONTAINERD)
-    for folder in sorted(path for those in tasks for path in those):
+@dataclass
+class Found:
+    """The containers that files describe, and lines on what couldn't be read."""
+
+    described: list[Described] = field(default_factory=list)
+    left_out: list[str] = field(default_factory=list)
+
+    def add(self, read: Callable[[], Described | None], path: str) -> None:
+        """Adds what is read of a path; whatever is raised meanwhile concerns no other container."""
         try:
-            first = int(read(os.path.join(folder, "init.pid"))[:12])
-        except (Unreadable, ValueError):
+            one = read()
+            if one is not None:
+                self.described.append(one)
+        except child.Interrupted:
+            raise
+        except Unreadable as why:
+            self.left_out.append(str(why))
+        except Exception as error:  # pylint: disable=broad-exception-caught
+            self.left_out.append(f"'{path}' can't be read: {type(error).__name__}")
+
+
+def _of_engine(folder: str) -> Described | None:
+    """The container of a bundle of containerd's, of which only an engine's own files are known."""
+    path = os.path.join(folder, "init.pid")
+    try:
+        data, users = owned_files.read(path, STATE_BYTES)
+    except Absent:
+        return None
+    first = int(data[:12])
+    return Described(os.path.basename(folder), "containerd", None, first, os.path.join(folder, "config.json"),
+                     folder=folder, user=_user_of(path, users)) if _runs(first, None) else None
+
+
+def _of_root(kernel: Kernel) -> Found:
+    """The containers that root's own files describe."""
+    found = Found()
+    for folder in (it for root in ROOTS for it in matching(os.path.join(root, "*"))):
+        found.add(lambda folder=folder: _state_in(kernel, folder), folder)
+    for folder in sorted(it for root in CONTAINERD for it in matching(f"{root}/io.containerd.runtime.v2.task/*/*")):
+        found.add(lambda folder=folder: _of_engine(folder), folder)
+    return found
+
+
+def _in_roots(kernel: Kernel, patterns: Iterable[str], whose: str) -> Found:
+    """The containers in folders of runtimes that may be a user's, with a line for all that can't be read."""
+    found, more = Found(), []
+    for root in (path for it in patterns for path in matching(it)):
+        try:
+            names, is_all = owned_files.names_in(root, MOST_OF_A_USER)
+        except Unreadable as why:
+            found.left_out.append(str(why))
             continue
-        if ticks_at_start(first) is not None:
-            yield Described(os.path.basename(folder), "containerd", None, first, os.path.join(folder, "config.json"))
+        for folder in (os.path.join(root, it) for it in sorted(names)):
+            found.add(lambda folder=folder: _state_in(kernel, folder), folder)
+        if not is_all:
+            more = [f"all but {MOST_OF_A_USER} of the folders of containers {whose}"]
+    count = len(found.left_out)
+    found.left_out = [f"{count} of the folders of containers {whose}: {it}" for it in found.left_out[:1]] + more
+    return found
 
 
-class _Names:
+def _in_child(kernel: Kernel, patterns: Iterable[str], whose: str, seconds: float) -> Found:
+    """The same, read in a child process, which ends in time whatever file system a user has put there."""
+    try:
+        return child.run(lambda: _in_roots(kernel, patterns, whose), seconds)
+    except child.Interrupted:
+        raise
+    except (child.Late, child.Died):
+        why = f"within {seconds:.2g} seconds"
+    except Exception as error:  # pylint: disable=broad-exception-caught
+        why = type(error).__name__
+    return Found([], [f"the folders of containers {whose}: they can't be read ({why})"])
+
+
+def all_described(kernel: Kernel, more_roots: tuple[str, ...] = ()) -> Found:
+    """The containers that run, each once, those first that only root could have described; `more_roots` are further
+    folders in which runtimes keep theirs."""
+    until, every = time.monotonic() + SECONDS_OF_USERS, [_of_root(kernel)]
+    places = [([os.path.abspath(it)], f"in {it}") for it in more_roots]
+    try:
+        users = owned_files.names_in(OF_USERS, 0)[0]
+    except Unreadable as why:
+        users, every = [], [*every, Found([], [str(why)])]
+    places += [([os.path.join(OF_USERS, user, it) for it in ROOTS_OF_USERS], f"of user {user}") for user in users]
+    for patterns, whose in places:
+        left = max(LEAST_SECONDS, min(SECONDS_OF_A_USER, until - time.monotonic()))
+        every.append(_in_child(kernel, patterns, whose, left))
+    first_of: dict[int, Described] = {}
+    for one in sorted((it for found in every for it in found.described), key=lambda it: it.user is not None):
+        first_of.setdefault(one.first, one)
+    return Found(list(first_of.values()), [it for found in every for it in found.left_out])
+
+
+class Names:
     """What the storage of podman or CRI-O says of containers, read once for each storage."""
 
     def __init__(self) -> None:
-        self.known: dict[str, dict[str, Any]] = {}
+        self.known: dict[tuple[str, int | None], dict[str, tuple[str | None, str | None]]] = {}
 
-    def of(self, folder: str, identifier: str) -> tuple[str | None, str | None]:
+    def of(self, one: Described, folder: str, identifier: str) -> tuple[str | None, str | None]:
         """The name and the image of a container in a storage."""
-        if folder not in self.known:
-            listed = _object(os.path.join(folder, "containers.json"))
-            self.known[folder] = {it["id"]: it for it in listed if _text(it, "id")} if isinstance(listed, list) else {}
-        one = self.known[folder].get(identifier, {})
-        names = one.get("names")
-        name = names[0] if isinstance(names, list) and names and isinstance(names[0], str) else None
+        if (folder, one.user) not in self.known:
+            listed = _object(one.read, os.path.join(folder, "containers.json"), ENGINE_BYTES)
+            listed = [it for it in listed if _text(it, "id")] if isinstance(listed, list) else []
+            self.known[folder, one.user] = {it["id"]: self._in(it) for it in listed}
+        return self.known[folder, one.user].get(identifier, (None, None))
+
+    @staticmethod
+    def _in(value: dict[str, Any]) -> tuple[str | None, str | None]:
+        """The name and the image of a container of which storage has this."""
+        names = value.get("names")
         try:
-            metadata = json.loads(one.get("metadata") or "null")
+            metadata = json.loads(value.get("metadata") or "null")
         except (ValueError, TypeError, RecursionError):
             metadata = None
-        return name, _text(metadata, "image-name")
+        return (names[0] if isinstance(names, list) and names and isinstance(names[0], str) else None,
+                _text(metadata, "image-name"))
 
 
-def _with_engine(one: Described, names: _Names) -> Described:
+def with_engine(one: Described, names: Names) -> Described:
     """The same with what the engine says of it."""
     annotations = one.configuration.get("annotations") if isinstance(one.configuration, dict) else None
     bundle = os.path.dirname(one.config)
@@ -217,11 +341,11 @@ def _with_engine(one: Described, names: _Names) -> Described:
     name, image = _text(annotations, *NAME), _text(annotations, *IMAGE)
     if storage:
         engine = engine or "podman"
-        known = names.of(storage[1], storage[2])
+        known = names.of(one, storage[1], storage[2])
         name, image = name or known[0], image or known[1]
     elif task and task[1] == "moby":
         engine = "Docker"
-        value = _object(os.path.join(DOCKER, one.identifier, "config.v2.json"))
+        value = _object(one.read, os.path.join(DOCKER, one.identifier, "config.v2.json"), ENGINE_BYTES)
         name = (_text(value, "Name") or "").removeprefix("/") or None
         image = _text(value.get("Config") if isinstance(value, dict) else None, "Image")
     elif task:
@@ -231,26 +355,18 @@ def _with_engine(one: Described, names: _Names) -> Described:
     return replace(one, engine=engine or one.engine, name=name, image=image, pod=pod)
 
 
-def _with_config(one: Described) -> Described:
-    """The same with its config.json."""
+def with_config(one: Described) -> Described:
+    """The same with its config.json, if it isn't known already why there is none."""
+    if one.why is not None:
+        return one
     if not one.config:
         return replace(one, why="its runtime's files name no bundle")
     try:
-        return replace(one, configuration=engines.read(read(one.config)))
+        return replace(one, configuration=engines.read(one.read(one.config, CONFIG_BYTES)))
     except Unreadable as why:
         return replace(one, why=str(why))
     except engines.Refused as why:
         return replace(one, why=f"'{one.config}': {why}")
-
-
-def all_described(kernel: Kernel, more_roots: tuple[str, ...] = ()) -> list[Described]:
-    """The containers that run, each once; `more_roots` are further folders in which runtimes keep theirs."""
-    found: dict[int, Described] = {}
-    folders = [folder for root in (*more_roots, *ROOTS) for folder in matching(os.path.join(root, "*"))]
-    for one in (*filter(None, (_state_in(kernel, it) for it in folders)), *_bundles_of_engines(kernel)):
-        found.setdefault(one.first, one)
-    names = _Names()
-    return [_with_engine(_with_config(it), names) for it in found.values()]
 
 
 @dataclass(frozen=True)
@@ -263,15 +379,15 @@ class Place:
 
 
 def _stated_group(one: Described, process: Process) -> containers.Group | None:
-    """The control group that a runtime's file states, if the container's first process is in it or below. A user's own
-    file isn't believed: it could state a group of others."""
-    for hierarchy in () if OF_A_USER.match(one.folder) else containers.HIERARCHIES:
+    """The control group that a runtime's file states, if the container's first process is in it or below."""
+    paths: dict[str, bytes] = {}
+    for hierarchy in (*containers.HIERARCHIES, *process.groups):
         path = process.groups.get(hierarchy, b"/")
-        while path not in (b"/", b""):
+        while path not in (b"/", b"") and hierarchy not in paths:
             if any(it.endswith(path) for it in one.groups):
-                return containers.Group(hierarchy, path, True)
+                paths[hierarchy] = path
             path = path.rpartition(b"/")[0]
-    return None
+    return containers.Group.of(next(iter(paths)), paths, process.groups, True) if paths else None
 
 
 def _named_group(process: Process) -> containers.Group | None:
@@ -279,48 +395,71 @@ def _named_group(process: Process) -> containers.Group | None:
     for hierarchy in containers.HIERARCHIES:
         found = containers.NAMED.match(process.groups.get(hierarchy, b""))
         if found:
-            return containers.Group(hierarchy, found[0], True)
+            return containers.Group.of(hierarchy, {hierarchy: found[0]}, process.groups, True)
     return None
 
 
 def place_of(kernel: Kernel, one: Described, process: Process) -> Place:
     """Where the processes of a container are, given its first one. A group that has this tool or the machine's first
-    process in it isn't the container's own: the container was started without one."""
-    group = _stated_group(one, process) or _named_group(process)
+    process in it isn't the container's own: the container was started without one. What a user's file states isn't
+    believed: it could be a group of others."""
+    group = (_stated_group(one, process) if one.user is None else None) or _named_group(process)
     if group is not None and any(group.has(kernel.groups_of(it)) for it in (1, os.getpid())):
         group = None
     is_first = process.inner == 1 and len(process.spaces) > 1
     return Place(one, group, process.spaces[0] if is_first else None)
 
 
-class Membership:
-    """The containers of a machine, by their processes."""
+class Places:
+    """Where some containers are, to find those of processes."""
 
-    def __init__(self, kernel: Kernel, described: Iterable[Described], processes: dict[int, Process]) -> None:
-        self.processes = processes
-        places = [place_of(kernel, it, processes[it.first]) for it in described if it.first in processes]
+    def __init__(self, places: Iterable[Place], processes: dict[int, Process]) -> None:
+        self.processes, places = processes, list(places)
         # the innermost group first
         self.by_group = sorted((it for it in places if it.group is not None), reverse=True,
                                key=lambda it: len(it.group.path) if it.group else 0)
-        self.by_space = {it.space: it.container for it in places if it.space is not None}
-        self.by_first = {it.container.first: it.container for it in places}
+        # (of two that name one, the first)
+        self.by_space = {it.space: it.container for it in reversed(places) if it.space is not None}
+        self.by_first = {it.container.first: it.container for it in reversed(places)}
 
-    def container_of(self, process: Process) -> Described | None:
-        """The container of a process; None if no file describes it."""
-        for place in self.by_group:
-            if place.group.has(process.groups):
-                return place.container
-        for space in process.spaces:
-            if space in self.by_space:
-                return self.by_space[space]
+    def containers_of(self, process: Process) -> Iterator[Described]:
+        """The containers that a process may be of, the most likely one first."""
+        yield from (it.container for it in self.by_group if it.group.has(process.groups))
+        yield from (self.by_space[it] for it in process.spaces if it in self.by_space)
         seen: set[int] = set()
         one: Process | None = process
         while one is not None and one.number not in seen:
             if one.number in self.by_first:
-                return self.by_first[one.number]
+                yield self.by_first[one.number]
             seen.add(one.number)
             one = self.processes.get(one.parent)
-        return None
+
+
+class Membership:
+    """The containers of a machine, by their processes."""
+
+    def __init__(self, kernel: Kernel, described: Iterable[Described], processes: dict[int, Process]) -> None:
+        self.kernel = kernel
+        places = [place_of(kernel, it, processes[it.first]) for it in described if it.first in processes]
+        self.of_root = Places((it for it in places if it.container.user is None), processes)
+        self.of_users = Places((it for it in places if it.container.user is not None), processes)
+        # the groups of pods, by the containers in them
+        self.pods = {it.group.path.rpartition(b"/")[0] for it in self.of_root.by_group if it.group is not None}
+
+    def container_of(self, process: Process, is_stated: bool = False) -> Described | None:
+        """The container of a process, None if it is of none. What root's files say comes first; then the unit of which
+        the process is, if it states how its processes are confined, or that isn't known (`is_stated`); then the name of
+        a group that only root can have made; and then what users' files say, of their own processes."""
+        found = next(self.of_root.containers_of(process), None)
+        if found is not None or is_stated:
+            return found
+        named = named_container(process)
+        if named is not None and named.groups[0] in self.pods:
+            named = None
+        if named is not None and not OF_A_USER.match(named.groups[0]):
+            return named
+        return next((it for it in self.of_users.containers_of(process)
+                     if _is_of_user(self.kernel, process.number, it.user)), named)
 
 
 def named_container(process: Process) -> Described | None:
@@ -332,7 +471,7 @@ def named_container(process: Process) -> Described | None:
     named = IDENTIFIER.fullmatch(parts[-1])
     prefix, identifier = (named[1], named[2]) if named else (None, parts[-1])
     return Described(identifier.decode("utf-8", "surrogateescape"), ENGINES.get(prefix or b"", "unknown"), None,
-                     process.number, "", why="no file of a runtime describes it")
+                     process.number, "", why="no file of a runtime describes it", groups=(group.path,))
 
 
 def unit_of(process: Process) -> str | None:

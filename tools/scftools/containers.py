@@ -21,8 +21,9 @@ HIERARCHIES = ("", "name=systemd", "pids")
 # How runtimes name the group of a container: by its identifier of 64 hexadecimal digits, alone or as in libpod-ID,
 # docker-ID.scope, cri-containerd-ID.scope and crio-ID.scope; podman's has the container in a group below. runc and crun
 # by themselves make NAME.scope of a name; LXC and systemd-nspawn name what is the container's beside what is their own,
-# and the group of conmon, which watches a container of podman or CRI-O, isn't the container's.
-NAMED = Pattern(rb".*/(?![a-z]+-conmon-)(?:(?:[a-z-]+-)?[0-9a-f]{64}(?:\.scope)?(?:/container)?|"
+# and the group of conmon, which watches a container of podman or CRI-O, isn't the container's, nor is that of a pod of
+# podman's, which is called by the pod's identifier alone.
+NAMED = Pattern(rb".*/(?![a-z]+-conmon-)(?:(?:[a-z-]+-|(?<!/libpod_parent/))[0-9a-f]{64}(?:\.scope)?(?:/container)?|"
                 rb"(?:runc|crun)-[^/]+\.scope(?:/container)?|"
                 rb"lxc\.payload[./][^/]+|(?:machine-[^/]+\.scope|systemd-nspawn@[^/]+\.service)/payload)(?=/|\Z)")
 # systemd's groups (systemd.special(7)) if they aren't at the top, and aren't those of a user's service manager.
@@ -30,6 +31,11 @@ OF_SYSTEMD = Pattern(rb"(/.*?[^/]+)/(?:init\.scope|system\.slice)(?:/|\Z)")
 OF_A_USER = Pattern(rb".*/user@[^/]*\.service")
 # At most so many processes that weren't checked are listed.
 MOST_SHOWN = 5
+
+
+def is_within(path: bytes, group: bytes) -> bool:
+    """Whether a control group is another one, or below it."""
+    return (path + b"/").startswith(group + b"/")
 
 
 @dataclass(frozen=True)
@@ -40,10 +46,21 @@ class Group:
     path: bytes
     # whether it is known to be a container's
     is_of_container: bool
+    # the container's groups in further hierarchies of version 1
+    others: tuple[tuple[str, bytes], ...] = ()
+
+    @classmethod
+    def of(cls, hierarchy: str, paths: dict[str, bytes], groups: dict[str, bytes], is_of_container: bool) -> Group:
+        """The group of a container given its paths in some hierarchies, and the groups of one of its processes: in a
+        further hierarchy it has the same path if that process is there, too."""
+        path = paths[hierarchy]
+        same = {name: path for name, its_path in groups.items() if is_within(its_path, path)}
+        return cls(hierarchy, path, is_of_container, tuple({**same, **paths}.items()))
 
     def has(self, groups: dict[str, bytes]) -> bool:
-        """Whether a process with these groups, by their hierarchies, is in it or in a group below."""
-        return (groups.get(self.hierarchy, b"") + b"/").startswith(self.path + b"/")
+        """Whether a process with these groups, by their hierarchies, is in it or in a group below, in any hierarchy: in
+        version 1 a process may be moved out of the container's group in one of them and stay there in another."""
+        return any(is_within(groups.get(name, b""), path) for name, path in ((self.hierarchy, self.path), *self.others))
 
 
 @dataclass
@@ -69,10 +86,25 @@ def why_no_group(process: int, path: bytes) -> str:
             f"shows the control group of the process as {output.escaped(path)}: run it in the initial one")
 
 
-def known_groups(kernel: Kernel, process: int, path: bytes) -> Iterator[bytes]:
-    """The groups at or above a process's that are known to be a container's."""
-    for root in kernel.mounted_groups(process):
-        if root != b"/" and (path + b"/").startswith(root + b"/"):
+def groups_of(kernel: Kernel, process: int) -> dict[str, bytes]:
+    """The control groups of a process, by the controllers of their hierarchies: if its main thread has ended, which the
+    kernel shows in the root group of each hierarchy of version 1, those of another thread."""
+    return kernel.groups_of(living_thread(kernel, process))
+
+
+def living_thread(kernel: Kernel, process: int) -> int:
+    """The first thread of a process that hasn't ended; its main thread if all have."""
+    if kernel.status_of(process).get("State", "Z")[:1] not in "ZX":
+        return process
+    return next((it for it in kernel.threads_of(process) if kernel.status_of(it).get("State", "Z")[:1] not in "ZX"),
+                process)
+
+
+def known_groups(roots: Sequence[bytes], path: bytes) -> Iterator[bytes]:
+    """The groups at or above a process's that are known to be a container's, given the roots of the mounts of control
+    groups that the process sees."""
+    for root in roots:
+        if root != b"/" and is_within(path, root):
             yield root
     named = NAMED.match(path)
     if named:
@@ -88,15 +120,16 @@ def group_of(kernel: Kernel, process: int) -> Group | None:
     In a cgroup namespace the kernel shows its root as `/`, whichever group that is, and groups outside as `/..`, so
     that the processes of such a group are unknown.
     """
-    groups = kernel.groups_of(process)
-    for name in HIERARCHIES:
-        path = groups.get(name, b"/")
-        if path == b"/":
-            continue
+    groups, roots = groups_of(kernel, process), kernel.mounted_groups(process)
+    inside = [name for name in HIERARCHIES if groups.get(name, b"/") != b"/"]
+    for path in (groups[name] for name in inside):
         if path.startswith(b"/../") or path == b"/..":
             raise Unreadable(why_no_group(process, path))
-        known = list(known_groups(kernel, process, path))
-        return Group(name, min(known, key=len, default=path), bool(known))
+    known = {name: min(known_groups(roots, path), key=len, default=b"") for name, path in groups.items()}
+    for name in (it for it in (*HIERARCHIES, *groups) if known.get(it)):
+        return Group.of(name, {it: path for it, path in known.items() if path}, groups, True)
+    if inside:
+        return Group.of(inside[0], {inside[0]: groups[inside[0]]}, groups, False)
     if any(name in groups for name in HIERARCHIES) and not kernel.is_root_the_first():
         raise Unreadable(why_no_group(process, b"/"))
     return None
@@ -113,8 +146,8 @@ def container_of(kernel: Kernel, process: int) -> Container:
         return [it for it in kernel.processes() if has_space and space[0] in kernel.namespaces_of(it)]
 
     if group is not None:
-        return Container(group.path, lambda: [it for it in kernel.processes() if group.has(kernel.groups_of(it))],
-                         lambda: [it for it in in_space() if not group.has(kernel.groups_of(it))
+        return Container(group.path, lambda: [it for it in kernel.processes() if group.has(groups_of(kernel, it))],
+                         lambda: [it for it in in_space() if not group.has(groups_of(kernel, it))
                                   and is_unknown(kernel, it)])
     if not has_space:
         raise Unreadable(f"process {process} is in no container: its control group is the root, and its PID namespace "

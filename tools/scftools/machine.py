@@ -93,17 +93,24 @@ def _executable_of(process: int) -> bytes:
 
 
 def described(kernel: Kernel, number: int) -> Process | None:
-    """A process, or None if it has ended or is the kernel's."""
-    status = kernel.status_of(number)
-    if status.get("Tgid") != str(number) or status["State"][:1] in "ZX" or kernel.flags_of(number) & PF_KTHREAD:
+    """A process, or None if all of its threads have ended or it is the kernel's."""
+    status, threads = kernel.status_of(number), kernel.threads_of(number)
+    if status.get("Tgid") != str(number) or kernel.flags_of(number) & PF_KTHREAD:
         return None
-    threads = kernel.threads_of(number)
-    is_confined = status.get("Seccomp", "0") != "0" or any(_mode_of(it) for it in threads if it != number)
+    first, inner = number, status.get("NSpid", str(number)).split()[-1]
+    if status["State"][:1] in "ZX":
+        # the kernel has let go what the main thread had: another one shows the executable and the control groups
+        states = {it: kernel.status_of(it) for it in threads}
+        threads = [it for it, its_status in states.items() if its_status.get("State", "Z")[:1] not in "ZX"]
+        if not threads:
+            return None
+        first, status = threads[0], states[threads[0]]
+    is_confined = status.get("Seccomp", "0") != "0" or any(_mode_of(it) for it in threads if it != first)
     is_stuck = is_confined and status["State"][:1] == "D"
-    return Process(number, int(status["PPid"]), kernel.name_of(number), _executable_of(number),
-                   int(status["Uid"].split()[1]), kernel.groups_of(number), tuple(kernel.namespaces_of(number)),
-                   int(status.get("NSpid", str(number)).split()[-1]), int(status.get("CapEff", "0"), 16),
-                   status.get("NoNewPrivs") == "1", tuple(threads), is_confined, is_stuck)
+    return Process(number, int(status["PPid"]), kernel.name_of(number), _executable_of(first),
+                   int(status["Uid"].split()[1]), kernel.groups_of(first), tuple(kernel.namespaces_of(first)),
+                   int(inner), int(status.get("CapEff", "0"), 16), status.get("NoNewPrivs") == "1", tuple(threads),
+                   is_confined, is_stuck)
 
 
 def _left_out(kernel: Kernel, why: str | None) -> list[str]:

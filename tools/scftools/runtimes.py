@@ -325,7 +325,8 @@ def _number_in_tables(name: str, architecture: str) -> int | None:
 def _refuse_engines(value: Any, program: str) -> None:
     """Refuses what only engines read, where there is none."""
     value = value if isinstance(value, dict) else {}
-    entries = [it for it in value.get("syscalls") or [] if isinstance(it, dict)]
+    entries = value.get("syscalls")
+    entries = [it for it in entries if isinstance(it, dict)] if isinstance(entries, list) else []
     found = [name for name in ("archMap", "defaultErrno") if value.get(name)]
     found += [name for name in ("includes", "excludes", "name", "errno") if any(it.get(name) for it in entries)]
     if found:

@@ -19,7 +19,9 @@ With --baseline a row is also weaker if it allows more than the profile FILE, an
 syscall and the profile doesn't name its architecture.
 
 Containers are known by the files of runc, crun, containerd, Docker, podman and CRI-O. --runtime-root is a folder that
-was given to a runtime as --root, may have wildcards, and may be given several times. A line says what wasn't looked at.
+was given to a runtime as --root, may have wildcards, and may be given several times. What a user could have written
+there describes only processes of that user, in a row of its own; a user's rows come last, and have 5 seconds. A line
+says what wasn't looked at.
 
 --json prints one object, and --json-lines an object for each row and a last one for the whole. --prometheus writes
 metrics for the textfile collector of node_exporter, and --html a page without scripts, which also shows what each

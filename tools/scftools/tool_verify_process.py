@@ -12,10 +12,11 @@ profile as by `scf compare`, which shows why a syscall differs. Filters belong t
 block of its own, with the threads that have it, the worst first; a thread without a filter isn't confined, and counts
 as one that differs.
 With --all these are the threads of all processes in the container of PID: those of the container's control group and of
-the groups in it, or, if PID is in the root group, those of its PID namespace. The container's group is that of PID or
-one above: the one that a runtime mounts or names for it, or that in which systemd makes init.scope and system.slice. If
-other processes of the PID namespace are in groups that can't be known to be a container's, status 0 becomes 4. In a
-cgroup namespace other than the initial one only a group below the namespace's root can be known.
+the groups in it, in any hierarchy of cgroups, or, if PID is in the root group, those of its PID namespace. The
+container's group is that of PID or one above: the one that a runtime mounts or names for it, or that in which systemd
+makes init.scope and system.slice. If other processes of the PID namespace are in groups that can't be known to be a
+container's, status 0 becomes 4. In a cgroup namespace other than the initial one only a group below the namespace's
+root can be known.
 --no-more and --no-less ask what they ask of `scf compare`: `more` and `less` count as `differs`.
 
 With --runtime PROFILE is read as the container's runtime reads it, which skips an entry whose answer is the default's

@@ -257,16 +257,15 @@ class SavedRequest:
 
 
 def blocks_of(found: Inspection, judge: Callable[[Stack], Any], unfiltered: Callable[[Stack, int], Any]) -> list[Any]:
-    """A block for each distinct stack, the worst first, of one without filters by its status; a fault of all stacks is
-    reported once."""
-    made: list[Any] = []
+    """A block for each distinct stack, the worst first, and before all that of threads that aren't confined; a fault of
+    all stacks is reported once."""
+    # strict mode allows four syscalls, which no profile can express
+    unconfined = [unfiltered(it, program.NEGATIVE) for it in found.stacks if not it.filters and not it.is_strict]
+    made: list[Any] = [unfiltered(it, program.UNKNOWN) for it in found.stacks if it.is_strict]
     for stack in found.stacks:
-        if not stack.filters:
-            # strict mode allows four syscalls, which no profile can express
-            made.append(unfiltered(stack, program.UNKNOWN if stack.is_strict else program.NEGATIVE))
-        elif not any(block.is_of_all for block in made):
+        if stack.filters and not any(block.is_of_all for block in made):
             made.append(judge(stack))
-    return sorted(made, key=lambda it: client.rank(it.status))
+    return unconfined + sorted(made, key=lambda it: client.rank(it.status))
 
 
 def blocks(found: Inspection, request: Request | SavedRequest) -> list[Block]:

@@ -1,10 +1,13 @@
 """tools/audit: a machine's containers, units and other confined programs, with real processes and containers."""
+import glob
 import json
 import os
 import re
 import shutil
 import subprocess
+import time
 import unittest
+from unittest import mock
 
 from common import ALLOW, EPERM, TOP, Case, filter_of, profile_of, ret, tool
 from confined import processes
@@ -35,6 +38,35 @@ while True:
         os._exit(0)
     os.waitpid(number, 0)
 """
+
+
+# Enters the control groups that it is called with, ends its main thread, and says which process it is; another thread
+# stays, without a filter.
+WITHOUT_MAIN = """
+import ctypes, os, sys, threading, time
+for path in sys.argv[1:]:
+    with open(path + \"/cgroup.procs\", \"w\") as file:
+        file.write(str(os.getpid()))
+threading.Thread(target=time.sleep, args=(1000,)).start()
+print(os.getpid(), flush=True)
+for file in (0, 1, 2):
+    os.close(file)
+ctypes.CDLL(None).syscall(60, 0)
+"""
+
+
+# Mounts a file system in user space (fuse(4)) that answers nothing.
+HANGING = """
+import ctypes, os, sys, time
+file = os.open(\"/dev/fuse\", os.O_RDWR)
+words = b\"fd=%d,rootmode=40000,user_id=12345,group_id=12345,allow_other\" % file
+print(ctypes.CDLL(None).mount(b\"x\", os.fsencode(sys.argv[1]), b\"fuse\", 0, words), flush=True)
+for it in (0, 1, 2):
+    os.close(it)
+time.sleep(1000)
+"""
+# How the output of verify-process begins beside a process that isn't confined.
+NO_FILTER = r"\A(unconfined though configured\n)?# process {} \({}\) has no filter: it isn't confined"
 
 
 class Audited:
@@ -179,6 +211,51 @@ class Containers(Audited, OwnMachine):
         self.assertEqual((row["verdict"], [it["verdict"] for it in row["parts"]]),
                          ("unconfined though configured", ["unconfined though configured", "as configured"]))
 
+    def groups_of(self, name):
+        """The folders of a container's control groups, by their hierarchies."""
+        found = {os.path.basename(os.path.dirname(os.path.dirname(it))): it
+                 for it in glob.glob(f"/sys/fs/cgroup/*/{self.group}/{name}")}
+        if not {"pids", "systemd"} <= found.keys():
+            self.skipTest("there are no control groups of version 1 here")
+        return found
+
+    def verify_all(self, name):
+        """What verify-process --all says of a container, given its process."""
+        pid = next(it for row in self.audit()["rows"] if row["name"] == name for part in row["parts"]
+                   if part["stack"] is not None for it in part["processes"])["process"]
+        return self.on(tool("verify-process"), "--all", "--runtime", "runc", str(pid),
+                       f"{self.folder}/bundles/{name}/config.json")
+
+    def test_in_some_hierarchies(self):
+        """A process without a filter that is in the container's group of some hierarchies, and not of others."""
+        self.container("runc", "box", STATED)
+        groups = self.groups_of("box")
+        (number,) = self.crowd(("alpha", [], 1, 1))
+        for names in (["pids"], ["pids", "cpu", "memory"]):
+            for name in filter(groups.get, names):
+                self.assertEqual(self.on("sh", "-c", f"echo {number} >{groups[name]}/cgroup.procs")[0], 0, name)
+            (row,) = self.audit(status=1)["rows"]
+            self.assertEqual((row["verdict"], row["parts"][0]["processes"][0]["process"]),
+                             ("unconfined though configured", number))
+            status, out, _ = self.verify_all("box")
+            self.assertEqual(status, 1)
+            self.assertRegex(out, NO_FILTER.format(number, "alpha"))
+
+    def test_a_main_thread_that_has_ended(self):
+        """The other threads of its process are the container's, though the kernel shows the process as a zombie in the
+        root group."""
+        self.container("runc", "box", STATED)
+        script = f"/usr/bin/python3 -c '{WITHOUT_MAIN}' {' '.join(self.groups_of('box').values())} & sleep 1"
+        number = int(self.on("sh", "-c", script)[1])
+        self.assertRegex(self.on("cat", f"/proc/{number}/status")[1], r"\nState:\tZ ")
+        (row,) = self.audit(status=1)["rows"]
+        (process,) = row["parts"][0]["processes"]
+        self.assertEqual((row["verdict"], process["process"], process["threads"]),
+                         ("unconfined though configured", number, 1))
+        status, out, _ = self.verify_all("box")
+        self.assertEqual(status, 1)
+        self.assertRegex(out, NO_FILTER.format(number, "python3"))
+
     def test_one_of_a_user(self):
         """A container that crun makes for a user who isn't root, with a user namespace and no control group."""
         self.runtime("crun")
@@ -195,17 +272,248 @@ class Containers(Audited, OwnMachine):
         self.assertEqual({name: (it["verdict"], it["users"]) for name, it in rows.items()},
                          {("container", "mine"): ("as configured", [12345])})
 
-    def test_what_a_user_says_of_others(self):
-        """A user's file that names a process of root, a pipe in place of a file, and a link."""
-        self.runtime("crun")
+    def test_files_that_raise(self):
+        """Of a container whose files hold what no runtime writes it isn't known how it is confined; the others are
+        looked at."""
+        self.container("runc", "box", STATED)
+        numbers = self.crowd(*((name, [filter_of([0])], 1, 1) for name in ("alpha", "beta", "gamma")))
+        config = self.file("odd/config.json", json.dumps({"linux": {"seccomp": {
+            "defaultAction": "SCMP_ACT_ALLOW", "syscalls": 5}}}))
+        states = {"runc/labels/state.json": {"init_process_pid": numbers[0], "config": {"labels": 5}},
+                  "runc/text/state.json": {"init_process_pid": numbers[1], "cgroup_paths": {"a": "\ud800"}},
+                  "crun/config/status": {"pid": numbers[2], "bundle": os.path.dirname(config)},
+                  "crun/list/status": [], "crun/number/status": {"pid": 10**400}}
+        for name, state in states.items():
+            self.on("sh", "-c", f"mkdir -p /run/{os.path.dirname(name)}; cat >/run/{name}",
+                    given=json.dumps(state).encode())
+        value = self.audit(status=4)
+        rows = {it["name"]: it for it in value["rows"]}
+        self.assertEqual({name: it["verdict"] for name, it in rows.items()}, {
+            "box": "as configured", **dict.fromkeys(("labels", "text", "config"), "not known")})
+        self.assertIn("'/run/crun/list/status' isn't an object", value["left_out"])
+        self.assertIn("name no bundle", rows["labels"]["profile"]["why"])
+        self.assertEqual(rows["config"]["profile"]["source"], config)
+
+    def test_one_name_of_two_engines(self):
+        """Each container has a row, though both have the same name."""
+        self.container("runc", "web", STATED)
+        rows = self.audit()["rows"]
+        pid = rows[0]["parts"][0]["processes"][0]["process"]
+        where = self.bundle("other", None)
+        status, out, err = self.on("runc", "--root", "/run/containerd/runc/k8s.io", "run", "--detach", "--bundle",
+                                   where, "web")
+        if status:
+            self.skipTest(f"runc starts no second container here: {(out + err).strip()}")
+        rows = self.audit(status=1)["rows"]
+        self.assertEqual([(it["name"], it["verdict"]) for it in rows],
+                         [("web", "unconfined by configuration"), ("web", "as configured")])
+        self.assertEqual(rows[1]["parts"][0]["processes"][0]["process"], pid)
+        self.assertEqual(len({it["id"] for it in rows}), 2)
+
+
+class Users(Audited, OwnMachine):
+    """What users' files and processes say, and what they can't."""
+
+    USER = 12345
+
+    def setUp(self):
+        super().setUp()
+        os.chmod(self.folder, 0o755)
+        self.on("sh", "-c", f"mkdir -m 755 /run/user/{self.USER}; chown {self.USER} /run/user/{self.USER}")
+
+    def process(self, name):
+        """Starts a process of the user's: its number."""
+        script = f"setpriv --reuid={self.USER} --regid={self.USER} --clear-groups sleep 1000 >/dev/null 2>&1 & echo $!"
+        number = int(self.on("sh", "-c", script)[1])
+        self.assertEqual(self.on("sh", "-c", f"until grep -qx sleep /proc/{number}/comm; do sleep 0.01; done")[0], 0)
+        return number
+
+    def says(self, name, process, bundle, **settings):
+        """The user writes a file of crun's about a container."""
+        folder = f"/run/user/{self.USER}/crun/{name}"
+        state = json.dumps({"pid": process, "bundle": bundle, "cgroup-path": "/", **settings})
+        self.assertEqual(self.on("sh", "-c", f"mkdir -p {folder}; cat >{folder}/status; chown -R {self.USER} "
+                                             f"/run/user/{self.USER}/crun", given=state.encode())[0], 0)
+
+    def users_bundle(self, name="theirs", seccomp=None, text=None):
+        """A bundle of the user's."""
+        path = self.file(f"{name}/config.json", json.dumps(
+            {"linux": {} if seccomp is None else {"seccomp": seccomp}}) if text is None else text)
+        for it in (path, os.path.dirname(path)):
+            os.chown(it, self.USER, self.USER)
+        return os.path.dirname(path)
+
+    def test_a_row_of_root(self):
+        """A user with an older process gives a container the identifier of root's, and one that isn't confined."""
+        number = self.process("old")
+        self.container("runc", "web", None)
+        self.restate("web", STATED)
+        self.says("web", number, self.users_bundle())
+        for words in ((), ("--allow-unconfined",)):
+            rows = self.audit(*words, status=1)["rows"]
+            self.assertIn(f"container web (crun, of user {self.USER}, /run/user/{self.USER}/crun/web): 1 process\n",
+                          self.on(tool("audit"))[1])
+            self.assertEqual([(it["name"], it["verdict"]) for it in rows], [
+                ("web", "unconfined though configured"), ("web", "unconfined by configuration")])
+            self.assertEqual([it["id"] for it in rows],
+                             ["web", f"web of /run/user/{self.USER}/crun/web"])
+            self.assertEqual([it["user"] for it in rows], [None, self.USER])
+
+    def test_a_name_of_a_group(self):
+        """A group that is named as an engine names that of root's container is another row."""
+        (number,) = self.crowd(("alpha", [], 1, 1))
+        self.container("runc", IDENTIFIER, None)
+        self.restate(IDENTIFIER, STATED)
+        group = f"/sys/fs/cgroup/pids/{self.group}/mine/libpod-{IDENTIFIER}.scope"
+        if not os.path.ismount("/sys/fs/cgroup/pids"):
+            self.skipTest("there are no control groups of version 1 here")
+        os.makedirs(group)
+        self.assertEqual(self.on("sh", "-c", f"echo {number} >{group}/cgroup.procs")[0], 0)
+        rows = self.audit("--allow-unconfined", status=1)["rows"]
+        self.assertEqual({(it["engine"], it["verdict"]) for it in rows},
+                         {("runc", "unconfined though configured"), ("podman", "not known")})
+        self.assertEqual([it["profile"].get("why") for it in rows], [None, "no file of a runtime describes it"])
+        ids = {it["engine"]: it["id"] for it in rows}
+        self.assertEqual(ids["runc"], IDENTIFIER)
+        self.assertTrue(ids["podman"].startswith(f"{IDENTIFIER} of /{self.group}/mine/libpod-"), ids)
+
+    def test_processes_of_others(self):
+        """A user's file that names a process of root, as the first one of all, a pipe in place of a file, and a
+        link."""
         numbers = self.crowd(("alpha", [filter_of([0])], 1, 1))
-        state = json.dumps({"pid": numbers[0], "bundle": self.folder, "cgroup-path": "/"})
-        self.file("state", state)
-        script = ("for it in a b c; do mkdir -p /run/user/12345/crun/$it; done; "
-                  "cp state /run/user/12345/crun/a/status; mkfifo /run/user/12345/crun/b/status; "
-                  "ln -s $PWD/state /run/user/12345/crun/c/status; chown -R 12345 /run/user/12345")
-        self.assertEqual(self.on("sh", "-c", f"cd {self.folder}; {script}")[0], 0)
-        self.assertEqual([kind for kind, _ in self.rows()], ["program"])
+        self.says("a", numbers[0], self.users_bundle())
+        self.process("x")
+        self.says("d", 1, self.users_bundle())
+        state = self.file("state", json.dumps({"pid": numbers[0], "bundle": self.folder}))
+        script = f"mkdir b c; mkfifo b/status; ln -s {state} c/status; chown -hR {self.USER} ."
+        self.assertEqual(self.on("sh", "-c", f"cd /run/user/{self.USER}/crun && {script}")[0], 0)
+        value = self.audit(status=4)
+        self.assertEqual([it["kind"] for it in value["rows"]], ["program"])
+        self.assertIn(f"2 of the folders of containers of user {self.USER}: '/run/user/{self.USER}/crun/b/status' "
+                      f"isn't a regular file", value["left_out"])
+
+    def test_a_process_in_a_container_of_root(self):
+        """One that runs as the user, in a container that root's files describe: it stays there."""
+        number = self.process("old")
+        self.container("runc", "web", STATED)
+        groups = glob.glob(f"/sys/fs/cgroup/pids/{self.group}/web")
+        if not groups:
+            self.skipTest("there are no control groups of version 1 here")
+        self.assertEqual(self.on("sh", "-c", f"echo {number} >{groups[0]}/cgroup.procs")[0], 0)
+        self.says("mine", number, self.users_bundle())
+        (row,) = self.audit("--allow-unconfined", status=1)["rows"]
+        self.assertEqual((row["name"], row["verdict"], row["user"]), ("web", "unconfined though configured", None))
+        # the first process of a container of root's
+        self.on("kill", "-9", str(number))
+        self.container("runc", "inner", None, change=lambda it: it["process"].update(
+            user={"uid": self.USER, "gid": self.USER}))
+        self.restate("inner", STATED)
+        rows = {it["name"]: it for it in self.audit(status=1)["rows"]}
+        self.says("mine", rows["inner"]["parts"][0]["processes"][0]["process"], self.users_bundle())
+        rows = {it["name"]: it for it in self.audit("--allow-unconfined", status=1)["rows"]}
+        self.assertEqual((set(rows), rows["inner"]["verdict"]), ({"web", "inner"}, "unconfined though configured"))
+
+    def test_what_only_root_can_read(self):
+        """A link in the bundle's path, a bundle that isn't the user's, and a link to a file: nothing of it is shown."""
+        secret = self.file("secret/config.json", json.dumps({"linux": {}, "annotations": {
+            "io.podman.annotations.name": "hidden"}}))
+        os.chmod(os.path.dirname(secret), 0o700)
+        mine = self.users_bundle()
+        os.symlink(os.path.dirname(secret), f"{mine}/l")
+        os.mkdir(f"{mine}/hard")
+        os.link(secret, f"{mine}/hard/config.json")
+        for path in (f"{mine}/l", f"{mine}/hard"):
+            os.chown(path, self.USER, self.USER, follow_symlinks=False)
+        for bundle, says in ((f"{mine}/l", "leads through a link of a user"), (os.path.dirname(secret), "own"),
+                             (f"{mine}/hard", "own"), (f"{mine}/../secret", "leads out of a user's folder")):
+            self.says("box", self.process("x"), bundle)
+            value = self.audit(status=1)
+            (row,) = value["rows"]
+            self.assertEqual((row["name"], row["verdict"]), ("box", "not known"), bundle)
+            self.assertIn(says, row["profile"]["why"])
+            self.assertNotIn("hidden", json.dumps(value))
+
+    def test_a_configuration_that_a_user_may_change(self):
+        """What root runs says that it isn't known, and not what the user wrote."""
+        self.container("runc", "web", None)
+        for path in (f"{self.folder}/bundles/web", f"{self.folder}/bundles/web/config.json"):
+            os.chown(path, self.USER, self.USER)
+        (row,) = self.audit(status=1)["rows"]
+        self.assertEqual(row["verdict"], "not known")
+        self.assertTrue(row["profile"]["why"].endswith(f"config.json' may be changed by user {self.USER}"), row)
+
+    def test_a_file_system_that_does_not_answer(self):
+        """One of the user's own in place of the folder of the user's containers, or on the way to the configuration of
+        one of root's: nothing waits for it."""
+        for name in ("web", "other"):
+            self.container("runc", name, STATED)
+        for where in (f"/run/user/{self.USER}/crun", f"{self.folder}/bundles/other"):
+            script = f"mkdir -p {where}; timeout 100 /usr/bin/python3 -c '{HANGING}' {where} & sleep 1"
+            if self.on("sh", "-c", script)[1] != "0\n":
+                self.skipTest("no file system in user space can be mounted here")
+            self.addCleanup(self.on, "umount", "-l", where)
+        value = self.audit(status=4)
+        self.assertEqual([(it["name"], it["verdict"]) for it in value["rows"]],
+                         [("other", "not known"), ("web", "as configured")])
+        self.assertIn(f"1 of the folders of containers of user {self.USER}: '/run/user/{self.USER}/crun' leads into a "
+                      f"file system of user {self.USER}", value["left_out"])
+        self.assertIn(f"leads into a file system of user {self.USER}", value["rows"][0]["profile"]["why"])
+        self.assertLess(value["seconds"], 10)
+
+    def hostile(self, count, make):
+        """The audit of a machine on which a user has so many containers, and root has one that isn't confined as
+        configured: its rows and lines, and how many seconds and bytes it took."""
+        self.container("runc", "web", None)
+        self.restate("web", STATED)
+        for at in range(count):
+            self.says(f"c{at:02}", self.process("x"), make(at))
+        script = ("import resource, subprocess, sys, time\nbegan = time.monotonic()\n"
+                  "subprocess.run(sys.argv[1:], stdout=sys.stderr)\n"
+                  "print(time.monotonic() - began, resource.getrusage(resource.RUSAGE_CHILDREN).ru_maxrss)")
+        _, out, err = self.on("/usr/bin/python3", "-c", script, tool("audit"), "--json")
+        value = json.loads(err)
+        rows = {it["name"]: it["verdict"] for it in value["rows"]}
+        self.assertEqual(rows.pop("web"), "unconfined though configured")
+        seconds, kibibytes = map(float, out.split())
+        return value, rows, seconds, kibibytes * 1024
+
+    def test_long_files(self):
+        """Folders of links to a file of 16 MiB, and configurations so long: each is refused at once."""
+        path = self.users_bundle("long", text=json.dumps({"linux": {}, "x": " " * ((1 << 24) - 100)}))
+        for name in ("state.json", "status"):
+            os.link(f"{path}/config.json", f"{path}/{name}")
+        value, rows, seconds, size = self.hostile(6, lambda _: path)
+        self.assertEqual(set(rows.values()), {"not known"})
+        self.assertIn("has more than 4194304 bytes", value["rows"][-1]["profile"]["why"])
+        self.assertLess((seconds, size), (10, 300 << 20))
+        script = (f"cd /run/user/{self.USER}/crun; for it in $(seq 45); do mkdir $it; cp {path}/status $it/status; "
+                  f"ln $it/status $it/state.json; done; chown -R {self.USER} .")
+        self.assertEqual(self.on("sh", "-c", script)[0], 0)
+        value = self.audit(status=1)
+        self.assertLess(value["seconds"], 10)
+        self.assertIn(f"45 of the folders of containers of user {self.USER}: '/run/user/{self.USER}/crun/1/state.json' "
+                      f"has more than 65536 bytes", value["left_out"])
+
+    def test_what_takes_long(self):
+        """Long configurations, each another one: root's container is judged, the user's up to a limit, and a line and a
+        metric say of the others that they weren't looked at."""
+        entry = json.dumps({"names": ["read"], "action": "SCMP_ACT_ERRNO", "args": [{"index": 0, "value": 1}]})
+
+        def make(at):
+            text = ",".join([entry] * 40000)
+            return self.users_bundle(f"b{at}", text='{"linux": {"seccomp": {"defaultAction": "SCMP_ACT_ALLOW", '
+                                                    f'"defaultErrnoRet": {at}, "syscalls": [{text}]}}}}}}')
+
+        value, rows, seconds, size = self.hostile(20, make)
+        self.assertEqual(set(rows.values()), {"not known"})
+        self.assertLess(seconds, 15)
+        self.assertLess(size, 300 << 20)
+        (line,) = [it for it in value["left_out"] if f"of user {self.USER}" in it]
+        self.assertRegex(line, r"\A[0-9]+ rows of user 12345: to judge all of this user takes longer than 5 s")
+        path = f"{self.folder}/scf.prom"
+        self.on(tool("audit"), "--prometheus", path)
+        with open(path, encoding="ascii") as file:
+            self.assertRegex(file.read(), r"\nscf_not_looked_at [1-9]")
 
 
 def rootless(config):
@@ -290,16 +598,41 @@ runroot = "/run/podman-of-tests"
 """
 
 
-class Node(Audited, Systemd):
-    """A machine with all of it: units of a real systemd, containers of runc, crun, podman and a user, and others."""
-
-    UNITS = {f"scf-{name}.service": UNIT.format(setting) for name, setting in (
-        ("same", "SystemCallFilter=~mount ptrace"), ("more", "SystemCallFilter=~mount"), ("none", ""))}
+class Podman(Audited):
+    """A podman with folders of its own."""
 
     def podman(self, *words):
         settings = {f"CONTAINERS_{name}": self.file(f"podman/{name}", text.format(f"{self.folder}/podman"))
                     for name, text in (("CONF", CONTAINERS), ("STORAGE_CONF", STORAGE))}
         return self.on("podman", "--runtime", "runc", *words, **settings)
+
+
+class Pods(Podman, OwnMachine):
+    def test_a_pod(self):
+        """Its containers have rows, and no other row has what watches them, which is in the pod's group on cgroupfs."""
+        self.runtime("podman")
+        rootfs = f"{self.bundle('pod', None)}/rootfs"
+        self.on("tar", "-C", rootfs, "-cf", f"{self.folder}/rootfs.tar", ".")
+        first = ("--infra-image", "first", "--infra-command", "sleep 1000", "--share", "ipc")
+        for words in (("import", f"{self.folder}/rootfs.tar", "first"),
+                      ("pod", "create", "--name", "two", "--cgroup-parent", f"/{self.group}", *first),
+                      ("run", "--detach", "--pod", "two", "--name", "front", "--rootfs", rootfs, "sleep", "1000")):
+            status, _, err = self.podman(*words)
+            if status:
+                self.skipTest(f"podman starts no pod here: {err.strip()}")
+        watching = self.on("sh", "-c", "grep -lx conmon /proc/[0-9]*/comm | cut -d / -f 3")[1].split()
+        groups = "".join(self.on("cat", f"/proc/{it}/cgroup")[1] for it in watching)
+        self.assertRegex(groups, f"/{self.group}/[0-9a-f]{{64}}/conmon\n")
+        rows = self.audit("--allow-unconfined", status=4)["rows"]
+        self.assertEqual([it["verdict"] for it in rows], ["as configured"] * 2, rows)
+        self.assertEqual({it["name"][-5:] for it in rows}, {"front", "infra"})
+
+
+class Node(Podman, Systemd):
+    """A machine with all of it: units of a real systemd, containers of runc, crun, podman and a user, and others."""
+
+    UNITS = {f"scf-{name}.service": UNIT.format(setting) for name, setting in (
+        ("same", "SystemCallFilter=~mount ptrace"), ("more", "SystemCallFilter=~mount"), ("none", ""))}
 
     def start_units(self):
         """Starts the units; what one of them states is changed after that."""
@@ -442,6 +775,70 @@ class Belonging(Case):
             self.assertIsNone(container_files.named_container(process(groups={"": path.encode()})), path)
 
 
+class Descriptions(Case):
+    """Whose a process is if several descriptions speak of it: root's, a user's, a unit's, and the name of a group."""
+
+    USER = 12345
+    OWN = f"/user.slice/user-{USER}.slice/user@{USER}.service/user.slice/libpod-{IDENTIFIER}.scope"
+
+    def belongs(self, path, *described, is_stated=False, number=7, other=(8, "/"), user=USER, real=None, **settings):
+        """The name of the container of a process in this group, beside another process of the user's; descriptions are
+        of a name, a first process and a user, and may state a group."""
+        kernel = mock.Mock()
+        kernel.groups_of.side_effect = lambda _: {"": b"/init.scope"}
+        kernel.status_of.side_effect = lambda it: {
+            "Uid": f"{every[it].user if real is None else real}\t{every[it].user}\t0\t0"}
+        every = {number: process(number, groups={"": path.encode()}, user=user, **settings),
+                 other[0]: process(other[0], groups={"": other[1].encode()}, user=self.USER)}
+        made = [container_files.Described(name, "crun", "crun", first, "", folder=f"/{name}", user=its_user,
+                                          groups=tuple(it.encode() for it in groups))
+                for name, first, its_user, *groups in described]
+        members = container_files.Membership(kernel, made, every)
+        with mock.patch.object(container_files, "_owner_of", lambda _: None):
+            found = members.container_of(every[number], is_stated)
+        return None if found is None else found.identifier
+
+    def test_root_and_a_user(self):
+        root, user = ("root", 7, None), ("user", 7, self.USER)
+        for described in ((root, user), (user, root)):
+            self.assertEqual(self.belongs("/", *described), "root")
+        self.assertEqual(self.belongs("/", user), "user")
+        # another user's process, and one that runs as root, as sudo does
+        self.assertIsNone(self.belongs("/", user, user=1))
+        self.assertIsNone(self.belongs("/", user, user=0))
+        self.assertIsNone(self.belongs("/", user, user=0, real=self.USER))
+        # a descendant of the user's first process, in a namespace of a container of root's
+        space = {"spaces": ((1, 5), (1, 1)), "inner": 1}
+        self.assertEqual(self.belongs("/", user, root, **space), "root")
+        self.assertEqual(self.belongs("/", ("user", 8, self.USER), parent=8), "user")
+
+    def test_a_group_that_a_user_states(self):
+        """It isn't believed, and a named one only in the slices of users."""
+        self.assertIsNone(self.belongs("/x", ("user", 8, self.USER, "/x"), other=(8, "/x")))
+        self.assertEqual(self.belongs("/x", ("root", 7, None, "/x")), "root")
+        named = f"/machine.slice/libpod-{IDENTIFIER}.scope"
+        self.assertEqual(self.belongs(named, ("user", 7, self.USER)), IDENTIFIER)
+        self.assertEqual(self.belongs(self.OWN, ("user", 7, self.USER)), "user")
+        self.assertEqual(self.belongs(self.OWN, ("user", 7, self.USER), user=1), IDENTIFIER)
+        self.assertEqual(self.belongs(self.OWN), IDENTIFIER)
+
+    def test_a_unit_that_states_something(self):
+        """Its processes are the unit's, whatever users say, and whatever their groups are called; root's containers in
+        it are containers."""
+        path = f"/system.slice/x.service/libpod-{IDENTIFIER}"
+        for described, stated, other in (((("user", 7, self.USER),), None, IDENTIFIER), ((), None, IDENTIFIER),
+                                         ((("root", 7, None),), "root", "root")):
+            self.assertEqual(self.belongs(path, *described, is_stated=True), stated)
+            self.assertEqual(self.belongs(path, *described), other)
+
+    def test_a_pod(self):
+        """The group of a pod, in which root's containers have groups, isn't a container's, wherever it is."""
+        pod = f"/mine/{IDENTIFIER}"
+        inside = {"number": 8, "other": (7, f"{pod}/libpod-x")}
+        self.assertIsNone(self.belongs(f"{pod}/conmon", ("root", 7, None, f"{pod}/libpod-x"), **inside))
+        self.assertEqual(self.belongs(f"{pod}/conmon", **inside), IDENTIFIER)
+
+
 class Files(unittest.TestCase):
     """What the annotations of engines say of a container (pkg/cri/annotations of containerd, pkg/annotations of CRI-O,
     libpod/annotations.go of podman), by where these keep their bundles."""
@@ -449,7 +846,7 @@ class Files(unittest.TestCase):
     def of(self, bundle, **annotations):
         one = container_files.Described(IDENTIFIER, "runc", "runc", 7, f"{bundle}/config.json",
                                         {"annotations": annotations})
-        found = container_files._with_engine(one, container_files._Names())
+        found = container_files.with_engine(one, container_files.Names())
         return found.engine, found.name, found.image, found.pod
 
     def test_containerd(self):
@@ -474,6 +871,107 @@ class Files(unittest.TestCase):
         found = self.of(f"/var/lib/containers/storage/overlay-containers/{IDENTIFIER}/userdata", **{
             "io.container.manager": "libpod", "io.kubernetes.cri-o.SandboxID": "ab" * 32})
         self.assertEqual(found, ("podman", None, None, "ab" * 32))
+
+
+class Limits(Case):
+    """What ends in time, and what is kept."""
+
+    def setUp(self):
+        super().setUp()
+        self.options = audit.Options(tables.read(None))
+        self.stack = processes.Stack((filter_of([0]),), False, {7: [7]})
+        self.snapshot = machine.Snapshot({7: process()}, {(self.stack.filters, False): self.stack})
+
+    def row(self, user):
+        return audit.Row(audit.CONTAINER, "box", [process()], audit.Expected(), container_files.Described(
+            "box", "crun", "crun", 7, "/config.json", folder="/box", user=user))
+
+    def assessed(self, rows, work):
+        """An assessor that has judged rows; `work` is done in place of reading a container's files."""
+        assessor = audit.Assessor(self.snapshot, audit.Expectations(self.options), audit.Judge(self.options.table))
+        with mock.patch.object(container_files, "with_config", work):
+            assessor.fill(rows)
+        return assessor
+
+    def test_states_that_take_for_ever(self):
+        """As in a file system of the user's own that doesn't answer: a line says so, and the others are read."""
+        for work, seconds in ((lambda *_: time.sleep(60), 0.2), (lambda *_: os._exit(1), 10), (lambda *_: 1 / 0, 10)):
+            began = time.monotonic()
+            with mock.patch.object(container_files, "_in_roots", work):
+                found = container_files._in_child(None, [], "of user 5", seconds)
+            self.assertEqual((found.described, len(found.left_out)), ([], 1))
+            self.assertIn("the folders of containers of user 5: they can't be read", found.left_out[0])
+            self.assertLess(time.monotonic() - began, 5)
+
+    def test_a_user_who_takes_for_ever(self):
+        """Root's row is judged before, and the user's isn't known; another user has time left."""
+        def work(one):
+            if one.user == 5:
+                time.sleep(60)
+            return container_files.replace(one, why="read")
+
+        began, rows = time.monotonic(), [self.row(5), self.row(None), self.row(6)]
+        with mock.patch.object(audit, "SECONDS_OF_A_USER", 0.5):
+            assessor = self.assessed(rows, work)
+        self.assertLess(time.monotonic() - began, 10)
+        self.assertEqual([it.expected.why for it in rows],
+                         ["it isn't looked at: to judge all of this user takes too long", "read", "read"])
+        self.assertEqual({it.verdict for it in rows}, {"not known"})
+        self.assertEqual(len(assessor.left_out), 1)
+        self.assertTrue(assessor.left_out[0].startswith("1 row of user 5: to judge all of this user takes"))
+
+    def test_all_users_together(self):
+        """Each has some time, whatever the others before took."""
+        budgets = audit.Budgets()
+        for user in range(100, 140):
+            left = budgets.of_user(user, 140 - user)
+            self.assertGreaterEqual(left, audit.LEAST_SECONDS)
+            self.assertLessEqual(left, audit.SECONDS_OF_A_USER)
+            budgets.spend(user, left)
+        self.assertEqual((budgets.left, budgets.of_user(100, 1)), (0, 0))
+
+    def test_filters_of_a_user(self):
+        """Those of a program and of a unit that only a user's processes have come after root's, and have a budget."""
+        stacks = [processes.Stack((filter_of([0, at]),), False, {at: [at]}) for at in range(7, 12)]
+        self.snapshot = machine.Snapshot({it: process(it) for it in range(7, 12)},
+                                         {(it.filters, False): it for it in stacks})
+        rows = [audit.Row(kind, "x", [process(it, user=5) for it in numbers], audit.Expected())
+                for kind, numbers in ((audit.PROGRAM, (7, 8)), (audit.UNIT, (9, 10)))]
+        rows[0].processes.append(process(11))
+        order = []
+
+        def judge(stack, *_):
+            order.extend(stack.threads)
+            time.sleep(0 if 11 in stack.threads else 0.3)
+            return audit.Judgement(audit.STRICTER)
+
+        with mock.patch.object(audit, "SECONDS_OF_A_USER", 0.7), mock.patch.object(audit, "judged", judge):
+            assessor = self.assessed(rows, None)
+        self.assertEqual(order, [11, 7, 8, 9])
+        self.assertEqual([[it.judgement.verdict for it in row.parts] for row in rows],
+                         [["stricter"] * 3, ["not known", "stricter"]])
+        self.assertEqual(assessor.beyond, {5: 1})
+
+    def test_what_is_raised(self):
+        for error in (KeyError("x"), MemoryError(), RecursionError(), AttributeError("y")):
+            row = self.row(None)
+            self.assessed([row], mock.Mock(side_effect=error))
+            self.assertEqual((row.verdict, row.expected.why),
+                             ("not known", f"'/config.json' can't be read: {type(error).__name__}"))
+
+    def test_what_is_kept(self):
+        """Some results, and some bytes; what isn't known is asked again."""
+        with mock.patch.object(audit, "MOST_KNOWN", 3), mock.patch.object(audit, "MOST_BYTES", 100):
+            for sizes, left in (([10] * 5, 1), ([60, 30], 2), ([60, 30, 20], 1)):
+                kept = audit.Kept()
+                for at, size in enumerate(sizes):
+                    kept.keep((at,), at, size)
+                self.assertEqual((len(kept.values), kept.values[len(sizes) - 1,]), (left, len(sizes) - 1), sizes)
+        judge = audit.Judge(self.options.table)
+        judge.keep((1,), audit.Judgement(audit.NOT_KNOWN))
+        judge.keep((2,), audit.Judgement(audit.WEAKER))
+        judge.forget_unknown()
+        self.assertEqual(list(judge.known.values), [(2,)])
 
 
 class Output(Case):
@@ -618,6 +1116,18 @@ class Output(Case):
 
 
 class Words(Case):
+    def test_members_of_other_types(self):
+        """What no engine writes is refused by a line, whatever runtime applies it."""
+        seccomp = {"defaultAction": "SCMP_ACT_ALLOW", "syscalls": 5}
+        for value in ({"linux": {"seccomp": seccomp}}, seccomp):
+            name = self.file("config.json", json.dumps(value))
+            for runtime in ("runc", "crun", "docker", "podman"):
+                for words in (("resolve-profile", "--runtime", runtime, name),
+                              ("verify-process", "--runtime", runtime, str(os.getpid()), name)):
+                    status, out, err = self.run_tool(*words)
+                    self.assertEqual((status, out, err.count("\n")), (1, "", 1), words)
+                    self.assertIn("syscalls isn't a list", err)
+
     def test_an_earlier_object(self):
         for text in ("{", "[]", "{}", '{"rows": [{}]}', '{"rows": [{"kind": 1}]}'):
             status, out, err = self.run_tool("audit", "--html", "x", "--since", self.file("a.json", text))

@@ -91,6 +91,17 @@ class Pages(Case):
                          "(was weaker)", "unconfined"):
             self.assertIn(expected, text)
 
+    def test_what_is_configured(self):
+        """It is known that nothing is, or not known what."""
+        for expected, says in ((audit.Expected(), "nothing is configured"),
+                               (audit.Expected(why="no bus"), "what is configured isn't known: no bus"),
+                               (audit.Expected(source="systemctl", why="no bus"), "systemctl no bus")):
+            row = audit.Row(audit.UNIT, "a.service", [process(8)], expected)
+            row.parts = [audit.Part(processes.Stack((), False, {8: [8]}), {8: [8]}, audit.Judgement(audit.NOT_KNOWN))]
+            text = Page(audit_page.page(audit.Audit([row], machine.Snapshot(), 0.0), tables.read(None)), self).check()
+            self.assertIn(says, text)
+            self.assertEqual("nothing is configured" in text, says == "nothing is configured")
+
     def test_nothing_to_show(self):
         table = tables.read(None)
         text = Page(audit_page.page(audit.Audit([], machine.Snapshot(), 0.0), table), self).check()

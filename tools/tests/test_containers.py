@@ -28,6 +28,10 @@ NAMES = {
     "/machine.slice/systemd-nspawn@box.service/payload/system.slice/x.service":
         "/machine.slice/systemd-nspawn@box.service/payload",
     "/lxc.payload.box/init.scope": "/lxc.payload.box",
+    # a pod of podman's, and what watches its containers
+    "/libpod_parent/ID/libpod-ID/x": "/libpod_parent/ID/libpod-ID",
+    "/libpod_parent/ID/conmon": None,
+    "/libpod_parent/ID": None,
     # a container in a container
     "/docker/ID/docker/ID/init.scope": "/docker/ID/docker/ID",
     "/box/init.scope": "/box",
@@ -61,6 +65,31 @@ class Groups(Case):
                                       (f"/box/docker/{IDENTIFIER}/a", ["/box"], "/box")):
             found = self.group_of(path, [root.encode() for root in roots])
             self.assertEqual((found.path.decode(), found.is_of_container), (expected or path, expected is not None))
+
+    def test_some_hierarchies(self):
+        """A process that was moved out of the container's group in some hierarchies of version 1 is still in it in
+        others: in any of them it is the container's."""
+        names = ("name=systemd", "pids", "cpu", "memory")
+        inside = {7: names, 8: ("pids",), 9: ("pids", "cpu", "memory"), 10: ("memory",), 11: ()}
+        groups = {it: {name: b"/x/box/a" if name in those else b"/x/boxer" for name in names}
+                  for it, those in inside.items()}
+        kernel = FakeKernel()
+        kernel.processes, kernel.groups_of = lambda: list(groups), lambda it: groups[it]
+        kernel.mounted_groups = lambda _: [b"/x/box"]
+        for process in (7, 9):
+            self.assertEqual(containers.container_of(kernel, process).processes(), [7, 8, 9, 10], process)
+        # the container's group has another path in another hierarchy
+        groups = {7: {"name=systemd": b"/x/box", "pids": f"/docker/{IDENTIFIER}".encode()},
+                  8: {"name=systemd": b"/", "pids": f"/docker/{IDENTIFIER}/a".encode()}, 9: {"pids": b"/docker"}}
+        self.assertEqual(containers.container_of(kernel, 7).processes(), [7, 8])
+
+    def test_a_main_thread_that_has_ended(self):
+        """The kernel shows it in the root group; the groups of a thread that runs count."""
+        states, kernel = {7: "S", 8: "Z", 9: "S", 10: "Z", 11: "Z"}, FakeKernel()
+        kernel.processes, kernel.threads_of = lambda: [7, 8, 10], lambda it: [it, it + 1]
+        kernel.status_of = lambda it: {"State": f"{states.get(it, 'S')} (x)"}
+        kernel.groups_of = lambda it: {"pids": b"/" if states[it] == "Z" else b"/box"}
+        self.assertEqual(containers.container_of(kernel, 7).processes(), [7, 8])
 
     def test_mounts_of_a_process(self):
         text = (b"78 77 0:45 / /sys/fs/cgroup rw - tmpfs tmpfs rw\n79 78 0:29 /a\\040b\\134 /sys/fs/cgroup/cpu ro shared:1 "

@@ -15,13 +15,34 @@ from unittest import mock
 from common import ALLOW, PATIENCE, Case, comes, ret
 from confined import NEWEST, OLDEST, OTHER, Confined, FakeKernel, here, processes, ptrace, status_of
 from scftools import child as children
-from scftools import hold
+from scftools import hold, verdicts, verify
 
 SEIZE, INTERRUPT, DETACH, GET = (ptrace.PTRACE_SEIZE, ptrace.PTRACE_INTERRUPT, ptrace.PTRACE_DETACH,
                                  ptrace.PTRACE_SECCOMP_GET_FILTER)
 STOPPED = 0x80057F
 # A look in the process of the test, where it sees what is asked.
 here_and_now = mock.patch.object(children, "run", lambda work, _: work())
+
+
+class Verdicts(Case):
+    """In which order distinct stacks are reported."""
+
+    def test_the_unconfined_first(self):
+        """A thread without a filter stands before filters that differ, in text and in JSON."""
+        found = processes.Inspection([processes.Stack((OLDEST,), False, {7: [7]}), processes.Stack((), True, {8: [8]}),
+                                      processes.Stack((), False, {9: [9]})], {7: b"a", 8: b"b", 9: b"c"}, {})
+        request = verify.Request(b"{}", None)
+        report = verdicts.Report(("differs",), verdicts.Verdict("differs"))
+        with mock.patch.object(verify.Request, "judge", lambda _, it: verify.Block(it, 1, None, report)), \
+                mock.patch.object(verify.Request, "notes", lambda *_: iter(())), \
+                mock.patch.object(verify.Request, "as_json", lambda *_: {"verdict": "differs"}):
+            made = verify.blocks(found, request)
+            self.assertEqual([it.verdict for it in made], ["unconfined", "differs", "strict"])
+            self.assertEqual(next(verify.lines(made, found, request)),
+                             "# process 9 (c) has no filter: it isn't confined, and every syscall is allowed")
+            value = verify.as_json(made, found, request, None)
+        self.assertEqual((value["verdict"], value["status"], [it["verdict"] for it in value["stacks"]]),
+                         ("unconfined", 1, ["unconfined", "differs", "strict"]))
 
 
 class Asked(Case):

@@ -1,0 +1,110 @@
+"""scftools.owned_files: who could have changed a file, and that no link of a user leads elsewhere."""
+import os
+import stat
+import unittest
+
+from common import Case
+from scftools import owned_files
+from scftools.owned_files import ANYONE, Absent, Unreadable
+
+USER = 12345
+
+
+@unittest.skipIf(os.getuid(), "only root gives files away")
+class Files(Case):
+    def setUp(self):
+        super().setUp()
+        os.chmod(self.folder, 0o755)
+        self.path = self.file("a/b/c", "text")
+        self.files = set(os.listdir("/proc/self/fd"))
+        self.addCleanup(lambda: self.assertEqual(set(os.listdir("/proc/self/fd")), self.files))
+
+    def give(self, *names, user=USER):
+        for name in names:
+            os.chown(os.path.join(self.folder, name), user, user, follow_symlinks=False)
+
+    def users(self, name="a/b/c"):
+        data, users = owned_files.read(os.path.join(self.folder, name), 100)
+        self.assertEqual(data, b"text")
+        return users
+
+    def refused(self, name, says):
+        with self.assertRaises(Unreadable) as caught:
+            owned_files.read(os.path.join(self.folder, name), 100)
+        self.assertIn(says, str(caught.exception))
+
+    def test_owners(self):
+        """Of the file and of each folder that leads to it."""
+        self.assertEqual(self.users(), set())
+        for given, expected in ((["a/b/c"], {USER}), (["a/b"], {USER, 0}), (["a", "a/b", "a/b/c"], {USER})):
+            self.give(*given)
+            self.assertEqual(self.users(), expected, given)
+            self.give(*given, user=0)
+        self.give("a", "a/b/c")
+        self.give("a/b", user=USER + 1)
+        self.assertEqual(self.users(), {USER, USER + 1})
+
+    def test_others_may_write(self):
+        """By the mode of a folder or of the file; in a sticky folder nobody may change what is another's."""
+        for name, mode, expected in (("a", 0o777, {ANYONE, 0}), ("a", 0o1777, set()), ("a/b/c", 0o666, {ANYONE, 0}),
+                                     ("a/b/c", 0o1666, {ANYONE, 0}), ("a", 0o775, set())):
+            os.chmod(os.path.join(self.folder, name), mode)
+            self.assertEqual(self.users(), expected, (name, oct(mode)))
+            os.chmod(os.path.join(self.folder, name), 0o755)
+        os.chown(os.path.join(self.folder, "a"), 0, USER)
+        os.chmod(os.path.join(self.folder, "a"), 0o775)
+        self.assertEqual(self.users(), {ANYONE, 0})
+
+    def test_links(self):
+        """Root's are followed, as /var/run is; a user's aren't, wherever on the path they stand."""
+        for name, target in (("link", "a"), ("a/up", "../a/b"), ("all", f"{self.folder}/a/b"), ("a/b/last", "c")):
+            os.symlink(target, os.path.join(self.folder, name))
+        for name in ("link/b/c", "a/up/c", "all/c", "link/up/c", "a/b/last", "a/../a/b/./c", "a//b/c"):
+            self.assertEqual(self.users(name), set(), name)
+        self.give("link", "all")
+        self.refused("link/b/c", "leads through a link of a user")
+        self.refused("all/c", "leads through a link of a user")
+        self.give("a")
+        self.refused("a/up/c", "leads through a link of a user")
+        self.refused("a/../a/b/c", "leads out of a user's folder")
+        os.symlink("loop", os.path.join(self.folder, "loop"))
+        self.refused("loop/x", "or through too many")
+
+    def test_what_is_no_file(self):
+        os.mkfifo(os.path.join(self.folder, "pipe"))
+        self.refused("pipe", "isn't a regular file")
+        self.refused("a", "isn't a regular file")
+        self.refused("a/b/c/d", "can't be read: Not a directory")
+        self.refused("a\0b", "can't be read: embedded null byte")
+        for path, kind in (("none", Absent), ("a/none", Absent)):
+            with self.assertRaises(kind):
+                owned_files.read(os.path.join(self.folder, path), 100)
+        with self.assertRaises(Unreadable):
+            owned_files.read("a/b/c", 100)
+
+    def test_sizes(self):
+        """A user's file may have fewer bytes."""
+        self.assertEqual(owned_files.read(self.path, 4, 3)[0], b"text")
+        with self.assertRaises(Unreadable):
+            owned_files.read(self.path, 3, 4)
+        self.give("a", "a/b", "a/b/c")
+        with self.assertRaises(Unreadable):
+            owned_files.read(self.path, 4, 3)
+
+    def test_names(self):
+        for name in "xyz":
+            self.file(f"a/b/{name}", "")
+        where = os.path.join(self.folder, "a/b")
+        self.assertEqual(sorted(owned_files.names_in(where, 2)[0]), ["c", "x", "y", "z"])
+        self.give("a/b")
+        names, is_all = owned_files.names_in(where, 2)
+        self.assertEqual((len(names), is_all), (2, False))
+        self.assertEqual(owned_files.names_in(where, 4)[1], True)
+        self.assertEqual(owned_files.names_in(os.path.join(self.folder, "none"), 2), ([], True))
+        with self.assertRaises(Unreadable):
+            owned_files.names_in(os.path.join(self.folder, "a/b/c"), 2)
+        self.assertTrue(stat.S_ISDIR(os.stat(where).st_mode))
+
+
+if __name__ == "__main__":
+    unittest.main()
