@@ -200,6 +200,16 @@ def begin_limits() -> None:
     _is_spent_reported, _seconds_before = False, sum(os.times()[:4])
 
 
+def _seconds_left(until: float) -> float:
+    """The CPU time that this process and its ended children may still take, of so many seconds."""
+    return until + _seconds_before - sum(os.times()[:4])
+
+
+def is_spent() -> bool:
+    """Whether the CPU time is up that a tool without --limit has for comparisons."""
+    return program.is_tool and "limit" not in limits and _seconds_left(ALL_SECONDS) <= 0
+
+
 def compare(words: Sequence[str], bundle: bytes) -> Run:
     """`scf compare` within the limits of the command line; a tool without --limit has scf's own while there is time,
     and reports once that it is up."""
@@ -211,8 +221,7 @@ def compare(words: Sequence[str], bundle: bytes) -> Run:
         # the time to build it doesn't count
         run(["--version"])
     for steps, until in (([], SECONDS), ([f"--limit={FEW_STEPS}"], ALL_SECONDS)):
-        # (of this process and its ended children)
-        left = until + _seconds_before - sum(os.times()[:4])
+        left = _seconds_left(until)
         done = run([*words, *steps], bundle, left) if left > 0 else None
         if done is not None and done.out:
             return done
