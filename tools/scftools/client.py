@@ -14,9 +14,9 @@ SCF = os.path.join(program.TOP, "scf")
 PROGRAMS = (os.path.join(program.TOP, "program", "scf"), os.path.join(program.TOP, "crates", "scf", "out", "scf"))
 # SIGKILL (signal(7)), which ends a process that exceeds its limit of CPU time.
 KILLED = 9
-# The most bytes of address space that the tools give scf. Real inputs take a tenth; 4 MiB of `{"":0}` would take 520
-# MB.
-MAX_MEMORY = 350 << 20
+# The most bytes of address space that the tools give scf. The largest real inputs take a sixth; 4 MiB of `{"":0}`
+# would take 530 MB.
+MAX_MEMORY = 256 << 20
 # A tool's comparisons without --limit: seconds of CPU time for the tool and all that it runs; after the first limit
 # comparisons have few steps, after the second none.
 SECONDS, ALL_SECONDS, FEW_STEPS = 6, 8, "1000"
