@@ -227,6 +227,14 @@ class Texts(Case):
         for what, text in TABLES.items():
             self.ends(what, tool("ask"), "--table", self.file("t.table", text), allows)
 
+    def test_lists_of_syscalls(self):
+        """scf is run for each: so many are answered, and one more is refused."""
+        filters = self.file("f.bpf", ret(ALLOW))
+        for count, expected in ((2048, 0), (2049, 2), (32000, 2)):
+            found = self.ends(f"{count} syscalls", tool("decide"), "--calls-from", self.file("list", b"1\n" * count),
+                              filters)
+            self.assertEqual(found, expected)
+
     def test_cores(self):
         for what, data in CORES.items():
             self.ends(what, tool("why"), "--core", self.file("core", data))
