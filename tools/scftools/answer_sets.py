@@ -13,7 +13,7 @@ from collections.abc import Callable, Iterator, Sequence
 
 from . import listing
 from .architectures import Architecture
-from .argument_sets import ALL, NONE, OTHERS, Sets
+from .argument_sets import ALL, NONE, OTHERS, Sets, TooMany
 from .filters import BY_X, JEQ, JGE, JGT, JSET, JUMP
 from .listing import ALU, ARCHITECTURE, ARGUMENTS, END, JUMPS, NUMBER, RETURNS, TXA, Instruction
 from .values import dataclass, replace
@@ -32,8 +32,8 @@ UNFOLLOWED = None
 # The bits of a word of a record that no condition tests are variables, by its index: those of the instruction pointer,
 # from UPPER on those of upper halves of arguments. From COMPUTED on variables stand for what isn't followed.
 UPPER, COMPUTED = OTHERS + 32 * ARGUMENTS, OTHERS + 32 * END
-# The most values of a computed answer.
-VALUES = 16
+# The most values of a computed answer; and the most tests that aren't followed, each of which is a variable.
+VALUES, TESTS = 16, 256
 
 COMPUTE = {ADD: lambda a, v: a + v, SUB: lambda a, v: a - v, MUL: lambda a, v: a * v,
            DIV: lambda a, v: a // v if v else 0, OR: lambda a, v: a | v, AND: lambda a, v: a & v,
@@ -147,6 +147,8 @@ class Machine:
                 found = self._where(test, a.sets, value), self.every
             else:
                 at = self._variables.setdefault(key, len(self._variables))
+                if at >= TESTS:
+                    raise TooMany
                 found = self.sets.node(COMPUTED + at, NONE, ALL), self.every
             self._tested[key] = found
         return self._tested[key]
@@ -199,6 +201,7 @@ class Machine:
             return COMPUTE[operation](a, value) & WORD
         if isinstance(a, (int, Numbers)) and isinstance(value, (int, Numbers)):
             count = len(self.numbers)
+            self.sets.spend(count)
             pairs = zip(*(it.values if isinstance(it, Numbers) else (it,) * count for it in (a, value)))
             return Numbers(tuple(COMPUTE[operation](*pair) & WORD for pair in pairs))
         if isinstance(a, int) and operation in (ADD, AND, OR, XOR):
@@ -340,6 +343,7 @@ def of_filters(sets: Sets, filters: Sequence[bytes], one: Architecture, numbers:
         ours: list[dict[int | None, int]] = [{} for _ in numbers]
         for answer, shares in Run(machine, listing.instructions(data)).run().items():
             for arguments, those in shares.items():
+                sets.spend(bin(those).count("1"))
                 while those:
                     at = those.bit_length() - 1
                     ours[at][answer] = arguments

@@ -17,8 +17,9 @@ from .entries import Condition
 # The sets without and with all arguments.
 NONE, ALL = 0, 1
 ARGUMENTS = 6
-# The first variable that isn't a bit of an argument; the most nodes of all sets together, and the most steps.
-OTHERS, NODES, STEPS = 64 * ARGUMENTS, 1 << 18, 1 << 21
+# The first variable that isn't a bit of an argument; the most steps of a run without --limit, of which real filters
+# take a hundredth; and for how many steps there may be a node.
+OTHERS, STEPS, NODE = 64 * ARGUMENTS, 1 << 19, 2
 # The most alternatives for a set, and for all sets of a table together; the first of a set are tried in so many orders
 # of the arguments, and the later ones in two.
 ALTERNATIVES, ALL_ALTERNATIVES, FIRST, ORDERS = 64, 512, 16, 6
@@ -30,13 +31,26 @@ Alternative = tuple[Condition, ...]
 
 
 class TooMany(Exception):
-    """The sets have more nodes than `NODES`, or took more than `STEPS`."""
+    """The sets have more nodes, or took more steps, than they may."""
+
+
+class Steps:
+    """The steps that sets may take, and how many of them are left; each takes a microsecond or two."""
+
+    def __init__(self, most: int = STEPS) -> None:
+        self.most = self.left = most
+
+    def spend(self, steps: int) -> None:
+        """Counts steps. Raises TooMany."""
+        self.left -= steps
+        if self.left < 0:
+            raise TooMany
 
 
 class Sets:
     """All sets that were made, by their numbers; of arguments with so many bits, 64 or 32."""
 
-    def __init__(self, bits: int) -> None:
+    def __init__(self, bits: int, steps: Steps) -> None:
         self.bits, self.most = bits, (1 << bits) - 1
         # of each set the variable that divides it, and its parts where that is 0 and 1
         self.nodes: list[tuple[int, int, int]] = [(1 << 32, NONE, NONE), (1 << 32, ALL, ALL)]
@@ -44,13 +58,11 @@ class Sets:
         self._memo: dict[tuple[int, int, int], int] = {}
         self._negated = {NONE: ALL, ALL: NONE}
         self._weights = {NONE: 0, ALL: 1 << OTHERS}
-        self._steps = STEPS
-
-    def spend(self, steps: int) -> None:
-        """Counts steps."""
-        self._steps -= steps
-        if self._steps < 0:
-            raise TooMany
+        # of each projection, by its bounds, the sets that were projected
+        self._projected: dict[tuple[int, int, bool], dict[int, int]] = {}
+        self._variables: dict[int, frozenset[int]] = {}
+        self.steps = steps
+        self.spend = steps.spend
 
     def node(self, variable: int, low: int, high: int) -> int:
         """The set with these parts."""
@@ -59,7 +71,7 @@ class Sets:
         key = variable, low, high
         found = self._numbers.get(key)
         if found is None:
-            if len(self.nodes) == NODES:
+            if NODE * len(self.nodes) > self.steps.most:
                 raise TooMany
             found = self._numbers[key] = len(self.nodes)
             self.nodes.append(key)
@@ -99,6 +111,7 @@ class Sets:
         """The complement."""
         found = self._negated.get(one)
         if found is None:
+            self.spend(1)
             variable, low, high = self.nodes[one]
             found = self.node(variable, self.complement(low), self.complement(high))
             self._negated[one], self._negated[found] = found, one
@@ -123,6 +136,7 @@ class Sets:
 
         def visit(now: int) -> int:
             if now not in memo:
+                self.spend(1)
                 variable, low, high = theirs.nodes[now]
                 memo[now] = self.node(variable, visit(low), visit(high))
             return memo[now]
@@ -133,30 +147,35 @@ class Sets:
         """How many arguments a set has; one that depends on other variables has no whole number of them."""
         found = self._weights.get(one)
         if found is None:
+            self.spend(1)
             _, low, high = self.nodes[one]
             found = self._weights[one] = (self.weight(low) + self.weight(high)) >> 1
         return found
 
-    def variables(self, one: int) -> set[int]:
+    def variables(self, one: int) -> frozenset[int]:
         """The variables that a set depends on."""
-        seen, left = {NONE, ALL}, [one]
-        while left:
-            now = left.pop()
-            if now not in seen:
-                seen.add(now)
-                left += self.nodes[now][1:]
-        return {self.nodes[it][0] for it in seen if it > ALL}
+        if one not in self._variables:
+            seen, left = {NONE, ALL}, [one]
+            while left:
+                now = left.pop()
+                if now not in seen:
+                    seen.add(now)
+                    left += self.nodes[now][1:]
+            self.spend(len(seen))
+            self._variables[one] = frozenset(self.nodes[it][0] for it in seen if it > ALL)
+        return self._variables[one]
 
     def _project(self, one: int, first: int, end: int, is_for_all: bool = False) -> int:
         """A set without the variables before `first` and from `end` on: what is in it for some value of these, or for
         all of the later ones."""
-        memo: dict[int, int] = {}
+        memo = self._projected.setdefault((first, end, is_for_all), {})
 
         def visit(now: int) -> int:
             variable, low, high = self.nodes[now]
             if variable >= end:
                 return ALL if now == ALL or now and not is_for_all else NONE
             if now not in memo:
+                self.spend(1)
                 parts = visit(low), visit(high)
                 memo[now] = self.node(variable, *parts) if variable >= first else self.either(*parts)
             return memo[now]
@@ -370,7 +389,7 @@ class _Cover:
 
 
 class Covers:
-    """The covers of some sets, each found once."""
+    """The covers of some sets, each found once. A search takes at most half of the steps that are left."""
 
     def __init__(self, sets: Sets):
         self.sets, self._count = sets, 0
@@ -386,11 +405,13 @@ class Covers:
         return found
 
     def _search(self, arguments: int, is_listing: bool) -> list[Alternative] | None:
-        sets = Sets(self.sets.bits)
+        steps = Steps(self.sets.steps.left // 2)
+        sets = Sets(self.sets.bits, steps)
         try:
             found = _Cover(sets, sets.copy(arguments, self.sets), is_listing).find()
         except (TooMany, TooManyAlternatives):
             found = None
+        self.sets.spend(steps.most - max(steps.left, 0))
         self._count += ALTERNATIVES if found is None else len(found)
         return found
 

@@ -41,7 +41,8 @@ OTHER = Pattern(rf"\A(?:(?:{OF_KERNEL}(?:audit: )?|{OF_AUDITD})type=[A-Z0-9_\[\]
 # one with such characters is in hexadecimal. ausearch -i prints names as they are.
 TAIL = Pattern(r" sig=(\S+)(?: arch=(\S+))? syscall=(\S+) compat=(\S+) ip=(\S+) code=(\S+)")
 WHO = Pattern(r" pid=(\S+) comm=(\"[^\"]*\"|\S+)")
-CALL = Pattern(r" arch=(\S+) syscall=(\S+)(?: per=\S+)?(?: success=\S+ exit=.*?)?"
+# (the text of an errno, which ausearch -i prints, has no hundred characters)
+CALL = Pattern(r" arch=(\S+) syscall=(\S+)(?: per=\S+)?(?: success=\S+ exit=.{0,100}?)?"
                r" a0=(\S+) a1=(\S+) a2=(\S+) a3=(\S+) ")
 TIME = Pattern(r"audit\(([0-9]{1,12})\.([0-9]{3}):")
 # auditd puts these before what it adds to a record itself, which names what the kernel's part has as numbers.

@@ -9,8 +9,8 @@ from collections.abc import Iterator
 from . import constants, tables
 from .values import Any
 
-# (patterns are compiled when they are first used, which is rare)
-COMMENT = r"(?ms)/\*.*?\*/|//[^\n]*|^[ \t]*#[ \t]*include[^\n]*"
+# (patterns are compiled when they are first used, which is rare; a comment may lack its end)
+COMMENT = r"(?ms)/\*.*?(\*/|\Z)|//[^\n]*|^[ \t]*#[ \t]*include[^\n]*"
 # What may stand before an array and behind it: `static struct sock_filter filter[] =`, `unsigned int length = 8;`.
 HEAD = r"[A-Za-z_][\w\s]{0,200}\[[\w\s]{0,40}\]\s*=\s*(?={)"
 TAIL = r"\s*;(?:\s*(?:[A-Za-z_]\w*\s+){1,6}=\s*\d+\s*;)?\s*"
@@ -26,8 +26,9 @@ SHIFTS = (operator.lshift, operator.rshift)
 OPERATIONS = {"BitOr": operator.or_, "BitAnd": operator.and_, "LShift": SHIFTS[0], "RShift": SHIFTS[1],
               "Add": operator.add, "Sub": operator.sub, "Invert": operator.invert, "USub": operator.neg}
 X32_BIT = {"__X32_SYSCALL_BIT": 0x40000000, "X32_SYSCALL_BIT": 0x40000000}
-# The most numbers, operators and brackets of an expression.
-LONGEST = 99
+# The most numbers, operators and brackets of an expression; and the most instructions that are read, one more than a
+# filter may have (linux/bpf_common.h: BPF_MAXINSNS).
+LONGEST, MOST = 99, 4097
 
 
 class Malformed(Exception):
@@ -48,8 +49,9 @@ def _number_of(name: str) -> int:
 def _words(text: str) -> Iterator[str]:
     """The numbers, constants and operators of an expression, as Python has them."""
     bare = re.sub(OFFSET, lambda it: str(16 + 8 * int(it[2]) if it[2] else FIELDS[it[1]]), re.sub(CAST, "", text))
+    bare = bare.strip()
     at, pattern = 0, re.compile(TOKEN)
-    while bare[at:].strip():
+    while at < len(bare):
         found = pattern.match(bare, at)
         if not found:
             raise Malformed(f"'{bare[at:at + 20].strip()}' isn't a constant expression")
@@ -136,20 +138,25 @@ def _elements(text: str) -> list[str]:
     return found
 
 
+def _without_comments(text: str) -> str:
+    """A text without its comments and includes. A comment that has no end stays, which no array has."""
+    return re.sub(COMMENT, lambda found: found[0] if found[1] == "" else " ", text).strip()
+
+
 def looks_like_array(text: str) -> bool:
     """Whether a text is meant to be such an array."""
-    bare = re.sub(COMMENT, " ", text).lstrip()
+    bare = _without_comments(text)
     row = re.match(r"\{\s*(?:[{(0-9]|BPF_)|BPF_(?:STMT|JUMP)\b|0x[0-9a-fA-F]{2}\s*,", bare)
     return bool(re.match(HEAD, bare) or row)
 
 
 def rows_in(text: str) -> list[tuple[int, int, int, int]] | bytes:
-    """The instructions (code, jt, jf and k) of an array, or the bytes of one of bytes; raises Malformed if a text isn't
-    one, or only a compiler can read it."""
-    elements = _elements(re.sub(COMMENT, " ", text).strip())
+    """The instructions (code, jt, jf and k) of an array, at most MOST, or the bytes of one of bytes; raises Malformed
+    if a text isn't one, or only a compiler can read it."""
+    elements = _elements(_without_comments(text))
     if elements and all(re.fullmatch("0[xX][0-9a-fA-F]{1,2}|[0-9]{1,3}", it) for it in elements):
         values = [int(it, 0 if it[:2].lower() == "0x" else 10) for it in elements]
         if max(values) > 255 or len(values) % 8:
             raise Malformed("an array of bytes has a multiple of 8, each below 256")
         return bytes(values)
-    return [_fields(it) for it in elements]
+    return [_fields(it) for it in elements[:MOST]]

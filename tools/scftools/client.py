@@ -14,9 +14,9 @@ SCF = os.path.join(program.TOP, "scf")
 PROGRAMS = (os.path.join(program.TOP, "program", "scf"), os.path.join(program.TOP, "crates", "scf", "out", "scf"))
 # SIGKILL (signal(7)), which ends a process that exceeds its limit of CPU time.
 KILLED = 9
-# The most bytes of address space that the tools give scf. Real inputs take a tenth; 4 MiB of `{"":0}` would take 520
-# MB.
-MAX_MEMORY = 350 << 20
+# The most bytes of address space that the tools give scf. The largest real inputs take a sixth; 4 MiB of `{"":0}`
+# would take 530 MB.
+MAX_MEMORY = 256 << 20
 # A tool's comparisons without --limit: seconds of CPU time for the tool and all that it runs; after the first limit
 # comparisons have few steps, after the second none.
 SECONDS, ALL_SECONDS, FEW_STEPS = 6, 8, "1000"
@@ -207,6 +207,16 @@ def _seconds_taken() -> float:
     return sum(os.times()[:4]) if _seconds_of_scf is None else _seconds_of_scf
 
 
+def _seconds_left(until: float) -> float:
+    """The CPU time that may still be taken, of so many seconds."""
+    return until - _seconds_taken()
+
+
+def is_spent() -> bool:
+    """Whether the CPU time is up that a tool without --limit has for comparisons."""
+    return program.is_tool and "limit" not in limits and _seconds_left(ALL_SECONDS) <= 0
+
+
 def compare(words: Sequence[str], bundle: bytes) -> Run:
     """`scf compare` within the limits of the command line; a tool without --limit has scf's own while there is time,
     and reports once that it is up."""
@@ -218,7 +228,7 @@ def compare(words: Sequence[str], bundle: bytes) -> Run:
         # the time to build it doesn't count
         run(["--version"])
     for steps, until in (([], SECONDS), ([f"--limit={FEW_STEPS}"], ALL_SECONDS)):
-        left, before = until - _seconds_taken(), sum(os.times()[2:4])
+        left, before = _seconds_left(until), sum(os.times()[2:4])
         done = run([*words, *steps], bundle, left) if left > 0 else None
         if _seconds_of_scf is not None:
             _seconds_of_scf += sum(os.times()[2:4]) - before

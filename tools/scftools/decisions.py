@@ -21,8 +21,9 @@ from .values import Any, dataclass, replace
 from .verdicts import FOR_OTHER_ABI, UNDETERMINED, Decision
 from .words import Parser
 
-# No name of a syscall and no number is longer.
-LONGEST_WORD = 256
+# No name of a syscall and no number is longer; and the most syscalls of a list, for each of which scf is run, and
+# which together take some seconds.
+LONGEST_WORD, MOST_CALLS = 256, 2048
 HELP = {"ip": "the instruction pointer", **{f"a{index}": f"argument {index}" for index in range(6)}}
 
 
@@ -68,8 +69,8 @@ def add_options(parser: Parser) -> None:
     parser.add_argument("--nr", metavar="NUMBER|NAME", action="append", default=[],
                         help="a syscall, by number or by name; may be repeated [default: 0]")
     parser.add_argument("--calls-from", metavar="FILE",
-                        help="more syscalls, one a line: a number or a name, and any arguments from the first on; - "
-                             "is standard input")
+                        help=f"more syscalls, one a line, at most {MOST_CALLS}: a number or a name, and any arguments "
+                             "from the first on; - is standard input")
     add_numbers(parser)
     parser.add("--table", "--json")
 
@@ -124,11 +125,15 @@ class Numbering:
 
 def _lines_of(name: str) -> Iterator[list[str]]:
     """The words of each line of a list of syscalls; a line that begins with `#` is a comment."""
+    count = 0
     for line in inputs.read_whole(name, "list of syscalls").decode("utf-8", "surrogateescape").split("\n"):
         words = line.split()
         if words and not words[0].startswith("#"):
             if len(words) > 7 or "\0" in line or max(map(len, words)) > LONGEST_WORD:
                 raise program.ToolError(f"a line of the list isn't a syscall and up to six numbers: {line[:80]}")
+            count += 1
+            if count > MOST_CALLS:
+                raise program.ToolError(f"the list has more than {MOST_CALLS} syscalls")
             yield words
 
 

@@ -140,8 +140,8 @@ def read(data: bytes) -> Any:
         raise Refused("the profile isn't UTF-8") from error
     except RecursionError as error:
         raise Refused("the profile is nested too deep") from error
-    except ValueError as error:
-        raise Refused(f"the profile isn't JSON: {error}") from error
+    except json.JSONDecodeError as error:
+        raise Refused(f"the profile isn't JSON: {profiles.malformed(error)}") from error
 
 
 def to_bytes(profile: dict[str, Any]) -> bytes:

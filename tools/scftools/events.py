@@ -24,7 +24,7 @@ KILLS = ("KILL_THREAD", "KILL_PROCESS", "UNNAMED")
 FAILS = ("ERRNO", "TRACE", "USER_NOTIF")
 NUMBERS_OF_ERRNOS = {name: number for number, name in errno.errorcode.items()}
 SIGSYS = Pattern(r"--- SIGSYS \{([^}]{0,1000})\} ---")
-MEMBER = Pattern(r"(si_\w+)=(\w+)")
+MEMBER = Pattern(r"\b(si_\w+)=(\w+)")
 KILLED = Pattern(r"\+\+\+ killed by SIGSYS")
 FAILED = Pattern(r" *= -1 (?:(E[A-Z0-9]+) \(|\(errno ([0-9]{1,4})\))")
 
@@ -215,11 +215,11 @@ def _of_signal(who: str | None, members: str, call: _Printed | None, known: dict
         raise Malformed("SIGSYS isn't a filter's: its si_code isn't SYS_SECCOMP")
     named, code = found.get("si_syscall", "").removeprefix("__NR_"), found.get("si_errno", "0")
     architecture = audit_records.architecture_of(found.get("si_arch"))
-    number = int(named, 0) if re.fullmatch("0x[0-9a-f]{1,8}|[0-9]{1,9}", named) else \
+    number = int(named, 0) if re.fullmatch("0x[0-9a-f]{1,8}|0|[1-9][0-9]{0,8}", named) else \
         audit_records.named_number(named, architecture, known)
     if number is None:
         raise Malformed(f"si_syscall={named[:64]}: the table has no such name")
-    data = int(code, 0) if re.fullmatch("0x[0-9a-f]{1,4}|[0-9]{1,5}", code) else NUMBERS_OF_ERRNOS.get(code)
+    data = int(code, 0) if re.fullmatch("0x[0-9a-f]{1,4}|0|[1-9][0-9]{0,4}", code) else NUMBERS_OF_ERRNOS.get(code)
     pointer = re.fullmatch("0x([0-9a-f]{1,16})", found.get("si_call_addr", ""))
     outcome = Outcome(("TRAP",), data=data)
     if call is not None and call.record == (number, architecture):

@@ -11,8 +11,6 @@ from .forms import Filter
 # linux/filter.h: struct sock_filter, and BPF_MAXINSNS.
 INSTRUCTION = struct.Struct("<HBBI")
 LONGEST = 4096
-# The most bytes of a filter as text.
-LONGEST_TEXT = 1 << 20
 # linux/bpf_common.h: the codes that the tools write or read.
 LOAD_WORD, LOAD_CONSTANT, RETURN_CONSTANT, JUMP, AND = 0x20, 0x00, 0x06, 0x05, 0x54
 # The offsets of the halves of the instruction pointer in struct seccomp_data (linux/seccomp.h).
@@ -34,7 +32,7 @@ def are_codes(data: bytes) -> bool:
 def read(name: str) -> Filter:
     """The filter of a file, a pipe or standard input: raw, or a text in one of the forms of `forms`, whose name
     is printed on standard error."""
-    return filter_in(name, inputs.read(name, "filter", most=LONGEST_TEXT))
+    return filter_in(name, inputs.read(name, "filter", most=forms.LONGEST))
 
 
 def filter_in(name: str, data: bytes) -> Filter:
@@ -48,7 +46,8 @@ def filter_in(name: str, data: bytes) -> Filter:
         if forms.is_text(data):
             program.say(f"{inputs.label(name)} is text, in none of the forms that `check --help` names")
         return raw
-    program.say(f"{inputs.label(name)} is read as {form.name}, instructions: {form.count}")
+    count = form.count if form.count <= LONGEST else f"more than {LONGEST}"
+    program.say(f"{inputs.label(name)} is read as {form.name}, instructions: {count}")
     return Filter(name, form.data)
 
 

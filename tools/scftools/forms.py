@@ -12,14 +12,14 @@ import re
 from collections.abc import Iterable, Iterator, Sequence
 
 from . import c_arrays, client, program
-from .values import dataclass
+from .values import Pattern, dataclass
 
-# The bytes of an instruction.
-SIZE = 8
+# The bytes of an instruction, and the most of a filter as text.
+SIZE, LONGEST = 8, 1 << 20
 MNEMONICS = "ld ldx st stx add sub mul div or and lsh rsh xor neg ja jeq jgt jge jset ret tax txa raw".split()
-# Comments, empty statements and labels before the first mnemonic.
-STATEMENT = r"(?:\s|;|//[^\n]*\n|[A-Za-z_]\w*\s*:)*([A-Za-z]+)\b(?!\s*:)"
-DUMP = r"(?:([0-9a-f]{8}): ((?:[0-9a-f]{2,4} ?)+) .*|([0-9a-f]{8})  ((?:[0-9a-f]{2} +)+)\|.*)"
+# What may stand before the first mnemonic: blanks, empty statements, comments; and a word, of which a colon makes a
+# label.
+BEFORE, WORD = Pattern(r"[\s;]+|//[^\n]*\n"), Pattern(r"([A-Za-z_]\w*)\s*(:?)")
 HEXADECIMAL, ARRAY, DECIMALS, ASSEMBLER = ("hexadecimal text", "a C array", "decimals of tcpdump -ddd",
                                            "scf's assembler text")
 # What isn't a filter: how it begins, what it is, and what to do.
@@ -57,22 +57,32 @@ def _packed(rows: Iterable[Sequence[int]]) -> bytes:
     return b"".join(code.to_bytes(2, "little") + bytes((jt, jf)) + k.to_bytes(4, "little") for code, jt, jf, k in rows)
 
 
+def _of_line(line: str, offset: int) -> bytes:
+    """The bytes in a line of a dump that stand at an offset; none if it isn't one, or the letters aren't theirs. `xxd`
+    puts a colon behind the offset, and two blanks behind the digits; `hexdump -C` puts two blanks, and a bar."""
+    begin, (digits, _, letters) = line[:10], line[10:].partition("  " if line[8:10] == ": " else "|")
+    if begin not in (f"{offset:08x}: ", f"{offset:08x}  "):
+        return b""
+    try:
+        data = bytes.fromhex(digits)
+    except ValueError:
+        return b""
+    own = "".join(chr(it) if 32 <= it < 127 else "." for it in data).rstrip(" |")
+    letters = letters.rstrip(" |")
+    return data if letters.endswith(own) and not letters.removesuffix(own).strip() else b""
+
+
 def _of_dump(text: str) -> bytes | None:
     """The bytes of what `xxd` and `hexdump -C` print, if no line lacks, and the letters beside them are theirs."""
-    data = b""
+    data = bytearray()
     lines = text.rstrip().split("\n")
     for at, line in enumerate(lines):
-        found = re.fullmatch(DUMP, line)
-        if found is None:
+        piece = _of_line(line, len(data))
+        if not piece:
             # the last line of hexdump is the length
-            is_end = at + 1 == len(lines) and re.fullmatch("[0-9a-f]{8}", line)
-            return data if is_end and int(line, 16) == len(data) else None
-        piece = bytes.fromhex(found[2] or found[4])
-        letters = "".join(chr(it) if 32 <= it < 127 else "." for it in piece)
-        if int(found[1] or found[3], 16) != len(data) or not line.rstrip(" |").endswith(letters.rstrip(" |")):
-            return None
+            return bytes(data) if at + 1 == len(lines) and line == f"{len(data):08x}" else None
         data += piece
-    return data
+    return bytes(data)
 
 
 def _of_hexadecimal(text: str) -> bytes | None:
@@ -88,8 +98,10 @@ def _of_hexadecimal(text: str) -> bytes | None:
 
 def _of_decimals(text: str) -> bytes | None:
     """A count, and so many rows of four numbers; as of `bpf_asm`, commas may end the rows."""
+    if not re.fullmatch(r"[0-9\s,]+", text):
+        return None
     rows = [it.split() for it in re.split("[\n,]", text.strip().rstrip(",")) if it.strip()]
-    if not re.fullmatch(r"[0-9\s,]+", text) or [len(it) for it in rows] != [1] + [4] * (len(rows) - 1):
+    if [len(it) for it in rows] != [1] + [4] * (len(rows) - 1):
         return None
     values = [[int(it) if len(it) < 11 else 1 << 32 for it in row] for row in rows[1:]]
     fits = all(not (code >> 16 or jt >> 8 or jf >> 8 or k >> 32) for code, jt, jf, k in values)
@@ -105,9 +117,21 @@ def _of_array(text: str) -> bytes | None:
     return found if isinstance(found, bytes) else _packed(found)
 
 
+def _first_word(text: str) -> str:
+    """The first word of an assembler's text that isn't a label; nothing if none comes."""
+    at = 0
+    while True:
+        before = BEFORE.match(text, at)
+        word = None if before else WORD.match(text, at)
+        if word and not word[2]:
+            return word[1]
+        if not before and not word:
+            return ""
+        at = (before or word).end()
+
+
 def _of_assembler(text: str) -> bytes | None:
-    found = re.match(STATEMENT, text)
-    if found is None or found[1] not in MNEMONICS:
+    if _first_word(text) not in MNEMONICS:
         return None
     done = client.run(["asm"], text.encode())
     if done.status != program.SUCCESS:
@@ -145,6 +169,8 @@ def form_of(data: bytes, label: str) -> Filter | None:
         return None
     if "\0" in text or not text.strip():
         return None
+    if len(data) > LONGEST:
+        raise program.ToolError(f"{label} has more than {LONGEST} bytes, the most of a filter as text")
     found = list(_forms_of(text, label))
     if len({it.data for it in found}) > 1:
         names = " and as ".join(it.name for it in found)

@@ -7,10 +7,11 @@ from collections.abc import Iterator, Sequence
 
 from .values import Pattern
 
-TOKEN = Pattern(r'"[^"\\]*(?:\\.[^"\\]*)*"?|[\[\]{},:]|[^\s\[\]{},:"]+', re.S)
+# How a token begins: a string, which ends at a quote that has no backslash, and others, which end here.
+TOKEN = Pattern(r'"|[\[\]{},:]|[^\s\[\]{},:"]+')
 NAME = Pattern(r"[A-Za-z_]\w*", re.A)
-# At most so many characters of a member's name are printed.
-LONGEST = 40
+# At most so many characters of a member's name are printed; and so many tokens are read, which no honest profile has.
+LONGEST, MOST = 40, 1 << 20
 
 # The names of members and the indexes in arrays that lead to a value.
 Path = Sequence["str | int"]
@@ -36,6 +37,35 @@ def place(text: str, at: int) -> str:
     return f"line {line}, column {at - (text.rfind(chr(10), 0, at) + 1) + 1}"
 
 
+class TooMany(Exception):
+    """The text has more than MOST tokens."""
+
+
+def _end_of_string(text: str, begin: int) -> int:
+    """The index behind a string that begins there, or behind a text that ends in it."""
+    before, at = begin + 1, text.find('"', begin + 1)
+    while at >= 0:
+        piece = text[before:at]
+        if (len(piece) - len(piece.rstrip("\\"))) % 2 == 0:
+            return at + 1
+        before, at = at + 1, text.find('"', at + 1)
+    return len(text)
+
+
+def tokens(text: str) -> Iterator[tuple[int, str]]:
+    """The tokens of a text, each with its index. Raises TooMany."""
+    end = 0
+    for _ in range(MOST):
+        found = TOKEN.search(text, end)
+        if not found:
+            return
+        begin, end = found.span()
+        if text[begin] == '"':
+            end = _end_of_string(text, begin)
+        yield begin, text[begin:end]
+    raise TooMany
+
+
 def _text_of(token: str) -> str:
     try:
         return json.loads(token)
@@ -45,13 +75,12 @@ def _text_of(token: str) -> str:
 
 def values(text: str) -> Iterator[tuple[int, list[str | int], str]]:
     """Each value of a text in order: where it begins, its path, which changes with the next one, and its first token. A
-    text that isn't JSON is followed as far as that makes sense."""
+    text that isn't JSON is followed as far as that makes sense. Raises TooMany."""
     # of each object and array that is open its bracket, and in `path` the member or the index
     open_in: list[str] = []
     path: list[str | int] = []
     is_name = False
-    for found in TOKEN.finditer(text):
-        token = found[0]
+    for begin, token in tokens(text):
         if token == ",":
             if open_in and open_in[-1] == "[":
                 path[-1] = int(path[-1]) + 1
@@ -64,7 +93,7 @@ def values(text: str) -> Iterator[tuple[int, list[str | int], str]]:
             path[-1] = _text_of(token)
             is_name = False
         elif token not in ":]}":
-            yield found.start(), path, token
+            yield begin, path, token
             if token in "[{":
                 open_in.append(token)
                 path.append(0 if token == "[" else "")
@@ -72,20 +101,31 @@ def values(text: str) -> Iterator[tuple[int, list[str | int], str]]:
 
 
 def place_of(text: str, path: Path) -> str | None:
-    """The line and the column of the value at a path; of a member that is repeated, the last."""
+    """The line and the column of the value at a path; of a member that is repeated, the last. None if it isn't
+    found."""
     wanted, at = list(path), None
-    for begin, here, _ in values(text):
-        if here == wanted:
-            at = begin
+    try:
+        for begin, here, _ in values(text):
+            if here == wanted:
+                at = begin
+    except TooMany:
+        return None
     return None if at is None else place(text, at)
 
 
 def where_in(text: str, at: int) -> str:
-    """In or after which member a character stands, as "in syscalls[3].args"; nothing at the top."""
-    word, path = "", ""
-    for begin, here, token in values(text):
-        if begin > at:
-            break
-        is_over = token not in ("[", "{") and begin + len(token) <= at
-        word, path = "after" if is_over else "in", path_text(here)
-    return f"{word} {path}" if path else ""
+    """In or after which member a character stands, as "in syscalls[3].args"; nothing at the top, or if that isn't
+    found."""
+    word = ""
+    path: list[str | int] = []
+    try:
+        for begin, here, token in values(text):
+            if begin > at:
+                break
+            is_over = token not in ("[", "{") and begin + len(token) <= at
+            word, path = "after" if is_over else "in", here.copy()
+    except TooMany:
+        return ""
+    # (of a member whose name isn't read)
+    path = path[:-1] if path[-1:] == [""] else path
+    return f"{word} {path_text(path)}" if path else ""

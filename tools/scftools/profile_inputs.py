@@ -8,7 +8,7 @@ import re
 import sys
 from collections.abc import Sequence
 
-from . import engines, filters, inputs, profiles, program
+from . import engines, filters, inputs, output, profiles, program, tables
 from .engines import Refused
 from .profiles import DerivedProfile, Origin
 from .values import Any, Pattern, dataclass, field
@@ -18,13 +18,15 @@ OF_PODMAN, OF_DOCKER, OF_CRI = b'"OCIConfigPath"', b'"HostConfig"', b'"runtimeSp
 TASK = "/run/containerd/io.containerd.runtime.v2.task/moby/{}/config.json"
 ID = Pattern(rb'"Id":\s*"([0-9a-f]{64})"')
 KIND = "SeccompProfile"
-# The most bytes of YAML, which takes a Python reader some seconds; Kubernetes keeps no larger object.
-LONGEST_YAML = 1 << 20
+# The most bytes of YAML, which takes a Python reader four seconds, and 350 times its size; real ones have a tenth.
+LONGEST_YAML = 1 << 18
 # Where distributions put PyYAML. The tools don't look where others than root may write.
 FOLDERS = ("/usr/lib/python3/dist-packages",
            *(f"/usr/{it}/python{sys.version_info[0]}.{sys.version_info[1]}/site-packages" for it in ("lib", "lib64")))
 NO_YAML = ("it is YAML, and PyYAML isn't installed (Debian's python3-yaml): convert it to JSON, as `kubectl get -o "
            "json` does")
+# Members of a SeccompProfile's spec that aren't a profile's; and how similar a member must be to be the nearest.
+OF_SPEC, LIKENESS = ("baseProfileName", "disabled"), 0.7
 # The types of YAML 1.1 that JSON has.
 TAG = "tag:yaml.org,2002:"
 CONSTANTS = {"true": True, "false": False, "null": None, "~": None, "": None}
@@ -204,16 +206,37 @@ def read_engines(name: str) -> bytes:
     return plain(inputs.read_whole(name, "engine's profile"), name)
 
 
-def read(name: str, caps: str | None = None, is_runtimes: bool = False) -> ProfileInput:
+def read(name: str, caps: str | None = None, is_runtimes: bool = False, is_strict: bool = False) -> ProfileInput:
     """The profile in a file, a pipe or standard input."""
     data = inputs.read(name, "profile") if caps is None else inputs.read_whole(name, "engine's profile")
-    return profile_in(data, name, caps, is_runtimes)
+    return profile_in(data, name, caps, is_runtimes, is_strict)
 
 
-def profile_in(data: bytes, name: str, caps: str | None = None, is_runtimes: bool = False) -> ProfileInput:
+def _tell_unread(data: bytes, label: str, is_strict: bool) -> None:
+    """Says which members of a profile aren't read, which may be misspelt; or refuses it."""
+    of_spec = OF_SPEC if isinstance(data, DerivedProfile) else ()
+    unread = (it for it in profiles.unread_members(data) if it[1] not in of_spec)
+    where, name, known = next(unread, ("", "", ()))
+    if not where:
+        return
+    near = tables.most_like(name.lower(), {it.lower(): it for it in known}, LIKENESS)
+    nearest = next((f"; the nearest is '{it}'" for it in known if it.lower() == near), "")
+    more = sum(1 for _ in unread)
+    others = f", and of {more} more" if more else ""
+    said = f"{label}: nothing reads the member '{output.cut(name)}' of {where}{others}{nearest}"
+    if is_strict:
+        raise program.ToolError(said, program.NEGATIVE)
+    program.say(said)
+
+
+def profile_in(data: bytes, name: str, caps: str | None = None, is_runtimes: bool = False,
+               is_strict: bool = False) -> ProfileInput:
     """The profile in what was read of an input, with `caps` an engine's. Refuses one with members that only podman
-    reads otherwise than scf, or, if a runtime is said to apply it, that any program in Go does; scf itself refuses the
-    other members of engines."""
+    reads otherwise than scf, or, if a runtime is said to apply it, that any program in Go does; and if strict, with
+    members that nothing reads. scf itself refuses the other members of engines."""
+    if caps is None and len(data) > inputs.LIMITS["profile"]:
+        # scf says so
+        return ProfileInput(data)
     data = plain(data, name)
     if caps is not None:
         return _resolved(data, name, caps)
@@ -224,4 +247,5 @@ def profile_in(data: bytes, name: str, caps: str | None = None, is_runtimes: boo
     misread = profiles.misread_members(data) if is_runtimes else []
     if misread:
         raise program.ToolError(misread[0].describe(), program.NEGATIVE)
+    _tell_unread(data, inputs.label(name), is_strict)
     return ProfileInput(data)

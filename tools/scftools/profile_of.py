@@ -9,11 +9,12 @@ from __future__ import annotations
 from collections import Counter
 from collections.abc import Iterable, Iterator, Sequence
 
-from . import answer_sets, architectures, engines, newer, output, program, questions, reasons, runtimes, tables
+from . import (answer_sets, architectures, client, constants, engines, newer, output, program, questions, reasons,
+               runtimes, tables)
 from .answer_sets import COMPUTED, UNFOLLOWED, UPPER, Answers
 from .answers import ALLOWED, DISPOSITIONS, ENOSYS, X32, Answer
 from .architectures import JUDGED, NATIVE, Architecture
-from .argument_sets import ALL, NONE, OTHERS, Alternative, Covers, Sets, TooMany
+from .argument_sets import ALL, NONE, OTHERS, STEPS, Alternative, Covers, Sets, Steps, TooMany
 from .calls import NO_CALL, Call
 from .client import Refusal
 from .compare import Comparison
@@ -24,6 +25,7 @@ from .tables import Table, Tables
 from .values import dataclass, field, replace
 from .verdicts import NO_LESS, NO_MORE, SAME, NamedCall, Report
 
+UNFINISHED = "unfinished: it takes too many steps to follow the filters: --limit N gives more than {}"
 # How far a draft may be from the filters: it says all that a profile can; one answer for all calls of a number that the
 # filters give to some of them; the utmost answer.
 EXACT, CONSTANT, UTMOST = range(3)
@@ -59,6 +61,11 @@ class FilterAnswers:
     covers: Covers
     # the least number that runc's stub answers, or one that no table has
     end: int = X32
+    # whether they weren't followed to their end, and nothing is known
+    is_unfinished: bool = False
+    # the parts of answers, and what they depend on, each found once
+    known_parts: dict[tuple[Answers, bool], dict[Answer, int]] = field(default_factory=dict)
+    known_untested: dict[Answers, str | None] = field(default_factory=dict)
 
     @property
     def are_kills(self) -> bool:
@@ -84,7 +91,13 @@ class FilterAnswers:
                 yield number, found
 
     def parts(self, found: Answers, is_permissive: bool) -> dict[Answer, int]:
-        """The answers of a profile to the calls of a number, each with its arguments, the utmost first."""
+        """The answers of a profile to the calls of a number, each with its arguments, the utmost first. Raises
+        TooMany."""
+        if (found, is_permissive) not in self.known_parts:
+            self.known_parts[found, is_permissive] = self._parts(found, is_permissive)
+        return self.known_parts[found, is_permissive]
+
+    def _parts(self, found: Answers, is_permissive: bool) -> dict[Answer, int]:
         order = sorted(((nearest(word, is_permissive), arguments) for word, arguments in found),
                        key=lambda it: DISPOSITIONS.index(it[0].disposition), reverse=is_permissive)
         left, parts = ALL, {}
@@ -101,7 +114,14 @@ class FilterAnswers:
                      if word is not UNFOLLOWED and Answer.of_word(word) != nearest(word, True)), None)
 
     def untested(self, found: Answers) -> str | None:
-        """What the answer to the calls of a number depends on that no condition tests, or None."""
+        """What the answer to the calls of a number depends on that no condition tests, or None. Raises TooMany."""
+        if found not in self.known_untested:
+            self.known_untested[found] = self._untested(found)
+        return self.known_untested[found]
+
+    def _untested(self, found: Answers) -> str | None:
+        if self.is_unfinished:
+            return "it is unfinished"
         if any(word is UNFOLLOWED for word, _ in found):
             return "its answer is computed"
         variables = set().union(*(self.sets.variables(arguments) for _, arguments in found))
@@ -145,15 +165,16 @@ class Draft:
         counts = Counter(next(iter(self.filters.parts(found, self.is_permissive))) for found in self.filters.answers)
         return max(able, key=lambda it: counts[it])
 
-    def _alternatives(self, number: int, answers: Answers, default: Answer) -> Iterator[tuple[Answer, Alternative]]:
-        """The entries for a number."""
-        parts, level = self.filters.parts(answers, self.is_permissive), self.levels.get(number, EXACT)
+    def _alternatives(self, numbers: Iterable[int], answers: Answers, level: int,
+                      default: Answer) -> Iterator[tuple[Answer, Alternative]]:
+        """The entries for some numbers with these answers."""
+        parts = self.filters.parts(answers, self.is_permissive)
         if level == EXACT:
             found = {answer: self.filters.covers.of_set(those) for answer, those in parts.items() if answer != default}
             if None not in found.values():
                 yield from ((answer, one) for answer, those in found.items() for one in those or ())
                 return
-            self.levels[number] = CONSTANT
+            self.levels.update(dict.fromkeys(numbers, CONSTANT))
         answer = self._utmost() if level == UTMOST else next(iter(parts))
         if answer != default:
             yield answer, ()
@@ -161,10 +182,14 @@ class Draft:
     def _add_to(self, entries: dict[tuple[Answer, Alternative], list[str]], default: Answer, known: set[str]) -> None:
         """Adds the names of each entry beside a default, but for syscalls with a known name."""
         table = self.filters.table
+        # the numbers that get the same entries
+        alike: dict[tuple[Answers, int], dict[int, str]] = {}
         for number, name, found in self.filters.named():
             if known.isdisjoint(table.names_of(number)):
-                for answer, alternative in self._alternatives(number, found, default):
-                    entries.setdefault((answer, alternative), []).append(name)
+                alike.setdefault((found, self.levels.get(number, EXACT)), {})[number] = name
+        for (found, level), names in alike.items():
+            for answer, alternative in self._alternatives(names, found, level, default):
+                entries.setdefault((answer, alternative), []).extend(names.values())
         last = table.names_of(self.filters.end - 1)
         if last and not any(last[0] in names for names in entries.values()):
             # runc's stub begins after the greatest number that a profile names
@@ -208,16 +233,23 @@ class ProvedProfile:
         return engines.printed(self.profile)
 
 
+def own_steps() -> Steps:
+    """The steps in which filters are followed: as many as --limit gives, if they are more than without."""
+    return Steps(max(STEPS, constants.number_in(client.limits.get("limit", "")) or 0))
+
+
 @dataclass(frozen=True)
 class Request:
     """Filters, oldest first, the table of an architecture, the architecture, the name of the
-    runtime that reads the profile, and the OCI names of other architectures that the profile may list, too."""
+    runtime that reads the profile, the OCI names of other architectures that the profile may list, too, and the steps
+    in which filters are followed."""
 
     filters: Sequence[Filter]
     table: Table
     architecture: Architecture = JUDGED[NATIVE]
     runtime: str | None = None
     others: Sequence[str] = ()
+    steps: Steps = field(default_factory=own_steps)
 
     @property
     def data(self) -> list[bytes]:
@@ -255,15 +287,16 @@ class Request:
         self.compared({"defaultAction": "SCMP_ACT_ALLOW", "architectures": [self.architecture.oci], "syscalls": []})
 
     def answers(self) -> FilterAnswers:
-        """What accepted filters answer, number by number; nothing is known if they compute too much."""
-        one, sets = self.architecture, Sets(self.architecture.bits)
+        """What accepted filters answer, number by number; nothing is known if that takes too many steps."""
+        one, sets, is_unfinished = self.architecture, Sets(self.architecture.bits, self.steps), False
         numbers = sorted({*self.table.numbers(), *questions.numbers_tested(self.data, one),
                           *(first for first, _ in questions.gaps(self.table, one))})
         try:
             found = answer_sets.of_filters(sets, self.data, one, numbers)
         except TooMany:
-            sets, found = Sets(one.bits), [((UNFOLLOWED, ALL),)] * len(numbers)
-        answers = FilterAnswers(one, sets, self.table, numbers, found, Covers(sets))
+            sets, is_unfinished = Sets(one.bits, Steps()), True
+            found = [((UNFOLLOWED, ALL),)] * len(numbers)
+        answers = FilterAnswers(one, sets, self.table, numbers, found, Covers(sets), is_unfinished=is_unfinished)
         is_runc = self.runtime is not None and runtimes.RUNTIMES[self.runtime].program == runtimes.RUNC
         return answers.with_stub() if is_runc else answers
 
@@ -302,6 +335,8 @@ def _bound(request: Request, answers: FilterAnswers, relation: str) -> ProvedPro
     draft = Draft(answers, relation == NO_LESS)
     # in each turn some numbers get a level more
     for _ in range(2 * UTMOST + 1):
+        if client.is_spent():
+            break
         profile = draft.profile()
         report, _ = request.compared(profile, relation)
         if report.verdict is not None and report.verdict.holds:
@@ -402,6 +437,8 @@ class Result:
 def _both_sides(request: Request, answers: FilterAnswers) -> Iterator[str]:
     """The nearest profiles on both sides of the filters, each after lines about it."""
     yield "# no profile was found that scf proves to answer as the filters do"
+    if answers.is_unfinished:
+        yield f"# {UNFINISHED.format(request.steps.most)}"
     if request.runtime is None and answers.with_stub().end != answers.end:
         yield "# if runc loaded the filter, --runtime runc expects the ENOSYS that it adds"
     bounds = _bounds(request, answers)
@@ -417,7 +454,14 @@ def _both_sides(request: Request, answers: FilterAnswers) -> Iterator[str]:
 def of_request(request: Request, relation: str) -> Result:
     """The profile of filters; with a relation other than the same, the nearest one that has it."""
     request.check()
-    answers = request.answers()
+    try:
+        return _of_answers(request, request.answers(), relation)
+    except TooMany:
+        return Result(program.UNKNOWN, "", [UNFINISHED.format(request.steps.most)])
+
+
+def _of_answers(request: Request, answers: FilterAnswers, relation: str) -> Result:
+    """The same, given what the filters answer. Raises TooMany."""
     same = _same(request, answers)
     if same is not None:
         same = _with_others(request, answers, same)

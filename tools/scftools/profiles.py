@@ -6,6 +6,7 @@ from __future__ import annotations
 
 import functools
 import json
+import re
 from collections.abc import Iterator, Sequence
 
 from . import json_places
@@ -14,6 +15,8 @@ from .values import Any, Pattern, dataclass
 DEEPEST = 127
 # Half of a character, which stands alone.
 SURROGATE = Pattern("[\ud800-\udfff]")
+# A member of YAML.
+YAML = Pattern(r"^[A-Za-z_][A-Za-z0-9_.-]{0,80}:(?:\s|\Z)", re.M)
 # No number that scf takes has more digits.
 LONGEST_NUMBER = 40
 # The default actions that allow what no rule names.
@@ -173,6 +176,26 @@ def misread_members(data: bytes) -> list[Misread]:
         return []
 
 
+def _objects(top: dict[str, Any]) -> Iterator[tuple[str, object, dict[str, Any]]]:
+    """The objects of a profile in which something is read: each with where it is, and the members that are known."""
+    yield "the profile", top, SECCOMP
+    entries = top.get("syscalls")
+    for index, entry in enumerate(entries if isinstance(entries, list) else ()):
+        where = where_in("the profile", "syscalls", index)
+        yield where, entry, ENTRY
+        conditions = entry.get("args") if isinstance(entry, dict) else None
+        for at, one in enumerate(conditions if isinstance(conditions, list) else ()):
+            yield where_in(where, "args", at), one, ARGUMENT
+
+
+def unread_members(data: bytes) -> Iterator[tuple[str, str, Sequence[str]]]:
+    """The members of a profile that no program reads, or Go's alone: where each is, its name, and the known ones."""
+    top = _top(data)
+    for where, value, members in _objects(top) if "defaultAction" in top else ():
+        if isinstance(value, dict) and not value.keys() <= members.keys():
+            yield from ((where, name, tuple(members)) for name in value if name not in (*members, "comment"))
+
+
 def errno_by_name(data: bytes) -> str | None:
     """Where a profile has an errno by name, which only podman reads, or None if it has none."""
     if not any(it in data for it in (b'errno"', b'defaultErrno"', b"\\u")):
@@ -186,12 +209,15 @@ def errno_by_name(data: bytes) -> str | None:
 
 
 def _too_deep(text: str) -> int | None:
-    """Where JSON nests deeper than scf's parser allows."""
+    """Where JSON nests deeper than scf's parser allows, if that is found."""
     depth = 0
-    for found in json_places.TOKEN.finditer(text):
-        depth += {"[": 1, "{": 1, "]": -1, "}": -1}.get(found[0], 0)
-        if depth > DEEPEST:
-            return found.start()
+    try:
+        for at, token in json_places.tokens(text):
+            depth += {"[": 1, "{": 1, "]": -1, "}": -1}.get(token, 0)
+            if depth > DEEPEST:
+                return at
+    except json_places.TooMany:
+        pass
     return None
 
 
@@ -200,17 +226,44 @@ def _refuse(number: str) -> None:
 
 
 def _odd_value(text: str) -> str | None:
-    """A value that Python's reader takes, and scf's doesn't: NaN and the like, a number out of range, an unpaired
-    surrogate."""
+    """A value that Python's reader takes, and scf's doesn't, if it is found: NaN and the like, a number out of range,
+    an unpaired surrogate. Raises TooMany."""
     for at, path, token in json_places.values(text):
-        where = f"at {json_places.place(text, at)} {json_places.path_text(path) or 'the profile'}"
+        why = None
         if token in ("NaN", "Infinity", "-Infinity"):
-            return f"{where} is {token}, which isn't a JSON number"
-        if token[0] in "-0123456789" and len(token) <= LONGEST_NUMBER and abs(float(token)) == float("inf"):
-            return f"{where} is a number out of range"
-        if token[0] == '"' and "\\u" in token and SURROGATE.search(json.loads(token)):
-            return f"{where} has an unpaired surrogate"
+            why = f"is {token}, which isn't a JSON number"
+        elif token[0] in "-0123456789" and len(token) <= LONGEST_NUMBER and abs(float(token)) == float("inf"):
+            why = "is a number out of range"
+        elif token[0] == '"' and "\\u" in token and SURROGATE.search(json.loads(token)):
+            why = "has an unpaired surrogate"
+        if why is not None:
+            return f"at {json_places.place(text, at)} {json_places.path_text(path) or 'the profile'} {why}"
     return None
+
+
+def _foreign_syntax(text: str, at: int) -> str | None:
+    """What people take for JSON, and stands at an index of a text that isn't JSON."""
+    mark, before, behind = text[at:at + 1], text[:at].rstrip()[-1:], text[at + 1:].lstrip()[:1]
+    if text[at:at + 2] in ("//", "/*") or mark == "#":
+        return "a comment, which JSON doesn't allow,"
+    if mark in ("]", "}") and before == "," or mark == "," and behind in ("]", "}"):
+        return "a trailing comma, which JSON doesn't allow,"
+    if mark == "'":
+        return "single quotes in place of double ones"
+    return "a byte order mark, which JSON doesn't allow," if mark == "\ufeff" else None
+
+
+def malformed(error: json.JSONDecodeError) -> str:
+    """What is malformed in a text, and where."""
+    text, at = error.doc, error.pos
+    if YAML.search(text) and text.lstrip()[:1] not in ("{", "["):
+        return "it is YAML: convert it to JSON, as `yq -o json` does"
+    what = _foreign_syntax(text, at)
+    # where a comma lacks, the next value isn't the one that is meant
+    within = json_places.where_in(text, at - ("delimiter" in error.msg))
+    where = f"at {json_places.place(text, at)}"
+    told = f"the JSON is malformed {where}: {error.msg}" if what is None else f"it has {what} {where}"
+    return told + (f" ({within})" if within else "")
 
 
 def where_json_ends(data: bytes) -> str:
@@ -222,22 +275,22 @@ def where_json_ends(data: bytes) -> str:
         return f"the profile isn't UTF-8 from {json_places.place(before, len(before))} on"
     if not text.strip():
         return "the profile is empty"
+    deep = _too_deep(text)
+    if deep is not None:
+        return f"at {json_places.place(text, deep)} the profile is nested more than {DEEPEST} deep"
+    why = "Python's JSON parser accepts it: look for unpaired surrogates, and for numbers out of range"
     try:
-        deep = _too_deep(text)
-        if deep is not None:
-            return f"at {json_places.place(text, deep)} the profile is nested more than {DEEPEST} deep"
         json.loads(text, parse_int=str, parse_float=str, parse_constant=_refuse)
     except json.JSONDecodeError as error:
-        # where a comma lacks, the next value isn't the one that is meant
-        within = json_places.where_in(text, error.pos - ("delimiter" in error.msg))
-        return (f"the JSON is malformed at {json_places.place(text, error.pos)}: {error.msg}"
-                + (f" ({within})" if within else ""))
-    except ValueError as error:
-        return _odd_value(text) or str(error)
+        return malformed(error)
     except RecursionError:
-        pass
-    return _odd_value(text) or ("Python's JSON parser accepts it: look for unpaired surrogates, and for numbers out of "
-                                "range")
+        return f"the profile is nested more than {DEEPEST} deep"
+    except ValueError as error:
+        why = str(error)
+    try:
+        return _odd_value(text) or why
+    except json_places.TooMany:
+        return why
 
 
 @dataclass(frozen=True)

@@ -164,8 +164,13 @@ def with_more_names(table: Table, one: Architecture, *filters: bytes) -> Table:
 
 
 def count_unnamed(asker: Asker, ranges: Sequence[tuple[int, int]], found: Unnamed) -> None:
-    """Adds ranges of numbers to what is known, if scf proves that they are all denied, or never; the longest first."""
+    """Adds ranges of numbers to what is known, if scf proves that they are all denied, or never; the longest first, and
+    as long as there is time for comparisons."""
     for at, (first, end) in enumerate(sorted(ranges, key=lambda it: it[0] - it[1])):
+        if client.is_spent():
+            found.are_allowed = False
+            found.undecided += end - first
+            continue
         if found.are_allowed and asker.of_numbers(IS_ALLOWED, first, end - 1).holds:
             found.not_denied += end - first
             continue

@@ -8,7 +8,7 @@ from __future__ import annotations
 import json
 from collections.abc import Iterator, Sequence
 
-from . import architectures, client, explanation, json_places, output, profiles
+from . import architectures, client, explanation, inputs, json_places, output, profiles
 from .architectures import NATIVE
 from .calls import Call
 from .client import Fault, Refusal
@@ -202,6 +202,9 @@ def sentences(fault: Fault, profile: bytes, judged: Tables, origins: Sequence[Or
     """What a fault is and what to do; of a profile, where it stands, and of one that was resolved, in which entries of
     the user's file."""
     yield from explanation.of_fault(fault)
+    if fault.source == "profile" and len(profile) > inputs.LIMITS["profile"]:
+        yield f"the profile has more than {inputs.LIMITS['profile']} bytes"
+        return
     if (fault.source, fault.kind) == ("profile", "Conflict"):
         yield f"the syscall is {_conflicting(fault, profile, judged).describe(judged.native)}"
     if (fault.source, fault.kind) == ("profile", "Json"):

@@ -251,7 +251,7 @@ def find(log: Trace, judges: Judges) -> Needs:
     ways, order = 0, list(JUDGED)
     for call in sorted(traced, key=lambda it: (order.index(it.architecture.oci), it.number, it.name, it.seen.line)):
         ways += sum(1 for _ in call.known())
-        if ways <= WAYS:
+        if ways <= WAYS and not client.is_spent():
             found.judged.append(judges.of(call.architecture.oci).of(call))
         else:
             found.unjudged["more"] += call.seen.count

@@ -9,7 +9,7 @@ from . import constants, program
 from .answer_sets import Answers
 from .architectures import I386, Architecture
 from .answers import ERRNOS, Answer
-from .argument_sets import ALL_LISTED, NONE, Alternative
+from .argument_sets import ALL_ALTERNATIVES, ALL_LISTED, NONE, Alternative, TooMany
 from .client import Refusal
 from .entries import Condition
 from .filters import Filter
@@ -22,6 +22,8 @@ from .verdicts import NO_LESS, NO_MORE, SAME
 
 SIGNS = {"SCMP_CMP_EQ": "==", "SCMP_CMP_NE": "!=", "SCMP_CMP_LE": "<=", "SCMP_CMP_GE": ">="}
 HALF = (1 << 32) - 1
+# The most rules that scf takes.
+MOST_RULES = 4096
 # The syscall of i386 whose first argument points to the others.
 IN_MEMORY = (I386, "mmap")
 # For each disposition the answer that stands for all of it.
@@ -114,9 +116,14 @@ class Conditions:
 def _fewest(answers: FilterAnswers, parts: dict[Answer, int]) -> tuple[Answer, dict[Answer, Sequence[Alternative]]]:
     """The answer to all other arguments, such that the others take few alternatives, and these; none if too many."""
     best: tuple[Answer, dict[Answer, Sequence[Alternative]]] = NOTHING, {}
+    if len(parts) > ALL_ALTERNATIVES:
+        return best
     for otherwise in sorted(parts, key=lambda it: -answers.sets.weight(parts[it])):
         covers = {answer: answers.covers.of_set(those) for answer, those in parts.items() if answer != otherwise}
         found = {answer: those for answer, those in covers.items() if those is not None}
+        if len(found) + 1 < len(covers):
+            # (only one of those that take too many could be all other arguments)
+            break
         count, least = (sum(map(len, it.values())) for it in (found, best[1]))
         if len(found) == len(covers) and (not best[1] or count < least):
             best = otherwise, found
@@ -125,8 +132,10 @@ def _fewest(answers: FilterAnswers, parts: dict[Answer, int]) -> tuple[Answer, d
     return best
 
 
-def _of_number(answers: FilterAnswers, names: Sequence[str], found: Answers) -> Conditions | None:
-    """The conditions of a number that has several answers, or dispositions, or None if a profile can't say them."""
+def _of_answers(answers: FilterAnswers, found: Answers) -> \
+        tuple[Answer, dict[Answer, Sequence[Alternative]], bool] | None:
+    """The answer to all other arguments, the alternatives of the others, and whether they are whole, of a number that
+    has several answers, or dispositions; None if a profile can't say them."""
     if answers.untested(found) is not None:
         return None
     parts, is_whole = answers.parts(found, True), answers.unsaid(found) is None
@@ -137,11 +146,13 @@ def _of_number(answers: FilterAnswers, names: Sequence[str], found: Answers) -> 
             dispositions[one] = answers.sets.either(dispositions.get(one, NONE), those)
         parts = dispositions
     otherwise, others = _fewest(answers, parts)
-    return Conditions(names, list(others.items()), otherwise, is_whole, answers.architecture) if others else None
+    return (otherwise, others, is_whole) if others else None
 
 
 def _failed(asker: Asker, those: Sequence[tuple[Row, Conditions]]) -> set[int]:
     """The numbers for which scf doesn't prove these conditions, which have one answer otherwise."""
+    if sum(len(alternatives) for _, it in those for _, alternatives in it.parts) > MOST_RULES:
+        return {row.number for row, _ in those}
     table = "".join(f"{it.names[0]} {row.number}\n" for row, it in those).encode()
     profile = {**those[0][1].otherwise.default(),
                "architectures": [asker.architecture.oci],
@@ -155,16 +166,34 @@ def _failed(asker: Asker, those: Sequence[tuple[Row, Conditions]]) -> set[int]:
     return found
 
 
-def add(filters: Sequence[bytes], table: Table, rows: Sequence[Row], one: Architecture) -> None:
-    """Adds the conditions to the rows of an architecture that have several answers, where scf proves them."""
-    answers = Request([Filter("", data) for data in filters], table, one).answers()
-    asker, of_number = Asker(filters, one), {number: found for number, _, found in answers.named()}
-    groups: dict[tuple[Answer, bool], list[tuple[Row, Conditions]]] = {}
+def _drafts(answers: FilterAnswers, rows: Sequence[Row]) -> list[tuple[Row, Conditions]]:
+    """The conditions of the rows that have several answers, as the filters were followed. Raises TooMany."""
+    of_number, known, drafts = {number: found for number, _, found in answers.named()}, {}, []
     for row in rows:
-        found = _of_number(answers, row.names, of_number[row.number])
-        if found is not None:
-            groups.setdefault((found.otherwise, found.is_whole), []).append((row, found))
+        found = of_number[row.number]
+        if found not in known:
+            known[found] = _of_answers(answers, found)
+        if known[found] is not None:
+            otherwise, others, is_whole = known[found]
+            drafts.append((row, Conditions(row.names, list(others.items()), otherwise, is_whole,
+                                           answers.architecture)))
+    return drafts
+
+
+def add(filters: Sequence[bytes], table: Table, rows: Sequence[Row], one: Architecture) -> bool:
+    """Adds the conditions to the rows of an architecture that have several answers, where scf proves them. False if
+    following the filters takes too many steps."""
+    request = Request([Filter("", data) for data in filters], table, one)
+    answers, asker = request.answers(), Asker(filters, one)
+    try:
+        drafts = _drafts(answers, rows)
+    except TooMany:
+        return False
+    groups: dict[tuple[Answer, bool], list[tuple[Row, Conditions]]] = {}
+    for row, found in drafts:
+        groups.setdefault((found.otherwise, found.is_whole), []).append((row, found))
     for those in groups.values():
         failed = _failed(asker, those)
         for row, found in those:
             row.conditions = None if row.number in failed else found
+    return not answers.is_unfinished

@@ -3,7 +3,7 @@ from __future__ import annotations
 
 from collections.abc import Iterator, Sequence
 
-from . import bundles, client, compare, explanation, filters, listing, output, refusals, tables, verdicts
+from . import bundles, client, compare, explanation, filters, listing, output, program, refusals, tables, verdicts
 from .compare import ALL, CALLS, NATIVE
 from .filters import Filter, looks_at_pointer
 from .listing import Giver
@@ -29,9 +29,21 @@ class StackComparison:
         given = bundles.of_stacks(left, right, self.table.data if scope == CALLS else None)
         words = ["--beside", *SCOPES[scope], *RELATIONS[relation or self.relation]]
         words += [] if numbers is None else [f"--nr-from={numbers[0]}", f"--nr-to={numbers[1]}"]
+        if left == right:
+            return self._of_equal(words, given, relation or self.relation)
         done = client.compare(words, given)
         pointer = None if scope == CALLS and any(map(looks_at_pointer, left + right)) else 0
         return done.status, verdicts.check_answers(verdicts.report(done.text, pointer=pointer), left, right)
+
+    def _of_equal(self, words: Sequence[str], given: bytes, relation: str) -> tuple[int, Report]:
+        """The status and report on two stacks of the same bytes: if scf takes them, each relation holds, and no step is
+        needed."""
+        limits = [f"--{name}={text}" for name, text in {"limit": "0", **client.limits}.items()]
+        done = client.run(["compare", *words, *limits], given)
+        report = verdicts.report(done.text)
+        if report.verdict is None:
+            return done.status, report
+        return program.SUCCESS, Report((relation,), Verdict(relation))
 
     def of_numbers(self, first: int, last: int) -> Verdict | None:
         """The verdict on the x86-64 syscalls with numbers from `first` to `last`, both included."""

@@ -4,7 +4,7 @@ from __future__ import annotations
 from collections import Counter
 from collections.abc import Iterable, Sequence
 
-from . import answers, constants, other_abis, questions, tables
+from . import answers, client, constants, other_abis, questions, tables
 from .answers import Answer
 from .architectures import JUDGED, NATIVE, Architecture
 from .calls import Call
@@ -119,6 +119,8 @@ class Surface:
     unnamed: Unnamed
     # those of other ABIs of which some syscall may be allowed, on request
     others: list[Surface] = field(default_factory=list)
+    # whether the conditions that are asked for were looked for to the end
+    are_conditions_finished: bool = True
 
     @property
     def counts(self) -> Counter[str]:
@@ -128,6 +130,7 @@ class Surface:
     def is_decided(self) -> bool:
         """Whether scf decided everything."""
         return (all(row.is_decided for row in self.rows) and not self.unnamed.undecided
+                and self.are_conditions_finished
                 and all(one.is_proved for one in self.foreign)
                 and all(one.is_decided for one in self.others))
 
@@ -153,7 +156,11 @@ def _shown(asker: Asker, question: Question, line: NamedCall) -> Shown:
     complete one."""
     call, answer = line.verdict.call, line.verdict.filters
     assert call is not None and answer is not None
-    if not asker.looks_at_pointer or asker.decided(call) == answer:
+    if not asker.looks_at_pointer:
+        return Shown(call, answer, True)
+    if client.is_spent():
+        return Shown(call, answer, False)
+    if asker.decided(call) == answer:
         return Shown(call, answer, True)
     alone = asker.of_numbers(question, line.number, line.number)
     if alone is not None and alone.call is not None and alone.filters is not None:

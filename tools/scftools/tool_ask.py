@@ -1,7 +1,7 @@
 """Says what a profile answers to syscalls, and why: runs `scf ask`, and shows the entry that decides.
 
     scf ask [--nr NUMBER|NAME] .. [--calls-from FILE] [--arch ARCH] [--ip N] [--a0 N] ..
-            [--a5 N] [--native] [--table FILE] [--caps LIST] [--json] PROFILE
+            [--a5 N] [--native] [--strict] [--table FILE] [--caps LIST] [--json] PROFILE
 
 PROFILE is a resolved OCI seccomp profile, a whole config.json that holds one, or a SeccompProfile of Kubernetes, as
 JSON or YAML, whose spec is one: a file, a pipe, or `-` for standard input. With --caps it is an engine's own, which is
@@ -27,11 +27,11 @@ from . import decisions, profile_inputs, tables, words
 def main():
     parser = words.Parser(__doc__)
     decisions.add_options(parser)
-    parser.add("--native", "--caps", "profile")
+    parser.add("--native", "--strict", "--caps", "profile")
     options = parser.parse_args()
     parser.one_standard_input([options.profile, options.table, options.calls_from])
     table = tables.read(options.table)
-    profile = profile_inputs.read(options.profile, options.caps)
+    profile = profile_inputs.read(options.profile, options.caps, is_strict=options.strict)
     judged = tables.of_profile(profile.data, table, options.native)
     return decisions.print_replies(
         options, table, lambda call: decisions.of_profile(profile.data, call, judged, profile.origins))

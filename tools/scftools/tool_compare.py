@@ -1,8 +1,8 @@
 """Compares filters with a profile: runs `scf compare`, and says what its verdict means.
 
     scf compare [--native|--all|--calls] [--no-more|--no-less|--disposition] [--limit N]
-                [--splits N] [--table FILE] [--caps LIST] [--verbose] [--json] [--html FILE]
-                FILTER.. PROFILE
+                [--splits N] [--strict] [--table FILE] [--caps LIST] [--verbose] [--json]
+                [--html FILE] FILTER.. PROFILE
     scf compare [--native|--all|--calls] [--no-more|--no-less|--disposition] [--limit N]
                 [--splits N] [--table FILE] [--json] FILTER.. --beside FILTER..
 
@@ -53,7 +53,7 @@ def read_words():
     parser.scope("x86-64 syscalls alone, whatever architectures the profile names",
                  "all syscalls, also those of other ABIs [default with --beside]")
     parser.relation(of_disposition=words.OF_DISPOSITION)
-    parser.add("--limit", "--splits", "--table", "--verbose", "--caps", "--json", "--html")
+    parser.add("--limit", "--splits", "--strict", "--table", "--verbose", "--caps", "--json", "--html")
     parser.add_argument("--beside", metavar="FILTER", nargs="+",
                         help="compare with these filters, oldest first, and not with a profile")
     parser.add("filters")
@@ -61,7 +61,8 @@ def read_words():
         parser.add_argument("profile", metavar="PROFILE",
                             help="a resolved profile, or a config.json; - is standard input; none with --beside")
     options = parser.parse_args()
-    for name, value in (("--caps", options.caps), ("--verbose", options.verbose), ("--html", options.html)):
+    for name, value in (("--caps", options.caps), ("--verbose", options.verbose), ("--html", options.html),
+                        ("--strict", options.strict)):
         if options.beside is not None and value:
             parser.error(f"{name} speaks of a profile, and --beside has none")
     others = [options.profile] if options.beside is None else options.beside
@@ -88,7 +89,8 @@ def main():
         from . import stack_comparison  # pylint: disable=import-outside-toplevel
 
         return stack_comparison.tell(options)
-    stack, profile = filters.read_stack(options.filters), profile_inputs.read(options.profile, options.caps)
+    stack = filters.read_stack(options.filters)
+    profile = profile_inputs.read(options.profile, options.caps, is_strict=options.strict)
     comparison = compare.Comparison(stack, profile.data, tables.read(options.table), options.relation,
                                     profile.origins, is_native=options.scope == compare.NATIVE)
     scope = options.scope or comparison.scope

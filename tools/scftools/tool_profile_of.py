@@ -29,6 +29,9 @@ the profile is more permissive or stricter. With --no-less only the first profil
 
     scf profile-of --no-more filter.bpf >stricter.json
 
+Of filters that take too many steps to follow the output says `unfinished`, and has the profiles that are proved all the
+same; --limit N gives them N steps, if that is more than they have.
+
 With --runtime the profile is one that this runtime loads: it is compared as the runtime reads it, and runc's ENOSYS for
 numbers above all that a profile names, which no profile says, is expected of the filters.
 

@@ -35,7 +35,7 @@ covers them. If a syscall has two answers that differ by argument 0 alone, they 
 the profile.
 
 Exit status: 0 success; 1 the engine or the runtime refuses the profile, or a member may be a condition; 2 usage error,
-no such file, or one of more than 16777216 bytes; 3 the output failed.
+no such file, or one of more than 4194304 bytes; 3 the output failed.
 
 Examples:
 

@@ -20,7 +20,9 @@ With --conditions a syscall with several answers has them all instead of example
 
 Arguments have the names of their manual page, or are a0 to a5; they are compared as whole registers, those of i386, x32
 and arm as lower halves. Such a line is printed only if comparisons of scf prove it. If no profile gives an answer, as
-TRAP with data, the dispositions alone are told; where no profile says the conditions, there are examples.
+TRAP with data, the dispositions alone are told; where no profile says the conditions, there are examples. Filters that
+take too many steps to follow have examples alone, and standard error says that their conditions are `unfinished`;
+--limit N gives them N steps, if that is more than they have.
 
 Each disposition is proved: by comparisons of scf with profiles that deny, allow or delegate everything, which also give
 the examples. If a filter looks at the instruction pointer, `scf decide` confirms these; after `at some ip` the pointer

@@ -3,7 +3,8 @@
     scf verify-process [--native|--calls] [--no-more|--no-less] [--all] [--force]
                        [--runtime runc|crun|docker|podman] [--engine docker|docker-20.10|podman]
                        [--caps LIST] [--kernel X.Y] [--arch native|all] [--ignore MEMBER ..]
-                       [--limit N] [--splits N] [--table FILE] [--verbose] [--json] PID PROFILE
+                       [--limit N] [--splits N] [--strict] [--table FILE] [--verbose] [--json]
+                       PID PROFILE
     scf verify-process [--native|--calls] [--no-more|--no-less] [--all] [--force] [--limit N]
                        [--splits N] [--table FILE] [--json] PID --beside FOLDER
 
@@ -62,7 +63,7 @@ def read_words():
     parser.add("--force")
     parser.relation()
     runtimes.add_options(parser, without_caps="the bounding set of PID")
-    parser.add("--limit", "--splits", "--table", "--verbose", "--json", "pid")
+    parser.add("--limit", "--splits", "--strict", "--table", "--verbose", "--json", "pid")
     parser.add_argument("--beside", metavar="FOLDER", help="compare with the filters that filters-of wrote")
     if not any(it.partition("=")[0] == "--beside" for it in sys.argv):
         parser.add_argument("profile", metavar="PROFILE",
@@ -73,6 +74,8 @@ def read_words():
         options.profile = None
         if options.runtime is not None or options.verbose:
             parser.error("--runtime and --verbose speak of a profile, and --beside has none")
+    if options.strict and (options.runtime is not None or options.beside is not None):
+        parser.error("--strict is for a profile without --runtime, whose notes name what isn't read")
     if options.runtime is None and runtimes.is_engines(options):
         parser.error("--engine, --caps, --kernel, --arch and --ignore need --runtime")
     options.setting = runtimes.setting_of_words(options, parser)
@@ -138,7 +141,8 @@ def request_of(options, kernel):
     if configured is False:
         return verify.Request(verify.ALLOWS_ALL, *settings, configured=False)
     if runtime is None:
-        request = verify.Request(profile_inputs.profile_in(data, name, is_runtimes=True).data, *settings)
+        profile = profile_inputs.profile_in(data, name, is_runtimes=True, is_strict=options.strict)
+        request = verify.Request(profile.data, *settings)
         return replace(request, configured=True) if configured and request.is_accepted else request
     applied = runtimes.applied_in(data, name, runtime, setting_of(options, kernel))
     return verify.Request(applied.data, *settings, applied, configured=configured)

@@ -23,7 +23,7 @@ from .values import Pattern
 NAME, HEXADECIMAL = "[a-z_][a-z0-9_]{0,63}", Pattern("0x[0-9a-f]{1,16}")
 # perf trace: `0.017 ( 0.002 ms): ls/1234 brk() = 0x1`; one that was interrupted ends with `...`, and goes on behind
 # `... [continued]: `.
-PERF = Pattern(rf" *(?:[0-9]+\.[0-9]+|\?) \( *(?:[0-9.]+ ms)? *\): (?:(?:.{{0,64}}?/)?([0-9]{{1,10}}) +)?"
+PERF = Pattern(rf" *(?:[0-9]+\.[0-9]+|\?) \( *(?:[0-9.]+ ms *)?\): (?:(?:.{{0,64}}?/)?([0-9]{{1,10}}) +)?"
                rf"(?:\.\.\. \[continued\]: ({NAME})\(|({NAME})\()")
 COUNTED = Pattern(rf" +({NAME}) +([0-9]{{1,12}}) +[0-9]{{1,12}}(?: +[0-9]+\.[0-9]+){{4}} +[0-9.]+%")
 SYS_ENTER = Pattern(r"\bsys_enter: NR (-?[0-9]{1,10}) \(((?:[0-9a-f]{1,16}, ){5}[0-9a-f]{1,16})\)$")

@@ -87,8 +87,8 @@ class Request:
     def remarks(self) -> list[str]:
         """Notes on the profile as its runtime applies it."""
         if self.configured is False:
-            return ["nothing is configured (linux.seccomp), as with --privileged and seccomp=unconfined; that counts as "
-                    "a profile that allows every syscall"]
+            return ["nothing is configured (linux.seccomp), as with --privileged and seccomp=unconfined; that counts "
+                    "as a profile that allows every syscall"]
         return list(self.applied.remarks) if self.applied is not None else []
 
     @property

@@ -35,6 +35,8 @@ SHARED: dict[str, dict[str, Any]] = {
                              "does"},
     **{f"--{name}": {"metavar": "N", "help": text} for name, text in client.LIMITS.items()},
     "--native": {"action": "store_true", "help": "x86-64 alone, whatever architectures the profile names"},
+    "--strict": {"action": "store_true",
+                 "help": "refuse a profile with members that nothing reads, which may be misspelt"},
     "--table": {"metavar": "FILE", "help": "the syscall table; - is standard input [default: tables/x86_64.table]"},
     "--verbose": {"action": "store_true",
                   "help": "list the names in the profile that were skipped, not only their count"},

@@ -137,6 +137,21 @@ def clone_of(flags, answer=EPERM, otherwise=ALLOW):
 class Tools(Case):
     """compare --beside and diff."""
 
+    def test_equal_stacks_are_the_same_without_a_step(self):
+        """Whatever the filters are, and each relation holds; what isn't a filter is still refused."""
+        bits = load(16) + b"".join(insn(0x45, 1 << at % 32, 0, 1) for at in range(4080)) + ret(ALLOW) * 2
+        one, other = self.file("one.bpf", bits), self.file("other.bpf", bits)
+        for words, verdict in (((), "same"), (("--no-more",), "no more"), (("--calls",), "same"),
+                               (("--disposition", "--native"), "same disposition")):
+            for limit in ((), ("--limit", "0"), ("--limit", "10")):
+                status, out, err = self.run_tool("diff", *words, *limit, one, other, seconds=5)
+                self.assertEqual((status, out, err), (0, f"{verdict}\n", ""), (words, limit))
+        status, out, _ = self.run_tool("compare", "--limit", "0", one, one, "--beside", one, one)
+        self.assertEqual((status, out), (0, "same\n"))
+        bad = self.file("bad.bpf", ret(ALLOW)[:-1])
+        self.assertEqual(self.run_tool("diff", bad, bad)[1].split("\n")[0], "fault filter Truncated offset 0")
+        self.assertEqual(self.run_tool("diff", "--limit", "x", one, one)[0], 2)
+
     def test_a_difference_of_each_kind(self):
         """A condition of clone, ENOSYS for EPERM, LOG for ALLOW."""
         one = self.file("1.bpf", clone_of(0x10000000))

@@ -670,6 +670,17 @@ class Lines(Causes):
         self.assertEqual(sum("the syscall is" in it for it in lines), events.EVENTS)
         self.assertEqual(lines[-1], "# records of more syscalls than 200 different ones, which aren't judged: 100")
 
+    def test_numbers_with_leading_zeros(self):
+        """strace prints none: such a word is no number, and no syscall's name."""
+        line = ("--- SIGSYS {si_signo=SIGSYS, si_code=SYS_SECCOMP, si_call_addr=0x7f1, si_syscall=%s, "
+                "si_arch=AUDIT_ARCH_X86_64, si_errno=%s} ---")
+        for number, data in (("012", "1"), ("00", "1"), ("012", "01")):
+            status, out, err = self.run_tool("why", "-", given=(line % (number, data)).encode())
+            self.assertEqual((status, err), (3, ""))
+            self.assertIn(f"si_syscall={number}: the table has no such name", out)
+        (event,), _ = self.event(line % ("41", "077"))
+        self.assertEqual((event.call.number, event.outcome.data), (41, None))
+
     def test_random_lines(self):
         """None ends the tool otherwise than by its statuses."""
         pieces = WRITTEN.split(" ")

@@ -215,7 +215,7 @@ class Program(Case):
     def test_inputs_without_an_end(self):
         given = self.file("p.json", READ_WRITE)
         for words, status, says in (((given, "/dev/zero"), 3, "fault profile TooLong"),
-                                    (("--caps=none", "/dev/zero", given), 2, "has more than 16777216 bytes"),
+                                    (("--caps=none", "/dev/zero", given), 2, "has more than 4194304 bytes"),
                                     (("--table=/dev/zero", given, given), 2, "has more than 4194304 bytes")):
             found, out, err = self.run_tool("compare-profiles", *words)
             self.assertEqual(found, status, words)

@@ -9,8 +9,8 @@ from common import PATIENCE, Case, limited, tool
 ALLOW, ERRNO = "SCMP_ACT_ALLOW", "SCMP_ACT_ERRNO"
 # What any of these runs may take: seconds of a processor, of which two are measured, and address space. What grows with
 # the square of so many digits, members or names takes hours.
-SECONDS, MEMORY = 40, 3 << 30
-MANY = 10**7
+SECONDS, MEMORY = 40, 1 << 30
+MANY = 4 * 10**6
 
 
 def engine(*entries, **members):
@@ -47,10 +47,10 @@ class Hostile(Case):
         return out
 
     def test_endless_ones(self):
-        self.ends("/dev/zero", 2, "has more than 16777216 bytes")
+        self.ends("/dev/zero", 2, "has more than 4194304 bytes")
         sparse = self.file("sparse", b"")
         os.truncate(sparse, 10**10)
-        self.ends(sparse, 2, "has more than 16777216 bytes")
+        self.ends(sparse, 2, "has more than 4194304 bytes")
 
     def test_long_numbers(self):
         for beginning in (b"", b"-", b"1.", b"1e"):
@@ -80,10 +80,10 @@ class Hostile(Case):
         path = self.file("given", b"")
         with open(path, "wb") as file:
             file.write(b"{")
-            for at in range(600000):
+            for at in range(300000):
                 file.write(b'"%d":0,' % at)
-            file.write(b'"599999":0}')
-        self.ends(path, 1, "the member '599999' is repeated in one object")
+            file.write(b'"299999":0}')
+        self.ends(path, 1, "the member '299999' is repeated in one object")
 
     def test_many_names(self):
         """Those that are left out are told up to a limit, and counted behind it."""
@@ -107,9 +107,9 @@ class Hostile(Case):
         runc, crun = ("--runtime", "runc"), ("--runtime", "crun")
         self.ends(self.pieces((begin, 1), (condition, 1000), (end, 1)), 0,
                   "read left out of entry 0: entry 1, which has no conditions, covers all such syscalls\n", runc)
-        many = self.pieces((begin, 1), (condition, 300000), (end, 1))
+        many = self.pieces((begin, 1), (condition, 90000), (end, 1))
         self.ends(many, 1, "the profile has more than 65536 rules", runc)
-        out = self.ends(many, 0, "entry 0 has 300001 conditions, of which crun takes the first 6", crun)
+        out = self.ends(many, 0, "entry 0 has 90001 conditions, of which crun takes the first 6", crun)
         with open(out, "rb") as file:
             self.assertEqual(len(json.load(file)["syscalls"]), 7)
         with open(f"{out}.said", "rb") as file:
@@ -118,7 +118,7 @@ class Hostile(Case):
     def test_names_of_a_stranger(self):
         bad = "\x1b[2J\r\nresolve-profile: all is well\n\x9b\u202e" + "x" * 10000
         given = engine({"names": [bad], "action": ALLOW, "includes": {"caps": [bad]}},
-                       {"names": ["b"], "action": ALLOW, "includes": {"arches": [bad] * 1000}},
+                       {"names": ["b"], "action": ALLOW, "includes": {"arches": [bad] * 100}},
                        {"names": [bad, "\ud800"], "action": ALLOW}, {"names": [bad], "action": bad})
         out = self.ends(self.file("given", given), 0,
                         "left out: only with \\x1b[2J\\x0d\\x0aresolve-profile: all is well\\x0a")

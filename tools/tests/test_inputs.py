@@ -122,9 +122,9 @@ def filled(head, item_of, tail):
 
 
 class Profiles(Case):
-    """Profiles at the limit, of each awkward shape: the tools end soon, and within half a gigabyte."""
+    """Profiles at the limit, of each awkward shape: the tools end soon, and within 300 megabytes."""
 
-    MEGABYTES = 500  # 210 is measured, in 4 seconds of a processor
+    MEGABYTES = 300  # 210 is measured, in 4 seconds of a processor
     ALLOWS, DENIES = b'{"defaultAction":"SCMP_ACT_ALLOW",', b'{"defaultAction":"SCMP_ACT_ERRNO",'
     NAMES = DENIES + b'"syscalls":[{"names":['
 
@@ -157,7 +157,7 @@ class Profiles(Case):
         self.ends("lint", filled(self.ALLOWS + b'"x":[', lambda at: b"{}", b"]}"))
 
     def test_more_objects_than_scf_has_memory_for(self):
-        """The tools give scf 350 MiB; it says that this isn't enough, and nothing of the profile."""
+        """The tools give scf 256 MiB; it says that this isn't enough, and nothing of the profile."""
         path = self.file("p.json", filled(self.ALLOWS + b'"x":[', lambda at: b'{"":0}', b"]}"))
         status, out, err, seconds, megabytes = run(("compile", path))
         self.assertEqual((status, out), (3, b""), err[:200])
@@ -170,7 +170,9 @@ class Profiles(Case):
         self.assertRegex(self.ends("lint", text), rb"\nunknown-name: and [0-9]+ more\n")
 
     def test_arrays_as_deep_as_may_be(self):
-        self.ends("lint", filled(self.ALLOWS + b'"x":[', lambda at: b"[" * 120 + b"]" * 120, b"]}"))
+        """In half of a profile: 4 MiB of them would take scf more memory than the tools give it."""
+        self.ends("lint", filled(self.ALLOWS + b" " * (TEXT // 2) + b'"x":[', lambda at: b"[" * 120 + b"]" * 120,
+                                 b"]}"))
 
 
 class Words(Case):

@@ -71,6 +71,42 @@ class Places(Case):
                            ('{"a": "\\ud800"}', "at line 1, column 7 a has an unpaired surrogate")):
             self.assertIn(says, self.said(text))
 
+    def test_what_people_take_for_json(self):
+        """It is named first, and where it stands; a comma by its own place or that of the bracket behind it."""
+        for text, says in (('{"a": [1, 2], // all\n}', "it has a comment, which JSON doesn't allow, at line 1, column 15"),
+                           ('{"a": {"b": 1 /* one */}}',
+                            "it has a comment, which JSON doesn't allow, at line 1, column 15 (after a.b)"),
+                           ("# mine\n{}", "it has a comment, which JSON doesn't allow, at line 1, column 1\n"),
+                           ('{"a": [1,\n 2,\n ]}', "it has a trailing comma, which JSON doesn't allow, at line "),
+                           ('{"a": 1,}', "it has a trailing comma, which JSON doesn't allow, at line 1, column "),
+                           ("{'a': 1}", "it has single quotes in place of double ones at line 1, column 2\n"),
+                           ('{"a": {"b": \'c\'}}',
+                            "it has single quotes in place of double ones at line 1, column 13 (in a.b)"),
+                           ("defaultAction: SCMP_ACT_ERRNO\nsyscalls:\n- names: [read]\n",
+                            "it is YAML: convert it to JSON, as `yq -o json` does"),
+                           ("\ufeff{}", "it has a byte order mark, which JSON doesn't allow, at line 1, column 1")):
+            out = self.said(text)
+            self.assertEqual(out.split("\n")[0], "fault profile Json")
+            self.assertIn(f"\n# {says}", out, text)
+
+    def test_a_profile_that_is_too_long(self):
+        """Its length is the cause, whatever stands where it is cut."""
+        for text in (b'{"apiVersion": "a", "kind": "SeccompProfile",' + b" " * (30 << 20) + b"}",
+                     b'{"defaultAction": "A", "x": "' + b"{" * (30 << 20) + b'"}'):
+            profile = self.file("long.json", text)
+            for words in (("compare", self.file("f.bpf", filter_of([0])), profile), ("ask", profile)):
+                status, out, err = self.run_tool(*words)
+                self.assertIn((status, out.split("\n")[0]), ((3, "fault profile TooLong"), (1, "fault profile TooMany")))
+                self.assertIn("\n# the profile has more than 4194304 bytes\n", out)
+                self.assertNotIn("malformed", out + err)
+
+    def test_architectures_without_a_table(self):
+        out = self.said('{"defaultAction": "SCMP_ACT_LOG", "architectures": ["SCMP_ARCH_RISCV64"]}')
+        self.assertEqual(out.split("\n")[0], "fault profile NoX8664")
+        self.assertIn("# Take a profile that names one of x86-64, i386, x32, aarch64 and arm: scf has no table of another "
+                      "architecture.", out)
+        self.assertNotIn("Take the profile for x86-64", out)
+
     def test_large_profiles_take_seconds(self):
         text = profile_of(*(f"a{at}" for at in range(200000)))
         out = self.said(text.replace(b'"action": "SCMP_ACT_ALLOW"', b'"action": "X"'))

@@ -41,6 +41,45 @@ OBJECT = {"apiVersion": "security-profiles-operator.x-k8s.io/v1beta1", "kind": "
 HAS_YAML = any(os.path.exists(os.path.join(it, "yaml")) for it in profile_inputs.FOLDERS)
 
 
+class Unread(Case):
+    """Members that nothing reads, which leave an entry without its conditions, or a profile without its entries."""
+
+    def test_misspelt_members(self):
+        entry = {"names": ["socket"], "action": ALLOW, "args": [{"index": 0, "value": 40, "op": "SCMP_CMP_NE"}]}
+        misspelt = {"arg": ({"defaultAction": ERRNO, "syscalls": [SPEC["syscalls"][0], {
+                        **{name: it for name, it in entry.items() if name != "args"}, "arg": entry["args"]}]},
+                            "'arg' of entry 1; the nearest is 'args'"),
+                    "sycalls": ({"defaultAction": ALLOW, "sycalls": []},
+                                "'sycalls' of the profile; the nearest is 'syscalls'"),
+                    "several": ({"defaultAction": ERRNO, "syscalls": [{**entry, "args": [
+                        {**entry["args"][0], "mask": 1}]}], "x": 1},
+                                 "'x' of the profile, and of 1 more")}
+        allows = self.file("f.bpf", filter_of([0]))
+        for profile, says in misspelt.values():
+            said = f": 'p.json': nothing reads the member {says}\n"
+            self.file("p.json", json.dumps(profile))
+            for words in (("ask",), ("compare", allows), ("needs", self.file("log", "read() = 0\n"))):
+                status, out, err = self.run_tool(*words, "p.json")
+                self.assertIn(status, (0, 1), words)
+                self.assertIn(said, err, words)
+                self.assertNotEqual(out, "", words)
+            status, _, err = self.run_tool("compile", "p.json", stdout=subprocess.DEVNULL)
+            self.assertEqual((status, err.count(said)), (0, 1))
+            for words in (("ask",), ("compare", allows), ("compile",), ("verify-process", "1")):
+                status, out, err = self.run_tool(words[0], "--strict", *words[1:], "p.json")
+                self.assertEqual((status, out, err), (1, "", words[0] + said), words)
+
+    def test_what_is_read_is_not_told(self):
+        """Nor a comment, nor what engines and a container's other settings have."""
+        whole = {"ociVersion": "1.0", "process": {"x": 1}, "linux": {"y": 1, "seccomp": {
+            **SPEC, "comment": "mine", "flags": ["SECCOMP_FILTER_FLAG_LOG"], "listenerPath": "/x"}}}
+        for value in (SPEC, {**SPEC, "archMap": []}, whole, {**OBJECT, "spec": {**SPEC, "disabled": False}}):
+            name = self.file("p.json", json.dumps(value))
+            status, _, err = self.run_tool("compile", "--strict", name, stdout=subprocess.DEVNULL)
+            self.assertNotIn("nothing reads", err)
+            self.assertEqual(status, 0, err)
+
+
 class Others(Case):
     """What is known to be no profile is named, by each tool."""
 
@@ -113,8 +152,8 @@ class Kubernetes(Case):
             status, out, err = self.run_tool("ask", self.file("object.yaml", YAML.replace(old, new, 1)))
             self.assertEqual((status, out, err.count("\n")), (1, "", 1), new[:30])
             self.assertIn(says, err)
-        many = YAML + "".join(f"  - {{action: SCMP_ACT_ALLOW, names: [a{at}]}}\n" for at in range(30000))
-        self.assertIn("the YAML has more than 1048576 bytes", self.run_tool("ask", self.file("many.yaml", many))[2])
+        many = YAML + "".join(f"  - {{action: SCMP_ACT_ALLOW, names: [a{at}]}}\n" for at in range(7000))
+        self.assertIn("the YAML has more than 262144 bytes", self.run_tool("ask", self.file("many.yaml", many))[2])
         self.assertIn("found another document", self.run_tool("ask", self.file("two.yaml", YAML * 2))[2])
 
     def test_other_json_is_left_alone(self):

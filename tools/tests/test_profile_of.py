@@ -366,6 +366,26 @@ class Profiles(Case):
         self.assertEqual(self.run_tool("profile-of", "-", "-")[0], 2)
         self.assertEqual(self.closed_output("profile-of", self.file("f.bpf", ret(ALLOW)))[0], 3)
 
+    def test_an_argument_beside_many_values(self):
+        """Each value has an errno of its own, whatever the number: what is known of one number is known of all."""
+        code = b"".join(load(16) + jeq(7 * at + 1, 0, 1) + ret(0x00050000 | at + 1) for at in range(100)) + ret(ALLOW)
+        name = self.file("f.bpf", code)
+        for words in (("profile-of",), ("surface", "--conditions")):
+            status, _, err = self.run_tool(*words, name, seconds=20)
+            self.assertIn(status, (0, 4), err)
+
+    def test_steps_that_run_out(self):
+        """It is unfinished, and says how it gets more."""
+        code = b"".join(load(16) + jeq(7 * at, 0, 1) + ret(0x00050000 | at + 1) for at in range(1300)) + ret(ALLOW)
+        name = self.file("f.bpf", code)
+        said = "unfinished: it takes too many steps to follow the filters: --limit N gives more than 524288\n"
+        status, out, err = self.run_tool("profile-of", name, seconds=20)
+        self.assertEqual(status, 4)
+        self.assertIn(f"# {said}", out + err)
+        status, out, err = self.run_tool("surface", "--conditions", name, seconds=20)
+        self.assertEqual(status, 4)
+        self.assertIn(f"surface: conditions: {said}", err)
+
     def test_what_computes_too_much(self):
         """It ends soon, and says what is proved."""
         many = b"".join(load(16 + 8 * (at % 6)) + insn(0x0C, 0) + insn(0x07, 0) + jset(1 << at % 32, 0, 1)

@@ -292,7 +292,7 @@ class Ask(Case):
 
     def test_numbers_of_any_length(self):
         """What scf doesn't read of an entry may be any number; none takes long, and all are shown."""
-        text = b'{"defaultAction":"SCMP_ACT_ERRNO","syscalls":[{"names":["read"],"action":"SCMP_ACT_LOG","more":%s}]}'
+        text = b'{"defaultAction":"SCMP_ACT_ERRNO","syscalls":[{"names":["read"],"action":"SCMP_ACT_LOG","comment":%s}]}'
         for number in (b"1" * 300, b"1.5e300"):
             status, lines = self.asked("--nr=read", profile=self.file("n.json", text % number))
             self.assertEqual((status, lines[0]), (0, "LOG 0 entry 0"))
