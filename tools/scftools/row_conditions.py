@@ -13,7 +13,7 @@ from .argument_sets import ALL_ALTERNATIVES, ALL_LISTED, NONE, Alternative, TooM
 from .client import Refusal
 from .entries import Condition
 from .filters import Filter
-from .profile_of import FilterAnswers, Request, entry_of
+from .profile_of import UNFINISHED, FilterAnswers, Request, entry_of, own_steps
 from .questions import EVERYTHING, NOTHING, Asker
 from .surfaces import Row, disposition_of, word_of
 from .tables import Table
@@ -178,6 +178,11 @@ def _drafts(answers: FilterAnswers, rows: Sequence[Row]) -> list[tuple[Row, Cond
             drafts.append((row, Conditions(row.names, list(others.items()), otherwise, is_whole,
                                            answers.architecture)))
     return drafts
+
+
+def unfinished() -> str:
+    """What is said if the filters weren't followed to their ends."""
+    return UNFINISHED.format(own_steps().most)
 
 
 def add(filters: Sequence[bytes], table: Table, rows: Sequence[Row], one: Architecture) -> bool:

@@ -199,11 +199,11 @@ def _surface(filters: Sequence[Filter], settings: Settings) -> Surface:
     if not settings.other:
         found.add_others()
     if settings.has_conditions:
-        from . import profile_of, row_conditions  # pylint: disable=import-outside-toplevel
+        from . import row_conditions  # pylint: disable=import-outside-toplevel
 
         found.are_conditions_finished = row_conditions.add(data, settings.table, found.rows, settings.architecture)
         if not found.are_conditions_finished:
-            program.say(f"conditions: {profile_of.UNFINISHED.format(profile_of.own_steps().most)}")
+            program.say(f"conditions: {row_conditions.unfinished()}")
     return found
 
 
