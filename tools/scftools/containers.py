@@ -27,7 +27,7 @@ NAMED = Pattern(rb".*/(?![a-z]+-conmon-)(?:(?:[a-z-]+-|(?<!/libpod_parent/))[0-9
                 rb"(?:runc|crun)-[^/]+\.scope(?:/container)?|"
                 rb"lxc\.payload[./][^/]+|(?:machine-[^/]+\.scope|systemd-nspawn@[^/]+\.service)/payload)(?=/|\Z)")
 # systemd's groups (systemd.special(7)) if they aren't at the top, and aren't those of a user's service manager.
-OF_SYSTEMD = Pattern(rb"(/.*?[^/]+)/(?:init\.scope|system\.slice)(?:/|\Z)")
+OF_SYSTEMD = Pattern(rb"(/.*?[^/])/(?:init\.scope|system\.slice)(?:/|\Z)")
 OF_A_USER = Pattern(rb".*/user@[^/]*\.service")
 # At most so many processes that weren't checked are listed.
 MOST_SHOWN = 5

@@ -10,7 +10,7 @@ import subprocess
 import sys
 import unittest
 
-from common import ALLOW, PATIENCE, Case, limited, profile_of, ret, tool
+from common import ALLOW, PATIENCE, SCF, Case, limited, profile_of, ret, tool
 
 # Seconds of a processor and megabytes that a tool and all that it runs may take.
 SECONDS, MEGABYTES = 10, 300
@@ -208,6 +208,12 @@ class Texts(Case):
                           ("resolve-profile", "--caps=none"), ("why", "type=1326 audit(1.000:1): x"),
                           ("needs", self.file("log", b"read() = 0\n"))):
                 self.ends(what, tool(words[0]), *words[1:], name)
+
+    def test_a_bundle_for_the_program(self):
+        """What takes more memory than the launcher gives is a fault."""
+        text = PROFILES["objects"]
+        bundle = self.file("bundle", b"profile %d\n%btable 7\nread 0\n" % (len(text), text))
+        self.assertEqual(self.ends("objects", SCF, "compile", given=bundle), 3)
 
     def test_logs(self):
         asks = self.file("p.json", ASKS)
