@@ -90,7 +90,7 @@ pub fn compare_sides<F: WordFacts>(
 /// Compares as `compare_sides` does, in at most the `left_over` steps that several comparisons share, and below splits
 /// in at most `left_below` of them. What is taken is subtracted; if an allocation fails, neither changes.
 ///
-/// With no steps left the finding is `Unfinished`. `Undecided` takes more steps below splits than it may make splits,
+/// With no steps left the finding is `Unfinished`. `Undecided` counts more steps below splits than it may make splits,
 /// or as many as the limit and `left_below` allow.
 pub fn compare_sides_within<F: WordFacts>(
     alloc: Global,

@@ -89,7 +89,7 @@ pub fn holds_over_ranges()
     ensures { HoldsOverRanges }
 {}
 
-/// A comparison makes fewer than 2^512 splits, since each leaves fewer bits that aren't fixed in both halves.
+/// If each split leaves fewer bits that aren't fixed in both of its halves, there are fewer than 2^512 splits.
 pub fn splits_end()
     ensures { SplitsEnd }
 {}
