@@ -177,30 +177,6 @@ class Runtimes(Containers):
         with self.container("crun", LOADED, other, "--kill") as (status, said, pid):
             self.assertTrue(comes(lambda: has_ended(pid)), said)
 
-    def test_the_installed_hook(self):
-        """A default container starts with what make install puts for hooks.d, which finds it confined as configured."""
-        if not shutil.which("podman"):
-            self.skipTest("there is no podman here")
-        prefix = f"{self.folder}/prefix"
-        subprocess.run(["make", "-s", "-C", TOP, "install", f"PREFIX={prefix}"], check=True)
-        self.addCleanup(self.remove_groups)
-        self.addCleanup(self.podman, "rm", "--force", "--time", "0", self.name)
-        status, said = self.podman("--hooks-dir", f"{prefix}/share/scf/hooks.d", "run", "--detach", "--name", self.name,
-                                   "--cgroup-parent", f"/{self.name}", "--rootfs", f"{self.where}/rootfs", "sleep",
-                                   "1000")
-        if status and "oci-hook" not in said:
-            self.skipTest(f"podman starts no container here: {said.strip()}")
-        self.assertEqual(status, 0, said)
-        pid = int(self.podman("inspect", "--format", "{{.State.Pid}}", self.name)[1])
-        bundle = os.path.dirname(self.config_of(said.strip()))
-        with open(f"{prefix}/share/scf/hooks.d/scf.json", encoding="utf-8") as file:
-            hook = json.load(file)["hook"]
-        state = {"ociVersion": "1.0.2", "id": said.strip(), "status": "running", "pid": pid, "bundle": bundle}
-        status, out, err = self.run_words([hook["path"], *hook["args"][1:]], json.dumps(state).encode())
-        self.assertEqual((status, out), (0, ""))
-        self.assertRegex(err, "(?m)^scf-oci-hook: same$")
-        self.assertIn("dry run: the status is 0 without --dry-run, too\n", err)
-
     def test_the_default_profiles(self):
         """What is loaded of them is plainly the same by --runtime, by the hook and by verify-process."""
         for engine, path in (("docker", MOBY), ("podman", PODMAN)):
@@ -413,6 +389,30 @@ class Podman(Containers):
             self.assertEqual((status, out), (2, ""))
             self.assertIn(f"the configuration is that of the container {other[:12]}, and process {pid} (sleep) is in the "
                           f"container {one[:12]}: `podman inspect", err)
+
+    def test_the_installed_hook(self):
+        """A default container starts with what make install puts for hooks.d, which finds it confined as configured."""
+        if not shutil.which("podman"):
+            self.skipTest("there is no podman here")
+        prefix = f"{self.folder}/prefix"
+        subprocess.run(["make", "-s", "-C", TOP, "install", f"PREFIX={prefix}"], check=True)
+        self.addCleanup(self.remove_groups)
+        self.addCleanup(self.podman, "rm", "--force", "--time", "0", self.name)
+        status, said = self.podman("--hooks-dir", f"{prefix}/share/scf/hooks.d", "run", "--detach", "--name", self.name,
+                                   "--cgroup-parent", f"/{self.name}", "--rootfs", f"{self.where}/rootfs", "sleep",
+                                   "1000")
+        if status and "oci-hook" not in said:
+            self.skipTest(f"podman starts no container here: {said.strip()}")
+        self.assertEqual(status, 0, said)
+        pid = int(self.podman("inspect", "--format", "{{.State.Pid}}", self.name)[1])
+        bundle = os.path.dirname(self.config_of(said.strip()))
+        with open(f"{prefix}/share/scf/hooks.d/scf.json", encoding="utf-8") as file:
+            hook = json.load(file)["hook"]
+        state = {"ociVersion": "1.0.2", "id": said.strip(), "status": "running", "pid": pid, "bundle": bundle}
+        status, out, err = self.run_words([hook["path"], *hook["args"][1:]], json.dumps(state).encode())
+        self.assertEqual((status, out), (0, ""))
+        self.assertRegex(err, "(?m)^scf-oci-hook: same$")
+        self.assertIn("dry run: the status is 0 without --dry-run, too\n", err)
 
     def remove_groups(self):
         """Podman leaves the control group that holds its containers'."""
