@@ -201,15 +201,18 @@ def _conflicting(fault: Fault, profile: bytes, judged: Tables) -> Call:
 def sentences(fault: Fault, profile: bytes, judged: Tables, origins: Sequence[Origin] | None = None) -> Iterator[str]:
     """What a fault is and what to do; of a profile, where it stands, and of one that was resolved, in which entries of
     the user's file."""
+    if (fault.source, fault.kind) == ("profile", "Json") and len(profile) <= inputs.LIMITS["profile"]:
+        meaning, *_ = explanation.of_fault(fault)
+        yield profiles.where_json_ends(profile)
+        yield meaning
+        return
     yield from explanation.of_fault(fault)
     if fault.source == "profile" and len(profile) > inputs.LIMITS["profile"]:
         yield f"the profile has more than {inputs.LIMITS['profile']} bytes"
         return
     if (fault.source, fault.kind) == ("profile", "Conflict"):
         yield f"the syscall is {_conflicting(fault, profile, judged).describe(judged.native)}"
-    if (fault.source, fault.kind) == ("profile", "Json"):
-        yield profiles.where_json_ends(profile)
-    elif fault.source == "profile" and origins is not None:
+    if fault.source == "profile" and origins is not None:
         yield from profiles.original_entries(fault.numbers, origins)
     elif fault.source == "profile":
         yield from _of_member(fault, profile)

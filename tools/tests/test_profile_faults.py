@@ -85,9 +85,7 @@ class Places(Case):
                            ("defaultAction: SCMP_ACT_ERRNO\nsyscalls:\n- names: [read]\n",
                             "it is YAML: convert it to JSON, as `yq -o json` does"),
                            ("\ufeff{}", "it has a byte order mark, which JSON doesn't allow, at line 1, column 1")):
-            out = self.said(text)
-            self.assertEqual(out.split("\n")[0], "fault profile Json")
-            self.assertIn(f"\n# {says}", out, text)
+            self.assertTrue(self.said(text).startswith(f"fault profile Json\n# {says}"), text)
 
     def test_a_profile_that_is_too_long(self):
         """Its length is the cause, whatever stands where it is cut."""
