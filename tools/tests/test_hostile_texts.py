@@ -10,8 +10,9 @@ import subprocess
 import sys
 import unittest
 
-from common import ALLOW, PATIENCE, SCF, Case, limited, profile_of, ret, tool
+from common import ALLOW, PATIENCE, SCF, TOP, Case, limited, profile_of, ret, tool
 
+PROGRAM = "crates/scf/out/scf"
 # Seconds of a processor and megabytes that a tool and all that it runs may take.
 SECONDS, MEGABYTES = 10, 300
 MEBIBYTE, LONGEST_LINE, LONGEST_PROFILE = 1 << 20, 1 << 16, 1 << 22
@@ -210,10 +211,16 @@ class Texts(Case):
                 self.ends(what, tool(words[0]), *words[1:], name)
 
     def test_a_bundle_for_the_program(self):
-        """What takes more memory than the launcher gives is a fault."""
+        """What takes more memory than the launcher gives is a fault, and the program by itself answers it, as the page
+        on faults says."""
         text = PROFILES["objects"]
         bundle = self.file("bundle", b"profile %d\n%btable 7\nread 0\n" % (len(text), text))
         self.assertEqual(self.ends("objects", SCF, "compile", given=bundle), 3)
+        with open(os.path.join(TOP, "docs", "FAULTS.md"), encoding="utf-8") as file:
+            self.assertIn(f" or {PROGRAM} on a bundle.", file.read())
+        with open(bundle, "rb") as file:
+            done = subprocess.run([os.path.join(TOP, PROGRAM), "compile"], stdin=file, stdout=subprocess.PIPE, check=False)
+        self.assertEqual((done.returncode, len(done.stdout) % 8), (0, 0))
 
     def test_logs(self):
         asks = self.file("p.json", ASKS)
