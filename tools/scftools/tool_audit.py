@@ -26,8 +26,7 @@ says what wasn't looked at.
 --json prints one object, and --json-lines an object for each row and a last one for the whole. --prometheus writes
 metrics for the textfile collector of node_exporter, and --html a page without scripts, which also shows what each
 distinct stack allows, and with --since what changed since an object that --json printed. Both replace FILE at once.
---watch audits again and again, and
-after the first time prints a line for each change.
+--watch audits again and again, and after the first time prints a line for each change.
 
 Exit status: 0 nothing is weaker than configured or unconfined; 1 something is, with --allow-unconfined unless it is so
 by configuration; 2 usage error; 3 an input or the output failed; 4 something isn't known or wasn't looked at.
@@ -61,7 +60,7 @@ def read_words():
     parser.add_argument("--prometheus", metavar="FILE", help="write metrics in Prometheus's text format")
     parser.add_argument("--html", metavar="FILE", help="write a page of HTML")
     parser.add_argument("--since", metavar="FILE", help="for --html: an object that --json printed earlier")
-    parser.add_argument("--watch", metavar="SECONDS", type=float, help="again and again, with this pause")
+    parser.add_argument("--watch", metavar="SECONDS", type=words.seconds, help="again and again, with this pause")
     parser.add("--native", "--limit", "--splits", "--table")
     given = parser.parse_args()
     if given.baseline is not None and not given.baseline.startswith(BASELINE):

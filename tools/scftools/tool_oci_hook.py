@@ -58,9 +58,9 @@ def read_words():
     whose.add_argument("--keep-first", **words.SHARED["--keep-first"])
     parser.add_argument("--allow-unconfined", action="store_true",
                         help="accept a container whose configuration has no profile")
-    parser.add_argument("--wait", metavar="SECONDS", type=float, default=1.0,
+    parser.add_argument("--wait", metavar="SECONDS", type=words.seconds, default=1.0,
                         help="how long to wait for a process to get a filter, at most 60 [default: 1]")
-    parser.add_argument("--deadline", metavar="SECONDS", type=float, default=hooks.DEADLINE,
+    parser.add_argument("--deadline", metavar="SECONDS", type=words.seconds, default=hooks.DEADLINE,
                         help="how long the check may take beyond --wait, at most "
                              f"{hooks.DEADLINE * 10:g}; then it is undecided [default: {hooks.DEADLINE:g}]")
     parser.add_argument("--dry-run", action="store_true",

@@ -47,6 +47,14 @@ SHARED: dict[str, dict[str, Any]] = {
 }
 
 
+def seconds(text: str) -> float:
+    """The number of seconds that an option has."""
+    try:
+        return float(text)
+    except ValueError:
+        raise argparse.ArgumentTypeError(f"'{text}' isn't a number of seconds") from None
+
+
 class Version(argparse.Action):
     """`--version`: the version is scf's."""
 

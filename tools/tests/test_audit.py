@@ -1163,6 +1163,7 @@ class Words(Case):
 
     def test_usage(self):
         self.says_usage("audit", "--baseline", "profile.json")
+        self.assertIn(": argument --watch: 'x' isn't a number of seconds\n", self.run_tool("audit", "--watch", "x")[2])
         for words in (("--watch", "0"), ("--json", "--json-lines"), ("x",), ("--expect", "none"),
                       ("--baseline", "no-more:none"), ("--expect", "-", "--baseline", "no-more:-")):
             status, out, err = self.run_tool("audit", *words)
