@@ -212,7 +212,7 @@ def read(name: str, caps: str | None = None, is_runtimes: bool = False, is_stric
     return profile_in(data, name, caps, is_runtimes, is_strict)
 
 
-def _tell_unread(data: bytes, label: str, is_strict: bool) -> None:
+def tell_unread(data: bytes, path: str, is_strict: bool) -> None:
     """Says which members of a profile aren't read, which may be misspelt; or refuses it."""
     of_spec = OF_SPEC if isinstance(data, DerivedProfile) else ()
     unread = (it for it in profiles.unread_members(data) if it[1] not in of_spec)
@@ -223,7 +223,7 @@ def _tell_unread(data: bytes, label: str, is_strict: bool) -> None:
     nearest = next((f"; the nearest is '{it}'" for it in known if it.lower() == near), "")
     more = sum(1 for _ in unread)
     others = f", and of {more} more" if more else ""
-    said = f"{label}: nothing reads the member '{output.cut(name)}' of {where}{others}{nearest}"
+    said = f"{inputs.label(path)}: nothing reads the member '{output.cut(name)}' of {where}{others}{nearest}"
     if is_strict:
         raise program.ToolError(said, program.NEGATIVE)
     program.say(said)
@@ -247,5 +247,5 @@ def profile_in(data: bytes, name: str, caps: str | None = None, is_runtimes: boo
     misread = profiles.misread_members(data) if is_runtimes else []
     if misread:
         raise program.ToolError(misread[0].describe(), program.NEGATIVE)
-    _tell_unread(data, inputs.label(name), is_strict)
+    tell_unread(data, name, is_strict)
     return ProfileInput(data)

@@ -72,10 +72,8 @@ def read_words():
     options = parser.parse_args()
     if options.beside is not None:
         options.profile = None
-        if options.runtime is not None or options.verbose:
-            parser.error("--runtime and --verbose speak of a profile, and --beside has none")
-    if options.strict and (options.runtime is not None or options.beside is not None):
-        parser.error("--strict is for a profile without --runtime, whose notes name what isn't read")
+        if options.runtime is not None or options.verbose or options.strict:
+            parser.error("--runtime, --verbose and --strict speak of a profile, and --beside has none")
     if options.runtime is None and runtimes.is_engines(options):
         parser.error("--engine, --caps, --kernel, --arch and --ignore need --runtime")
     options.setting = runtimes.setting_of_words(options, parser)
@@ -145,6 +143,7 @@ def request_of(options, kernel):
         request = verify.Request(profile.data, *settings)
         return replace(request, configured=True) if configured and request.is_accepted else request
     applied = runtimes.applied_in(data, name, runtime, setting_of(options, kernel))
+    profile_inputs.tell_unread(profile_inputs.plain(data, name), name, options.strict)
     return verify.Request(applied.data, *settings, applied, configured=configured)
 
 

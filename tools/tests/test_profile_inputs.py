@@ -65,7 +65,8 @@ class Unread(Case):
                 self.assertNotEqual(out, "", words)
             status, _, err = self.run_tool("compile", "p.json", stdout=subprocess.DEVNULL)
             self.assertEqual((status, err.count(said)), (0, 1))
-            for words in (("ask",), ("compare", allows), ("compile",), ("verify-process", "1")):
+            for words in (("ask",), ("compare", allows), ("compile",), ("verify-process", "1"),
+                          ("verify-process", "--runtime=runc", "1")):
                 status, out, err = self.run_tool(words[0], "--strict", *words[1:], "p.json")
                 self.assertEqual((status, out, err), (1, "", words[0] + said), words)
 
