@@ -42,7 +42,7 @@ from . import architectures, client, filters, output, processes, stack_surfaces,
 
 
 def read_words():
-    parser = words.Parser(__doc__, f"With --pid: {processes.NEEDS}")
+    parser = words.Parser(__doc__, processes.NEEDS.replace("This needs", "--pid needs", 1))
     parser.add("--arch", "--limit", "--splits", "--table", "--json", "--html")
     parser.add_argument("--conditions", action="store_true",
                         help="say which arguments get which answer, instead of examples")

@@ -29,7 +29,7 @@ resolved already.
 PROFILE may be a container's config.json. If that has no profile, nothing is configured: as `scf audit` says it, a
 process without a filter is then `unconfined by configuration`, and one beside a configured profile `unconfined though
 configured`; one with filters is compared with a profile that allows every syscall. A config.json that is known to be
-that of another container is refused.
+that of another container is a usage error.
 
 With --beside the filters are compared with those that `scf filters-of` wrote into FOLDER, from this process before an
 upgrade or from another one, over each possible record unless --native.
