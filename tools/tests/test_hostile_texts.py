@@ -219,7 +219,8 @@ class Texts(Case):
         with open(os.path.join(TOP, "docs", "FAULTS.md"), encoding="utf-8") as file:
             self.assertIn(f" or {PROGRAM} on a bundle.", file.read())
         with open(bundle, "rb") as file:
-            done = subprocess.run([os.path.join(TOP, PROGRAM), "compile"], stdin=file, stdout=subprocess.PIPE, check=False)
+            done = subprocess.run([os.path.join(TOP, PROGRAM), "compile"], stdin=file, stdout=subprocess.PIPE,
+                                  check=False)
         self.assertEqual((done.returncode, len(done.stdout) % 8), (0, 0))
 
     def test_logs(self):
