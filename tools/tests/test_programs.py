@@ -97,7 +97,7 @@ class Compile(Case):
             self.assertEqual(self.compiled(self.file("p.json", json.dumps(given)))[2], says)
 
     def test_refusals_go_to_standard_error(self):
-        for profile, status, says in ((b"{", 1, "fault profile Json\ncompile: The text isn't JSON"),
+        for profile, status, says in ((b"{", 1, "fault profile Json\ncompile: the JSON is malformed at line 1"),
                                       (b'{"defaultAction":"ALLOW"}', 1, "fault profile Action\ncompile: An action")):
             found, out, err = self.compiled(self.file("p.json", profile))
             self.assertEqual((found, out), (status, b""))
