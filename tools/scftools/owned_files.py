@@ -15,8 +15,9 @@ ANYONE = -1
 MOST_LINKS = 40
 # Opens a file or folder without reading it, nor waiting for what is a pipe or a device.
 BY_PATH = os.O_PATH | os.O_NOFOLLOW | os.O_CLOEXEC
-# A file system in user space (fuse(4)), and the user who answers for it, in a line of /proc/self/mountinfo.
-FUSE = Pattern(rb" - fuse(?:\.\S*)? \S* (?:\S*,)?user_id=([0-9]+)")
+# A file system in user space (fuse(4)), and the user who answers for it, in a line of /proc/self/mountinfo; of the
+# characters that a user may choose the kernel escapes spaces, tabs and line feeds, and no others.
+FUSE = Pattern(rb" - fuse(?:\.[^ ]*)? [^ ]* (?:[^ ]*,)?user_id=([0-9]+)")
 MOUNT = Pattern(rb"mnt_id:\s*([0-9]+)")
 
 
@@ -51,10 +52,11 @@ def _refuse_users_mount(path: str, file: int) -> None:
     """Refuses what is in a file system in user space of a user, which may answer anything, or never. It isn't asked."""
     found = MOUNT.search(contents(f"/proc/self/fdinfo/{file}"))
     start = b"%s " % (found[1] if found else b"")
-    for line in contents("/proc/self/mountinfo").splitlines():
-        of_user = FUSE.search(line) if line.startswith(start) else None
-        if of_user and int(of_user[1]) not in (0, os.geteuid()):
-            raise Unreadable(f"'{path}' leads into a file system of user {int(of_user[1])}")
+    # (whole: users may mount so much that a part of it wouldn't tell)
+    with open("/proc/self/mountinfo", "rb") as mounts:
+        of_user = FUSE.search(next((line for line in mounts if line.startswith(start)), b""))
+    if of_user and int(of_user[1]) not in (0, os.geteuid()):
+        raise Unreadable(f"'{path}' leads into a file system of user {int(of_user[1])}")
 
 
 def _opened(path: str) -> Place:

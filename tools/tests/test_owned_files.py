@@ -1,13 +1,17 @@
 """scftools.owned_files: who could have changed a file, and that no link of a user leads elsewhere."""
+import ctypes
 import os
 import stat
 import unittest
+from unittest import mock
 
 from common import Case
 from scftools import owned_files
 from scftools.owned_files import ANYONE, Absent, Unreadable
 
 USER = 12345
+# linux/fs.h
+MNT_DETACH = 2
 
 
 @unittest.skipIf(os.getuid(), "only root gives files away")
@@ -81,6 +85,31 @@ class Files(Case):
                 owned_files.read(os.path.join(self.folder, path), 100)
         with self.assertRaises(Unreadable):
             owned_files.read("a/b/c", 100)
+
+    def test_file_systems_of_users(self):
+        """They aren't asked, whatever characters a user puts into the place of one, its source and its kind."""
+        library = ctypes.CDLL(None, use_errno=True)
+        for name, source, kind in (("plain", "x", "fuse"), ("a\rb", "x", "fuse"), ("c", "x\ry", "fuse"),
+                                   ("d\x0b", "\x0c - x", "fuse.a\rb")):
+            where = os.path.join(self.folder, name)
+            os.mkdir(where)
+            device = os.open("/dev/fuse", os.O_RDWR | os.O_CLOEXEC)
+            settings = f"fd={device},rootmode=40000,user_id={USER},group_id={USER},allow_other"
+            try:
+                if library.mount(source.encode(), where.encode(), kind.encode(), 0, settings.encode()):
+                    self.skipTest("no file system in user space can be mounted here")
+                with mock.patch.object(os, "open", wraps=os.open) as opens:
+                    self.refused(f"{name}/x", f"leads into a file system of user {USER}")
+                self.assertNotIn("x", [it.args[0] for it in opens.call_args_list])
+            finally:
+                # (whoever waits for an answer gets an error)
+                os.close(device)
+                library.umount2(where.encode(), MNT_DETACH)
+
+    def test_many_mounts(self):
+        """A file system is known behind others of any number."""
+        with mock.patch("scftools.ptrace.MAX_CONTENTS", 64):
+            self.test_file_systems_of_users()
 
     def test_sizes(self):
         """A user's file may have fewer bytes."""
