@@ -39,12 +39,21 @@ class Place:
     users: frozenset[int]
 
 
-def _writers(status: os.stat_result) -> set[int]:
+def _has_access_list(file: int) -> bool:
+    """Whether the bits of the group of an open file are those of an access list's mask (acl(5))."""
+    try:
+        return bool(os.getxattr(f"/proc/self/fd/{file}", "system.posix_acl_access"))
+    except OSError:
+        return False
+
+
+def _writers(file: int, status: os.stat_result) -> set[int]:
     """Those beside root, and beside the user of this tool, who may change a file or what a folder has."""
     if status.st_uid not in (0, os.geteuid()):
         return {status.st_uid}
     is_sticky = stat.S_ISDIR(status.st_mode) and status.st_mode & stat.S_ISVTX
-    is_of_others = status.st_mode & stat.S_IWOTH or status.st_mode & stat.S_IWGRP and status.st_gid != 0
+    is_of_others = status.st_mode & stat.S_IWOTH or \
+        status.st_mode & stat.S_IWGRP and (status.st_gid != 0 or _has_access_list(file))
     return {ANYONE} if is_of_others and not is_sticky else set()
 
 
@@ -72,7 +81,7 @@ def _opened(path: str) -> Place:
             _refuse_users_mount(path, files[-1])
             status = os.fstat(files[-1])
             if not stat.S_ISLNK(status.st_mode):
-                users |= _writers(status)
+                users |= _writers(files[-1], status)
                 continue
             target, links = os.readlink("", dir_fd=files[-1]), links + 1
             os.close(files.pop())

@@ -2,6 +2,7 @@
 import ctypes
 import os
 import stat
+import struct
 import unittest
 from unittest import mock
 
@@ -58,6 +59,21 @@ class Files(Case):
         os.chown(os.path.join(self.folder, "a"), 0, USER)
         os.chmod(os.path.join(self.folder, "a"), 0o775)
         self.assertEqual(self.users(), {ANYONE, 0})
+
+    def test_access_lists(self):
+        """A user whom an access list lets write, as a mask among the bits of the group tells (acl(5))."""
+        # linux/posix_acl_xattr.h: the version, and for each entry its kind, what it permits, and a user or group
+        entries = [(1, 7, -1), (2, 7, USER), (4, 5, -1), (16, 7, -1), (32, 5, -1)]
+        access_list = struct.pack("<I", 2) + b"".join(struct.pack("<HHi", *it) for it in entries)
+        for name in ("a", "a/b/c"):
+            path = os.path.join(self.folder, name)
+            try:
+                os.setxattr(path, "system.posix_acl_access", access_list)
+            except OSError:
+                self.skipTest("no access lists here")
+            self.assertEqual(self.users(), {ANYONE, 0}, name)
+            os.removexattr(path, "system.posix_acl_access")
+            self.assertEqual(self.users(), set(), name)
 
     def test_links(self):
         """Root's are followed, as /var/run is; a user's aren't, wherever on the path they stand."""
