@@ -530,7 +530,7 @@ class Budgets:
 
     def of_user(self, user: int, count: int) -> float:
         """What a user has, the first of so many, each of whom has a little in any case."""
-        return min(self.of.get(user, SECONDS_OF_A_USER), self.left - LEAST_SECONDS * (count - 1))
+        return min(self.of.get(user, SECONDS_OF_A_USER), max(LEAST_SECONDS, self.left - LEAST_SECONDS * (count - 1)))
 
     def spend(self, user: int, seconds: float) -> None:
         self.left -= seconds
@@ -580,14 +580,14 @@ class Assessor:
 
     def _tasks(self, rows: Iterable[Row]) -> dict[int | None, list[Task]]:
         """What is to be judged, by whose it is: a container is its user's if only a user describes it; of a unit and a
-        program a stack is a user's if no process of root's has it."""
+        program a stack is a user's if root answers for no process that has it."""
         found: dict[int | None, list[Task]] = {}
         for row in rows:
             row.parts = [Part(Stack((), False), {it.number: []}, Judgement(NOT_KNOWN, self.snapshot.unread[it.number]))
                          for it in row.processes if it.number in self.snapshot.unread]
             by_user: dict[int | None, Stacks] = {}
             for stack, threads in self.snapshot.stacks_of(it.number for it in row.processes):
-                least = min(it.user for it in row.processes if it.number in threads) or None
+                least = min(it.owner for it in row.processes if it.number in threads) or None
                 user = least if row.container is None else row.user
                 by_user.setdefault(user, []).append((stack, threads))
             for user, stacks in by_user.items():

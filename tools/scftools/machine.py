@@ -46,6 +46,8 @@ class Process:
     # whether some thread is in a mode of seccomp(2), and whether the main one can't be stopped soon
     is_confined: bool
     is_stuck: bool
+    # the ID of the user who answers for it (Kernel.owner_of)
+    owner: int
 
 
 @dataclass
@@ -107,10 +109,11 @@ def described(kernel: Kernel, number: int) -> Process | None:
         first, status = threads[0], states[threads[0]]
     is_confined = status.get("Seccomp", "0") != "0" or any(_mode_of(it) for it in threads if it != first)
     is_stuck = is_confined and status["State"][:1] == "D"
-    return Process(number, int(status["PPid"]), kernel.name_of(number), _executable_of(first),
-                   int(status["Uid"].split()[1]), kernel.groups_of(first), tuple(kernel.namespaces_of(first)),
-                   int(inner), int(status.get("CapEff", "0"), 16), status.get("NoNewPrivs") == "1", tuple(threads),
-                   is_confined, is_stuck)
+    user = int(status["Uid"].split()[1])
+    return Process(number, int(status["PPid"]), kernel.name_of(number), _executable_of(first), user,
+                   kernel.groups_of(first), tuple(kernel.namespaces_of(first)), int(inner),
+                   int(status.get("CapEff", "0"), 16), status.get("NoNewPrivs") == "1", tuple(threads), is_confined,
+                   is_stuck, kernel.owner_of(first, user))
 
 
 def _left_out(kernel: Kernel, why: str | None) -> list[str]:
@@ -162,8 +165,7 @@ def read_more(kernel: Kernel, snapshot: Snapshot, numbers: Iterable[int], is_for
 
 def _add_filters(kernel: Kernel, snapshot: Snapshot, confined: list[Process], is_forced: bool, until: float) -> None:
     """Adds the filters of processes of a snapshot to it; those that have ended meanwhile are forgotten."""
-    passed = machine_pass.read(kernel, {one.number: kernel.owner_of(one.number, one.user) for one in confined},
-                               is_forced, until)
+    passed = machine_pass.read(kernel, {one.number: one.owner for one in confined}, is_forced, until)
     for key, stack in passed.stacks.items():
         for process, threads in stack.threads.items():
             snapshot.add(key, process, threads)

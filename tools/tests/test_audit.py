@@ -738,7 +738,7 @@ def process(number=7, name=b"fake", groups=None, **settings):
     """A process as /proc might describe it."""
     given = {"parent": 1, "executable": b"/bin/fake", "user": 0, "spaces": ((1, 1),), "inner": number,
              "capabilities": 0, "has_no_new_privileges": True, "threads": (number,), "is_confined": True,
-             "is_stuck": False, **settings}
+             "is_stuck": False, "owner": settings.get("user", 0), **settings}
     return machine.Process(number=number, name=name, groups=groups or {}, **given)
 
 
@@ -928,7 +928,19 @@ class Limits(Case):
             self.assertGreaterEqual(left, audit.LEAST_SECONDS)
             self.assertLessEqual(left, audit.SECONDS_OF_A_USER)
             budgets.spend(user, left)
-        self.assertEqual((budgets.left, budgets.of_user(100, 1)), (0, 0))
+        self.assertEqual(budgets.left, 0)
+        self.assertEqual({audit.Budgets().of_user(100, count) for count in (78, 500)}, {audit.LEAST_SECONDS + 0.5,
+                                                                                       audit.LEAST_SECONDS})
+
+    def test_many_identifiers_of_a_user(self):
+        """What runs by IDs that a user has in namespaces (subuid(5)) is that user's, and takes no time of others."""
+        stacks = [processes.Stack((filter_of([0, at]),), False, {at: [at]}) for at in range(7, 12)]
+        self.snapshot = machine.Snapshot({}, {(it.filters, False): it for it in stacks})
+        row = audit.Row(audit.PROGRAM, "x", [process(at, user=100000 + at, owner=5) for at in range(7, 12)],
+                        audit.Expected())
+        with mock.patch.object(audit, "judged", lambda *_: audit.Judgement(audit.STRICTER)):
+            assessor = self.assessed([row], None)
+        self.assertEqual(set(assessor.budgets.of), {5})
 
     def test_filters_of_a_user(self):
         """Those of a program and of a unit that only a user's processes have come after root's, and have a budget."""
