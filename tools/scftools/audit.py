@@ -676,7 +676,7 @@ def of_machine(options: Options, judge: Judge) -> Audit:
     found = Audit([], machine.read(kernel, options.is_forced), time.time(),
                   allows_unconfined=options.allows_unconfined)
     found.snapshot.notes += [f"no folder is --runtime-root {output.escaped(it)}" for it in options.roots
-                             if not any(map(os.path.isdir, container_files.matching(it)))]
+                             if not container_files.is_there(it)]
     expectations = Expectations(options)
     rows, left_out = rows_of(kernel, found.snapshot, expectations)
     assessor = Assessor(found.snapshot, expectations, judge)

@@ -126,6 +126,14 @@ def matching(pattern: str) -> list[str]:
     return sorted(glob.glob(pattern)) if glob.has_magic(pattern) else [pattern]
 
 
+def is_there(pattern: str) -> bool:
+    """Whether a folder matches a pattern, or that isn't known soon: a user may answer, and never."""
+    try:
+        return child.run(lambda: any(map(os.path.isdir, matching(pattern))), SECONDS_OF_A_USER)
+    except (child.Late, child.Died):
+        return True
+
+
 def _object(read: Callable[[str, int], bytes], path: str, most: int) -> Any:
     """The JSON of a file, or None if it can't be read or isn't JSON."""
     try:

@@ -903,6 +903,16 @@ class Limits(Case):
             self.assertIn("the folders of containers of user 5: they can't be read", found.left_out[0])
             self.assertLess(time.monotonic() - began, 5)
 
+    def test_roots_that_take_for_ever(self):
+        """Whether --runtime-root is a folder isn't waited for, either: a user may answer that."""
+        began, options = time.monotonic(), audit.replace(self.options, roots=("/box/*",))
+        with mock.patch.object(machine, "read", lambda *_: machine.Snapshot()), \
+                mock.patch.object(container_files, "all_described", lambda *_: container_files.Found()), \
+                mock.patch.object(container_files, "matching", lambda _: time.sleep(20) or []):
+            found = audit.of_machine(options, audit.Judge(self.options.table))
+        self.assertEqual((found.rows, found.snapshot.notes), ([], []))
+        self.assertLess(time.monotonic() - began, 10)
+
     def test_a_user_who_takes_for_ever(self):
         """Root's row is judged before, and the user's isn't known; another user has time left."""
         def work(one):
