@@ -36,8 +36,9 @@ from .verify import Request
 TOGETHER = (WEAKER, NOT_KNOWN, STRICTER, OTHERWISE, AS_CONFIGURED)
 CONTAINER, UNIT, PROGRAM = KINDS = ("container", "unit", "program")
 ALLOWS_ALL = verify.ALLOWS_ALL
-# How long a process may take to load its filter after its container or unit starts, in seconds.
-TO_CONFINE = 0.5
+# How long a process may take to load its filter after its container or unit starts, and how long reading all such
+# processes again may take, in seconds.
+TO_CONFINE, TO_LOOK_AGAIN = 0.5, 5.0
 # The most results that are kept, and the most bytes of the profiles in them.
 MOST_KNOWN, MOST_BYTES = 2000, 1 << 26
 # How long the rows of one user may take, and of all users, in seconds, what each has in any case, and how much of it
@@ -663,7 +664,8 @@ def _look_again(kernel: Kernel, snapshot: Snapshot, rows: Iterable[Row], options
     time.sleep(TO_CONFINE)
     for number in numbers:
         snapshot.forget(number)
-    machine.read_more(kernel, snapshot, numbers, options.is_forced, hold.why_no_filters(kernel))
+    machine.read_more(kernel, snapshot, numbers, options.is_forced, hold.why_no_filters(kernel),
+                      time.monotonic() + TO_LOOK_AGAIN)
     again = [row for row in rows if early.get(id(row))]
     for row in again:
         row.processes = [snapshot.processes[it.number] for it in row.processes if it.number in snapshot.processes]

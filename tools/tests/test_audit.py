@@ -913,6 +913,14 @@ class Limits(Case):
         self.assertEqual((found.rows, found.snapshot.notes), ([], []))
         self.assertLess(time.monotonic() - began, 10)
 
+    def test_to_look_again(self):
+        """It has no time of a whole pass, which a user's processes could take a second time."""
+        row = audit.Row(audit.UNIT, "x", [process()], audit.Expected(dropped="x"))
+        snapshot = machine.Snapshot({7: process()}, {((), False): processes.Stack((), False, {7: [7]})})
+        with mock.patch.object(machine, "read_more") as again, mock.patch.object(audit, "TO_CONFINE", 0):
+            audit._look_again(processes.Kernel(), snapshot, [row], self.options)
+        self.assertLess(again.call_args.args[5] - time.monotonic(), 6)
+
     def test_a_user_who_takes_for_ever(self):
         """Root's row is judged before, and the user's isn't known; another user has time left."""
         def work(one):
