@@ -116,7 +116,9 @@ def read(path: str, most: int, most_of_users: int | None = None) -> tuple[bytes,
     try:
         if not stat.S_ISREG(place.status.st_mode):
             raise Unreadable(f"'{path}' isn't a regular file")
-        with open(f"/proc/self/fd/{place.file}", "rb") as file:
+        # (without waiting for whoever holds a lease on it)
+        opened_again = os.open(f"/proc/self/fd/{place.file}", os.O_RDONLY | os.O_NONBLOCK | os.O_CLOEXEC)
+        with open(opened_again, "rb") as file:
             data = file.read(most + 1)
     except OSError as error:
         raise Unreadable(f"'{path}' can't be read: {error.strerror}") from error

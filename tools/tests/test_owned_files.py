@@ -1,8 +1,13 @@
 """scftools.owned_files: who could have changed a file, and that no link of a user leads elsewhere."""
 import ctypes
 import os
+import signal
 import stat
 import struct
+import subprocess
+import sys
+import threading
+import time
 import unittest
 from unittest import mock
 
@@ -135,6 +140,20 @@ class Files(Case):
         self.give("a", "a/b", "a/b/c")
         with self.assertRaises(Unreadable):
             owned_files.read(self.path, 4, 3)
+
+    def test_leases(self):
+        """A file that its owner holds a lease on (fcntl(2)) isn't waited for, which takes 45 seconds by default."""
+        script = ("import fcntl, sys, time\nfile = open(sys.argv[1])\n"
+                  "fcntl.fcntl(file, fcntl.F_SETLEASE, fcntl.F_WRLCK)\nprint(1, flush=True)\ntime.sleep(9)")
+        with subprocess.Popen([sys.executable, "-c", script, self.path], stdout=subprocess.PIPE) as holder:
+            # (the signal that tells of the reader is SIGIO, and ends it)
+            self.assertEqual(holder.stdout.readline(), b"1\n")
+            os.kill(holder.pid, signal.SIGSTOP)
+            threading.Timer(3, holder.kill).start()
+            began = time.monotonic()
+            self.refused("a/b/c", "can't be read: Resource temporarily unavailable")
+            self.assertLess(time.monotonic() - began, 2)
+            holder.kill()
 
     def test_names(self):
         for name in "xyz":
