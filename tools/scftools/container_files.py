@@ -457,21 +457,25 @@ class Membership:
     def container_of(self, process: Process, is_stated: bool = False) -> Described | None:
         """The container of a process, None if it is of none. What root's files say comes first; then the unit of which
         the process is, if it states how its processes are confined, or that isn't known (`is_stated`); then the name of
-        a group that only root can have made; and then what users' files say, of their own processes."""
+        a group that only root can have made; then what users' files say, of their own processes; and then the name of a
+        user's group, but in no unit of the system."""
         found = next(self.of_root.containers_of(process), None)
         if found is not None or is_stated:
             return found
-        named = named_container(process)
+        named = named_container(process, self.kernel)
         if named is not None and named.groups[0] in self.pods:
             named = None
         if named is not None and not OF_A_USER.match(named.groups[0]):
-            return named
+            if named.user is None:
+                return named
+            named = named if unit_of(process) is None else None
         return next((it for it in self.of_users.containers_of(process)
                      if _is_of_user(self.kernel, process.number, it.user)), named)
 
 
-def named_container(process: Process) -> Described | None:
-    """The container of a process that only the name of its control group tells."""
+def named_container(process: Process, kernel: Kernel) -> Described | None:
+    """The container of a process that only the name of its control group tells; of a user who owns the group or one
+    above it, and so may have named it."""
     group = _named_group(process)
     if group is None:
         return None
@@ -479,7 +483,8 @@ def named_container(process: Process) -> Described | None:
     named = IDENTIFIER.fullmatch(parts[-1])
     prefix, identifier = (named[1], named[2]) if named else (None, parts[-1])
     return Described(identifier.decode("utf-8", "surrogateescape"), ENGINES.get(prefix or b"", "unknown"), None,
-                     process.number, "", why="no file of a runtime describes it", groups=(group.path,))
+                     process.number, "", why="no file of a runtime describes it", groups=(group.path,),
+                     user=kernel.group_owner(group.hierarchy, group.path))
 
 
 def unit_of(process: Process) -> str | None:

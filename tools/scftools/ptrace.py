@@ -172,6 +172,29 @@ class Kernel:
                 found.append(OCTAL.sub(lambda it: bytes([int(it[1], 8)]), fields.split(b" ")[3]))
         return found
 
+    def group_owner(self, hierarchy: str, path: bytes) -> int | None:
+        """The first user beside root who owns a control group of a hierarchy, or one above it; None if root owns all,
+        or the hierarchy isn't mounted here."""
+        for line in contents("/proc/self/mountinfo").split(b"\n"):
+            fields, _, source = line.partition(b" - ")
+            kind, _, options = source.partition(b" ")
+            if kind != (b"cgroup" if hierarchy else b"cgroup2") or fields.count(b" ") < 5:
+                continue
+            if hierarchy and hierarchy.encode() not in options.rpartition(b" ")[2].split(b","):
+                continue
+            root, place = (OCTAL.sub(lambda it: bytes([int(it[1], 8)]), it) for it in fields.split(b" ")[3:5])
+            if root != b"/" and path != root and not path.startswith(root + b"/"):
+                continue
+            for part in path[len(root) if root != b"/" else 0:].strip(b"/").split(b"/"):
+                place = place + b"/" + part
+                try:
+                    user = os.stat(place).st_uid
+                except OSError:
+                    break
+                if user != 0:
+                    return user
+        return None
+
     def is_root_the_first(self) -> bool:
         """Whether the control group `/` is the root of its hierarchy, and not that of a cgroup namespace alone."""
         try:

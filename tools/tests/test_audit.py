@@ -377,6 +377,18 @@ class Users(Audited, OwnMachine):
         self.assertEqual(ids["runc"], IDENTIFIER)
         self.assertTrue(ids["podman"].startswith(f"{IDENTIFIER} of /{self.group}/mine/libpod-"), ids)
 
+    def test_a_name_of_a_group_of_a_user(self):
+        """A container that only such a name tells is said to be of the user who could have made the group."""
+        if not os.path.ismount("/sys/fs/cgroup/pids"):
+            self.skipTest("there are no control groups of version 1 here")
+        group = f"/sys/fs/cgroup/pids/{self.group}/given/libpod-{IDENTIFIER}.scope"
+        os.makedirs(group)
+        os.chown(os.path.dirname(group), self.USER, self.USER)
+        number = self.process("x")
+        self.assertEqual(self.on("sh", "-c", f"echo {number} >{group}/cgroup.procs")[0], 0)
+        (row,) = self.audit()["rows"]
+        self.assertEqual((row["id"], row["user"], row["verdict"]), (IDENTIFIER, self.USER, "not known"))
+
     def test_processes_of_others(self):
         """A user's file that names a process of root, as the first one of all, a pipe in place of a file, and a
         link."""
@@ -759,6 +771,8 @@ class Belonging(Case):
                 found = container_files.unit_of(process(groups={hierarchy: path.encode()}))
                 self.assertEqual(found, expected, path)
 
+    kernel = mock.Mock(group_owner=lambda *_: None)
+
     def test_containers_that_only_a_name_tells(self):
         for path, engine, name in ((f"/machine.slice/libpod-{IDENTIFIER}.scope/container", "podman", IDENTIFIER),
                                    (f"/docker/{IDENTIFIER}", "unknown", IDENTIFIER),
@@ -768,11 +782,11 @@ class Belonging(Case):
                                    ("/system.slice/runc-box.scope", "runc", "box"),
                                    ("/lxc.payload.box/init.scope", "LXC", "box"),
                                    ("/machine.slice/machine-box.scope/payload", "systemd-nspawn", "box")):
-            found = container_files.named_container(process(groups={"": path.encode()}))
+            found = container_files.named_container(process(groups={"": path.encode()}), self.kernel)
             self.assertEqual((found.engine, found.identifier), (engine, name), path)
         for path in ("/system.slice/x.service", f"/machine.slice/libpod-conmon-{IDENTIFIER}.scope",
                      f"/system.slice/crio-conmon-{IDENTIFIER}.scope"):
-            self.assertIsNone(container_files.named_container(process(groups={"": path.encode()})), path)
+            self.assertIsNone(container_files.named_container(process(groups={"": path.encode()}), self.kernel), path)
 
 
 class Descriptions(Case):
@@ -781,11 +795,13 @@ class Descriptions(Case):
     USER = 12345
     OWN = f"/user.slice/user-{USER}.slice/user@{USER}.service/user.slice/libpod-{IDENTIFIER}.scope"
 
-    def belongs(self, path, *described, is_stated=False, number=7, other=(8, "/"), user=USER, real=None, **settings):
+    def belongs(self, path, *described, is_stated=False, number=7, other=(8, "/"), user=USER, real=None, owner=None,
+                **settings):
         """The name of the container of a process in this group, beside another process of the user's; descriptions are
         of a name, a first process and a user, and may state a group."""
         kernel = mock.Mock()
         kernel.groups_of.side_effect = lambda _: {"": b"/init.scope"}
+        kernel.group_owner.side_effect = lambda *_: owner
         kernel.status_of.side_effect = lambda it: {
             "Uid": f"{every[it].user if real is None else real}\t{every[it].user}\t0\t0"}
         every = {number: process(number, groups={"": path.encode()}, user=user, **settings),
@@ -821,6 +837,14 @@ class Descriptions(Case):
         self.assertEqual(self.belongs(self.OWN, ("user", 7, self.USER)), "user")
         self.assertEqual(self.belongs(self.OWN, ("user", 7, self.USER), user=1), IDENTIFIER)
         self.assertEqual(self.belongs(self.OWN), IDENTIFIER)
+
+    def test_a_group_that_a_user_made(self):
+        """Outside of users' slices, where root gave the user a group: it takes no process from a unit of the system."""
+        name = f"libpod-{IDENTIFIER}.scope"
+        self.assertEqual(self.belongs(f"/mine/{name}", owner=self.USER), IDENTIFIER)
+        self.assertEqual(self.belongs(f"/mine/{name}", ("user", 7, self.USER), owner=self.USER), "user")
+        self.assertIsNone(self.belongs(f"/system.slice/x.service/{name}", owner=self.USER))
+        self.assertEqual(self.belongs(f"/system.slice/x.service/{name}"), IDENTIFIER)
 
     def test_a_unit_that_states_something(self):
         """Its processes are the unit's, whatever users say, and whatever their groups are called; root's containers in
