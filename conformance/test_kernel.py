@@ -20,12 +20,12 @@ import kernel_child  # noqa: E402
 import kernel_exceptions  # noqa: E402
 import kernel_profiles  # noqa: E402
 import kernel_programs as programs  # noqa: E402
-from common import ALLOW, Case, insn, jeq, load, ret, taken  # noqa: E402
 from kernel_child import Setting  # noqa: E402
 from scftools.answers import DENIED, X86_64, Answer  # noqa: E402
 from scftools.calls import Call  # noqa: E402
 from scftools.values import replace  # noqa: E402
-from stand_in import OF_ANSWERS, OF_CHECKER, StandIn  # noqa: E402
+from support.common import ALLOW, Case, insn, jeq, load, ret, taken  # noqa: E402
+from support.stand_in import OF_ANSWERS, OF_CHECKER, StandIn  # noqa: E402
 
 PROGRAM = os.path.join(HERE, "kernel")
 # linux/prctl.h, linux/seccomp.h

@@ -1,8 +1,8 @@
 """What `run`, `check`, `decide`, `ask`, `dis` and `asm` answer: filters and bundles as their bytes and as texts, and
 each option of a call."""
-from common import part
-from on_parts import (ALLOW, ALLOW_ALL, ARCH_GATE, CLONE, CLONE_TABLE, READ_WRITE_TABLE, OnProgram, a_filter, a_profile,
-                      a_table, assembled, bundle, long_filter, ran)
+from support.common import part
+from support.on_parts import (ALLOW, ALLOW_ALL, ARCH_GATE, CLONE, CLONE_TABLE, READ_WRITE_TABLE, OnProgram, a_filter,
+                              a_profile, a_table, assembled, bundle, long_filter, ran)
 
 # The bytes of ARCH_GATE (Linux uapi filter.h: code, jt, jf and k, each from its low byte on).
 GATE = (b"\x20\0\0\0\x04\0\0\0"

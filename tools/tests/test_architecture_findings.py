@@ -5,9 +5,9 @@ import random
 import sys
 import unittest
 
-from common import I386, TOP, Case
-from seccomp_library import NEEDED, Library, answer_of
-from stand_in import StandIn, unpacked, words_of
+from support.common import I386, TOP, Case
+from support.seccomp_library import NEEDED, Library, answer_of
+from support.stand_in import StandIn, unpacked, words_of
 
 sys.path.append(os.path.join(TOP, "tools"))
 

@@ -5,7 +5,7 @@ import re
 import sys
 import unittest
 
-from common import ALLOW, EPERM, I386, TOP, X86_64, Case, jeq, load, ret
+from support.common import ALLOW, EPERM, I386, TOP, X86_64, Case, jeq, load, ret
 
 sys.path.append(os.path.join(TOP, "tools"))
 

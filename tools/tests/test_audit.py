@@ -9,9 +9,9 @@ import time
 import unittest
 from unittest import mock
 
-from common import ALLOW, EPERM, TOP, Case, filter_of, profile_of, ret, tool
-from confined import processes
-from own_machine import OwnMachine, Systemd
+from support.common import ALLOW, EPERM, TOP, Case, filter_of, profile_of, ret, tool
+from support.confined import processes
+from support.own_machine import OwnMachine, Systemd
 from scftools import audit, audit_output, container_files, machine, output, tables
 from scftools.values import replace
 

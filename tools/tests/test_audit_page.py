@@ -8,7 +8,7 @@ import shutil
 import subprocess
 import unittest
 
-from common import Case, filter_of, profile_of
+from support.common import Case, filter_of, profile_of
 from test_audit import process
 from scftools import audit, audit_page, compare, container_files, machine, processes, tables, verdicts
 

@@ -5,7 +5,7 @@ import shutil
 import signal
 import sys
 
-from common import TOP, Case, for_developers
+from support.common import TOP, Case, for_developers
 
 sys.path.append(os.path.join(TOP, "dev"))
 import sources  # noqa: E402

@@ -6,9 +6,10 @@ import os
 import random
 import sys
 
-from common import ALLOW, EPERM, KILL_PROCESS, SCF, TOP, X86_64, Case, filter_of, insn, jeq, jge, load, part, ret
-from confined import NEWEST, OLDEST, Confined, here
-from stand_in import StandIn
+from support.common import (ALLOW, EPERM, KILL_PROCESS, SCF, TOP, X86_64, Case, filter_of, insn, jeq, jge, load, part,
+                            ret)
+from support.confined import NEWEST, OLDEST, Confined, here
+from support.stand_in import StandIn
 
 sys.path.append(os.path.join(TOP, "tools"))
 

@@ -2,7 +2,7 @@
 import os
 import threading
 
-from common import Case
+from support.common import Case
 
 
 class Bundle(Case):

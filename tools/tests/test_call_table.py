@@ -6,7 +6,7 @@ import re
 import sys
 import unittest
 
-from common import I386, TABLE, TOP, Case, limited, part, tool
+from support.common import I386, TABLE, TOP, Case, limited, part, tool
 
 sys.path.append(os.path.join(TOP, "tools"))
 

@@ -2,9 +2,9 @@
 import itertools
 import re
 
-from common import TABLE, X86_64, part, taken
-from on_parts import (ALL, ALLOW, NATIVE, NO_TABLE, ONE_CALL, READ_WRITE_TABLE, X32, OnProgram, a_filter, a_profile,
-                      a_table, bundle, ran)
+from support.common import TABLE, X86_64, part, taken
+from support.on_parts import (ALL, ALLOW, NATIVE, NO_TABLE, ONE_CALL, READ_WRITE_TABLE, X32, OnProgram, a_filter,
+                              a_profile, a_table, bundle, ran)
 
 # The most seconds of a processor for all calls together: three are measured on a machine that does nothing else.
 MOST_SECONDS = 30

@@ -11,7 +11,7 @@ import time
 import unittest
 import unittest.mock
 
-from common import ALLOW, I386, KILL_PROCESS, PATIENCE, TOP, X86_64, Case, jeq, profile_of, ret
+from support.common import ALLOW, I386, KILL_PROCESS, PATIENCE, TOP, X86_64, Case, jeq, profile_of, ret
 
 sys.path.append(os.path.join(TOP, "tools"))
 
@@ -250,7 +250,7 @@ class Records(Causes):
 
     def test_a_process_that_runs(self):
         """--pid: its record in the kernel's log, and its own filters."""
-        from confined import WHY_NOT as no_filters, ended, started  # pylint: disable=import-outside-toplevel
+        from support.confined import WHY_NOT as no_filters, ended, started  # pylint: disable=import-outside-toplevel
 
         if no_filters or shutil.which("auditctl") and b"pid 0" not in subprocess.run(
                 ["auditctl", "-s"], stdout=subprocess.PIPE, check=False).stdout:

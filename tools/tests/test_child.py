@@ -7,7 +7,7 @@ import time
 import unittest
 from unittest import mock
 
-from common import TOP, Case, comes
+from support.common import TOP, Case, comes
 
 sys.path.insert(0, os.path.join(TOP, "tools"))
 from scftools import child, program  # noqa: E402 pylint: disable=wrong-import-position

@@ -9,8 +9,9 @@ import shutil
 import subprocess
 import sys
 
-from common import ALLOW, SCF, TABLE, TOP, Case, filter_of, for_developers, jeq, part, profile_of, ret, source_of
-from confined import OLDEST, Confined, here
+from support.common import (ALLOW, SCF, TABLE, TOP, Case, filter_of, for_developers, jeq, part, profile_of, ret,
+                            source_of)
+from support.confined import OLDEST, Confined, here
 
 sys.path.append(os.path.join(TOP, "tools"))
 

@@ -5,8 +5,8 @@ import re
 import shutil
 import unittest
 
-from common import (ALLOW, EPERM, I386, KILL_PROCESS, KILL_THREAD, SCF, TABLE, UNKNOWN_ZERO, X86_64, Case, filter_of,
-                    insn, jeq, jge, load, needs, part, profile_of, ret, tool)
+from support.common import (ALLOW, EPERM, I386, KILL_PROCESS, KILL_THREAD, SCF, TABLE, UNKNOWN_ZERO, X86_64, Case,
+                            filter_of, insn, jeq, jge, load, needs, part, profile_of, ret, tool)
 from scftools import tables
 
 READ, WRITE, EXIT_GROUP = 0, 1, 231

@@ -5,8 +5,8 @@ import random
 import sys
 import unittest
 
-from common import TABLE, TOP, Case, ret, tool
-from confined import ended, started
+from support.common import TABLE, TOP, Case, ret, tool
+from support.confined import ended, started
 from test_why import reading
 
 sys.path.append(os.path.join(TOP, "tools"))

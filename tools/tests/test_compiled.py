@@ -3,11 +3,11 @@ together."""
 import functools
 import struct
 
-from common import I386, X86_64, part
-from on_parts import (CLONE, CLONE_TABLE, DEFAULT_ALLOW, ONE_CALL, READ_TABLE, READ_WRITE_TABLE, X32, OnProgram,
-                      a_profile, a_table, bundle, ran)
-from worked import (EXTREMES, FAILS, KILLS, MADE, MOST, SOCKET_NOT_40, SOCKET_RULES, SOCKET_TABLE, WHOLE_CONFIG,
-                    allowing, effort, refusing)
+from support.common import I386, X86_64, part
+from support.on_parts import (CLONE, CLONE_TABLE, DEFAULT_ALLOW, ONE_CALL, READ_TABLE, READ_WRITE_TABLE, X32, OnProgram,
+                              a_profile, a_table, bundle, ran)
+from support.worked import (EXTREMES, FAILS, KILLS, MADE, MOST, SOCKET_NOT_40, SOCKET_RULES, SOCKET_TABLE, WHOLE_CONFIG,
+                            allowing, effort, refusing)
 
 BIT_32, LAST = 1 << 32, X32 - 1
 # The most instructions that a conditional jump passes.

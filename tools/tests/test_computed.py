@@ -2,9 +2,9 @@
 what it says of stacks with one whose answer is computed from two words."""
 import json
 
-from common import SCF, Case, part
-from on_parts import ALL, ALLOW, NO_TABLE, READ_WRITE_TABLE, OnProgram, a_profile, a_table, behind_gate, bundle
-from worked import ALL_BUT_TWO, MADE, MOST, WITHOUT_READ
+from support.common import SCF, Case, part
+from support.on_parts import ALL, ALLOW, NO_TABLE, READ_WRITE_TABLE, OnProgram, a_profile, a_table, behind_gate, bundle
+from support.worked import ALL_BUT_TWO, MADE, MOST, WITHOUT_READ
 
 # The gate: calls of x86-64 with a number below 0x40000000 go on, with the number in the accumulator.
 GATE = "ld [4]; jeq #0xc000003e, 1, 0; ret #0x80000000; ld [0]; jge #0x40000000, 0, 1; ret #0x80000000;"

@@ -5,7 +5,7 @@ import os
 import unittest
 from unittest import mock
 
-from confined import FakeKernel, here
+from support.confined import FakeKernel, here
 from test_filters_of import MOUNT, Confined, comments, refuses, refusing
 from scftools import verify
 

@@ -1,8 +1,8 @@
 """Which rules of a profile conflict: those that some call meets both, and that answer it differently."""
 import json
 
-from on_parts import OnProgram, a_profile, a_table, bundle, ran
-from worked import MADE, MOST, SOCKET_RULES, SOCKET_TABLE
+from support.on_parts import OnProgram, a_profile, a_table, bundle, ran
+from support.worked import MADE, MOST, SOCKET_RULES, SOCKET_TABLE
 
 # 2^32, which is past each low half.
 BIT_32 = 1 << 32

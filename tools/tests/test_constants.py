@@ -11,7 +11,7 @@ import socket
 import sys
 import unittest
 
-from common import ALLOW, EPERM, I386, TABLE, TOP, X86_64, Case, for_developers, insn, jeq, load, ret
+from support.common import ALLOW, EPERM, I386, TABLE, TOP, X86_64, Case, for_developers, insn, jeq, load, ret
 
 sys.path.append(os.path.join(TOP, "tools"))
 

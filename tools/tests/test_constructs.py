@@ -2,7 +2,7 @@
 import random
 import unittest
 
-import constructs
+from support import constructs
 
 PAIRS, SEED = 16, 30
 

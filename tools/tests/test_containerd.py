@@ -4,8 +4,8 @@ import os
 import shutil
 import unittest
 
-from common import tool
-from own_machine import OwnMachine
+from support.common import tool
+from support.own_machine import OwnMachine
 from test_audit import STATED, STRICTER, Audited
 
 # The plugins that need what a machine of its own lacks.

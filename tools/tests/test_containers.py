@@ -3,8 +3,8 @@ import sys
 import unittest
 import unittest.mock
 
-from common import Case
-from confined import FakeKernel, processes, ptrace
+from support.common import Case
+from support.confined import FakeKernel, processes, ptrace
 from scftools import containers
 
 IDENTIFIER = "0123456789abcdef" * 4

@@ -7,8 +7,8 @@ import shutil
 import subprocess
 import unittest
 
-from common import (ALLOW, PATIENCE, SCF, TABLE, TOP, Case, filter_of, for_developers, insn, jeq, load, part, profile_of,
-                    ret, source_of)
+from support.common import (ALLOW, PATIENCE, SCF, TABLE, TOP, Case, filter_of, for_developers, insn, jeq, load, part,
+                            profile_of, ret, source_of)
 from test_texts import CODES
 
 PROGRAM = os.path.join(TOP, "crates", "scf", "out", "scf")

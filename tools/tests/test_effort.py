@@ -3,8 +3,8 @@ import json
 import os
 import sys
 
-from common import (ALLOW, EPERM, KILL_PROCESS, TABLE, TOP, X86_64, Case, filter_of, insn, jeq, jge, limited, load,
-                    part, profile_of, ret, taken)
+from support.common import (ALLOW, EPERM, KILL_PROCESS, TABLE, TOP, X86_64, Case, filter_of, insn, jeq, jge, limited,
+                            load, part, profile_of, ret, taken)
 
 sys.path.append(os.path.join(TOP, "tools"))
 

@@ -1,12 +1,12 @@
 """Steps of a comparison: filters with more paths than can be counted, and long ones that aren't plain, decided within
 the limit that stands where none is given."""
-from common import X86_64
-from on_parts import (ALL, ALLOW, ARCH_GATE, CLONE, CLONE_BY_AND, CLONE_BY_FEWER_BITS, CLONE_BY_JSET, CLONE_TABLE,
-                      DEFAULT_ALLOW, NATIVE, NO_TABLE, ONE_CALL, READ_TABLE, READ_WRITE_TABLE, a_filter, a_profile,
-                      a_table, assembled, behind_gate, bundle, ran)
-from on_stacks import DIFFERS, SAME, OnStacks
-from worked import (EXTREMES, FAILS, MADE, MOST, SOCKET_RULES, SOCKET_TABLE, allowing, effort, size_of_paths,
-                    spread)
+from support.common import X86_64
+from support.on_parts import (ALL, ALLOW, ARCH_GATE, CLONE, CLONE_BY_AND, CLONE_BY_FEWER_BITS, CLONE_BY_JSET,
+                              CLONE_TABLE, DEFAULT_ALLOW, NATIVE, NO_TABLE, ONE_CALL, READ_TABLE, READ_WRITE_TABLE,
+                              a_filter, a_profile, a_table, assembled, behind_gate, bundle, ran)
+from support.on_stacks import DIFFERS, SAME, OnStacks
+from support.worked import (EXTREMES, FAILS, MADE, MOST, SOCKET_RULES, SOCKET_TABLE, allowing, effort, size_of_paths,
+                            spread)
 
 DEFAULT_LIMIT = 1000000
 # Filters and the sizes of their trees of paths, profiles with their tables and spreads.

@@ -5,8 +5,8 @@ import random
 import sys
 import unittest
 
-import engine_code
-from common import TOP, Case
+from support import engine_code
+from support.common import TOP, Case
 
 sys.path.append(os.path.join(TOP, "tools"))
 

@@ -4,7 +4,7 @@ import os
 import subprocess
 import unittest
 
-from common import PATIENCE, Case, limited, tool
+from support.common import PATIENCE, Case, limited, tool
 
 ALLOW, ERRNO = "SCMP_ACT_ALLOW", "SCMP_ACT_ERRNO"
 # What any of these runs may take: seconds of a processor, of which two are measured, and address space. What grows with

@@ -10,9 +10,9 @@ import sys
 import time
 import unittest
 
-from common import (ALLOW, EPERM, I386, KILL_PROCESS, PATIENCE, SCF, TOP, X86_64, comes, jeq, jge, load, module,
-                    profile_of, ret, tool)
-from confined import CHILD, NEWEST, OLDEST, OTHER, Confined, ended, here, processes, ptrace, status_of
+from support.common import (ALLOW, EPERM, I386, KILL_PROCESS, PATIENCE, SCF, TOP, X86_64, comes, jeq, jge, load, module,
+                            profile_of, ret, tool)
+from support.confined import CHILD, NEWEST, OLDEST, OTHER, Confined, ended, here, processes, ptrace, status_of
 from scftools import containers, filters
 
 filters_of = module("filters-of")

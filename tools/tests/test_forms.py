@@ -6,7 +6,7 @@ import subprocess
 import sys
 import unittest
 
-from common import ALLOW, EPERM, SCF, TOP, Case, filter_of, insn, jeq, load, part, profile_of, ret
+from support.common import ALLOW, EPERM, SCF, TOP, Case, filter_of, insn, jeq, load, part, profile_of, ret
 
 sys.path.append(os.path.join(TOP, "tools"))
 

@@ -5,7 +5,7 @@ import signal
 import subprocess
 import sys
 
-from common import PATIENCE, TOP, Case
+from support.common import PATIENCE, TOP, Case
 
 # Prints what it is told, and makes what the gate takes from it.
 RT = """#!/bin/sh

@@ -9,8 +9,8 @@ import subprocess
 import time
 import unittest
 
-from common import TOP, comes, tool
-from confined import here
+from support.common import TOP, comes, tool
+from support.confined import here
 from test_filters_of import ROOT, refuses
 from test_oci_hook import Hook, processes
 from test_processes import EXECUTE

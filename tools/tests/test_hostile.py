@@ -11,7 +11,7 @@ import subprocess
 import sys
 import tempfile
 
-from common import ALLOW, KILL_PROCESS, SCF, X86_64, Case, insn, jeq, jge, limited, load, part, ret
+from support.common import ALLOW, KILL_PROCESS, SCF, X86_64, Case, insn, jeq, jge, limited, load, part, ret
 
 LIMIT_OF_FILTER, LIMIT_OF_TEXT, LIMIT_OF_INPUT = 32768, 4194304, 16777216
 # Seconds of a processor: 3 are measured of a text of many labels in no order, and 0.9 of a million steps.

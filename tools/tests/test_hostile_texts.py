@@ -10,7 +10,7 @@ import subprocess
 import sys
 import unittest
 
-from common import ALLOW, PATIENCE, SCF, TOP, Case, limited, profile_of, ret, tool
+from support.common import ALLOW, PATIENCE, SCF, TOP, Case, limited, profile_of, ret, tool
 
 PROGRAM = "crates/scf/out/scf"
 # Seconds of a processor and megabytes that a tool and all that it runs may take.

@@ -8,7 +8,7 @@ import sys
 import tempfile
 import unittest
 
-from common import ALLOW, EPERM, PATIENCE, TABLE, Case, filter_of, jeq, limited, profile_of, ret, taken, tool
+from support.common import ALLOW, EPERM, PATIENCE, TABLE, Case, filter_of, jeq, limited, profile_of, ret, taken, tool
 
 # Of a tool that reads an endless input: seconds of a processor, and megabytes. A third of a second is measured on a
 # machine that does nothing else; most of it goes to the starts of processes, which may take fifty times as long on one

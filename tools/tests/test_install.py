@@ -7,7 +7,7 @@ import stat
 import subprocess
 import unittest
 
-from common import TOP, Case, filter_of, profile_of
+from support.common import TOP, Case, filter_of, profile_of
 
 TOOLS = sorted(name for name in os.listdir(os.path.join(TOP, "tools"))
                if os.path.isfile(os.path.join(TOP, "tools", name)))

@@ -7,7 +7,7 @@ import re
 import struct
 import subprocess
 
-from common import ALLOW, EPERM, KILL_PROCESS, SCF, X86_64, Case, insn, jeq, jge, load, part, ret
+from support.common import ALLOW, EPERM, KILL_PROCESS, SCF, X86_64, Case, insn, jeq, jge, load, part, ret
 
 MOST = 4096
 # MAX_INSNS_PER_PATH (kernel/seccomp.c), and what each older filter of a stack costs more.

@@ -2,7 +2,7 @@
 import os
 import unittest
 
-from common import TOP, Case
+from support.common import TOP, Case
 
 # (plain-profile starts resolve-profile)
 TOOLS = sorted(name for name in os.listdir(os.path.join(TOP, "tools"))

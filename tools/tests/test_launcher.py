@@ -2,7 +2,7 @@
 import os
 import shutil
 
-from common import TOP, Case
+from support.common import TOP, Case
 
 # Builds a program that prints the source and its words, runs it, and notes that it was asked.
 RT = """#!/bin/sh

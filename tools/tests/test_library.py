@@ -12,8 +12,9 @@ import sys
 import unittest
 from unittest import mock
 
-from common import (ALLOW, EPERM, I386, PATIENCE, TOP, X86_64, Case, filter_of, insn, jeq, load, part, profile_of, ret)
-from seccomp_library import NEEDED, Library
+from support.common import (ALLOW, EPERM, I386, PATIENCE, TOP, X86_64, Case, filter_of, insn, jeq, load, part,
+                            profile_of, ret)
+from support.seccomp_library import NEEDED, Library
 
 LIBRARY = os.path.join(TOP, "library")
 OUT = os.path.join(LIBRARY, "out")

@@ -1,8 +1,8 @@
 """Inputs at their limits, and one byte, one instruction or one rule past them; and profiles, numbers and names made to
 hurt."""
-from common import part
-from on_parts import (ALL, DEFAULT_ALLOW, NO_TABLE, ONE_CALL, READ_TABLE, OnProgram, a_profile, a_table, assembled,
-                      behind_gate, bundle, long_filter, ran)
+from support.common import part
+from support.on_parts import (ALL, DEFAULT_ALLOW, NO_TABLE, ONE_CALL, READ_TABLE, OnProgram, a_profile, a_table,
+                              assembled, behind_gate, bundle, long_filter, ran)
 
 INPUT, TEXT = 16777216, 4194304
 # Two tests of masks that overlap, of which the second is decided by the first.

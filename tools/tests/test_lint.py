@@ -7,7 +7,7 @@ import re
 import subprocess
 import sys
 
-from common import TABLE, TOP, Case, comes, part, profile_of, taken
+from support.common import TABLE, TOP, Case, comes, part, profile_of, taken
 from test_output import HOSTILE
 
 sys.path.append(os.path.join(TOP, "tools"))

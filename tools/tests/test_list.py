@@ -6,10 +6,10 @@ import shutil
 import subprocess
 import unittest
 
-from common import ALLOW, EPERM, I386, KILL_PROCESS, SCF, X86_64, Case, filter_of, insn, jeq, jge, load, ret
+from support.common import ALLOW, EPERM, I386, KILL_PROCESS, SCF, X86_64, Case, filter_of, insn, jeq, jge, load, ret
 from scftools import flow_graph, listing, tables
 from scftools.calls import Call
-from stand_in import StandIn
+from support.stand_in import StandIn
 
 # linux/audit.h
 AARCH64, ARM = 0xC00000B7, 0x40000028

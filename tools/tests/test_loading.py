@@ -1,9 +1,9 @@
 """Call tables and profiles as `ask` reads them: what is refused and by which fault, what a profile answers to calls and
 by which entry, and the calls that a table names."""
-from common import I386, X86_64, part
-from on_parts import (ALL, ALLOW, DEFAULT_ALLOW, ONE_CALL, READ_TABLE, X32, OnProgram, a_profile, a_table, behind_gate,
-                      bundle, ran)
-from worked import FAILS, KILLS, MADE, MOST, WHOLE_CONFIG
+from support.common import I386, X86_64, part
+from support.on_parts import (ALL, ALLOW, DEFAULT_ALLOW, ONE_CALL, READ_TABLE, X32, OnProgram, a_profile, a_table,
+                              behind_gate, bundle, ran)
+from support.worked import FAILS, KILLS, MADE, MOST, WHOLE_CONFIG
 
 BIT_32, LAST = 1 << 32, X32 - 1
 # Texts of tables, and their faults.

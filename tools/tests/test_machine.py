@@ -1,8 +1,8 @@
 """The machine, the checker and paths: what each code computes and tests, with how many steps, which lists are refused,
 and which instructions run on a call."""
-from common import I386, X86_64, insn
-from on_parts import ALLOW_ALL, X32, OnProgram, assembled, behind_gate
-from worked import FAILS, KILLS, MADE, printed
+from support.common import I386, X86_64, insn
+from support.on_parts import ALLOW_ALL, X32, OnProgram, assembled, behind_gate
+from support.worked import FAILS, KILLS, MADE, printed
 
 # The word of the call at byte 4i is i + 1.
 CALL = ["--nr", "1", "--arch", "2", "--ip", "0x400000003"]

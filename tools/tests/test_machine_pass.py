@@ -6,9 +6,9 @@ import time
 import unittest
 from unittest import mock
 
-from common import ALLOW, TOP, comes, filter_of, ret
-from confined import processes
-from own_machine import ROOT, OwnMachine
+from support.common import ALLOW, TOP, comes, filter_of, ret
+from support.confined import processes
+from support.own_machine import ROOT, OwnMachine
 from scftools import machine_pass
 
 # Prints what a pass found: the numbers of processes by the lengths of their filters, those that weren't read and why,

@@ -7,7 +7,7 @@ import re
 import sys
 import unittest
 
-from common import TOP
+from support.common import TOP
 
 sys.path.append(os.path.join(TOP, "tools"))
 

@@ -9,7 +9,7 @@ import subprocess
 import sys
 import unittest
 
-from common import TOP, Case, limited, profile_of, taken, tool
+from support.common import TOP, Case, limited, profile_of, taken, tool
 
 sys.path.append(os.path.join(TOP, "tools"))
 

@@ -2,7 +2,7 @@
 makes them; and filters that differ elsewhere, too."""
 import json
 
-from common import ALLOW, EPERM, KILL_PROCESS, X86_64, Case, filter_of, jeq, load, profile_of, ret, stub
+from support.common import ALLOW, EPERM, KILL_PROCESS, X86_64, Case, filter_of, jeq, load, profile_of, ret, stub
 
 SAID = "syscalls with numbers above all that the profile names differ, the first is"
 FATES = "it is neither more permissive nor stricter than the profile: only the answers differ"

@@ -10,8 +10,8 @@ import time
 import unittest
 from unittest import mock
 
-from common import ALLOW, KILL_PROCESS, PATIENCE, TOP, X86_64, comes, insn, jeq, jge, load, ret, tool
-from confined import Confined, FakeKernel, here, let_on, status_of
+from support.common import ALLOW, KILL_PROCESS, PATIENCE, TOP, X86_64, comes, insn, jeq, jge, load, ret, tool
+from support.confined import Confined, FakeKernel, here, let_on, status_of
 from test_filters_of import MOUNT, UMOUNT2, refuses, refusing
 
 sys.path.insert(0, os.path.join(TOP, "tools"))

@@ -5,7 +5,7 @@ import subprocess
 import sys
 import unittest
 
-from common import SCF, TABLE, TOP, X86_64, Case, filter_of, part, profile_of, tool
+from support.common import SCF, TABLE, TOP, X86_64, Case, filter_of, part, profile_of, tool
 
 sys.path.append(os.path.join(TOP, "tools"))
 

@@ -11,7 +11,7 @@ import time
 import unittest
 from unittest import mock
 
-from common import Case
+from support.common import Case
 from scftools import owned_files
 from scftools.owned_files import ANYONE, Absent, Unreadable
 

@@ -8,7 +8,7 @@ import sys
 import tarfile
 import unittest
 
-from common import ALLOW, TOP, Case, for_developers, profile_of, ret
+from support.common import ALLOW, TOP, Case, for_developers, profile_of, ret
 
 HAS_OBJECT = os.path.exists(os.path.join(TOP, "crates", "scf", "out", "scf.o"))
 

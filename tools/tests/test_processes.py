@@ -12,8 +12,8 @@ import time
 import unittest
 from unittest import mock
 
-from common import ALLOW, PATIENCE, Case, comes, ret
-from confined import NEWEST, OLDEST, OTHER, Confined, FakeKernel, here, processes, ptrace, status_of
+from support.common import ALLOW, PATIENCE, Case, comes, ret
+from support.confined import NEWEST, OLDEST, OTHER, Confined, FakeKernel, here, processes, ptrace, status_of
 from scftools import child as children
 from scftools import hold, verdicts, verify
 

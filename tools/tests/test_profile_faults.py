@@ -3,7 +3,7 @@ import os
 import sys
 import unittest
 
-from common import TOP, Case, filter_of, profile_of
+from support.common import TOP, Case, filter_of, profile_of
 
 sys.path.append(os.path.join(TOP, "tools"))
 

@@ -5,7 +5,7 @@ import subprocess
 import sys
 import unittest
 
-from common import TOP, Case, filter_of, profile_of, tool
+from support.common import TOP, Case, filter_of, profile_of, tool
 
 sys.path.append(os.path.join(TOP, "tools"))
 

@@ -6,10 +6,10 @@ import subprocess
 import sys
 from unittest import mock
 
-import several
-from common import ALLOW, EPERM, KILL_PROCESS, KILL_THREAD, TOP, X86_64, Case, insn, jeq, jge, load, ret, tool
-from seccomp_library import NEEDED, Library
-from stand_in import StandIn, unpacked
+from support import several
+from support.common import ALLOW, EPERM, KILL_PROCESS, KILL_THREAD, TOP, X86_64, Case, insn, jeq, jge, load, ret, tool
+from support.seccomp_library import NEEDED, Library
+from support.stand_in import StandIn, unpacked
 
 sys.path.append(os.path.join(TOP, "tools"))
 

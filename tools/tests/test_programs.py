@@ -6,8 +6,8 @@ import re
 import subprocess
 import sys
 
-from common import (ALLOW, EPERM, I386, KILL_PROCESS, SCF, TABLE, TOP, UNKNOWN_ZERO, X86_64, Case, filter_of, insn, jeq,
-                    jge, load, part, profile_of, ret, tool)
+from support.common import (ALLOW, EPERM, I386, KILL_PROCESS, SCF, TABLE, TOP, UNKNOWN_ZERO, X86_64, Case, filter_of,
+                            insn, jeq, jge, load, part, profile_of, ret, tool)
 
 sys.path.append(os.path.join(TOP, "tools"))
 

@@ -7,10 +7,10 @@ import re
 import sys
 from unittest import mock
 
-from common import (ALLOW, EPERM, I386, KILL_PROCESS, KILL_THREAD, SCF, TABLE, TOP, X86_64, Case, filter_of, insn, jeq,
-                    jge, load, needs, part, ret)
-from confined import Confined, here
-from stand_in import StandIn
+from support.common import (ALLOW, EPERM, I386, KILL_PROCESS, KILL_THREAD, SCF, TABLE, TOP, X86_64, Case, filter_of,
+                            insn, jeq, jge, load, needs, part, ret)
+from support.confined import Confined, here
+from support.stand_in import StandIn
 
 sys.path.append(os.path.join(TOP, "tools"))
 

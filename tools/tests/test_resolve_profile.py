@@ -2,7 +2,7 @@
 import json
 import os
 
-from common import SCF, TABLE, Case, part
+from support.common import SCF, TABLE, Case, part
 
 ALLOW, ERRNO = "SCMP_ACT_ALLOW", "SCMP_ACT_ERRNO"
 MAP = [{"architecture": "SCMP_ARCH_AARCH64", "subArchitectures": ["SCMP_ARCH_ARM"]},

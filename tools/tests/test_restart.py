@@ -10,9 +10,9 @@ import time
 import unittest
 from unittest import mock
 
-from common import (ALLOW, EPERM, I386, KILL_PROCESS, KILL_THREAD, PATIENCE, X86_64, Case, comes, jeq, load,
-                    profile_of, ret)
-from confined import USER_NOTIF, Confined, here, processes, ptrace
+from support.common import (ALLOW, EPERM, I386, KILL_PROCESS, KILL_THREAD, PATIENCE, X86_64, Case, comes, jeq, load,
+                            profile_of, ret)
+from support.confined import USER_NOTIF, Confined, here, processes, ptrace
 from scftools import client, hold, program, restart
 from scftools.calls import Call
 

@@ -2,8 +2,8 @@
 import random
 import unittest
 
-import constructs
-import rewrites
+from support import constructs
+from support import rewrites
 
 PAIRS, SEED = 12, 60
 # Of these some pairs need more splits than the default: the bits of a shifted word are split before the shift's count,

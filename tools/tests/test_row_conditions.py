@@ -6,9 +6,9 @@ import random
 import re
 import sys
 
-import several
-from common import ALLOW, EPERM, TOP, Case, jeq, jge, load, ret
-from stand_in import StandIn
+from support import several
+from support.common import ALLOW, EPERM, TOP, Case, jeq, jge, load, ret
+from support.stand_in import StandIn
 from test_profile_of import (AARCH64, ARM, FILES, HOLDS, NATIVE, OWN, TRAP, X32_NAME, X86, Drawn, jset, of_numbers,
                              of_records, rank_of, tests_of, where)
 

@@ -10,9 +10,9 @@ import tempfile
 import unittest
 from unittest import mock
 
-from common import ALLOW as ALLOWED
-from common import TABLE, TOP, Case, insn, jeq, load, part, ret, stub
-from confined import ended, started
+from support.common import ALLOW as ALLOWED
+from support.common import TABLE, TOP, Case, insn, jeq, load, part, ret, stub
+from support.confined import ended, started
 
 sys.path.append(os.path.join(TOP, "tools"))
 

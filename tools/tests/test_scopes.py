@@ -1,11 +1,11 @@
 """Stacks of filters against profiles: over all calls, the native ones and those of one number, and by each of the three
 relations. No comparison has more steps than its effort, and a call that is shown is asked again."""
-from on_parts import (ALLOW, ALLOW_ALL, ARCH_GATE, CLONE, CLONE_BY_AND, CLONE_TABLE, DEFAULT_ALLOW, NATIVE, ONE_CALL,
-                      READ_TABLE, READ_WRITE_TABLE, WITHOUT_WRITE, X32, a_filter, a_profile, a_table, assembled,
-                      behind_gate, bundle, ran)
-from on_stacks import DIFFERS, RELATIONS, SAME, OnStacks, naming
-from worked import (ALL_BUT_TWO, EXTREMES, FAILS, KILLS, MADE, SOCKET_NOT_40, SOCKET_TABLE, WITHOUT_READ, effort,
-                    printed)
+from support.on_parts import (ALLOW, ALLOW_ALL, ARCH_GATE, CLONE, CLONE_BY_AND, CLONE_TABLE, DEFAULT_ALLOW, NATIVE,
+                              ONE_CALL, READ_TABLE, READ_WRITE_TABLE, WITHOUT_WRITE, X32, a_filter, a_profile, a_table,
+                              assembled, behind_gate, bundle, ran)
+from support.on_stacks import DIFFERS, RELATIONS, SAME, OnStacks, naming
+from support.worked import (ALL_BUT_TWO, EXTREMES, FAILS, KILLS, MADE, SOCKET_NOT_40, SOCKET_TABLE, WITHOUT_READ,
+                            effort, printed)
 
 LAST = X32 - 1
 EVEN = a_filter("ld [0]; jeq #1, 0, 4; ld [16]; mul #6; jset #1, 0, 1; ret #0; ret #0x7fff0000")

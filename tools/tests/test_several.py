@@ -14,10 +14,10 @@ import sys
 import unittest
 from unittest import mock
 
-import several
-from common import TOP, Case, insn, jeq, jge, load, ret
-from seccomp_library import NEEDED, Conflict, Library
-from stand_in import StandIn, unpacked
+from support import several
+from support.common import TOP, Case, insn, jeq, jge, load, ret
+from support.seccomp_library import NEEDED, Conflict, Library
+from support.stand_in import StandIn, unpacked
 from test_library import OUT, RELATIONS, python_module
 
 sys.path.append(os.path.join(TOP, "tools"))

@@ -6,8 +6,8 @@ import stat
 import unittest
 from unittest import mock
 
-from common import KILL_PROCESS, TOP, Case, filter_of, profile_of, stub
-from confined import Confined, here
+from support.common import KILL_PROCESS, TOP, Case, filter_of, profile_of, stub
+from support.confined import Confined, here
 from test_filters_of import MOUNT, refuses, refusing
 from scftools import audit, client, compare, newer, program, stack_comparison, tables, verdicts
 from scftools.client import Run

@@ -4,8 +4,8 @@ import os
 import shutil
 import sys
 
-from common import ALLOW, EPERM, I386, TABLE, TOP, Case, filter_of, insn, jeq, load, profile_of, ret, stub
-from confined import Confined, here
+from support.common import ALLOW, EPERM, I386, TABLE, TOP, Case, filter_of, insn, jeq, load, profile_of, ret, stub
+from support.confined import Confined, here
 
 sys.path.append(os.path.join(TOP, "tools"))
 

@@ -3,8 +3,8 @@ filter answers each number as the rules say, within the search bound, and scf th
 import json
 import struct
 
-from common import ALLOW, EPERM, I386, KILL_PROCESS, SCF, X86_64, Case, part
-from stand_in import StandIn
+from support.common import ALLOW, EPERM, I386, KILL_PROCESS, SCF, X86_64, Case, part
+from support.stand_in import StandIn
 
 LOG, ERRNO_5, ERRNO_22 = 0x7FFC0000, 0x00050005, 0x00050016
 X32 = 0x40000000

@@ -16,10 +16,10 @@ import termios
 import unittest
 from unittest import mock
 
-from common import (ALLOW, EPERM, I386, KILL_PROCESS, KILL_THREAD, SCF, TABLE, TOP, UNKNOWN_ZERO, X86_64, Case,
-                    filter_of, insn, jeq, jge, load, ret, tool)
-from confined import NEWEST, OLDEST, Confined, here
-from stand_in import StandIn
+from support.common import (ALLOW, EPERM, I386, KILL_PROCESS, KILL_THREAD, SCF, TABLE, TOP, UNKNOWN_ZERO, X86_64, Case,
+                            filter_of, insn, jeq, jge, load, ret, tool)
+from support.confined import NEWEST, OLDEST, Confined, here
+from support.stand_in import StandIn
 from test_why import random_filter
 
 sys.path.append(os.path.join(TOP, "tools"))

@@ -1,8 +1,8 @@
 """The assembler's language: the line of an instruction of each code, what other texts spell, and faults of texts."""
 import struct
 
-from common import insn
-from on_parts import OnProgram, ran
+from support.common import insn
+from support.on_parts import OnProgram, ran
 
 # An instruction of each of the 41 codes (code, jt, jf and k), and its line.
 CODES = (

@@ -11,7 +11,7 @@ import sys
 import tempfile
 import unittest
 
-from common import TOP, Case, profile_of
+from support.common import TOP, Case, profile_of
 from test_runtimes import ALONE, BUSYBOX, config
 
 sys.path.append(os.path.join(TOP, "tools"))

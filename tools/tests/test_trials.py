@@ -1,7 +1,7 @@
 """The program of scf_trials on an input: a filter or a command, run many times. dev/fault-injection tries it without one."""
 import os
 
-from common import ALLOW, TOP, X86_64, Case, insn, jeq, load, ret
+from support.common import ALLOW, TOP, X86_64, Case, insn, jeq, load, ret
 
 TRIALS = os.path.join(TOP, "crates", "scf_trials", "out", "scf_trials")
 GATE = load(4) + jeq(X86_64, 0, 1) + ret(ALLOW) + ret(0)

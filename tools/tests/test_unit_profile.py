@@ -8,8 +8,8 @@ import re
 import shutil
 import unittest
 
-from common import SCF, TABLE, Case, part, tool
-from own_machine import Systemd
+from support.common import SCF, TABLE, Case, part, tool
+from support.own_machine import Systemd
 from scftools import unit_restrictions, units
 from test_audit import Audited
 

@@ -1,7 +1,8 @@
 """What `compare` and `compile` say of filters, profiles and tables: verdicts, differences by relations, refusals."""
-from common import X86_64
-from on_parts import (ALL, ALLOW, ARCH_GATE, CLONE, CLONE_BY_AND, CLONE_BY_FEWER_BITS, CLONE_BY_JSET, CLONE_TABLE,
-                      NATIVE, NO_TABLE, READ_TABLE, OnProgram, a_filter, a_profile, a_table, behind_gate, bundle, ran)
+from support.common import X86_64
+from support.on_parts import (ALL, ALLOW, ARCH_GATE, CLONE, CLONE_BY_AND, CLONE_BY_FEWER_BITS, CLONE_BY_JSET,
+                              CLONE_TABLE, NATIVE, NO_TABLE, READ_TABLE, OnProgram, a_filter, a_profile, a_table,
+                              behind_gate, bundle, ran)
 
 # Words on a bundle of parts, what is printed, and the status.
 PROFILES = (

@@ -9,9 +9,9 @@ import subprocess
 import sys
 import unittest
 
-from common import (ALLOW, EPERM, I386, KILL_PROCESS, SCF, TABLE, TOP, X86_64, Case, comes, filter_of, insn, jeq, load,
-                    part, profile_of, ret)
-from stand_in import StandIn
+from support.common import (ALLOW, EPERM, I386, KILL_PROCESS, SCF, TABLE, TOP, X86_64, Case, comes, filter_of, insn,
+                            jeq, load, part, profile_of, ret)
+from support.stand_in import StandIn
 
 sys.path.append(os.path.join(TOP, "tools"))
 

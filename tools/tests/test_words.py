@@ -1,6 +1,6 @@
 """Words that name no command to be run: the text of help, and of one fault of each kind of the command line, as clap
 writes them."""
-from on_parts import OnProgram, ran
+from support.on_parts import OnProgram, ran
 
 # Words, what is printed, and the status.
 WORDS = (

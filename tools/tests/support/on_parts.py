@@ -8,7 +8,7 @@ import re
 import subprocess
 import unittest
 
-from common import PATIENCE, SCF, TOP, part
+from .common import PATIENCE, SCF, TOP, part
 
 # The program itself, which is run many times; the launcher builds it where it isn't current.
 PROGRAM = os.path.join(TOP, "crates", "scf", "out", "scf")

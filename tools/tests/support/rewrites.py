@@ -1,7 +1,6 @@
-#!/usr/bin/env python3
 """Pairs of filters that compute the same in two ways, and what scf says of them beside each other.
 
-    tools/tests/rewrites.py [--pairs N] [--seed S]
+    cd tools/tests && python3 -m support.rewrites [--pairs N] [--seed S]
 
 Each filter tests one word or two of the record and allows or denies. In one half of the pairs both answer alike, in the
 other half a constant of one filter is changed. A second machine runs both on records whose words are the constants of
@@ -14,11 +13,11 @@ import re
 import sys
 from dataclasses import dataclass
 
-from common import ALLOW, EPERM, part
-from constructs import (ADD, AND, DIV, JA, JEQ, JGE, JGT, JSET, LD, LD_K, LD_M, LSH, MUL, NEG, OR, RET, RET_A, RSH, ST,
-                        SUB, TAX, WORD, XOR, Measured, Wrong, X, built, compared, odd, of_any_length, packed, placed,
-                        some_mask, with_changed_constant)
-from stand_in import StandIn
+from .common import ALLOW, EPERM, part
+from .constructs import (ADD, AND, DIV, JA, JEQ, JGE, JGT, JSET, LD, LD_K, LD_M, LSH, MUL, NEG, OR, RET, RET_A, RSH, ST,
+                         SUB, TAX, WORD, XOR, Measured, Wrong, X, built, compared, odd, of_any_length, packed, placed,
+                         some_mask, with_changed_constant)
+from .stand_in import StandIn
 
 ENDS = ["no", (RET, EPERM), "yes", (RET, ALLOW)]
 

@@ -1,7 +1,6 @@
-#!/usr/bin/env python3
 """Pairs of a filter and a profile, by what the filter does with a word before it tests it, and what scf says of them.
 
-    tools/tests/constructs.py [--pairs N] [--seed S]
+    cd tools/tests && python3 -m support.constructs [--pairs N] [--seed S]
 
 Each pair has one to three calls, one of which the profile allows by a condition that the filter tests by a construct.
 In one half of the pairs the filter does what the profile says, in the other half one of its constants is changed. A
@@ -20,8 +19,8 @@ import sys
 import tempfile
 from dataclasses import dataclass, field
 
-from common import ALLOW, EPERM, KILL_PROCESS, SCF, TOP, X86_64, insn, part
-from stand_in import StandIn
+from .common import ALLOW, EPERM, KILL_PROCESS, SCF, TOP, X86_64, insn, part
+from .stand_in import StandIn
 
 # The program itself, which is asked many times; `built` has the launcher build it where it isn't current.
 PROGRAM = os.path.join(TOP, "crates", "scf", "out", "scf")

@@ -11,7 +11,7 @@ import sys
 import time
 import unittest
 
-from common import ALLOW, EPERM, PATIENCE, TOP, Case, comes, jeq, load, ret
+from .common import ALLOW, EPERM, PATIENCE, TOP, Case, comes, jeq, load, ret
 
 sys.path[:0] = [os.path.join(TOP, "tools"), os.path.join(TOP, "conformance")]
 from kernel_child import (SECCOMP_IOCTL_NOTIF_RECV,  # noqa: E402 pylint: disable=wrong-import-position

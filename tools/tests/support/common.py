@@ -12,7 +12,7 @@ import tempfile
 import time
 import unittest
 
-TOP = os.path.dirname(os.path.dirname(os.path.dirname(os.path.abspath(__file__))))
+TOP = os.path.abspath(os.path.join(os.path.dirname(__file__), "..", "..", ".."))
 # (some tests read profiles a second way, as those of the kernel do)
 sys.path[:0] = [os.path.join(TOP, "tools"), os.path.join(TOP, "conformance")]
 SCF = os.path.join(TOP, "scf")

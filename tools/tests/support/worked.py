@@ -3,8 +3,8 @@ which is worked out by its formula and not by scf."""
 import json
 import math
 
-from on_parts import a_filter, behind_gate
-from stand_in import StandIn, unpacked
+from .on_parts import a_filter, behind_gate
+from .stand_in import StandIn, unpacked
 
 MOST = (1 << 64) - 1
 # Answers, as they are printed.

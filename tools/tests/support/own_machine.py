@@ -11,8 +11,8 @@ import tempfile
 import time
 import unittest
 
-from common import PATIENCE, Case, comes
-from confined import here
+from .common import PATIENCE, Case, comes
+from .confined import here
 
 BUSYBOX = shutil.which("busybox")
 ROOT = unittest.skipIf(os.getuid(), "only root makes namespaces")
