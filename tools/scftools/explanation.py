@@ -28,15 +28,12 @@ def _key(line: str) -> str:
 
 
 def _rows() -> dict[str, list[str]]:
-    """For each line in the page, by its words without numbers, the cells after it except the status."""
-    found: dict[str, list[str]] = {}
+    """For each line in the page, by its words without numbers, the two sentences that stand below it."""
+    rows: dict[str, list[str]] = {}
     with open(program.FAULTS, encoding="utf-8") as file:
-        for line in file:
-            if line.startswith("| `"):
-                cells = [cell.strip() for cell in line.strip().strip("|").split("|")]
-                for pattern in re.findall(r"`([^`]+)`", cells[0]):
-                    found[_key(pattern)] = [cell for cell in cells[1:] if not cell.isdigit()]
-    return found
+        for lines, *sentences in re.findall(r"^- (`.*)\n  (.*)\n  (.*)$", file.read(), re.M):
+            rows.update((_key(line), sentences) for line in re.findall(r"`([^`]+)`", lines))
+    return rows
 
 
 def what_a_row_says(line: str) -> list[str]:

@@ -44,18 +44,24 @@ def enums():
 
 
 def rows():
-    """The lines of docs/FAULTS.md: for each (source, kind) the names of its numbers, and its status."""
+    """The faults of docs/FAULTS.md: for each (source, kind) the names of its numbers, and its sentences."""
     found = {}
-    with open(os.path.join(TOP, "docs", "FAULTS.md"), encoding="utf-8") as file:
-        for line in file:
-            if line.startswith("| `fault "):
-                cells = [cell.strip() for cell in line.strip().strip("|").split("|")]
-                for pattern in re.findall(r"`([^`]+)`", cells[0]):
-                    words = re.sub(r"[\[\]]", "", pattern).split()
-                    if (words[1], words[2]) in found:
-                        raise AssertionError(f"two rows for {pattern}")
-                    found[words[1], words[2]] = ([word for word in words[3:] if word != "N"], int(cells[1]), cells[2:])
+    for row in re.split(r"^(?=- )", text_of("docs", "FAULTS.md"), flags=re.M)[1:]:
+        lines, *sentences = row.partition("\n\n")[0].rstrip().split("\n  ")
+        for pattern in re.findall(r"`(fault [^`]+)`", lines):
+            words = re.sub(r"[\[\]]", "", pattern).split()
+            if (words[1], words[2]) in found:
+                raise AssertionError(f"two rows for {pattern}")
+            found[words[1], words[2]] = ([word for word in words[3:] if word != "N"], sentences)
     return found
+
+
+def status_of(source, kind):
+    """The exit status of a fault, as the page says it."""
+    if source in ("input", "bundle") or kind in ("Read", "Truncated", "Memory") or \
+            kind == "TooLong" and source != "text":
+        return 3
+    return 2 if source in ("number", "command") else 1
 
 
 def options(command):
@@ -84,11 +90,10 @@ class Faults(Case):
             self.assertEqual(rows()[source, kind][0], fields, (source, kind))
 
     def test_each_row_says_when_and_what_to_do(self):
-        for key, (_, status, cells) in rows().items():
-            self.assertIn(status, (1, 2, 3), key)
-            self.assertEqual(len(cells), 2, key)
-            for cell in cells:
-                self.assertRegex(cell, r"^[A-Z`].*\.$", key)
+        for key, (_, sentences) in rows().items():
+            self.assertEqual(len(sentences), 2, key)
+            for sentence in sentences:
+                self.assertRegex(sentence, r"^[A-Z`].*\.$", key)
 
     def test_printed_lines_and_statuses_are_those_of_the_rows(self):
         """Made inputs that give each kind but Read, Memory and that of the largest input: line, status, sentence."""
@@ -182,8 +187,8 @@ class Faults(Case):
                 key = tuple(line.split()[1:3])
                 seen.add(key)
                 self.assertEqual(out.split("\n")[0], line)
-                self.assertEqual(status, rows()[key][1])
-                self.assertEqual(out.split("\n")[1:3], [f"# {cell}" for cell in rows()[key][2]])
+                self.assertEqual(status, status_of(*key))
+                self.assertEqual(out.split("\n")[1:3], [f"# {sentence}" for sentence in rows()[key][1]])
         unseen = {key for key in rows() if key not in seen and key[1] not in ("Memory", "Read") and key[0] != "number"}
         self.assertEqual(unseen, {("input", "TooLong")})
 

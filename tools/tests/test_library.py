@@ -55,7 +55,7 @@ def header_numbers(prefix):
 def fault_lines():
     """The faults of docs/FAULTS.md that the library may have: for a source and a kind, the names of the numbers."""
     sources = {name.lower() for name in header_numbers("SOURCE_")}
-    lines = " ".join(row.split("|")[1] for row in re.findall(r"^\| `fault .*$", read(TOP, "docs", "FAULTS.md"), re.M))
+    lines = " ".join(re.findall(r"^- (`fault .*)$", read(TOP, "docs", "FAULTS.md"), re.M))
     return {(source, kind): numbers.replace(" N", "").split() or (["entry"] if entry else [])
             for source, kind, numbers, entry in LINES.findall(lines) if source in sources}
 
