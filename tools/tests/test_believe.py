@@ -340,11 +340,12 @@ class TrustedBase(Case):
         for name in re.findall(r"`(\w+)`", " ".join(paragraphs)):
             self.assertIn(f"`{name}`", lists)
 
-    def test_each_public_call_stands_in_the_table_of_the_page_on_trust(self):
-        """By its own name or by that of its type, in the rows of its crate."""
+    def test_each_public_call_stands_in_the_list_of_the_page_on_trust(self):
+        """By its own name or by that of its type, in the list of its crate."""
         with open(os.path.join(TOP, "docs", "TRUST.md"), encoding="utf-8") as file:
-            table = file.read().partition("## Every public call")[2]
-        rows = dict(re.findall(r"^\| \*\*(\w+)\*\* \|(.*?)(?=^\| \*\*|\Z)", table, re.M | re.S))
+            lists = file.read().partition("## Every public call")[2]
+        rows = dict(re.findall(r"^### (\w+)\n(.*?)(?=^### |\Z)", lists, re.M | re.S))
+        self.assertGreater(len(rows), 9)
         repository = sources.Repository()
         for crate in rows:
             listed = set(re.findall(r"`(?:\w+::)*(\w+)`", rows[crate]))
