@@ -1,13 +1,15 @@
-"""Pairs of a filter and a profile, by what the filter does with a word before it tests it, and what scf says of them.
+"""Pairs of inputs whose filters compute before they test, and what scf says of them.
 
     cd tools/tests && python3 -m support.constructs [--pairs N] [--seed S]
 
-Each pair has one to three calls, one of which the profile allows by a condition that the filter tests by a construct.
-In one half of the pairs the filter does what the profile says, in the other half one of its constants is changed. A
-second machine runs the filter on calls whose words are the constants of both and their like, and a small reading of the
-condition says what the profile answers; so it is known of a pair where they differ. For each construct it is printed
-how many pairs of each kind scf leaves undecided, the most time of a processor that a pair takes, and the most memory
-(some 20 MB are those of Python before it runs the program). A wrong verdict ends it with status 1.
+A filter beside a profile: each pair has one to three calls, one of which the profile allows by a condition that the
+filter tests by a construct. A filter beside another: both compute the same, one by a rewrite of the other, of one word
+or two of the record, and allow or deny. In one half of the pairs both sides agree, in the other half a constant of a
+filter is changed. A second machine runs the filters on records whose words are the constants of both and their like,
+and a small reading of the condition says what the profile answers; so it is known of a pair where its sides differ. For
+each construct and rewrite it is printed how many pairs of each kind scf leaves undecided, the most time of a processor
+that a pair takes, and the most memory (some 20 MB are those of Python before it runs the program). A wrong verdict ends
+it with status 1.
 """
 import argparse
 import json
@@ -17,12 +19,12 @@ import re
 import subprocess
 import sys
 import tempfile
-from dataclasses import dataclass, field
+from dataclasses import dataclass, field, replace
 
 from .common import ALLOW, EPERM, KILL_PROCESS, SCF, TOP, X86_64, insn, part
 from .stand_in import StandIn
 
-# The program itself, which is asked many times; `built` has the launcher build it where it isn't current.
+# The program itself, which is asked many times; `build_program` has the launcher build it where there is none.
 PROGRAM = os.path.join(TOP, "crates", "scf", "out", "scf")
 LONG, WORD = (1 << 64) - 1, (1 << 32) - 1
 X32 = 0x40000000
@@ -37,7 +39,7 @@ NUMBER, ARCHITECTURE, ARGUMENTS = 0, 4, 16
 
 
 @dataclass
-class Asked:
+class Condition:
     """A condition on an argument as a profile has it, and instructions that test it: each is a code and a constant, a
     test has the labels that it goes to, too, and a jump has a label alone. They end at `yes` and `no`, or return; the
     argument's words stand at `low` and four bytes further on."""
@@ -64,25 +66,25 @@ def load_low(low):
 
 def masked(mask, value, low, *code):
     """The low word under a mask."""
-    return Asked("SCMP_CMP_MASKED_EQ", mask, value, load_low(low) + list(code))
+    return Condition("SCMP_CMP_MASKED_EQ", mask, value, load_low(low) + list(code))
 
 
 def equal(value, low, *code):
     """A number below 2^32, by its low word; the high word is tested before."""
-    return Asked("SCMP_CMP_EQ", value, code=[(LD, low + 4), (JEQ, 0, "next", "no"), "next", (LD, low), *code])
+    return Condition("SCMP_CMP_EQ", value, code=[(LD, low + 4), (JEQ, 0, "next", "no"), "next", (LD, low), *code])
 
 
 def least(value, low, *code):
     """At least a number below 2^32: a greater high word decides."""
-    return Asked("SCMP_CMP_GE", value, code=[(LD, low + 4), (JGT, 0, "yes", "next"), "next", (LD, low), *code])
+    return Condition("SCMP_CMP_GE", value, code=[(LD, low + 4), (JGT, 0, "yes", "next"), "next", (LD, low), *code])
 
 
 def most(value, low, *code):
-    return Asked("SCMP_CMP_LE", value, code=[(LD, low + 4), (JEQ, 0, "next", "no"), "next", (LD, low), *code])
+    return Condition("SCMP_CMP_LE", value, code=[(LD, low + 4), (JEQ, 0, "next", "no"), "next", (LD, low), *code])
 
 
-def is_equal(value):
-    return JEQ, value & WORD, "yes", "no"
+def is_equal(value, yes="yes", no="no"):
+    return JEQ, value & WORD, yes, no
 
 
 def some_mask(dice):
@@ -307,22 +309,22 @@ def by_joined_halves(dice, low):
 
 def by_joined_words(dice, low):
     value = dice.getrandbits(64)
-    return Asked("SCMP_CMP_EQ", value, code=[(LD, low + 4), (XOR, value >> 32), (TAX, 0), (LD, low),
-                                             (XOR, value & WORD), (OR | X, 0), is_equal(0)])
+    return Condition("SCMP_CMP_EQ", value, code=[(LD, low + 4), (XOR, value >> 32), (TAX, 0), (LD, low),
+                                                 (XOR, value & WORD), (OR | X, 0), is_equal(0)])
 
 
 def by_no_bit_of_both(dice, low):
     words = [low, low + 4] if dice.random() < 0.5 else [low + 4, low]
-    return Asked("SCMP_CMP_EQ", 0, code=[(LD, words[0]), (TAX, 0), (LD, words[1]), (OR | X, 0), is_equal(0)])
+    return Condition("SCMP_CMP_EQ", 0, code=[(LD, words[0]), (TAX, 0), (LD, words[1]), (OR | X, 0), is_equal(0)])
 
 
 def by_joined_words_under_masks(dice, low):
     high_mask, low_mask = some_mask(dice), some_mask(dice)
     high, value = value_in(dice, high_mask), value_in(dice, low_mask)
-    return Asked("SCMP_CMP_MASKED_EQ", high_mask << 32 | low_mask, high << 32 | value,
-                 [(LD, low + 4), (AND, high_mask), (XOR, high), (TAX, 0), (LD, low), (AND, low_mask), (XOR, value),
-                  (OR | X, 0), *dice.choice(([is_equal(0)], [(JSET, WORD, "no", "yes")], [(JGT, 0, "no", "yes")],
-                                             [(JGE, 1, "no", "yes")]))])
+    return Condition("SCMP_CMP_MASKED_EQ", high_mask << 32 | low_mask, high << 32 | value,
+                     [(LD, low + 4), (AND, high_mask), (XOR, high), (TAX, 0), (LD, low), (AND, low_mask), (XOR, value),
+                      (OR | X, 0), *dice.choice(([is_equal(0)], [(JSET, WORD, "no", "yes")], [(JGT, 0, "no", "yes")],
+                                                 [(JGE, 1, "no", "yes")]))])
 
 
 # Orders of a word under any mask
@@ -374,9 +376,9 @@ def by_order_behind_high_bits(dice, low):
 def by_order_of_low_bits(dice, low):
     """An order of the high bits, and where they are equal, of the low ones."""
     by, value = dice.randrange(1, 32), dice.getrandbits(32)
-    rest = (1 << by) - 1
+    low_bits = (1 << by) - 1
     return least(value, low, (RSH, by), (JGT, value >> by, "yes", "then"), "then", (JEQ, value >> by, "more", "no"),
-                 "more", (LD, low), (AND, rest), (JGE, value & rest, "yes", "no"))
+                 "more", (LD, low), (AND, low_bits), (JGE, value & low_bits, "yes", "no"))
 
 
 # Products and quotients by constants
@@ -445,13 +447,13 @@ def by_square(dice, low):
 
 def of_words(value, low, *code):
     """A number of 64 bits; the high word is tested, and in X."""
-    return Asked("SCMP_CMP_EQ", value, code=[(LD, low + 4), (JEQ, value >> 32, "next", "no"), "next", (TAX, 0),
-                                             (LD, low), *code])
+    return Condition("SCMP_CMP_EQ", value, code=[(LD, low + 4), (JEQ, value >> 32, "next", "no"), "next", (TAX, 0),
+                                                 (LD, low), *code])
 
 
 def least_of_words(value, low, *code):
-    return Asked("SCMP_CMP_GE", value, code=[(LD, low + 4), (JGT, value >> 32, "yes", "next"), "next",
-                                             (JEQ, value >> 32, "then", "no"), "then", (TAX, 0), (LD, low), *code])
+    return Condition("SCMP_CMP_GE", value, code=[(LD, low + 4), (JGT, value >> 32, "yes", "next"), "next",
+                                                 (JEQ, value >> 32, "then", "no"), "then", (TAX, 0), (LD, low), *code])
 
 
 def by_product_of_words(dice, low):
@@ -469,9 +471,9 @@ def by_shift_by_word(dice, low):
     by = dice.randrange(1, 31)
     code, mask = dice.choice(((LSH, WORD >> by), (RSH, WORD >> by << by)))
     value = value_in(dice, mask)
-    return Asked("SCMP_CMP_MASKED_EQ", WORD << 32 | mask, by << 32 | value,
-                 [(LD, low + 4), (JEQ, by, "next", "no"), "next", (TAX, 0), (LD, low), (code | X, 0),
-                  is_equal(value << by if code == LSH else value >> by)])
+    return Condition("SCMP_CMP_MASKED_EQ", WORD << 32 | mask, by << 32 | value,
+                     [(LD, low + 4), (JEQ, by, "next", "no"), "next", (TAX, 0), (LD, low), (code | X, 0),
+                      is_equal(value << by if code == LSH else value >> by)])
 
 
 def by_sum_of_words(dice, low):
@@ -519,45 +521,45 @@ def wide_mask(dice):
 
 def by_three_parts_joined(dice, low):
     masks, value = [wide_mask(dice) for _ in range(3)], dice.getrandbits(64)
-    high, rest = value >> 32, value & WORD
-    return Asked("SCMP_CMP_MASKED_EQ", masks[0] << 32 | masks[1] | masks[2],
-                 (high & masks[0]) << 32 | rest & (masks[1] | masks[2]),
-                 [(LD, low + 4), (AND, masks[0]), (XOR, high & masks[0]), (ST, 0),
-                  (LD, low), (AND, masks[1]), (XOR, rest & masks[1]), (ST, 1),
-                  (LD, low), (AND, masks[2]), (XOR, rest & masks[2]), (LDX_M, 1), (OR | X, 0), (LDX_M, 0), (OR | X, 0),
-                  is_zero(dice)])
+    high, value = value >> 32, value & WORD
+    return Condition("SCMP_CMP_MASKED_EQ", masks[0] << 32 | masks[1] | masks[2],
+                     (high & masks[0]) << 32 | value & (masks[1] | masks[2]),
+                     [(LD, low + 4), (AND, masks[0]), (XOR, high & masks[0]), (ST, 0),
+                      (LD, low), (AND, masks[1]), (XOR, value & masks[1]), (ST, 1),
+                      (LD, low), (AND, masks[2]), (XOR, value & masks[2]), (LDX_M, 1), (OR | X, 0), (LDX_M, 0),
+                      (OR | X, 0), is_zero(dice)])
 
 
 def by_and_of_words(dice, low):
     """All bits of a mask in each word."""
     high, mask = wide_mask(dice), wide_mask(dice)
-    return Asked("SCMP_CMP_MASKED_EQ", high << 32 | mask, high << 32 | mask,
-                 [(LD, low + 4), (OR, ~high & WORD), (TAX, 0), (LD, low), (OR, ~mask & WORD), (AND | X, 0),
-                  *dice.choice(([is_equal(WORD)], [(XOR, WORD), is_zero(dice)], [(JGE, WORD, "yes", "no")]))])
+    return Condition("SCMP_CMP_MASKED_EQ", high << 32 | mask, high << 32 | mask,
+                     [(LD, low + 4), (OR, ~high & WORD), (TAX, 0), (LD, low), (OR, ~mask & WORD), (AND | X, 0),
+                      *dice.choice(([is_equal(WORD)], [(XOR, WORD), is_zero(dice)], [(JGE, WORD, "yes", "no")]))])
 
 
 def by_words_side_by_side(dice, low):
     """Masks that have no bit in common."""
     mask = dice.randrange(1, WORD)
     high, value = wide_mask(dice) & ~mask, dice.getrandbits(32)
-    return Asked("SCMP_CMP_MASKED_EQ", high << 32 | mask, (value & high) << 32 | value & mask,
-                 [(LD, low + 4), (AND, high), (TAX, 0), (LD, low), (AND, mask),
-                  (dice.choice((OR, XOR, ADD)) | X, 0), is_equal(value & (high | mask))])
+    return Condition("SCMP_CMP_MASKED_EQ", high << 32 | mask, (value & high) << 32 | value & mask,
+                     [(LD, low + 4), (AND, high), (TAX, 0), (LD, low), (AND, mask),
+                      (dice.choice((OR, XOR, ADD)) | X, 0), is_equal(value & (high | mask))])
 
 
 def by_shifted_words_joined(dice, low):
     by, value = dice.randrange(1, 32), dice.getrandbits(32)
     mask = (1 << by) - 1
-    return Asked("SCMP_CMP_MASKED_EQ", (WORD >> by) << 32 | mask, (value >> by) << 32 | value & mask,
-                 [(LD, low + 4), (LSH, by), (TAX, 0), (LD, low), (AND, mask), (dice.choice((OR, XOR)) | X, 0),
-                  is_equal(value)])
+    return Condition("SCMP_CMP_MASKED_EQ", (WORD >> by) << 32 | mask, (value >> by) << 32 | value & mask,
+                     [(LD, low + 4), (LSH, by), (TAX, 0), (LD, low), (AND, mask), (dice.choice((OR, XOR)) | X, 0),
+                      is_equal(value)])
 
 
 def by_some_bit_of_both(dice, low):
     masks = [wide_mask(dice) for _ in range(3)]
-    return Asked("SCMP_CMP_MASKED_EQ", (masks[0] & masks[2]) << 32 | masks[1] & masks[2], 0,
-                 [(LD, low + 4), (AND, masks[0]), (TAX, 0), (LD, low), (AND, masks[1]), (OR | X, 0),
-                  (JSET, masks[2], "no", "yes")])
+    return Condition("SCMP_CMP_MASKED_EQ", (masks[0] & masks[2]) << 32 | masks[1] & masks[2], 0,
+                     [(LD, low + 4), (AND, masks[0]), (TAX, 0), (LD, low), (AND, masks[1]), (OR | X, 0),
+                      (JSET, masks[2], "no", "yes")])
 
 
 # Scratch words that are stored on both ways of a branch
@@ -569,9 +571,9 @@ def stored(test, if_so, otherwise):
 
 def by_cleared_bit(dice, low):
     bit, value = 1 << dice.randrange(32), dice.getrandbits(32)
-    rest = WORD ^ bit
-    return masked(rest, value & rest, low, *stored((JSET, bit, "set", "clear"), [(SUB, bit)], []),
-                  is_equal(value & rest))
+    mask = WORD ^ bit
+    return masked(mask, value & mask, low, *stored((JSET, bit, "set", "clear"), [(SUB, bit)], []),
+                  is_equal(value & mask))
 
 
 def by_changed_way(dice, low):
@@ -602,20 +604,20 @@ def by_flags(dice, low):
 
 # Answers that are computed
 
-def returned(dice):
-    """The answer, of a bit that is set if the condition holds."""
+def answer_of_bit(dice):
+    """Returns the answer that belongs to a bit, which is set if the condition holds."""
     return dice.choice(([(MUL, ALLOW - EPERM), (ADD, EPERM), (RET_A, 0)],
                         [(NEG, 0), (AND, ALLOW ^ EPERM), (XOR, EPERM), (RET_A, 0)]))
 
 
 def by_returned_bit(dice, low):
     bit = dice.randrange(32)
-    return masked(1 << bit, 1 << bit, low, (RSH, bit), (AND, 1), *returned(dice))
+    return masked(1 << bit, 1 << bit, low, (RSH, bit), (AND, 1), *answer_of_bit(dice))
 
 
 def by_returned_quotient(dice, low):
     divisor = dice.randrange((1 << 31) + 1, 1 << 32)
-    return least(divisor, low, (DIV, divisor), *returned(dice))
+    return least(divisor, low, (DIV, divisor), *answer_of_bit(dice))
 
 
 def by_returned_scratch_word(dice, low):
@@ -626,7 +628,7 @@ def by_returned_scratch_word(dice, low):
 def by_returned_equality(dice, low):
     """A number OR its negation has its highest bit set if it isn't 0."""
     value = dice.getrandbits(32)
-    return equal(value, low, (XOR, value), (TAX, 0), (NEG, 0), (OR | X, 0), (RSH, 31), (XOR, 1), *returned(dice))
+    return equal(value, low, (XOR, value), (TAX, 0), (NEG, 0), (OR | X, 0), (RSH, 31), (XOR, 1), *answer_of_bit(dice))
 
 
 # What stands for each construct.
@@ -663,17 +665,220 @@ CONSTRUCTS = {
 }
 
 
+ENDS = ["no", (RET, EPERM), "yes", (RET, ALLOW)]
+
+
+def is_least(value):
+    return JGE, value & WORD, "yes", "no"
+
+
+# Rewrites: each returns the instructions of both filters, which test the record's words at two offsets
+
+def sum_turned(dice, word, other_word):
+    """Of bytes."""
+    value = dice.randrange(0x1FF)
+    made = [[(LD, first), (AND, 0xFF), (TAX, 0), (LD, second), (AND, 0xFF), (ADD | X, 0), is_equal(value)]
+            for first, second in ((word, other_word), (other_word, word))]
+    return made
+
+
+def product_turned(dice, word, other_word):
+    """Of four bits each."""
+    value = dice.randrange(16) * dice.randrange(16)
+    return [[(LD, first), (AND, 0xF), (TAX, 0), (LD, second), (AND, 0xF), (MUL | X, 0), is_equal(value)]
+            for first, second in ((word, other_word), (other_word, word))]
+
+
+def tests_turned(dice, word, other_word):
+    """A sum and a product of which both are tested."""
+    by, factor, value = dice.getrandbits(32), odd(dice), dice.getrandbits(32)
+    tests = ([(LD, word), (ADD, by), is_equal(value, "then", "no"), "then"],
+             [(LD, other_word), (MUL, factor), is_equal(value, "more", "no"), "more"])
+    end = [(LD_K, 0), is_equal(0)]
+    return [*tests[0], *tests[1], *end], [*tests[1], *tests[0], *end]
+
+
+def mask_split(dice, word, other_word):
+    """A mask in two parts, which may overlap, of which both are tested."""
+    mask, part_of_it = some_mask(dice), dice.getrandbits(32)
+    value = dice.getrandbits(32) & mask
+    first, second = mask & part_of_it, mask & ~part_of_it | mask & dice.getrandbits(32)
+    return ([(LD, word), (AND, mask), is_equal(value)],
+            [(LD, word), (AND, first), is_equal(value & first, "then", "no"), "then", (LD, word), (AND, second),
+             is_equal(value & second)])
+
+
+def masks_joined(dice, word, other_word):
+    masks = [some_mask(dice), some_mask(dice)]
+    value = dice.getrandbits(32) & (masks[0] | masks[1])
+    return ([(LD, word), (AND, masks[0]), (TAX, 0), (LD, word), (AND, masks[1]), (OR | X, 0), is_equal(value)],
+            [(LD, word), (AND, masks[0] | masks[1]), is_equal(value)])
+
+
+def product_by_shifts(dice, word, other_word):
+    """A factor of two bits or three as a sum, or a difference, of shifted words."""
+    shifts = sorted(dice.sample(range(12), dice.choice((2, 3))))
+    code, test = dice.choice((ADD, SUB)), dice.choice((is_equal, is_least) if shifts[-1] < 5 else (is_equal,))
+    factor, made = 1 << shifts[-1], [(LD, word), (LSH, shifts[-1])]
+    for by in shifts[:-1]:
+        factor += (1 << by) * (1 if code == ADD else -1)
+        made += [(ST, 1), (LD, word), (LSH, by), (TAX, 0), (LD_M, 1), (code | X, 0)]
+    value = dice.getrandbits(32) * factor if test is is_equal else dice.getrandbits(32)
+    return [*made, test(value)], [(LD, word), (MUL, factor), test(value)]
+
+
+def quotient_by_orders(dice, word, other_word):
+    divisor = of_any_length(dice)
+    value = dice.randint(0, WORD // divisor)
+    return ([(LD, word), (DIV, divisor), is_equal(value)],
+            [(LD, word), (JGE, value * divisor, "then", "no"), "then",
+             (JGT, min(value * divisor + divisor - 1, WORD), "no", "yes")])
+
+
+def remainder_by_orders(dice, word, other_word):
+    """Of a byte."""
+    divisor = dice.randrange(1, 256)
+    value = dice.randrange(divisor)
+    tests = [step for at in range(value, 256, divisor) for step in ((JEQ, at, "yes", f"t{at}"), f"t{at}")]
+    return ([(LD, word), (AND, 0xFF), (ST, 0), (DIV, divisor), (MUL, divisor), (TAX, 0), (LD_M, 0), (SUB | X, 0),
+             is_equal(value)], [(LD, word), (AND, 0xFF), *tests, is_equal(value)])
+
+
+def difference_by_sum(dice, word, other_word):
+    """An order of a difference, and of a sum or a negation."""
+    by, value = dice.getrandbits(32), dice.getrandbits(32)
+    return [(LD, word), (SUB, by), is_least(value)], [(LD, word), *dice.choice((
+        [(ADD, -by & WORD)], [(TAX, 0), (LD_K, by), (SUB | X, 0), (NEG, 0)],
+        [(XOR, WORD), (ADD, by), (XOR, WORD)])), is_least(value)]
+
+
+def negation_by_complement(dice, word, other_word):
+    value, test = dice.getrandbits(32), dice.choice((is_equal, is_least))
+    return [(LD, word), (NEG, 0), test(value)], [(LD, word), (XOR, WORD), (ADD, 1), test(value)]
+
+
+def sum_under_mask(dice, word, other_word):
+    """Low bits of a sum, of the low bits."""
+    mask, by = WORD >> dice.randrange(1, 32), dice.getrandbits(32)
+    value = dice.getrandbits(32) & mask
+    return ([(LD, word), (ADD, by), (AND, mask), is_equal(value)],
+            [(LD, word), (AND, mask), (ADD, by & mask), (AND, mask), is_equal(value)])
+
+
+def xor_by_masks(dice, word, other_word):
+    """The bits that word of two words has, of bytes."""
+    mask = 0xFF << dice.randrange(25)
+    value = dice.getrandbits(32) & mask
+    return ([(LD, word), (TAX, 0), (LD, other_word), (XOR | X, 0), (AND, mask), is_equal(value)],
+            [(LD, word), (AND, mask), (TAX, 0), (LD, other_word), (AND, mask), (OR | X, 0), (ST, 5), (LD, word),
+             (TAX, 0), (LD, other_word), (AND | X, 0), (AND, mask), (TAX, 0), (LD_M, 5), (SUB | X, 0), is_equal(value)])
+
+
+def shift_by_word(dice, word, other_word):
+    """A shift by two bits of another word, and a branch for each."""
+    mask, code = some_mask(dice), dice.choice((LSH, RSH))
+    value = dice.getrandbits(32) & mask
+    ways = [step for by in range(4) for step in (
+        f"by{by}", (LD, other_word), (AND, 3), (JEQ, by, f"so{by}", f"by{by + 1}"), f"so{by}", (LD, word), (code, by),
+        (AND, mask), is_equal(value))]
+    return ([(LD, other_word), (AND, 3), (TAX, 0), (LD, word), (code | X, 0), (AND, mask), is_equal(value)],
+            [*ways, "by4", (LD_K, 0), is_equal(1)])
+
+
+def branch_by_product(dice, word, other_word):
+    """A number that is added only where a bit is set."""
+    bit, by, value = dice.randrange(32), dice.getrandbits(16), dice.getrandbits(32)
+    return ([(LD, word), (JSET, 1 << bit, "set", "clear"), "set", (ADD, by), (ST, 2), (JA, "join"), "clear", (ST, 2),
+             "join", (LD_M, 2), is_equal(value)],
+            [(LD, word), (RSH, bit), (AND, 1), (MUL, by), (TAX, 0), (LD, word), (ADD | X, 0), is_equal(value)])
+
+
+def returned(dice, word, other_word):
+    """An answer that is computed of a bit."""
+    bit = dice.randrange(32)
+    return ([(LD, word), (RSH, bit), (AND, 1), (MUL, ALLOW - EPERM), (ADD, EPERM), (RET_A, 0), (JEQ, 0, "yes", "no")],
+            [(LD, word), (AND, 1 << bit), is_equal(1 << bit)])
+
+
+def steps_of_order(dice, word, other_word):
+    """A product of an order that wraps, and a sum."""
+    value = dice.getrandbits(32)
+    return ([(LD, word), (MUL, 3), is_least(value)],
+            [(LD, word), (TAX, 0), (ADD | X, 0), (ADD | X, 0), is_least(value)])
+
+
+REWRITES = {rewrite.__name__.replace("_", " "): rewrite for rewrite in (
+    sum_turned, product_turned, tests_turned, mask_split, masks_joined, product_by_shifts, quotient_by_orders,
+    remainder_by_orders, difference_by_sum, negation_by_complement, sum_under_mask, xor_by_masks, shift_by_word,
+    branch_by_product, returned, steps_of_order)}
+
+
+def placed(code):
+    """Instructions with labels, placed: each is a code, two distances and a constant."""
+    count, indices = 0, {}
+    for step in code:
+        if isinstance(step, str):
+            indices[step] = count
+        else:
+            count += 1
+    made = []
+    for step in code:
+        if not isinstance(step, str):
+            jt, jf = (indices[label] - len(made) - 1 for label in step[2:]) if len(step) == 4 else (0, 0)
+            made.append((step[0], jt, jf, indices[step[1]] - len(made) - 1 if step[0] == JA else step[1]))
+    return made
+
+
+def packed(program):
+    return b"".join(insn(code, k, jt, jf) for code, jt, jf, k in program)
+
+
+def with_changed_constant(dice, program, first=0):
+    """The program with a constant of an instruction from `first` on changed, which is still accepted."""
+    without_constant = {LD, RET, RET_A, NEG, TAX, TXA, ST, LD_M, LDX_M, JA}
+    indices = [index for index, (code, *_) in enumerate(program)
+               if index >= first and code not in without_constant and not (code & 7 in (4, 5) and code & X)]
+    while True:
+        changed, index = list(program), dice.choice(indices)
+        code, jt, jf, k = program[index]
+        new = dice.choice((k ^ 1 << dice.randrange(32), (k + 1) & WORD, (k - 1) & WORD, dice.getrandbits(32)))
+        if code in (LSH, RSH):
+            new %= 32
+        changed[index] = code, jt, jf, new
+        if new != k and StandIn().fault(changed) is None:
+            return changed
+
+
 @dataclass
-class Pair:
-    """A filter as instructions, calls of which the first has a condition, and its argument."""
+class ProfilePair:
+    """A filter as instructions, calls of which the first has a condition, and the index of its argument."""
 
     program: list
     numbers: list
-    asked: Asked
+    condition: Condition
     index: int
 
+    OPTION = "--native"
+
+    @classmethod
+    def drawn(cls, dice, construct):
+        numbers = dice.sample(range(400), dice.randint(1, 3))
+        index = dice.randrange(6)
+        condition = construct(dice, ARGUMENTS + 8 * index)
+        code = [(LD, ARCHITECTURE), (JEQ, X86_64, "native", "kill"), "native", (LD, NUMBER), (JGE, X32, "kill", "t0"),
+                "t0"]
+        for at, number in enumerate(numbers):
+            following = f"t{at + 1}" if at + 1 < len(numbers) else "no"
+            code += [(JEQ, number, "yes" if at else "asked", following), following]
+        code = [*code[:-1], "asked", *condition.code, *ENDS, "kill", (RET, KILL_PROCESS)]
+        return cls(placed(code), numbers, condition, index)
+
+    def changed(self, dice):
+        """The pair with a constant of the filter's part behind the tests of the number changed."""
+        return replace(self, program=with_changed_constant(dice, self.program, 4 + len(self.numbers)))
+
     def profile(self):
-        entries = [{"names": ["c0"], "action": "SCMP_ACT_ALLOW", "args": [self.asked.entry(self.index)]}]
+        entries = [{"names": ["c0"], "action": "SCMP_ACT_ALLOW", "args": [self.condition.entry(self.index)]}]
         entries += [{"names": [f"c{at}"], "action": "SCMP_ACT_ALLOW"} for at in range(1, len(self.numbers))]
         return json.dumps({"defaultAction": "SCMP_ACT_ERRNO", "syscalls": entries}).encode()
 
@@ -681,104 +886,113 @@ class Pair:
         table = "".join(f"c{at} {number}\n" for at, number in enumerate(self.numbers)).encode()
         return part("filter", packed(self.program)) + part("profile", self.profile()) + part("table", table)
 
-    def wanted(self, number, argument):
+    def profile_answer(self, number, argument):
         if number >= X32:
             return KILL_PROCESS
-        if number not in self.numbers or number == self.numbers[0] and not self.asked.holds(argument):
+        if number not in self.numbers or number == self.numbers[0] and not self.condition.holds(argument):
             return EPERM
         return ALLOW
 
-    def given(self, number, argument):
+    def differs_at(self, number, argument):
         words = [number, X86_64, 0, 0] + 12 * [0]
         words[4 + 2 * self.index:6 + 2 * self.index] = argument & WORD, argument >> 32
-        return StandIn().answer(self.program, words)
+        return StandIn().answer(self.program, words) != self.profile_answer(number, argument)
 
-    def differs_at(self, number, argument):
-        return self.given(number, argument) != self.wanted(number, argument)
-
-    def found(self, dice):
+    def difference(self, dice):
         """A call that is answered differently, or None."""
-        numbers = {it + by for it in self.numbers for by in (-1, 0, 1)} | {0, X32 - 1, X32, 1 << 31, WORD}
+        numbers = {number + by for number in self.numbers for by in (-1, 0, 1)} | {0, X32 - 1, X32, 1 << 31, WORD}
         for number in sorted(numbers - {-1}):
-            for argument in (corners(self, dice) if number == self.numbers[0] else (0, LONG)):
+            for argument in (self.corners(dice) if number == self.numbers[0] else (0, LONG)):
                 if self.differs_at(number, argument):
                     return number, argument
         return None
 
+    def corners(self, dice):
+        """Arguments by the constants of the condition and of the filter: shifted, turned and their neighbours."""
+        value, two = self.condition.value, self.condition.two
+        constants = {k for code, _, _, k in self.program if code not in (LD, RET)} | {value & WORD, two}
+        shifts = {k for code, _, _, k in self.program if code in (LSH, RSH, LDX) and k < 32} | {16}
+        shifts |= {k.bit_length() - 1 for k in constants if k & (k - 1) == 0 and k}
+        shifted = {number for k in constants for by in shifts for number in (k << by & WORD, k >> by)}
+        lows = {(k + by) & WORD for k in constants | shifted for by in (-1, 0, 1)}
+        sums = {(a + sign * b) & WORD for a in constants for b in constants for sign in (-1, 1)}
+        lows |= {k ^ WORD for k in constants} | {a ^ b for a in constants for b in constants} | sums
+        lows |= {dice.getrandbits(32) for _ in range(8)} | {0, 1, WORD, 1 << 31}
+        lows |= {(two ^ (1 << bit)) & WORD for bit in range(32)}
+        high = value >> 32
+        highs = {0, 1, WORD, high, high ^ 1}
+        if two >> 32 or self.condition.op == "SCMP_CMP_MASKED_EQ" and high:
+            highs |= {two >> 32} | {two >> 32 ^ 1 << bit for bit in range(32)}
+        return [h << 32 | low for low in sorted(lows) for h in sorted(highs)]
 
-def corners(pair, dice):
-    """Arguments by the constants of the condition and of the filter: shifted, turned and their neighbours."""
-    constants = {k for code, _, _, k in pair.program if code not in (LD, RET)}
-    constants |= {pair.asked.value & WORD, pair.asked.two}
-    shifts = {k for code, _, _, k in pair.program if code in (LSH, RSH, LDX) and k < 32} | {16}
-    shifts |= {k.bit_length() - 1 for k in constants if k & (k - 1) == 0 and k}
-    shifted = {it for k in constants for by in shifts for it in (k << by & WORD, k >> by)}
-    lows = {(k + by) & WORD for k in constants | shifted for by in (-1, 0, 1)}
-    sums = {(a + sign * b) & WORD for a in constants for b in constants for sign in (-1, 1)}
-    lows |= {k ^ WORD for k in constants} | {a ^ b for a in constants for b in constants} | sums
-    lows |= {dice.getrandbits(32) for _ in range(8)} | {0, 1, WORD, 1 << 31}
-    lows |= {(pair.asked.two ^ (1 << bit)) & WORD for bit in range(32)}
-    high = pair.asked.value >> 32
-    highs = {0, 1, WORD, high, high ^ 1}
-    if pair.asked.two >> 32 or pair.asked.op == "SCMP_CMP_MASKED_EQ" and high:
-        highs |= {pair.asked.two >> 32} | {pair.asked.two >> 32 ^ 1 << bit for bit in range(32)}
-    return [h << 32 | low for low in sorted(lows) for h in sorted(highs)]
-
-
-def packed(program):
-    return b"".join(insn(code, k, jt, jf) for code, jt, jf, k in program)
-
-
-def placed(code):
-    """Instructions with labels, placed: each is a code, two distances and a constant."""
-    at, places = 0, {}
-    for it in code:
-        if isinstance(it, str):
-            places[it] = at
-        else:
-            at += 1
-    made = []
-    for it in code:
-        if not isinstance(it, str):
-            jt, jf = (places[label] - len(made) - 1 for label in it[2:]) if len(it) == 4 else (0, 0)
-            made.append((it[0], jt, jf, places[it[1]] - len(made) - 1 if it[0] == JA else it[1]))
-    return made
+    def is_shown(self, lines):
+        """Whether the sides differ at the call that scf shows."""
+        call = re.fullmatch(r"call nr (\d+) arch 0xc000003e ip \S+ args ((?:\S+ ?){6})", lines[1])
+        return self.differs_at(int(call[1]), int(call[2].split()[self.index], 16))
 
 
-def pair_of(dice, construct):
-    numbers = dice.sample(range(400), dice.randint(1, 3))
-    index = dice.randrange(6)
-    asked = construct(dice, ARGUMENTS + 8 * index)
-    code = [(LD, ARCHITECTURE), (JEQ, X86_64, "native", "kill"), "native", (LD, NUMBER), (JGE, X32, "kill", "t0"), "t0"]
-    for at, number in enumerate(numbers):
-        following = f"t{at + 1}" if at + 1 < len(numbers) else "no"
-        code += [(JEQ, number, "yes" if at else "asked", following), following]
-    code = code[:-1] + ["asked", *asked.code, "no", (RET, EPERM), "yes", (RET, ALLOW), "kill", (RET, KILL_PROCESS)]
-    return Pair(placed(code), numbers, asked, index)
+@dataclass
+class FilterPair:
+    """Two filters, and the indices of the words that they load."""
+
+    programs: list
+    words: list
+
+    OPTION = "--beside"
+
+    @classmethod
+    def drawn(cls, dice, rewrite):
+        words = dice.sample(range(16), 2)
+        return cls([placed([*code, *ENDS]) for code in rewrite(dice, *(4 * word for word in words))], words)
+
+    def changed(self, dice):
+        """The pair with a constant of one filter changed."""
+        side = dice.randrange(2)
+        programs = list(self.programs)
+        programs[side] = with_changed_constant(dice, programs[side])
+        return FilterPair(programs, self.words)
+
+    def bundle(self):
+        return part("filter", packed(self.programs[0])) + part("beside", packed(self.programs[1]))
+
+    def answers(self, record):
+        return [StandIn().answer(program, record) for program in self.programs]
+
+    def difference(self, dice):
+        """A record that is answered differently, or None."""
+        for values in self.corners(dice):
+            record = [0] * 16
+            for word, value in zip(self.words, values):
+                record[word] = value
+            if len(set(self.answers(record))) > 1:
+                return record
+        return None
+
+    def corners(self, dice, count=400):
+        """Values of the two words, by the constants of both filters and drawn."""
+        constants = {k for program in self.programs for code, _, _, k in program if code not in (LD, RET)}
+        near = {(k + by) & WORD for k in constants for by in (-1, 0, 1)} | {k ^ WORD for k in constants}
+        near |= {(a - b) & WORD for a in constants for b in constants} | {-k & WORD for k in constants}
+        near |= {a * b & WORD for a in constants for b in constants}
+        near |= {a // b for a in constants for b in constants if b}
+        near |= {pow(b, -1, 1 << 32) * a & WORD for a in constants for b in constants if b & 1}
+        near = sorted(near | {1 << bit for bit in range(32)} | {0, WORD})
+        yield from ((value, dice.choice(near)) for value in near)
+        yield from ((dice.choice(near), dice.choice(near)) for _ in range(count))
+        yield from ((dice.getrandbits(32), dice.getrandbits(32)) for _ in range(count))
+
+    def is_shown(self, lines):
+        """Whether both sides answer the record that scf shows as it says, and not alike."""
+        shown = re.fullmatch(r"call nr (\d+) arch (\S+) ip (\S+) args ((?:\S+ ?){6})", lines[1])
+        record = [int(shown[1]), int(shown[2], 16)]
+        for number in (shown[3], *shown[4].split()):
+            record += [int(number, 16) & WORD, int(number, 16) >> 32]
+        answers = self.answers(record)
+        printed = [f"{side} {StandIn().printed(answer)}" for side, answer in zip(("filter", "beside"), answers)]
+        return answers[0] != answers[1] and lines[2:4] == printed
 
 
-def changed(dice, pair):
-    """The pair with a constant of the filter's part behind the tests of the number changed."""
-    return Pair(with_changed_constant(dice, pair.program, 4 + len(pair.numbers)), pair.numbers, pair.asked, pair.index)
-
-
-def with_changed_constant(dice, program, first):
-    """The program with a constant of an instruction from `first` on changed, which is still accepted."""
-    kept = {LD, RET, RET_A, NEG, TAX, TXA, ST, LD_M, LDX_M, JA}
-    places = [at for at, (code, *_) in enumerate(program)
-              if at >= first and code not in kept and not (code & 7 in (4, 5) and code & X)]
-    while True:
-        made, at = list(program), dice.choice(places)
-        code, jt, jf, k = program[at]
-        new = dice.choice((k ^ 1 << dice.randrange(32), (k + 1) & WORD, (k - 1) & WORD, dice.getrandbits(32)))
-        if code in (LSH, RSH):
-            new %= 32
-        made[at] = code, jt, jf, new
-        if new != k and StandIn().fault(made) is None:
-            return made
-
-
-def built():
+def build_program():
     subprocess.run([SCF, "--version"], stdin=subprocess.DEVNULL, stdout=subprocess.DEVNULL, check=True)
 
 
@@ -786,29 +1000,26 @@ class Wrong(Exception):
     """scf said what isn't so."""
 
 
-def compared(option, data):
-    """What scf prints of a bundle, the seconds of a processor that it takes, and its most memory in megabytes."""
-    with tempfile.TemporaryFile() as given:
-        given.write(data)
-        given.seek(0)
-        with subprocess.Popen([PROGRAM, "compare", option], stdin=given, stdout=subprocess.PIPE) as child:
+def compared(pair):
+    """What scf prints of a pair, the seconds of a processor that it takes, and its most memory in megabytes."""
+    with tempfile.TemporaryFile() as bundle:
+        bundle.write(pair.bundle())
+        bundle.seek(0)
+        with subprocess.Popen([PROGRAM, "compare", pair.OPTION], stdin=bundle, stdout=subprocess.PIPE) as child:
             out = child.stdout.read().decode()
             _, status, used = os.wait4(child.pid, 0)
             child.returncode = os.waitstatus_to_exitcode(status)
     return out, used.ru_utime + used.ru_stime, used.ru_maxrss / 1024
 
 
-def verdict(pair, found, printed):
+def verdict(pair, difference, printed):
     """The verdict that scf printed of a pair; it must not be wrong."""
     lines = printed.split("\n")
     word = lines[0].split()[0]
-    if word == "same" and found:
-        raise Wrong(f"same, but call {found} is answered differently: {pair}")
-    if word == "differs":
-        call = re.fullmatch(r"call nr (\d+) arch 0xc000003e ip \S+ args ((?:\S+ ?){6})", lines[1])
-        arguments = [int(it, 16) for it in call[2].split()]
-        if not pair.differs_at(int(call[1]), arguments[pair.index]):
-            raise Wrong(f"differs, but not at {lines[1]}: {pair}")
+    if word == "same" and difference:
+        raise Wrong(f"same, but {difference} is answered differently: {pair}")
+    if word == "differs" and not pair.is_shown(lines):
+        raise Wrong(f"differs, but not so at {lines[1:4]}: {pair}")
     return word
 
 
@@ -822,45 +1033,48 @@ class Measured:
     seconds: float = 0
     memory: float = 0
 
-    def count(self, found, word, seconds, memory):
-        """Counts a pair, by a call that is answered differently, if one was found, and by what scf says of the pair."""
-        count = self.differ if found or word == "differs" else self.equal
-        count[0] += 1
-        count[1] += word not in ("same", "differs")
+    def count(self, difference, word, seconds, memory):
+        """Counts a pair, by where it is known to differ, and by what scf says of it."""
+        counts = self.differ if difference or word == "differs" else self.equal
+        counts[0] += 1
+        counts[1] += word not in ("same", "differs")
         self.seconds, self.memory = max(self.seconds, seconds), max(self.memory, memory)
 
     def __str__(self):
-        counts = (f"{name} {left}/{count} undecided" for name, (count, left) in (("equal", self.equal),
-                                                                                 ("differ", self.differ)))
+        counts = (f"{name} {undecided}/{count} undecided"
+                  for name, (count, undecided) in (("equal", self.equal), ("differ", self.differ)))
         return "   ".join((*counts, f"{self.seconds:6.3f} s", f"{self.memory:5.1f} MB"))
 
 
-def measured(construct, dice, pairs):
-    of_all = Measured()
-    for at in range(pairs):
-        pair = pair_of(dice, construct)
-        if pair.found(dice):
+def measured(kind, construct, dice, pairs):
+    """Draws pairs of a class by a construct or a rewrite, every other one changed, and compares them."""
+    measurement = Measured()
+    for count in range(pairs):
+        pair = kind.drawn(dice, construct)
+        if pair.difference(dice):
             raise Wrong(f"the pair isn't what it is made for: {pair}")
-        if at % 2:
-            pair = changed(dice, pair)
-        found = pair.found(dice)
-        printed, seconds, memory = compared("--native", pair.bundle())
-        of_all.count(found, verdict(pair, found, printed), seconds, memory)
-    return of_all
+        if count % 2:
+            pair = pair.changed(dice)
+        difference = pair.difference(dice)
+        printed, seconds, memory = compared(pair)
+        measurement.count(difference, verdict(pair, difference, printed), seconds, memory)
+    return measurement
 
 
 def main():
     parser = argparse.ArgumentParser(description=__doc__, formatter_class=argparse.RawDescriptionHelpFormatter)
-    parser.add_argument("--pairs", type=int, default=100, help="for each construct (100)")
+    parser.add_argument("--pairs", type=int, default=100, help="for each construct and rewrite (100)")
     parser.add_argument("--seed", type=int, default=1)
     words = parser.parse_args()
-    built()
-    for name, construct in CONSTRUCTS.items():
-        try:
-            print(f"{name:30} {measured(construct, random.Random(f'{words.seed} {name}'), words.pairs)}", flush=True)
-        except Wrong as wrong:
-            print(f"{name}: {wrong}")
-            return 1
+    build_program()
+    for kind, constructs in ((ProfilePair, CONSTRUCTS), (FilterPair, REWRITES)):
+        for name, construct in constructs.items():
+            try:
+                measurement = measured(kind, construct, random.Random(f"{words.seed} {name}"), words.pairs)
+            except Wrong as wrong:
+                print(f"{name}: {wrong}")
+                return 1
+            print(f"{name:30} {measurement}", flush=True)
     return 0
 
 
