@@ -15,7 +15,7 @@ import time
 from collections import Counter
 from collections.abc import Callable, Iterable, Sequence
 
-from . import (bundles, child, client, compare, container_files, engines, hold, machine, output, program,
+from . import (bundles, child, client, compare_output, container_files, engines, hold, machine, output, program,
                unit_profiles, units, verdicts, verify)
 from .compare import Comparison
 from .container_files import Described
@@ -314,7 +314,7 @@ class Judge:
         nor another one names their architecture."""
         key = _sha256(bundles.of_stack([it.data for it in comparison.filters])), tuple(comparison.tables.of)
         if key not in self.foreign.values:
-            self.foreign.keep(key, compare.foreign_of(comparison, comparison.scope), 0)
+            self.foreign.keep(key, comparison.foreign(comparison.scope), 0)
         for one in self.foreign.values[key]:
             if one.kind.of.oci in names or one.kind.of.oci in elsewhere:
                 continue
@@ -360,7 +360,7 @@ class Options:
                                     is_native=self.scope is not None)
             fault = comparison.run(comparison.scope)[1].fault
             if fault is not None and fault.kind not in ("Conflict", "RepeatedIndex"):
-                when, _, *where = *compare.sentences_of(comparison, fault), "", ""
+                when, _, *where = *compare_output.fault_sentences(comparison, fault), "", ""
                 told = " ".join(filter(None, (f"{fault.line}:", when, *where)))
                 raise program.ToolError(f"'{name}': {told}" if fault.source == "profile" else told,
                                         program.USAGE_ERROR if fault.source == "number" else program.IO_ERROR)

@@ -6,7 +6,7 @@ import os
 import shlex
 from collections.abc import Iterator
 
-from . import audit_output, client, compare, output, pages, surfaces
+from . import audit_output, client, compare_output, output, pages, surfaces
 from .audit import (AS_CONFIGURED, NOT_KNOWN, OTHERWISE, STRICTER, UNIT, WEAKER, Audit, Judgement, Part, Row,
                     stack_digest)
 from .architectures import I386
@@ -103,7 +103,7 @@ def _shown(judgement: Judgement, table_of: Table) -> Iterator[Markup]:
     than = "the baseline" if judgement.is_of_baseline else "the profile"
     sides = [(it.describe() if it is not None else "unknown") for it in (shown.filters, shown.profile)]
     yield listed((f"the filters answer {sides[0]}", f"{than} answers {sides[1]}"))
-    lines = list(compare.of_difference(judgement.comparison, shown))
+    lines = list(compare_output.difference_lines(judgement.comparison, shown))
     if lines:
         yield preformatted(lines)
 

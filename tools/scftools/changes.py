@@ -5,7 +5,7 @@ import functools
 import json
 from collections.abc import Iterator, Sequence
 
-from . import client, compare, constants, entries, newer, output, program, questions, reasons, tables
+from . import client, compare, constants, entries, output, program, questions, reasons, tables
 from .answers import DISPOSITIONS, ENOSYS, X32
 from .architectures import JUDGED, NATIVE, Architecture
 from .calls import Call
@@ -63,7 +63,7 @@ class Side:
         except Refusal as why:
             why.subject = self.name, self.source.data
             raise
-        return Filter(self.name, newer.with_stub(data, self.source.stub))
+        return Filter(self.name, compare.with_stub(data, self.source.stub))
 
     def reason(self, call: Call) -> Reason:
         """What the profile answers to a syscall and why, by scf on the entries that have its number."""

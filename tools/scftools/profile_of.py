@@ -9,7 +9,7 @@ from __future__ import annotations
 from collections import Counter
 from collections.abc import Iterable, Iterator, Sequence
 
-from . import (answer_sets, architectures, client, constants, engines, newer, output, program, questions, reasons,
+from . import (answer_sets, architectures, client, constants, engines, output, program, questions, reasons,
                runtimes, tables)
 from .answer_sets import COMPUTED, UNFOLLOWED, UPPER, Answers
 from .answers import ALLOWED, DISPOSITIONS, ENOSYS, X32, Answer
@@ -271,7 +271,7 @@ class Request:
         Raises Refusal if scf refuses the filters, the table or the limit.
         """
         comparison, first = self.comparison(profile, relation)
-        status, report, has_stub = newer.compared_with_stub(comparison, comparison.scope, first)
+        status, report, has_stub = comparison.run_with_stub(comparison.scope, first)
         if report.fault is not None and report.fault.source != "profile":
             raise Refusal(report.fault.line, status)
         return report, first if has_stub else {}

@@ -3,7 +3,8 @@ from __future__ import annotations
 
 from collections.abc import Iterator, Sequence
 
-from . import bundles, client, compare, explanation, filters, listing, output, program, refusals, tables, verdicts
+from . import (bundles, client, compare, compare_output, explanation, filters, listing, output, program, refusals,
+               tables, verdicts)
 from .compare import ALL, CALLS, NATIVE
 from .filters import Filter, looks_at_pointer
 from .listing import Giver
@@ -93,7 +94,7 @@ def _of_calls(comparison: StackComparison) -> Iterator[str]:
         yield "each x86-64 syscall in the table gets the same answer from both sides" if comparison.relation == SAME \
             else "no x86-64 syscall in the table is among those"
     else:
-        yield from compare.count_lines(by_name.calls, "the other side")
+        yield from compare_output.count_lines(by_name.calls, "the other side")
 
 
 def faulty(comparison: StackComparison, report: Report) -> list[str]:

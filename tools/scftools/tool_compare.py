@@ -45,7 +45,7 @@ Examples:
 import itertools
 import sys
 
-from . import compare, filters, output, profile_inputs, program, tables, words
+from . import compare, compare_output, filters, output, profile_inputs, program, tables, words
 
 
 def read_words():
@@ -76,8 +76,8 @@ def write_page(options, comparison, report, scope):
 
     from . import pages  # pylint: disable=import-outside-toplevel
 
-    added = [*compare.notes(comparison, report, scope),
-             *compare.of_foreign(comparison, report, scope, is_quiet=True)]
+    added = [*compare_output.notes(comparison, report, scope),
+             *compare_output.foreign_lines(comparison, report, scope, is_quiet=True)]
     own = [it for at, it in enumerate(sys.argv[1:]) if it not in ("--json", "--html") and sys.argv[at] != "--html"]
     page = pages.of_comparison(comparison, report, added, shlex.join([program.name(), *own]))
     output.replace_file(options.html, page)
@@ -98,9 +98,9 @@ def main():
     if options.html is not None:
         write_page(options, comparison, report, scope)
     if options.json:
-        output.put_json(compare.as_json(comparison, report, scope, status))
+        output.put_json(compare_output.as_json(comparison, report, scope, status))
         return status
-    added = itertools.chain(compare.notes(comparison, report, scope),
-                            compare.of_foreign(comparison, report, scope, is_quiet=True))
+    added = itertools.chain(compare_output.notes(comparison, report, scope),
+                            compare_output.foreign_lines(comparison, report, scope, is_quiet=True))
     output.put_explained(report.printed if options.verbose else report.brief, added)
     return status

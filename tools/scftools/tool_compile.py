@@ -19,7 +19,7 @@ Examples:
 """
 import sys
 
-from . import compare, output, profile_inputs, program, tables, words
+from . import compilation, output, profile_inputs, program, tables, words
 
 
 def main():
@@ -32,7 +32,7 @@ def main():
     profile = profile_inputs.read(options.profile, options.caps, is_strict=options.strict)
     table = tables.read(options.table)
     judged = tables.of_profile(profile.data, table, options.native)
-    status, out, remarks = compare.compile_profile(profile.data, judged, profile.origins)
+    status, out, remarks = compilation.compile_profile(profile.data, judged, profile.origins)
     output.put(out)
     output.flush()
     program.say(*remarks)

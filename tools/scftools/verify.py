@@ -6,8 +6,8 @@ import json
 import os
 from collections.abc import Callable, Iterator, Sequence
 
-from . import (client, compare, engines, filters, newer, output, profiles, program, runtimes, stack_comparison, tables,
-               verdicts)
+from . import (client, compare, compare_output, engines, filters, output, profiles, program, runtimes, stack_comparison,
+               tables, verdicts)
 from .compare import Comparison
 from .filters import Filter
 from .processes import Inspection, Kernel, Stack, threads_text
@@ -102,7 +102,7 @@ class Request:
     def judge(self, stack: Stack) -> Block:
         comparison = self.comparison(stack.named)
         stub, scope = comparison.stub, self.scope or comparison.scope
-        status, report, has_stub = newer.compared_with_stub(comparison, scope, stub)
+        status, report, has_stub = comparison.run_with_stub(scope, stub)
         return Block(stack, status, comparison, report, stub if has_stub else {}, scope)
 
     def comparison(self, stack: Sequence[Filter], relation: str | None = None) -> Comparison:
@@ -113,13 +113,13 @@ class Request:
 
     def notes(self, block: Block) -> Iterator[str]:
         """What is added to scf's lines."""
-        yield from compare.notes(block.comparison, block.report, block.scope)
+        yield from compare_output.notes(block.comparison, block.report, block.scope)
         if block.stub and self.applied is not None:
             yield from self.applied.stub_notes(block.stub)
-        yield from compare.of_foreign(block.comparison, block.report, block.scope)
+        yield from compare_output.foreign_lines(block.comparison, block.report, block.scope)
 
     def as_json(self, block: Block) -> dict[str, object]:
-        own = compare.as_json(block.comparison, block.report, block.scope, block.status)
+        own = compare_output.as_json(block.comparison, block.report, block.scope, block.status)
         return {**own, "stub": block.stub} if block.stub else own
 
 

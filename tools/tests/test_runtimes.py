@@ -17,7 +17,7 @@ from support.confined import ended, started
 sys.path.append(os.path.join(TOP, "tools"))
 
 # pylint: disable=wrong-import-position
-from scftools import client, engines, inputs, libseccomp, newer, processes, runtimes, tables, verdicts  # noqa: E402
+from scftools import client, engines, inputs, libseccomp, processes, runtimes, tables, verdicts  # noqa: E402
 from scftools.compare import NATIVE, Comparison  # noqa: E402
 from scftools.filters import Filter  # noqa: E402
 from scftools.values import replace  # noqa: E402
@@ -120,7 +120,7 @@ class Runtimes(Case):
             filters, why = filters_of(found.runtime.program, seccomp)
             self.assertIsNotNone(filters, why)
         comparison = Comparison([Filter("it", it) for it in filters], found.data, tables.read(None))
-        _, report, has_stub = newer.compared_with_stub(comparison, comparison.scope, found.stub)
+        _, report, has_stub = comparison.run_with_stub(comparison.scope, found.stub)
         return report.printed[0], has_stub, found
 
     def same(self, runtime, *entries, **members):
@@ -213,7 +213,7 @@ class Runtimes(Case):
             self.assertEqual(found.stub, {X86_64: 95})
             data = stub(first) + insn(0, 0) + compiled(found.data)
             comparison = Comparison([Filter("it", data)], found.data, tables.read(None))
-            status, report, has_stub = newer.compared_with_stub(comparison, NATIVE, found.stub)
+            status, report, has_stub = comparison.run_with_stub(NATIVE, found.stub)
             self.assertEqual((status, report.printed[0], has_stub, report.verdict.call.number),
                              (1, "differs", False, min(first, 95)))
 
@@ -310,7 +310,7 @@ class Runtimes(Case):
         for number in (95, 460, 0x3FFFFFFF):
             hole = load(0) + jeq(number, 0, 1) + ret(ALLOWED) + insn(0, 0) + stubbed
             comparison = Comparison([Filter("it", hole)], found.data, tables.read(None))
-            status, report, has_stub = newer.compared_with_stub(comparison, NATIVE, found.stub)
+            status, report, has_stub = comparison.run_with_stub(NATIVE, found.stub)
             self.assertEqual((status, report.printed[0], has_stub, report.verdict.call.number),
                              (1, "differs", False, number))
             self.assertEqual((report.printed[2:4]), ["filter ALLOW 0", "profile ERRNO 38"])

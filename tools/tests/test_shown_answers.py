@@ -9,7 +9,7 @@ from unittest import mock
 from support.common import KILL_PROCESS, TOP, Case, filter_of, profile_of, stub
 from support.confined import Confined, here
 from test_filters_of import MOUNT, refuses, refusing
-from scftools import audit, client, compare, newer, program, stack_comparison, tables, verdicts
+from scftools import audit, client, compare, program, stack_comparison, tables, verdicts
 from scftools.client import Run
 from scftools.filters import Filter
 from scftools.processes import Stack
@@ -77,14 +77,13 @@ class Modules(Case):
     def test_a_split_that_answers_what_the_filter_does_not(self):
         """The tools compare other filters than were given: of numbers below runc's stub, and of those from there on."""
         given = [Filter("f", stub(450) + filter_of([0, 1]))]
-        comparison = compare.Comparison(given, profile_of("read", "futex_waitv"), tables.read(None), is_native=True)
-        self.assertEqual(newer.behind_stub(compare.replace(comparison, stub={"SCMP_ARCH_X86_64": 450}), compare.NATIVE,
-                                           verdicts.SAME)[1].verdict.call.number, 1)
+        behind_stub = compare.Comparison(given, profile_of("read", "futex_waitv"), tables.read(None), is_native=True,
+                                         stub={"SCMP_ARCH_X86_64": 450})
+        self.assertEqual(behind_stub.run(compare.NATIVE)[1].verdict.call.number, 1)
         for wrong in (filter_of([], 0x00030007), filter_of([0, 449], KILL_PROCESS)):
-            with mock.patch.object(newer, "_split", lambda *_, data=wrong: data):
+            with mock.patch.object(compare, "_split", lambda *_, data=wrong: data):
                 with self.assertRaisesRegex(program.InternalError, "^internal error: the filters answer "):
-                    newer.behind_stub(compare.replace(comparison, stub={"SCMP_ARCH_X86_64": 450}), compare.NATIVE,
-                                      verdicts.SAME)
+                    behind_stub.run(compare.NATIVE)
 
     def test_both_sides_of_a_difference(self):
         left, right = ([Filter("f", filter_of(it))] for it in ([0], [0, 1]))
