@@ -31,7 +31,7 @@ X32_BIT = {"__X32_SYSCALL_BIT": 0x40000000, "X32_SYSCALL_BIT": 0x40000000}
 LONGEST, MOST = 99, 4097
 
 
-class Malformed(Exception):
+class NotAnArray(Exception):
     """A text isn't an array of instructions, or has something that only a compiler knows."""
 
 
@@ -42,7 +42,7 @@ def _number_of(name: str) -> int:
     else:
         number = X32_BIT.get(name, constants.numbers().get(name))
     if number is None:
-        raise Malformed(f"'{name[:40]}' is no constant that this tool knows")
+        raise NotAnArray(f"'{name[:40]}' is no constant that this tool knows")
     return number
 
 
@@ -54,7 +54,7 @@ def _words(text: str) -> Iterator[str]:
     while at < len(bare):
         found = pattern.match(bare, at)
         if not found:
-            raise Malformed(f"'{bare[at:at + 20].strip()}' isn't a constant expression")
+            raise NotAnArray(f"'{bare[at:at + 20].strip()}' isn't a constant expression")
         at = found.end()
         number, name, operator_of = found.groups()
         base = 16 if number and number[:2].lower() == "0x" else 8 if number and re.fullmatch("0[0-7]+", number) else 10
@@ -70,19 +70,19 @@ def value_of(text: str) -> int:
             return node.value
         operation = OPERATIONS.get(type(getattr(node, "op", None)).__name__)
         if operation is None:
-            raise Malformed(f"'{text[:60]}' isn't a constant expression")
+            raise NotAnArray(f"'{text[:60]}' isn't a constant expression")
         parts = [value(it) for it in ([node.operand] if isinstance(node, ast.UnaryOp) else [node.left, node.right])]
         if operation in SHIFTS and (not 0 <= parts[1] < 64 or parts[0] < 0):
-            raise Malformed(f"a shift of {parts[0]} by {parts[1]}")
+            raise NotAnArray(f"a shift of {parts[0]} by {parts[1]}")
         return operation(*parts)
 
     words = list(itertools.islice(_words(text), LONGEST + 1))
     if len(words) > LONGEST:
-        raise Malformed("an expression is too long, or nested too deep")
+        raise NotAnArray("an expression is too long, or nested too deep")
     try:
         return value(ast.parse(" ".join(words), mode="eval").body) % (1 << 64)
     except SyntaxError as error:
-        raise Malformed(f"'{text[:60]}' isn't a constant expression") from error
+        raise NotAnArray(f"'{text[:60]}' isn't a constant expression") from error
 
 
 def _split(text: str) -> Iterator[str]:
@@ -108,7 +108,7 @@ def _row(text: str) -> list[str]:
     if macro and macro[1] == "BPF_JUMP" and len(fields) == 4:
         return [fields[0], fields[2], fields[3], fields[1]]
     if macro or text[:1] != "{" or text[-1:] != "}" or len(fields) != 4:
-        raise Malformed(f"'{text[:60]}' isn't an instruction: {{ code, jt, jf, k }}, BPF_STMT or BPF_JUMP")
+        raise NotAnArray(f"'{text[:60]}' isn't an instruction: {{ code, jt, jf, k }}, BPF_STMT or BPF_JUMP")
     return fields
 
 
@@ -118,7 +118,7 @@ def _fields(text: str) -> tuple[int, int, int, int]:
     values[3] %= 1 << 32 if values[3] >= (1 << 64) - (1 << 32) else 1 << 64
     for name, value, end in zip(("code", "jt", "jf", "k"), values, (1 << 16, 1 << 8, 1 << 8, 1 << 32)):
         if value >= end:
-            raise Malformed(f"{name} {value:#x} of '{text[:60]}' is too large")
+            raise NotAnArray(f"{name} {value:#x} of '{text[:60]}' is too large")
     return values[0], values[1], values[2], values[3]
 
 
@@ -128,7 +128,7 @@ def _elements(text: str) -> list[str]:
     if head:
         end = text.rfind("}") + 1
         if not re.fullmatch(TAIL, text[end:]):
-            raise Malformed(f"behind the array stands '{text[end:end + 40].strip()}'")
+            raise NotAnArray(f"behind the array stands '{text[end:end + 40].strip()}'")
         text = text[head.end():end].strip()
     found = list(_split(text))
     if len(found) == 1 and found[0][:1] == "{" and found[0][-1:] == "}":
@@ -151,12 +151,12 @@ def looks_like_array(text: str) -> bool:
 
 
 def rows_in(text: str) -> list[tuple[int, int, int, int]] | bytes:
-    """The instructions (code, jt, jf and k) of an array, at most MOST, or the bytes of one of bytes; raises Malformed
+    """The instructions (code, jt, jf and k) of an array, at most MOST, or the bytes of one of bytes; raises NotAnArray
     if a text isn't one, or only a compiler can read it."""
     elements = _elements(_without_comments(text))
     if elements and all(re.fullmatch("0[xX][0-9a-fA-F]{1,2}|[0-9]{1,3}", it) for it in elements):
         values = [int(it, 0 if it[:2].lower() == "0x" else 10) for it in elements]
         if max(values) > 255 or len(values) % 8:
-            raise Malformed("an array of bytes has a multiple of 8, each below 256")
+            raise NotAnArray("an array of bytes has a multiple of 8, each below 256")
         return bytes(values)
     return [_fields(it) for it in elements[:MOST]]

@@ -19,7 +19,7 @@ from collections.abc import Callable, Iterable, Iterator
 
 from . import child, containers, engines, owned_files
 from .machine import Process
-from .owned_files import ANYONE, Absent, Unreadable
+from .owned_files import ANYONE, Absent, UnreadableFile
 from .ptrace import Kernel, contents, ticks_at_start
 from .values import Any, Pattern, dataclass, field, replace
 
@@ -102,9 +102,9 @@ class Described:
         data, users = owned_files.read(path, most)
         others = {it for it in users - {self.user} if not is_mapped(self.first, it)}
         if self.user is not None and (not users or others - {ANYONE}):
-            raise Unreadable(f"'{path}' isn't user {self.user}'s own")
+            raise UnreadableFile(f"'{path}' isn't user {self.user}'s own")
         if self.user is None and others - {0}:
-            raise Unreadable(f"'{path}' may be changed by {named_users(others - {0})}")
+            raise UnreadableFile(f"'{path}' may be changed by {named_users(others - {0})}")
         return data
 
 
@@ -138,7 +138,7 @@ def _object(read: Callable[[str, int], bytes], path: str, most: int) -> Any:
     """The JSON of a file, or None if it can't be read or isn't JSON."""
     try:
         return json.loads(read(path, most).decode("utf-8"))
-    except (Unreadable, ValueError, RecursionError):
+    except (UnreadableFile, ValueError, RecursionError):
         return None
 
 
@@ -185,7 +185,7 @@ def _of_crun(value: Any) -> tuple[Any, str | None, Any, Any]:
 def _user_of(path: str, users: frozenset[int]) -> int | None:
     """The user who could have written a file, None if only root could."""
     if len(users) > 1 or ANYONE in users:
-        raise Unreadable(f"'{path}' may be changed by {named_users(users - {0})}")
+        raise UnreadableFile(f"'{path}' may be changed by {named_users(users - {0})}")
     return next(iter(users), None)
 
 
@@ -196,8 +196,8 @@ def _runs(first: Any, started: Any) -> bool:
 
 
 def _state_in(kernel: Kernel, folder: str) -> Described | None:
-    """The container of a runtime's folder, if its first process runs. Raises Unreadable if a file is there that isn't
-    the runtime's."""
+    """The container of a runtime's folder, if its first process runs. Raises UnreadableFile if a file is there that
+    isn't the runtime's."""
     for name, runtime in STATES.items():
         path = os.path.join(folder, name)
         try:
@@ -208,9 +208,9 @@ def _state_in(kernel: Kernel, folder: str) -> Described | None:
         try:
             value = json.loads(data.decode("utf-8"))
         except (ValueError, RecursionError) as error:
-            raise Unreadable(f"'{path}' isn't JSON") from error
+            raise UnreadableFile(f"'{path}' isn't JSON") from error
         if not isinstance(value, dict):
-            raise Unreadable(f"'{path}' isn't an object")
+            raise UnreadableFile(f"'{path}' isn't an object")
         first, bundle, started, groups = _of_runc(value) if runtime == "runc" else _of_crun(value)
         if not _runs(first, started) or user is not None and not _is_of_user(kernel, first, user):
             return None
@@ -236,7 +236,7 @@ class Found:
                 self.described.append(one)
         except child.Interrupted:
             raise
-        except Unreadable as why:
+        except UnreadableFile as why:
             self.left_out.append(str(why))
         except Exception as error:  # pylint: disable=broad-exception-caught
             self.left_out.append(f"'{path}' can't be read: {type(error).__name__}")
@@ -270,7 +270,7 @@ def _in_roots(kernel: Kernel, patterns: Iterable[str], whose: str) -> Found:
     for root in (path for it in patterns for path in matching(it)):
         try:
             names, is_all = owned_files.names_in(root, MOST_OF_A_USER)
-        except Unreadable as why:
+        except UnreadableFile as why:
             found.left_out.append(str(why))
             continue
         for folder in (os.path.join(root, it) for it in sorted(names)):
@@ -302,7 +302,7 @@ def all_described(kernel: Kernel, more_roots: tuple[str, ...] = ()) -> Found:
     places = [([os.path.abspath(it)], f"in {it}") for it in more_roots]
     try:
         users = owned_files.names_in(OF_USERS, 0)[0]
-    except Unreadable as why:
+    except UnreadableFile as why:
         users, every = [], [*every, Found([], [str(why)])]
     places += [([os.path.join(OF_USERS, user, it) for it in ROOTS_OF_USERS], f"of user {user}") for user in users]
     for patterns, whose in places:
@@ -371,7 +371,7 @@ def with_config(one: Described) -> Described:
         return replace(one, why="its runtime's files name no bundle")
     try:
         return replace(one, configuration=engines.read(one.read(one.config, CONFIG_BYTES)))
-    except Unreadable as why:
+    except UnreadableFile as why:
         return replace(one, why=str(why))
     except engines.Refused as why:
         return replace(one, why=f"'{one.config}': {why}")

@@ -135,7 +135,7 @@ def _of_assembler(text: str) -> bytes | None:
         return None
     done = client.run(["asm"], text.encode())
     if done.status != program.SUCCESS:
-        raise c_arrays.Malformed(done.line)
+        raise c_arrays.NotAnArray(done.line)
     return done.out
 
 
@@ -146,7 +146,7 @@ def _forms_of(text: str, label: str) -> Iterator[Filter]:
     for name, read in FORMS:
         try:
             data = read(text)
-        except c_arrays.Malformed as why:
+        except c_arrays.NotAnArray as why:
             raise program.ToolError(f"{label} begins as {name}, but isn't one: {why}") from why
         if data is not None:
             yield Filter(name, data)

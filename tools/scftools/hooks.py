@@ -45,7 +45,7 @@ STARTUP = 10
 
 
 @dataclass(frozen=True)
-class Container:
+class ContainerState:
     """A container, as the runtime states it."""
 
     name: str
@@ -65,7 +65,7 @@ def _member(state: dict[str, Any], name: str) -> str:
     return value
 
 
-def container_of(data: bytes) -> Container:
+def container_of(data: bytes) -> ContainerState:
     """The container of a state."""
     try:
         state = json.loads(data.decode("utf-8"))
@@ -80,7 +80,7 @@ def container_of(data: bytes) -> Container:
         raise ContainerError(f"the state of container {name} has no pid")
     if not bundle.startswith("/") or "\0" in bundle:
         raise ContainerError(f"the bundle of container {name} isn't an absolute path")
-    return Container(name, status, pid, bundle)
+    return ContainerState(name, status, pid, bundle)
 
 
 def state(seconds: float) -> bytes:
@@ -110,7 +110,7 @@ def contents(name: str) -> bytes:
     return inputs.read_whole(name, "profile")
 
 
-def configured(container: Container) -> dict[str, Any] | None:
+def configured(container: ContainerState) -> dict[str, Any] | None:
     """What the container's config.json says about seccomp, as `verify.seccomp_in`."""
     name = os.path.join(container.bundle, CONFIG)
     try:
@@ -163,10 +163,10 @@ def pidfds_of(pid: int) -> Iterator[int]:
         pass
 
 
-class Process:
+class ContainerProcess:
     """The container's first process, the same one even if its ID is reused, and the others of the container."""
 
-    def __init__(self, container: Container) -> None:
+    def __init__(self, container: ContainerState) -> None:
         self.container = container
         self.kernel = Kernel()
         try:
@@ -262,7 +262,7 @@ class Kill:
 
 
 @dataclass
-class Finding:
+class HookResult:
     """What is known about a container: a status and a verdict; and the explanation, which may take long to find, as
     lines and as an object."""
 
@@ -272,7 +272,7 @@ class Finding:
     value: Callable[[], dict[str, object]]
 
 
-def finding_of(found: Inspection, request: verify.Request, process: Process) -> Finding:
+def finding_of(found: Inspection, request: verify.Request, process: ContainerProcess) -> HookResult:
     """The result for all distinct stacks. Its text has no line for each name or architecture that was left out."""
     blocks, others = verify.blocks(found, request), containers.others_note(process.kernel, process.members)
     status, verdict = blocks[0].status, blocks[0].verdict
@@ -292,20 +292,20 @@ def finding_of(found: Inspection, request: verify.Request, process: Process) -> 
         own = verify.as_json(blocks, found, request, None)
         return {**own, "status": status, "verdict": verdict, "remarks": remarks}
 
-    return Finding(status, verdict, lines, value)
+    return HookResult(status, verdict, lines, value)
 
 
-def plain_finding(status: int, verdict: str | None, line: str) -> Finding:
+def plain_finding(status: int, verdict: str | None, line: str) -> HookResult:
     """A finding of a single line."""
     value: dict[str, object] = {"status": status, "scope": compare.NATIVE, "verdict": verdict}
-    return Finding(status, verdict, lambda: [line], lambda: value if verdict else {**value, "why": line})
+    return HookResult(status, verdict, lambda: [line], lambda: value if verdict else {**value, "why": line})
 
 
-def failure(why: str, status: int = program.IO_ERROR) -> Finding:
+def failure(why: str, status: int = program.IO_ERROR) -> HookResult:
     return plain_finding(status, None, why)
 
 
-def report(finding: Finding, is_json: bool, send: Callable[[object], None]) -> None:
+def report(finding: HookResult, is_json: bool, send: Callable[[object], None]) -> None:
     """What a worker sends: first the status and the verdict, then the explanation."""
     send([finding.status, finding.verdict])
     send(finding.lines())
@@ -313,7 +313,7 @@ def report(finding: Finding, is_json: bool, send: Callable[[object], None]) -> N
         send(finding.value())
 
 
-def result_of(worker: Worker, seconds: float, is_json: bool, settle: Callable[[int], None]) -> Finding:
+def result_of(worker: Worker, seconds: float, is_json: bool, settle: Callable[[int], None]) -> HookResult:
     """What a worker finds within this many seconds. `settle` is called as soon as the status is known."""
     known = worker.receive(time.monotonic() + seconds)
     if known is None:
@@ -326,10 +326,10 @@ def result_of(worker: Worker, seconds: float, is_json: bool, settle: Callable[[i
     found = plain_finding(status, verdict, f"no explanation: it takes longer than {EXPLANATION_SECONDS:g} seconds")
     lines = worker.receive(until) or found.lines()
     value = is_json and worker.receive(until) or found.value()
-    return Finding(status, verdict, lambda: lines, lambda: value)
+    return HookResult(status, verdict, lambda: lines, lambda: value)
 
 
-def unknown(status: int | None, seconds: float) -> Finding:
+def unknown(status: int | None, seconds: float) -> HookResult:
     """The finding if a worker reports nothing: it ended with a status, or still runs."""
     if status is None:
         return failure(f"undecided after {seconds:g} seconds", program.UNKNOWN)
@@ -343,14 +343,14 @@ class Examination:
     """A container that must be known to be confined within this many seconds, and else is killed on request, as soon as
     the status is known and before it is explained."""
 
-    def __init__(self, process: Process, seconds: float, kills: bool) -> None:
+    def __init__(self, process: ContainerProcess, seconds: float, kills: bool) -> None:
         self.process = process
         self.seconds = seconds
         self.kills = kills
         self.killed: list[Kill] = []
         self.watchdog: Watchdog | None = None
 
-    def result(self, find: Callable[[], Finding], is_json: bool) -> Finding:
+    def result(self, find: Callable[[], HookResult], is_json: bool) -> HookResult:
         try:
             if self.kills:
                 self.watchdog = Watchdog(self.bark, time.monotonic() + self.seconds + GRACE)
@@ -387,7 +387,7 @@ def write_log(name: str, status: int, lines: Sequence[str]) -> None:
     syslog.closelog()
 
 
-def verdict_line(container: Container | None, result: Finding) -> str:
+def verdict_line(container: ContainerState | None, result: HookResult) -> str:
     """A line that says how it came out."""
     who = container.description if container else "a container"
     if result.status == program.SUCCESS:
@@ -430,7 +430,7 @@ def hook_file(path: str, words: Sequence[str], seconds: float) -> str:
                       indent=4) + "\n"
 
 
-def run_safely(find: Callable[[], Finding]) -> Finding:
+def run_safely(find: Callable[[], HookResult]) -> HookResult:
     """What is found; if anything fails, why."""
     try:
         return find()

@@ -37,7 +37,7 @@ def place(text: str, at: int) -> str:
     return f"line {line}, column {at - (text.rfind(chr(10), 0, at) + 1) + 1}"
 
 
-class TooMany(Exception):
+class TooManyTokens(Exception):
     """The text has more than MOST tokens."""
 
 
@@ -53,7 +53,7 @@ def _end_of_string(text: str, begin: int) -> int:
 
 
 def tokens(text: str) -> Iterator[tuple[int, str]]:
-    """The tokens of a text, each with its index. Raises TooMany."""
+    """The tokens of a text, each with its index. Raises TooManyTokens."""
     end = 0
     for _ in range(MOST):
         found = TOKEN.search(text, end)
@@ -63,7 +63,7 @@ def tokens(text: str) -> Iterator[tuple[int, str]]:
         if text[begin] == '"':
             end = _end_of_string(text, begin)
         yield begin, text[begin:end]
-    raise TooMany
+    raise TooManyTokens
 
 
 def _text_of(token: str) -> str:
@@ -75,7 +75,7 @@ def _text_of(token: str) -> str:
 
 def values(text: str) -> Iterator[tuple[int, list[str | int], str]]:
     """Each value of a text in order: where it begins, its path, which changes with the next one, and its first token. A
-    text that isn't JSON is followed as far as that makes sense. Raises TooMany."""
+    text that isn't JSON is followed as far as that makes sense. Raises TooManyTokens."""
     # of each object and array that is open its bracket, and in `path` the member or the index
     open_in: list[str] = []
     path: list[str | int] = []
@@ -108,7 +108,7 @@ def place_of(text: str, path: Path) -> str | None:
         for begin, here, _ in values(text):
             if here == wanted:
                 at = begin
-    except TooMany:
+    except TooManyTokens:
         return None
     return None if at is None else place(text, at)
 
@@ -124,7 +124,7 @@ def where_in(text: str, at: int) -> str:
                 break
             is_over = token not in ("[", "{") and begin + len(token) <= at
             word, path = "after" if is_over else "in", here.copy()
-    except TooMany:
+    except TooManyTokens:
         return ""
     # (of a member whose name isn't read)
     path = path[:-1] if path[-1:] == [""] else path

@@ -21,16 +21,16 @@ FUSE = Pattern(rb" - fuse(?:\.[^ ]*)? [^ ]* (?:[^ ]*,)?user_id=([0-9]+)")
 MOUNT = Pattern(rb"mnt_id:\s*([0-9]+)")
 
 
-class Unreadable(Exception):
+class UnreadableFile(Exception):
     """A file can't be read, and why."""
 
 
-class Absent(Unreadable):
+class Absent(UnreadableFile):
     """There is no such file."""
 
 
 @dataclass(frozen=True)
-class Place:
+class OwnedFile:
     """An open file or folder, and the user IDs of those beside root who could have put another one in its place, or
     changed it."""
 
@@ -65,10 +65,10 @@ def _refuse_users_mount(path: str, file: int) -> None:
     with open("/proc/self/mountinfo", "rb") as mounts:
         of_user = FUSE.search(next((line for line in mounts if line.startswith(start)), b""))
     if of_user and int(of_user[1]) not in (0, os.geteuid()):
-        raise Unreadable(f"'{path}' leads into a file system of user {int(of_user[1])}")
+        raise UnreadableFile(f"'{path}' leads into a file system of user {int(of_user[1])}")
 
 
-def _opened(path: str) -> Place:
+def _opened(path: str) -> OwnedFile:
     """What stands at an absolute path. Links are followed where only root could have made them."""
     users, parts, links = frozenset(), path.split("/")[::-1], 0
     files = [os.open("/", BY_PATH)]
@@ -76,7 +76,7 @@ def _opened(path: str) -> Place:
         while parts:
             name = parts.pop()
             if name == ".." and users:
-                raise Unreadable(f"'{path}' leads out of a user's folder")
+                raise UnreadableFile(f"'{path}' leads out of a user's folder")
             files.append(os.open(name or ".", BY_PATH, dir_fd=files[-1]))
             _refuse_users_mount(path, files[-1])
             status = os.fstat(files[-1])
@@ -86,26 +86,26 @@ def _opened(path: str) -> Place:
             target, links = os.readlink("", dir_fd=files[-1]), links + 1
             os.close(files.pop())
             if users or status.st_uid or links > MOST_LINKS:
-                raise Unreadable(f"'{path}' leads through a link of a user, or through too many")
+                raise UnreadableFile(f"'{path}' leads through a link of a user, or through too many")
             if target.startswith("/"):
                 files.append(os.open("/", BY_PATH))
             parts += target.split("/")[::-1]
-        return Place(files[-1], os.fstat(files.pop()), users)
+        return OwnedFile(files[-1], os.fstat(files.pop()), users)
     finally:
         for file in files:
             os.close(file)
 
 
-def opened(path: str) -> Place:
-    """The same; an Unreadable where it can't be opened."""
+def opened(path: str) -> OwnedFile:
+    """The same; an UnreadableFile where it can't be opened."""
     try:
         if not path.startswith("/"):
-            raise Unreadable(f"'{path}' isn't an absolute path")
+            raise UnreadableFile(f"'{path}' isn't an absolute path")
         return _opened(path)
     except FileNotFoundError as error:
         raise Absent(f"there is no file '{path}'") from error
     except (OSError, ValueError) as error:
-        raise Unreadable(f"'{path}' can't be read: {getattr(error, 'strerror', None) or error}") from error
+        raise UnreadableFile(f"'{path}' can't be read: {getattr(error, 'strerror', None) or error}") from error
 
 
 def read(path: str, most: int, most_of_users: int | None = None) -> tuple[bytes, frozenset[int]]:
@@ -115,17 +115,17 @@ def read(path: str, most: int, most_of_users: int | None = None) -> tuple[bytes,
     most = most_of_users if place.users and most_of_users is not None else most
     try:
         if not stat.S_ISREG(place.status.st_mode):
-            raise Unreadable(f"'{path}' isn't a regular file")
+            raise UnreadableFile(f"'{path}' isn't a regular file")
         # (without waiting for whoever holds a lease on it)
         opened_again = os.open(f"/proc/self/fd/{place.file}", os.O_RDONLY | os.O_NONBLOCK | os.O_CLOEXEC)
         with open(opened_again, "rb") as file:
             data = file.read(most + 1)
     except OSError as error:
-        raise Unreadable(f"'{path}' can't be read: {error.strerror}") from error
+        raise UnreadableFile(f"'{path}' can't be read: {error.strerror}") from error
     finally:
         os.close(place.file)
     if len(data) > most:
-        raise Unreadable(f"'{path}' has more than {most} bytes")
+        raise UnreadableFile(f"'{path}' has more than {most} bytes")
     return data, place.users | ({place.status.st_uid} if place.users else frozenset())
 
 
@@ -140,7 +140,7 @@ def names_in(path: str, most_of_users: int) -> tuple[list[str], bool]:
         with os.scandir(f"/proc/self/fd/{place.file}") as entries:
             names = [it.name for it in (islice(entries, most_of_users + 1) if place.users else entries)]
     except OSError as error:
-        raise Unreadable(f"'{path}' can't be read: {error.strerror}") from error
+        raise UnreadableFile(f"'{path}' can't be read: {error.strerror}") from error
     finally:
         os.close(place.file)
     is_all = not place.users or len(names) <= most_of_users

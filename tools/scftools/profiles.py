@@ -216,7 +216,7 @@ def _too_deep(text: str) -> int | None:
             depth += {"[": 1, "{": 1, "]": -1, "}": -1}.get(token, 0)
             if depth > DEEPEST:
                 return at
-    except json_places.TooMany:
+    except json_places.TooManyTokens:
         pass
     return None
 
@@ -227,7 +227,7 @@ def _refuse(number: str) -> None:
 
 def _odd_value(text: str) -> str | None:
     """A value that Python's reader takes, and scf's doesn't, if it is found: NaN and the like, a number out of range,
-    an unpaired surrogate. Raises TooMany."""
+    an unpaired surrogate. Raises TooManyTokens."""
     for at, path, token in json_places.values(text):
         why = None
         if token in ("NaN", "Infinity", "-Infinity"):
@@ -289,7 +289,7 @@ def where_json_ends(data: bytes) -> str:
         why = str(error)
     try:
         return _odd_value(text) or why
-    except json_places.TooMany:
+    except json_places.TooManyTokens:
         return why
 
 

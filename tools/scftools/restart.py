@@ -60,7 +60,7 @@ def notifies(filters: Sequence[bytes]) -> bool:
 
 
 @dataclass(frozen=True)
-class Interrupted:
+class InterruptedSyscall:
     """An interrupted syscall: the number with which it would continue, and what it may be.
 
     If the kernel doesn't report the architecture, it is a syscall of x86-64 or of i386.
@@ -85,7 +85,7 @@ class Restarts:
 
     def __init__(self, kernel: Kernel) -> None:
         self.kernel = kernel
-        self.calls: dict[int, Interrupted] = {}
+        self.calls: dict[int, InterruptedSyscall] = {}
         self.are_by_number: dict[tuple[tuple[bytes, ...], Call], bool] = {}
         self.answers: dict[tuple[tuple[bytes, ...], Call], Answer | None] = {}
         # how often scf may still be asked
@@ -108,7 +108,7 @@ class Restarts:
             return
         architecture = self.kernel.architecture_of_call(thread)
         known = (architecture,) if architecture in RESTART else tuple(RESTART)
-        interrupted = Interrupted(number, tuple(call_of(it, registers) for it in known))
+        interrupted = InterruptedSyscall(number, tuple(call_of(it, registers) for it in known))
         if interrupted.goes_on:
             self.kernel.set_result(thread, -interrupted.anew)
         self.calls[thread] = interrupted
@@ -120,7 +120,7 @@ class Restarts:
         if number != interrupted.anew:
             self.kernel.set_result(thread, -number)
 
-    def number(self, interrupted: Interrupted, filters: tuple[bytes, ...]) -> int:
+    def number(self, interrupted: InterruptedSyscall, filters: tuple[bytes, ...]) -> int:
         """The number with which a syscall continues: restart_syscall's if that is allowed; else its own, from the
         start. If it is denied itself, since its thread got another filter meanwhile, it ends with EINTR."""
         if not filters:

@@ -112,7 +112,7 @@ def examine(judge_process, seconds, kills, is_json):
     container, killed = None, []
     try:
         container = hooks.container_of(hooks.state(min(seconds, hooks.STATE_SECONDS)))
-        examination = hooks.Examination(hooks.Process(container), seconds, kills)
+        examination = hooks.Examination(hooks.ContainerProcess(container), seconds, kills)
         result = examination.result(lambda: judge_process(examination.process), is_json)
         killed = examination.killed
     except hooks.ContainerError as why:

@@ -299,7 +299,7 @@ class OfProcesses(Hook):
     def test_others_that_cannot_be_told(self):
         """Of a process it can't be known whether it is the container's, too."""
         child = self.child([refusing(MOUNT)])
-        process = hooks.Process(hooks.container_of(self.state(child.pid, self.bundle(refuses("mount")))))
+        process = hooks.ContainerProcess(hooks.container_of(self.state(child.pid, self.bundle(refuses("mount")))))
         asked = verify.request_of(hooks.configured(process.container), None, False, tables.read(None), "same")
         for others, expected in (([], (0, "same")), ([os.getpid()], (4, None))):
             process.members = processes.Container(None, list, lambda it=others: it)
@@ -511,10 +511,10 @@ class OfTime(Hook):
     def test_an_explanation_that_takes_too_long(self):
         child = subprocess.Popen(["sleep", "1000"])
         self.addCleanup(child.kill)
-        process = hooks.Process(hooks.container_of(self.state(child.pid, "/none")))
+        process = hooks.ContainerProcess(hooks.container_of(self.state(child.pid, "/none")))
         examination = hooks.Examination(process, 60, True)
         with mock.patch.object(hooks, "EXPLANATION_SECONDS", 0.1):
-            found = examination.result(lambda: hooks.Finding(1, "differs", lambda: time.sleep(5), dict), True)
+            found = examination.result(lambda: hooks.HookResult(1, "differs", lambda: time.sleep(5), dict), True)
         self.assertEqual((found.status, found.verdict, found.value()), (1, "differs", {
             "status": 1, "scope": "native", "verdict": "differs"}))
         self.assertEqual(found.lines(), ["no explanation: it takes longer than 0.1 seconds"])
@@ -541,7 +541,7 @@ class Inside(Hook):
     """What a runtime, a kernel or a log would have to be brought to do."""
 
     def process(self, **members):
-        return hooks.Process(hooks.container_of(self.state(os.getpid(), "/none", **members)))
+        return hooks.ContainerProcess(hooks.container_of(self.state(os.getpid(), "/none", **members)))
 
     def test_another_process_with_the_number(self):
         """Where the one that the runtime meant has ended, what the other one has doesn't count, and it isn't killed."""

@@ -13,7 +13,7 @@ from unittest import mock
 
 from support.common import Case
 from scftools import owned_files
-from scftools.owned_files import ANYONE, Absent, Unreadable
+from scftools.owned_files import ANYONE, Absent, UnreadableFile
 
 USER = 12345
 # linux/fs.h
@@ -39,7 +39,7 @@ class Files(Case):
         return users
 
     def refused(self, name, says):
-        with self.assertRaises(Unreadable) as caught:
+        with self.assertRaises(UnreadableFile) as caught:
             owned_files.read(os.path.join(self.folder, name), 100)
         self.assertIn(says, str(caught.exception))
 
@@ -104,7 +104,7 @@ class Files(Case):
         for path, kind in (("none", Absent), ("a/none", Absent)):
             with self.assertRaises(kind):
                 owned_files.read(os.path.join(self.folder, path), 100)
-        with self.assertRaises(Unreadable):
+        with self.assertRaises(UnreadableFile):
             owned_files.read("a/b/c", 100)
 
     def test_file_systems_of_users(self):
@@ -135,10 +135,10 @@ class Files(Case):
     def test_sizes(self):
         """A user's file may have fewer bytes."""
         self.assertEqual(owned_files.read(self.path, 4, 3)[0], b"text")
-        with self.assertRaises(Unreadable):
+        with self.assertRaises(UnreadableFile):
             owned_files.read(self.path, 3, 4)
         self.give("a", "a/b", "a/b/c")
-        with self.assertRaises(Unreadable):
+        with self.assertRaises(UnreadableFile):
             owned_files.read(self.path, 4, 3)
 
     def test_leases(self):
@@ -165,7 +165,7 @@ class Files(Case):
         self.assertEqual((len(names), is_all), (2, False))
         self.assertEqual(owned_files.names_in(where, 4)[1], True)
         self.assertEqual(owned_files.names_in(os.path.join(self.folder, "none"), 2), ([], True))
-        with self.assertRaises(Unreadable):
+        with self.assertRaises(UnreadableFile):
             owned_files.names_in(os.path.join(self.folder, "a/b/c"), 2)
         self.assertTrue(stat.S_ISDIR(os.stat(where).st_mode))
 
