@@ -1,5 +1,5 @@
-"""The documents: docs/FAULTS.md against the program's kinds and lines, the blocks of README.md and docs/TUTORIAL.md, the
-manual pages, statuses, and that what docs/TRUST.md and docs/ARCHITECTURE.md name is there."""
+"""The documents: docs/FAULTS.md against the program's kinds and lines, the blocks of README.md, docs/TUTORIAL.md and
+docs/RECIPES.md, the manual pages, statuses, and that what docs/TRUST.md and docs/ARCHITECTURE.md name is there."""
 import glob
 import os
 import re
@@ -254,13 +254,8 @@ def commands_of(block):
             yield command
 
 
-class Blocks(Case):
-    """The shell blocks (```sh) of README.md and docs/TUTORIAL.md, as they stand, in a folder that has the launcher and the
-    tools.
-
-    Behind a command its first line of output may stand as a comment. What the other commands of a block print is the
-    block without a language that follows at once, if one does.
-    """
+class Page(Case):
+    """A page's commands, as they stand, in a folder that has the launcher and the tools."""
 
     def setUp(self):
         super().setUp()
@@ -268,6 +263,15 @@ class Blocks(Case):
             os.symlink(os.path.join(TOP, name), os.path.join(self.folder, name))
         stub = self.file("test", "#!/bin/sh\necho '0 passed, 0 failed'\n")
         os.chmod(stub, 0o755)
+        self.env = {**os.environ, "PATH": f"{self.folder}:{os.environ['PATH']}", "TMPDIR": self.folder}
+
+
+class Blocks(Page):
+    """The shell blocks (```sh) of README.md and docs/TUTORIAL.md.
+
+    Behind a command its first line of output may stand as a comment. What the other commands of a block print is the
+    block without a language that follows at once, if one does.
+    """
 
     def run_block(self, block):
         """What each command of a block prints, all in one shell."""
@@ -278,8 +282,8 @@ class Blocks(Case):
                               stderr=subprocess.PIPE, timeout=PATIENCE, check=False)
         printed = re.split(r"\nstatus ([0-9]+) of command [0-9]+\n", done.stdout.decode())
         self.assertEqual(len(printed), 2 * len(commands) + 1, done.stderr.decode())
-        return [(command, printed[2 * at], int(printed[2 * at + 1])) for at,
-                command in enumerate(commands)], done.stderr.decode()
+        return [(command, printed[2 * index], int(printed[2 * index + 1]))
+                for index, command in enumerate(commands)], done.stderr.decode()
 
     def check_blocks(self, *path):
         """Runs the blocks of a page: how many outputs were compared."""
@@ -341,6 +345,29 @@ class Names(unittest.TestCase):
             for name in re.findall(r"`([a-z]+(?:_[a-z0-9]+)+|[A-Z]\w+)`", text_of("docs", page)):
                 self.assertIn(name, words, page)
 
+    # What docs/ARCHITECTURE.md says how to add, and how files name the example of each.
+    ADDED = {"An architecture": r'\bArm\b|arch_arm\b|table-arm\b|(?:\b|_)ARM\b|"arm"',
+             "An action": r'\bTrap\b|(?i:ret_trap)\b|"(?:[A-Z_]+ )*TRAP[" ]',
+             "A fault": r"\bEmptyNames\b|_EMPTY_NAMES\b"}
+
+    def test_what_is_touched_for_an_architecture_an_action_and_a_fault(self):
+        """Each file that names the example stands in the item, and each file of the item is there."""
+        page, places = text_of("docs", "ARCHITECTURE.md"), ("crates", "tools", "")
+        paths = [os.path.join(TOP, "library", "scf.h"), *glob.glob(os.path.join(TOP, "tools", "scftools", "*.py"))]
+        for folder in ("src", "specs", "proofs"):
+            paths += glob.glob(os.path.join(TOP, "crates", "*", folder, "**", "*.*t"), recursive=True)
+        sources = {path: text_of(path) for path in paths if not re.search("_tests/|scf_trials/|/tool_", path)}
+        for what, pattern in self.ADDED.items():
+            item = re.search(rf"^\*\*{what}\*\*.*?(?=^\*\*)", page, re.M | re.S)[0]
+            listed = set()
+            for name in re.findall(r"[\w/.]+\.(?:rt|antt|py|h)\b", item):
+                there = [path for path in (os.path.join(TOP, place, name) for place in places) if os.path.isfile(path)]
+                self.assertEqual(len(there), 1, name)
+                listed.add(there[0])
+            named = {path for path, text in sources.items() if re.search(pattern, text)}
+            self.assertGreater(len(named), 8)
+            self.assertEqual(named - listed, set(), what)
+
     def test_each_file_of_definitions_says_what_it_defines(self):
         for path in glob.glob(os.path.join(TOP, "crates", "*", "specs", "*.antt")):
             if os.path.basename(path) not in ("Lib.antt", "internal.antt"):
@@ -348,29 +375,114 @@ class Names(unittest.TestCase):
                     self.assertRegex(file.readline(), r"^-- [A-Z]", path)
 
 
-class Recipes(Case):
-    """docs/RECIPES.md: each tool that it names is there, and takes the options that stand behind it."""
+# Programs that the pages run as root; another line that begins with `# ` was printed by a tool.
+AS_ROOT = ("apt", "ausearch", "make", "mkdir", "podman", "scf", "systemctl")
 
-    def commands(self):
-        """The tools of the page's commands, each with the options of its own."""
-        text = text_of("docs", "RECIPES.md")
+
+def console_of(*path):
+    """The commands of a page's blocks ```console: whether root runs each, the command, and the lines it prints."""
+    commands = []
+    for body in re.findall(r"^```console\n(.*?)^```$", text_of(*path), re.M | re.S):
+        for line in body.splitlines():
+            is_root = line.startswith("# ") and line.split()[1] in AS_ROOT
+            if is_root or line.startswith("$ "):
+                commands.append((is_root, line[2:], []))
+            else:
+                commands[-1][2].append(line)
+    return commands
+
+
+class Consoles(Page):
+    """The commands at `$` of the pages whose inputs and programs are here, as they stand: what they print, and in it
+    `...` for any lines. Those at `#` change the machine, and are only looked at for their options."""
+
+    def setUp(self):
+        super().setUp()
+        adds = load(16) + insn(0x54, 0x7FF) + insn(0x07, 0) + load(24) + insn(0x54, 0x7FF) + insn(0x0C, 0)
+        turned = load(24) + insn(0x54, 0x7FF) + insn(0x07, 0) + load(16) + insn(0x54, 0x7FF) + insn(0x0C, 0)
+        tests = jeq(2047, 0, 1) + ret(ALLOW) + ret(0x00050001)
+        for name, data in (("sum", adds + tests), ("other-sum", turned + tests), ("sandbox", filter_of([0])),
+                           ("old", filter_of([0])), ("new", filter_of([0, 1])), ("0", filter_of([0, 1])),
+                           ("1", filter_of([0]))):
+            self.file(f"{name}.bpf", data)
+        for name, allowed in (("docker", ["read", "write"]), ("old", ["read"]), ("new", ["read", "write"]),
+                              ("profile", ["read"])):
+            self.file(f"{name}.json", profile_of(*allowed))
+
+    def can_run(self, command):
+        programs = re.findall(r"(?:^|[|;] *)([\w.-]+)", re.sub(r"'[^']*'", "''", command))
+        needed = re.findall(r"(?<![\w/])/[\w./-]+", command)
+        return all(map(os.path.exists, needed)) and all(
+            name == "scf" or shutil.which(name) for name in programs) and "/program" not in command
+
+    def check_console(self, *path):
+        """Runs the commands of a page: how many ran, and how many outputs were compared."""
+        ran = compared = 0
+        for is_root, command, lines in console_of(*path):
+            if is_root or not self.can_run(command):
+                continue
+            status, out, _ = self.run_words(["sh", "-c", f"exec 2>&1; {command}"], env=self.env)
+            self.assertIn(status, (0, 1, 4), f"{command}: {out}")
+            ran += 1
+            if lines:
+                pattern = "".join("(?:.*\n)*" if line == "..." else re.escape(f"{line}\n") for line in lines)
+                self.assertRegex(out, rf"\A{pattern}\Z", command)
+                compared += 1
+        return ran, compared
+
+    def test_recipes(self):
+        """And the block for continuous integration, which is a script of its own."""
+        ran, compared = self.check_console("docs", "RECIPES.md")
+        self.assertGreaterEqual((ran, compared), (10, 4))
+        for block, _ in blocks_of(text_of("docs", "RECIPES.md")):
+            self.assertEqual(self.run_words(["sh", "-c", block], env=self.env),
+                             (0, "allows nothing that the profile denies\n", ""))
+
+    def test_each_tool_is_there_and_takes_its_options(self):
+        found = [command for path in (("docs", "RECIPES.md"), ("docs", "OPERATIONS.md"), ("README.md",))
+                 for command in self.tools_in(text_of(*path))]
+        self.assertGreater(len(found), 30)
+        for name, options_of_command in sorted(set(found)):
+            with self.subTest(name):
+                status, out, _ = self.run_tool(name, "--help")
+                self.assertEqual(status, 0)
+                for option in options_of_command:
+                    self.assertRegex(out, rf"{option}\b(?!-)")
+
+    def tools_in(self, text):
+        """The tools of a page's commands, each with the options of its own."""
         for body in re.findall(r"^```\w+\n(.*?)^```$", text, re.M | re.S) + re.findall(r"`([^`\n]+)`", text):
             count = 1
             while count:
                 body, count = re.subn(r"\$\([^()]*\)", "", body)
             names = "|".join(sorted(TOOLS, key=len, reverse=True))
             for name, rest in re.findall(rf"\b(?:tools/|scf[- ])({names})\b([^\n|;&]*)", body):
-                yield name, re.findall(r"(?<= )--[a-z0-9-]+", rest)
+                yield name, tuple(re.findall(r"(?<= )--[a-z0-9-]+", rest))
 
-    def test_each_is_there(self):
-        found = list(self.commands())
-        self.assertGreater(len(found), 15)
-        for name, options in found:
-            with self.subTest(name):
-                status, out, _ = self.run_tool(name, "--help")
-                self.assertEqual(status, 0)
-                for option in options:
-                    self.assertRegex(out, rf"{option}\b(?!-)")
+    def test_the_reading_of_consoles(self):
+        page = self.file("page.md", "```console\n$ scf a\n# the syscall\n...\n# scf b --c\n```\n")
+        self.assertEqual(console_of(page), [(False, "scf a", ["# the syscall", "..."]), (True, "scf b --c", [])])
+
+
+class LibraryPages(Case):
+    """The shell blocks of library/*/README.md, in a copy of it, where libscf is built and the language is here."""
+
+    PROGRAMS = {"python": "python3", "go": "go", "rust": "cargo"}
+
+    def test_each_block(self):
+        blocks = [(name, block) for name in self.PROGRAMS
+                  for block, _ in blocks_of(text_of("library", name, "README.md"))]
+        if not blocks or not os.path.isdir(os.path.join(TOP, "library", "out")):
+            self.skipTest("no page has a block, or libscf isn't built")
+        copy = shutil.copytree(os.path.join(TOP, "library"), os.path.join(self.folder, "library"),
+                               ignore=shutil.ignore_patterns("out", "target", "__pycache__"))
+        for name in ("library/out", "tables"):
+            os.symlink(os.path.join(TOP, name), os.path.join(self.folder, name))
+        for name, block in blocks:
+            if shutil.which(self.PROGRAMS[name]):
+                with self.subTest(name):
+                    status, out, err = self.run_words(["sh", "-e", "-c", block], cwd=os.path.join(copy, name))
+                    self.assertEqual(status, 0, out + err)
 
 
 class Manual(Case):
