@@ -163,7 +163,7 @@ class Asked(Case):
         kernel.flags = hold.PF_KTHREAD
         self.refused(kernel, "process 7 is a kernel thread")
         kernel = FakeKernel([OLDEST], {SEIZE: errno.EPERM})
-        kernel.own["CapEff"] = f"{1 << hold.CAP_SYS_ADMIN:x}"
+        kernel.own_status["CapEff"] = f"{1 << hold.CAP_SYS_ADMIN:x}"
         self.refused(kernel, "without CAP_SYS_PTRACE: run this as root")
         self.refused(FakeKernel([OLDEST], {SEIZE: errno.ESRCH}, listings=[(7,), ()]), "process 7 has ended")
 
@@ -239,7 +239,7 @@ class Asked(Case):
         for own, says in (({"CapEff": "0"}, "CAP_SYS_ADMIN: run this as root"),
                           ({"Seccomp": "2"}, "this tool runs under a filter itself")):
             kernel = FakeKernel([OLDEST])
-            kernel.own.update(own)
+            kernel.own_status.update(own)
             self.refused(kernel, says)
             self.assertEqual(kernel.asked, [])
         kernel = FakeKernel([OLDEST])

@@ -60,8 +60,8 @@ def started(names, **settings):
     """A child under the filters of these files, and the numbers of its threads."""
     child = subprocess.Popen([sys.executable, "-c", CHILD, json.dumps(names)], stdin=subprocess.PIPE,
                              stdout=subprocess.PIPE, text=True, **settings)
-    said = child.stdout.readline().split()
-    return child, [int(it) for it in said] if said and said[0].isdigit() else said
+    words = child.stdout.readline().split()
+    return child, [int(word) for word in words] if words and words[0].isdigit() else words
 
 
 def ended(child):
@@ -92,11 +92,11 @@ def why_not_here():
     read, write = os.pipe()
     os.write(write, OLDEST)
     os.close(write)
-    child, said = started([[f"/dev/fd/{read}"]], pass_fds=[read])
+    child, threads = started([[f"/dev/fd/{read}"]], pass_fds=[read])
     os.close(read)
     try:
-        if said != [child.pid]:
-            return f"this machine takes no filter: {' '.join(map(str, said))}"
+        if threads != [child.pid]:
+            return f"this machine takes no filter: {' '.join(map(str, threads))}"
         processes.look_at_process(processes.Kernel(), child.pid)
         return None
     except processes.Unreadable as error:
@@ -226,7 +226,7 @@ class FakeKernel:
         self.states = list(states)
         self.listings = list(listings)
         self.status = {"Seccomp": "2", "State": "S (sleeping)", "Tgid": "7", **(status or {})}
-        self.own = {"Seccomp": "0", "CapEff": "000001ffffffffff"}
+        self.own_status = {"Seccomp": "0", "CapEff": "000001ffffffffff"}
         self.flags = 0
         self.asked = []
         self.held = set()
@@ -282,7 +282,7 @@ class FakeKernel:
         return list(self.listings.pop(0) if len(self.listings) > 1 else self.listings[0])
 
     def status_of(self, thread):
-        return self.own if thread == os.getpid() else self.status
+        return self.own_status if thread == os.getpid() else self.status
 
     def flags_of(self, _):
         return self.flags

@@ -11,7 +11,8 @@ import unittest
 SOURCES = "/usr/share/gocode"
 PACKAGES = ("github.com/docker/docker/profiles/seccomp", "github.com/containers/common/pkg/seccomp")
 SOURCE = os.path.join(os.path.dirname(os.path.abspath(__file__)), "engines.go")
-is_there = bool(shutil.which("go")) and all(os.path.isdir(os.path.join(SOURCES, "src", it)) for it in PACKAGES)
+is_there = bool(shutil.which("go")) and all(
+    os.path.isdir(os.path.join(SOURCES, "src", package)) for package in PACKAGES)
 
 
 @functools.lru_cache(None)
@@ -27,15 +28,15 @@ def _program():
 
 
 def resolved(requests):
-    """What the engines make of profiles: of (engine, capabilities, text of a profile) each the profile, and why it is
+    """For each (engine, capabilities, text of a profile) the profile that the engine makes of it, and why it is
     refused."""
     if not is_there:
         raise unittest.SkipTest("no Go compiler, or no sources of the engines")
-    _, path, said = _program()
+    _, path, printed = _program()
     if path is None:
-        raise unittest.SkipTest(f"the engines' code can't be built: {said[-200:]}")
+        raise unittest.SkipTest(f"the engines' code can't be built: {printed[-200:]}")
     lines = [json.dumps({"Engine": engine, "Caps": list(capabilities), "Profile": text})
              for engine, capabilities, text in requests]
     done = subprocess.run([path], input="\n".join([*lines, ""]).encode(), stdout=subprocess.PIPE, check=True)
     answers = [json.loads(line) for line in done.stdout.splitlines()]
-    return [(it["Profile"], it["Refused"]) for it in answers]
+    return [(answer["Profile"], answer["Refused"]) for answer in answers]

@@ -121,6 +121,6 @@ class OnProgram(unittest.TestCase):
     def shown(self, words, given):
         """Of a difference: the number, the architecture and argument 0 of the call, and the two answers."""
         out, status = ran(words, given)
-        found = DIFFERS.fullmatch(out.decode())
-        self.assertTrue(found and status == 1, (words, given, out))
-        return int(found[1]), int(found[2], 16), int(found[3], 16), found[4], found[5]
+        match = DIFFERS.fullmatch(out.decode())
+        self.assertTrue(match and status == 1, (words, given, out))
+        return int(match[1]), int(match[2], 16), int(match[3], 16), match[4], match[5]

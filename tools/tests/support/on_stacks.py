@@ -42,11 +42,11 @@ class OnStacks(OnProgram):
         out, status = ran(["ask", *words], self.both)
         self.assertEqual((out.decode().rsplit(" ", 2 if b" entry " in out else 1)[0], status), (answers[1], 0))
 
-    def says(self, found, wanted, scope, relation):
-        """That the relation holds, or a call of the scope is shown."""
-        out, status = found
+    def says(self, result, wanted, scope, relation):
+        """Checks that the relation holds, or a call of the scope is shown."""
+        out, status = result
         if wanted == SAME:
-            self.assertEqual(found, (relation + "\n", 0))
+            self.assertEqual(result, (relation + "\n", 0))
             return
         shown = SHOWN.fullmatch(out)
         self.assertTrue(shown and status == 1, out)
@@ -63,20 +63,20 @@ class OnStacks(OnProgram):
             self.assertEqual(tuple(answers), wanted)
 
     def says_of_number(self, lines, number, wanted, word):
-        """What the lines of calls say of a number: the verdict and the arguments of a call that is shown."""
-        own = [line for line in lines if line.split()[0] == str(number)]
+        """The verdict on a number in the lines of calls, and the arguments of the call that is shown."""
+        of_number = [line for line in lines if line.split()[0] == str(number)]
         if wanted == SAME:
-            self.assertEqual(own, [])
+            self.assertEqual(of_number, [])
             return SAME, None
-        self.assertEqual(len(own), 1)
-        verdict = own[0].split(" ", 2)[2]
+        self.assertEqual(len(of_number), 1)
+        verdict = of_number[0].split(" ", 2)[2]
         if isinstance(wanted, int):
             self.assertEqual(verdict, f"undecided at {wanted}")
             return verdict, None
-        shown = LINE.fullmatch(own[0])
-        self.assertTrue(shown, own)
-        _, found, arguments, *answers = shown.groups()
-        self.assertEqual(found, word)
+        shown = LINE.fullmatch(of_number[0])
+        self.assertTrue(shown, of_number)
+        _, printed_word, arguments, *answers = shown.groups()
+        self.assertEqual(printed_word, word)
         self.are_wanted(answers, wanted)
         self.are_answers(str(number), hex(X86_64), "0x0", arguments, answers)
-        return found, arguments.split()
+        return word, arguments.split()

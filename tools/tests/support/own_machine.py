@@ -208,11 +208,11 @@ class Systemd(Machine):
 
     def made_cgroup(self):
         with open("/proc/mounts", encoding="utf-8") as file:
-            found = [line.split()[1] for line in file if line.split()[2] == "cgroup2"]
-        if not found:
+            mounts = [line.split()[1] for line in file if line.split()[2] == "cgroup2"]
+        if not mounts:
             self.skipTest("there are no cgroups of version 2 here")
         try:
-            path = tempfile.mkdtemp(prefix="scf-systemd-", dir=found[0])
+            path = tempfile.mkdtemp(prefix="scf-systemd-", dir=mounts[0])
         except OSError as error:
             self.skipTest(f"no cgroup can be made here: {error.strerror}")
         self.addCleanup(self.remove, path)

@@ -37,7 +37,7 @@ class StandIn:
         if len(program) > 4096:
             return "TooLong"
         for place, (code, jt, jf, k) in enumerate(program):
-            left = len(program) - place - 1 + (self.plant == "a target at the length is taken")
+            behind = len(program) - place - 1 + (self.plant == "a target at the length is taken")
             if code not in CODES:
                 return "Code"
             if code == 0x20 and (k >= 64 or k % 4):
@@ -49,7 +49,7 @@ class StandIn:
             if code in (0x64, 0x74) and k > 31 + (self.plant == "a constant shift by 32 is taken"):
                 return "Shift"
             targets = (k,) if code == 5 else (jt,) if self.plant == "the else side isn't looked at" else (jt, jf)
-            if code & 7 == 5 and max(targets) >= left:
+            if code & 7 == 5 and max(targets) >= behind:
                 return "Jump"
         if program[-1][0] not in (0x06, 0x16):
             return "LastNotReturn"
@@ -147,9 +147,9 @@ class StandIn:
 
     def path(self, data, call):
         """The places of the instructions that run on a call, in their order."""
-        found = []
-        self.answer(unpacked(data), words_of(call), found)
-        return found
+        path = []
+        self.answer(unpacked(data), words_of(call), path)
+        return path
 
     def decide(self, filters, call):
         def rank(answer):
