@@ -6,6 +6,9 @@ KIND is filter, profile or table, or for scf's `--architectures` table-x86, tabl
 is a file or a pipe, by whatever name (/dev/stdin is standard input, `-` a file of that name). Each part is a header,
 `KIND COUNT` and a newline, and then the COUNT bytes of its file. The parts stand in the order of the arguments.
 
+scf compares a bundle over all records, unless --architectures is given; `scf compare` compares files on each
+architecture that the profile names. So the same filter and profile can be `same` by files and `differs` by a bundle.
+
 Exit status: 0 success, 2 usage error or a file that can't be read (nothing is printed), 3 the output failed.
 
 Examples:
@@ -21,6 +24,8 @@ from . import bundles, client, inputs, output, program
 USAGE = """usage: {} KIND FILE [KIND FILE ..]
 KIND is filter, profile or table, or for another architecture than x86-64 table-x86, table-x32, table-aarch64
 or table-arm; FILE a file or a pipe. Prints the parts, each after a header `KIND COUNT`.
+scf compares a bundle over all records, unless --architectures is given; `scf compare` compares files on each
+architecture that the profile names. So the same filter and profile can be `same` by files and `differs` by a bundle.
 """
 
 

@@ -2,12 +2,21 @@
 import os
 import threading
 
-from support.common import Case
+from support.common import SCF, TABLE, Case, filter_of, profile_of, tool
 
 
 class Bundle(Case):
     def test_usage(self):
         self.says_usage("bundle")
+
+    def test_a_bundle_is_compared_over_all_records_and_files_are_not(self):
+        """As --help says: this filter doesn't deny i386's syscalls, as the profile says without naming i386."""
+        allows = self.file("f.bpf", filter_of([0], foreign=0x7FFF0000))
+        profile = self.file("p.json", profile_of("read"))
+        self.assertIn("can be `same` by files and `differs` by a bundle", self.run_tool("bundle", "--help")[1])
+        self.assertEqual(self.run_tool("compare", allows, profile)[1].split("\n")[0], "same")
+        words = ["sh", "-c", '"$0" filter "$1" profile "$2" table "$3" | "$4" compare', tool("bundle"), allows, profile]
+        self.assertEqual(self.run_words([*words, TABLE, SCF])[1].split("\n")[0], "differs")
 
     def test_parts_in_the_order_of_the_words(self):
         a, b = self.file("a", b"one\n"), self.file("b", b"")
