@@ -54,7 +54,7 @@ pub use Rattle.scf_insn.specs.declared.record.CallRecord.{CallRecord}
 pub use Rattle.scf_profile.specs.Condition.{compares, condition_holds}
 unfoldable pub use Rattle.scf_profile.specs.JsonMembers.{each}
 pub use Rattle.scf_profile.specs.Limits.{max_rules}
-pub use Rattle.scf_profile.specs.Loading.{EntriesConflict, IsFirstConflict, IsLeastConflict, RefusesBy, IsText, Loads, LoadsEach, Refuses, RefusesEach, TestsGive}
+pub use Rattle.scf_profile.specs.Loading.{EntriesConflict, IsFirstConflict, IsLeastConflict, RefusesBy, IsText, Loads, LoadsEach, Refuses, RefusesAs, RefusesEach, RefusesEachAs, TestsGive}
 pub use Rattle.scf_profile.specs.NamedCalls.{AreCallsOf, HasItsNames}
 pub use Rattle.scf_profile.specs.Names.{named, names_of}
 pub use Rattle.scf_profile.specs.NumberRules.{AreNumbersOf}
@@ -66,7 +66,7 @@ pub use Rattle.scf_profile.specs.References.{texts_at}
 pub use Rattle.scf_profile.specs.Rule.{AreConditions, Conflicts, HaveDistinctIndices, IsCondition, IsRule, all_hold, meets}
 pub use Rattle.scf_profile.specs.RulesByNumber.{numbers_of, rules_of}
 pub use Rattle.scf_profile.specs.SameAnswers.{AnswersRelated, SameAnswers}
-pub use Rattle.scf_profile.specs.StatedProfile.{Head, Tables, is_named, profile_for, listed_names, other_names, profiles_from, rules_from, rules_named, skipped_names, strings_of, table_for, tables_of}
+pub use Rattle.scf_profile.specs.StatedProfile.{Head, Tables, is_named, names_kept, profile_for, listed_names, own_architecture, other_names, profiles_from, rules_from, rules_named, skipped_names, strings_of, table_for, tables_of}
 unfoldable pub use Rattle.scf_profile.specs.StatedProfile.{answer_in, condition_of, condition_of as condition_stated, entry_of, errno_of, no_engine_form, all_listed, entries_of, head_of, profile_of, profiles_of, seccomp_of}
 pub use Rattle.scf_profile.specs.Steps.{◌>>=◌}
 pub use Rattle.scf_profile.specs.Table.{AreCallNumbers, BeginWithCall, Names, entry_in, fields, is_separator, is_in_name, is_call_name, table_of, with_entry}
@@ -81,6 +81,7 @@ pub use Rattle.scf_profile.specs.declared.architecture_table.ArchitectureTable.{
 pub use Rattle.scf_profile.specs.declared.named_call.NamedCall.{NamedCall}
 pub use Rattle.scf_profile.specs.declared.number_rules.NumberRules.{NumberRules}
 pub use Rattle.scf_profile.specs.declared.number_set.NumberSet.TheVariants.{Masked}
+pub use Rattle.scf_profile.specs.declared.reading.Reading.{Reading}
 pub use Rattle.scf_profile.specs.declared.reason.Reason.{Reason}
 pub use Rattle.scf_profile.specs.declared.reason.Reason.TheVariants.{Default, Entry, Foreign}
 pub use Rattle.scf_profile.specs.declared.rule.Rule.{Rule}
@@ -92,4 +93,4 @@ pub use Rattle.scf_profile.specs.internal.NumberSets.{HaveCommonNumber, IsGreate
 pub use Rattle.scf_profile.specs.internal.Overlaps.{HoldAt, Overlap, OverlapAt}
 pub use Rattle.scf_profile.specs.internal.Refusals.{NamesFirstConflict, NamesLeastConflict}
 pub use Rattle.scf_profile.specs.internal.RulesUnder.{AreUnder, Under, number_rules, rules_under}
-pub use Rattle.scf_profile.specs.internal.Stated.{head_stated, loaded_of, loaded_profiles_of, stated_profile}
+pub use Rattle.scf_profile.specs.internal.Stated.{head_stated, loaded_of, loaded_profiles_of, stated_profile, with_own}

@@ -17,20 +17,20 @@ by_either true b c h = refl
 by_either false true c h = refl
 by_either false false c h = absurd (false≢true h)
 
-module _ (tables : Tables) (entries : List Entry) (all : List Architecture) (i : ℕ) (lt : i < length all) where
+module _ (out : Option Answer) (tables : Tables) (entries : List Entry) (all : List Architecture) (i : ℕ) (lt : i < length all) where
   abbrev one : Answer → Option Profile
-  one default = profile_for tables default entries (get_or all i X8664)
+  one default = profile_for out tables default entries (get_or all i X8664)
 
   abbrev rest : Answer → List Profile
-  rest default = filter_map (profile_for tables default entries) (drop (i + 1) all)
+  rest default = filter_map (profile_for out tables default entries) (drop (i + 1) all)
 
-  left : (default : Answer) → filter_map (profile_for tables default entries) (drop i all)
+  left : (default : Answer) → filter_map (profile_for out tables default entries) (drop i all)
       ≡ cons_option (one default) (rest default)
   left default = rw (add-one, drop-cons all i X8664 lt) refl
 
   pub stated_more : (default : Answer) (stated : List StatedRules) (found : Option StatedRules) (whole : List Profile)
       → option_map (stated_profile default) found ≡ one default
-      → map (stated_profile default) stated ++ filter_map (profile_for tables default entries) (drop i all) ≡ whole
+      → map (stated_profile default) stated ++ filter_map (profile_for out tables default entries) (drop i all) ≡ whole
       → map (stated_profile default) (with_found stated found) ++ rest default ≡ whole
   stated_more default stated found whole is so_far =
       by_found found (rw (left default, ← is) at so_far) where
@@ -44,7 +44,7 @@ module _ (tables : Tables) (entries : List Entry) (all : List Architecture) (i :
 
   -- the rules of one are too many
   pub one_too_many : (default : Answer) (stated : List StatedRules) (whole : List Profile) (fault : LoadFault)
-      → map (stated_profile default) stated ++ filter_map (profile_for tables default entries) (drop i all) ≡ whole
+      → map (stated_profile default) stated ++ filter_map (profile_for out tables default entries) (drop i all) ≡ whole
       → TellsOneTooMany (cons_option (one default) []) fault → TellsOneTooMany whole fault
   one_too_many default stated whole fault so_far tells not_memory =
       by_one (one default) (tells not_memory) (rw (left default) at so_far) where
@@ -72,34 +72,34 @@ none_too_many default (s ∷ stated) all =
 
 -- ---- profiles of architectures that are apart
 
-module _ (tables : Tables) (default : Answer) (entries : List Entry) where
+module _ (out : Option Answer) (tables : Tables) (default : Answer) (entries : List Entry) where
   abbrev profile_of : Architecture → Names → Profile
   profile_of a table =
-      record { architecture = a; default_answer = default; rules = rules_from a table 0 entries }
+      record { architecture = a; default_answer = default; rules = rules_from out a table 0 entries }
 
   later_apart : (a : Architecture) (all : List Architecture) → AllByRecursion (AreApart a) all
-      → All (λ p. AreApart a p.architecture) (filter_map (profile_for tables default entries) all)
+      → All (λ p. AreApart a p.architecture) (filter_map (profile_for out tables default entries) all)
   later_apart a [] h = All-nil (λ p. AreApart a p.architecture)
   later_apart a (b ∷ all) h = by_table (table_for tables b) (later_apart a all h.1) where
     by_table : (o : Option Names)
-        → All (λ p. AreApart a p.architecture) (filter_map (profile_for tables default entries) all)
+        → All (λ p. AreApart a p.architecture) (filter_map (profile_for out tables default entries) all)
         → All (λ p. AreApart a p.architecture)
-        (cons_option (option_map (profile_of b) o) (filter_map (profile_for tables default entries) all))
+        (cons_option (option_map (profile_of b) o) (filter_map (profile_for out tables default entries) all))
     by_table None others = others
     by_table (Some table) others = All-cons (λ p. AreApart a p.architecture) (profile_of b table) _ h.0 others
 
   all_apart : (all : List Architecture) → EachApart all
-      → AreOfApart (filter_map (profile_for tables default entries) all)
+      → AreOfApart (filter_map (profile_for out tables default entries) all)
   all_apart [] h = λ i j d lt within. absurd (omega arith)
   all_apart (a ∷ all) h = by_table (table_for tables a) (all_apart all h.1) where
-    by_table : (o : Option Names) → AreOfApart (filter_map (profile_for tables default entries) all)
-        → AreOfApart (cons_option (option_map (profile_of a) o) (filter_map (profile_for tables default entries) all))
+    by_table : (o : Option Names) → AreOfApart (filter_map (profile_for out tables default entries) all)
+        → AreOfApart (cons_option (option_map (profile_of a) o) (filter_map (profile_for out tables default entries) all))
     by_table None others = others
     by_table (Some table) others =
         AllPairs-cons (λ (p : Profile) (later : Profile). AreApart p.architecture later.architecture)
         (profile_of a table) _ (later_apart a all h.0) others
 
-  pub profiles_apart : AreOfApart (profiles_from tables default entries)
+  pub profiles_apart : AreOfApart (profiles_from out tables default entries)
   profiles_apart = all_apart architectures each_apart
 
 -- ---- conflicts of one profile after another

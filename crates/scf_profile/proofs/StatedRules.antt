@@ -1,5 +1,5 @@
 -- The rules that entries state: their ranges, and one answer for each entry.
-use Rattle.scf_profile.proofs.Common.{◌≡◌, ℕ, suc, Bool, ◌+◌, ◌<◌, ◌≤◌, ◌^◌, List, [], ◌∷◌, ◌++◌, length, get_or, map, Some, None, Option, All, refl, sym, ap, ◌∙◌, arith, inl, inr, Contains, option_map, cons_option, filter, get, cases_order, recursion_from_All, All-nil, All-cons, All-append, All-head, All-tail, All-contains, All-same, All-weaker, filter-append, filter_map-append, Architecture, row_of, Rule, IsEntry, AreStatedRules, Answer, EntriesConflict, max_rules, IsProfile, HaveNoConflict, Conflicts, IsRule, Names, AreCallNumbers, rules_named, rules_from}
+use Rattle.scf_profile.proofs.Common.{◌≡◌, ℕ, suc, Bool, ◌+◌, ◌<◌, ◌≤◌, ◌^◌, List, [], ◌∷◌, ◌++◌, length, get_or, map, Some, None, Option, All, refl, sym, ap, ◌∙◌, arith, inl, inr, Contains, option_map, cons_option, filter, get, cases_order, recursion_from_All, All-nil, All-cons, All-append, All-head, All-tail, All-contains, All-same, All-weaker, filter-append, filter_map-append, Architecture, row_of, Rule, IsEntry, AreStatedRules, Answer, EntriesConflict, max_rules, IsProfile, HaveNoConflict, Conflicts, IsRule, Names, AreCallNumbers, names_kept, rules_named, rules_from}
 use Rattle.scf_insn.proofs.Architectures.{number_within}
 use Rattle.scf_profile.specs.declared.entry.Entry.{Entry}
 use Rattle.scf_profile.specs.Loading.{IsClash}
@@ -30,23 +30,24 @@ abbrev IsStated : Architecture → ℕ → List Answer → Rule → Type 0
 IsStated a index answers r =
     (k : ℕ) × IsRule a r × (r.entry ≡ index + k) × (r.answer ≡ get_or answers k (record { 0 = 0 }))
 
-all_stated : (a : Architecture) (table : Names) → AreCallNumbers table → (index : ℕ) (es : List Entry) → All IsEntry es
-    → All (IsStated a index (map (λ e. e.answer) es)) (rules_from a table index es)
-all_stated a table below index [] h = All-nil (IsStated a index [])
-all_stated a table below index (e ∷ es) h =
+all_stated : (out : Option Answer) (a : Architecture) (table : Names) → AreCallNumbers table → (index : ℕ)
+    (es : List Entry) → All IsEntry es
+    → All (IsStated a index (map (λ e. e.answer) es)) (rules_from out a table index es)
+all_stated out a table below index [] h = All-nil (IsStated a index [])
+all_stated out a table below index (e ∷ es) h =
     let here : IsEntry e = All-head IsEntry e es h in
     let answers = map (λ (x : Entry). x.answer) es in
     let P = IsStated a index (e.answer ∷ answers) in
-    All-append P (rules_named a table index e e.names) (rules_from a table (index + 1) es)
+    All-append P (rules_named a table index e (names_kept out e)) (rules_from out a table (index + 1) es)
     (all_named a P table index e (λ name number is.
     let fine : IsRule a (rule_for a index e number) = record {
       first = omega arith;
       last = number_within a number (below name number is);
       answer = here.answer;
       conditions = here.conditions;
-    } in (0, fine, omega arith, refl)) e.names)
+    } in (0, fine, omega arith, refl)) (names_kept out e))
     (All-weaker (IsStated a (index + 1) answers) P (λ r h. (suc h.0, h.1, omega (arith, h.2), h.3))
-    (rules_from a table (index + 1) es) (all_stated a table below (index + 1) es (All-tail IsEntry e es h)))
+    (rules_from out a table (index + 1) es) (all_stated out a table below (index + 1) es (All-tail IsEntry e es h)))
 
 -- ---- one name after another
 
@@ -63,11 +64,11 @@ skipped_first lacks name names = filter-append lacks (name ∷ []) names
 pub ruleset names_first = (rules_first, skipped_first)
 
 -- the rules, where they are few enough
-pub stated_rules : (a : Architecture) (table : Names) (es : List Entry) (rules : List Rule) → AreCallNumbers table
-    → All IsEntry es → rules ≡ rules_from a table 0 es → length rules ≤ max_rules → AreStatedRules a rules
-stated_rules a table es rules below each is few =
+pub stated_rules : (out : Option Answer) (a : Architecture) (table : Names) (es : List Entry) (rules : List Rule) → AreCallNumbers table
+    → All IsEntry es → rules ≡ rules_from out a table 0 es → length rules ≤ max_rules → AreStatedRules a rules
+stated_rules out a table es rules below each is few =
     let answers = map (λ (e : Entry). e.answer) es in
-    let all = All-same (IsStated a 0 answers) rules (rules_from a table 0 es) is (all_stated a table below 0 es each) in
+    let all = All-same (IsStated a 0 answers) rules (rules_from out a table 0 es) is (all_stated out a table below 0 es each) in
     record {
       few = few;
       each = All-weaker (IsStated a 0 answers) (IsRule a) (λ r h. h.1) rules all;

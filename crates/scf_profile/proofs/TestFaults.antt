@@ -1,5 +1,5 @@
 -- The tests of a value give neither `Json` nor `Conflict`, and not `Memory`.
-use Rattle.scf_profile.proofs.Common.{◌≡◌, ◌≢◌, ℕ, Bool, true, false, cond, List, [], ◌∷◌, ◌++◌, Option, Some, None, Result, Ok, Err, inr, IfErr, option_map_or, IfErr-at_err, Data, Items, no_items, item, LoadFault, Loaded, IsText, TestsGive, Refuses, RefusesEach, IsFirstConflict, IsLeastConflict, RefusesBy, NamesFirstConflict, NamesLeastConflict, Names, Tables, LoadedProfiles, X8664, ◌+◌, ◌>>=◌, ok_or, each, errno_of, answer_in, no_engine_form, condition_of, entry_of, seccomp_of, head_of, entries_of, all_listed, profile_of, profiles_of}
+use Rattle.scf_profile.proofs.Common.{◌≡◌, ◌≢◌, ℕ, Bool, true, false, cond, List, [], ◌∷◌, ◌++◌, Option, Some, None, Result, Ok, Err, inr, IfErr, option_map_or, IfErr-at_err, Data, Items, no_items, item, LoadFault, Loaded, IsText, TestsGive, Reading, RefusesAs, RefusesEachAs, IsFirstConflict, IsLeastConflict, RefusesBy, NamesFirstConflict, NamesLeastConflict, Names, Tables, LoadedProfiles, X8664, ◌+◌, ◌>>=◌, ok_or, each, errno_of, answer_in, no_engine_form, condition_of, entry_of, seccomp_of, head_of, entries_of, all_listed, profile_of, profiles_of}
 use Rattle.scf_profile.specs.declared.load_fault.LoadFault.TheVariants as faults
 
 abbrev pub IsTestFault : LoadFault → Type 0
@@ -47,25 +47,26 @@ each_test test h before (item d ds) =
 -- the tests, each in a chain of them
 ruleset tests = (ok_test, err_test, then_test, some_test, cond_test, map_or_test, each_test, tt)
 
-answer_test : (entry : Option ℕ) (name errno_name : List ℕ) (d : Data) → IsTest (answer_in entry name errno_name d)
+answer_test : (reading : Reading) (entry : Option ℕ) (name errno_name : List ℕ) (d : Data)
+    → IsTest (answer_in reading entry name errno_name d)
 unfolding answer_in errno_of
-answer_test entry name errno_name d = search tests depth 20
+answer_test reading entry name errno_name d = search tests depth 20
 
-entry_test : (entry : Option ℕ) (d : Data) → IsTest (entry_of entry d)
+entry_test : (reading : Reading) (entry : Option ℕ) (d : Data) → IsTest (entry_of reading entry d)
 unfolding entry_of no_engine_form condition_of
-entry_test entry d = search (tests, answer_test) depth 40 fits 4000
+entry_test reading entry d = search (tests, answer_test) depth 40 fits 4000
 
-head_test : (root : Data) → IsTest (head_of root)
+head_test : (reading : Reading) (root : Data) → IsTest (head_of reading root)
 unfolding head_of seccomp_of
-head_test root = search (tests, answer_test) depth 40 fits 4000
+head_test reading root = search (tests, answer_test) depth 40 fits 4000
 
-entries_test : (d : Data) → IsTest (entries_of d)
+entries_test : (reading : Reading) (d : Data) → IsTest (entries_of reading d)
 unfolding entries_of no_engine_form
-entries_test d = search (tests, entry_test) depth 40 fits 4000
+entries_test reading d = search (tests, entry_test) depth 40 fits 4000
 
-profile_test : (table : Names) (root : Data) → IsTest (profile_of table root)
+profile_test : (reading : Reading) (table : Names) (root : Data) → IsTest (profile_of reading table root)
 unfolding profile_of
-profile_test table root = search (tests, head_test, entries_test) depth 40 fits 4000
+profile_test reading table root = search (tests, head_test, entries_test) depth 40 fits 4000
 
 listed_test : (index : ℕ) (names : List (List ℕ)) (tables : Tables) → IsTest (all_listed index names tables)
 unfolding all_listed
@@ -73,9 +74,9 @@ listed_test index names [] = ok_test tt
 listed_test index names (t ∷ tables) =
     then_test _ _ (cond_test _ _ _ (err_test _ tt) (ok_test tt)) (λ _. listed_test (index + 1) names tables)
 
-profiles_test : (tables : Tables) (root : Data) → IsTest (profiles_of tables root)
+profiles_test : (reading : Reading) (tables : Tables) (root : Data) → IsTest (profiles_of reading tables root)
 unfolding profiles_of
-profiles_test tables root = search (tests, head_test, entries_test, listed_test) depth 40 fits 4000
+profiles_test reading tables root = search (tests, head_test, entries_test, listed_test) depth 40 fits 4000
 
 -- ---- what the value of a text fails first, or out of memory
 
@@ -90,29 +91,29 @@ module _ {A : Type 0} (tests : Data → Result A LoadFault) (is_test : (d : Data
   refused d faults.TooMany is_text fails = inr (d, is_text, fails (λ h. cc))
   refused d e is_text fails = (d, is_text, fails (λ h. cc))
 
-pub refuses_of_fault : (text : List ℕ) (table : Names) (d : Data) (e : LoadFault) → IsText text d
-    → (e ≢ faults.Memory → profile_of table d ≡ Err e) → Refuses text table e
-refuses_of_fault text table d e is_text fails =
-    refused (profile_of table) (profile_test table) (λ loaded. IsLeastConflict X8664 loaded.profile.rules) text d e
+pub refuses_of_fault : (reading : Reading) (text : List ℕ) (table : Names) (d : Data) (e : LoadFault) → IsText text d
+    → (e ≢ faults.Memory → profile_of reading table d ≡ Err e) → RefusesAs reading text table e
+refuses_of_fault reading text table d e is_text fails =
+    refused (profile_of reading table) (profile_test reading table) (λ loaded. IsLeastConflict X8664 loaded.profile.rules) text d e
     is_text fails
 
-pub refuses_each_of_fault : (text : List ℕ) (tables : Tables) (d : Data) (e : LoadFault) → IsText text d
-    → (e ≢ faults.Memory → profiles_of tables d ≡ Err e) → RefusesEach text tables e
-refuses_each_of_fault text tables d e is_text fails =
-    refused (profiles_of tables) (profiles_test tables) (λ loaded. IsFirstConflict loaded.profiles) text d e
+pub refuses_each_of_fault : (reading : Reading) (text : List ℕ) (tables : Tables) (d : Data) (e : LoadFault)
+    → IsText text d → (e ≢ faults.Memory → profiles_of reading tables d ≡ Err e) → RefusesEachAs reading text tables e
+refuses_each_of_fault reading text tables d e is_text fails =
+    refused (profiles_of reading tables) (profiles_test reading tables) (λ loaded. IsFirstConflict loaded.profiles) text d e
     is_text fails
 
 -- the least conflict of what the value of a text states
-pub refuses_of_conflict : (text : List ℕ) (table : Names) (loaded : Loaded)
-    → TestsGive (profile_of table) text (Ok loaded) → (e : LoadFault)
-    → NamesLeastConflict X8664 loaded.profile.rules e → Refuses text table e
-refuses_of_conflict text table loaded gives (faults.Conflict number first second) k = (loaded, gives, k)
-refuses_of_conflict text table loaded gives faults.Memory k = tt
-refuses_of_conflict text table loaded gives e k = absurd k
+pub refuses_of_conflict : (reading : Reading) (text : List ℕ) (table : Names) (loaded : Loaded)
+    → TestsGive (profile_of reading table) text (Ok loaded) → (e : LoadFault)
+    → NamesLeastConflict X8664 loaded.profile.rules e → RefusesAs reading text table e
+refuses_of_conflict reading text table loaded gives (faults.Conflict number first second) k = (loaded, gives, k)
+refuses_of_conflict reading text table loaded gives faults.Memory k = tt
+refuses_of_conflict reading text table loaded gives e k = absurd k
 
-pub refuses_each_of_conflict : (text : List ℕ) (tables : Tables) (loaded : LoadedProfiles)
-    → TestsGive (profiles_of tables) text (Ok loaded) → (e : LoadFault)
-    → NamesFirstConflict loaded.profiles e → RefusesEach text tables e
-refuses_each_of_conflict text tables loaded gives (faults.Conflict number first second) k = (loaded, gives, k)
-refuses_each_of_conflict text tables loaded gives faults.Memory k = tt
-refuses_each_of_conflict text tables loaded gives e k = absurd k
+pub refuses_each_of_conflict : (reading : Reading) (text : List ℕ) (tables : Tables) (loaded : LoadedProfiles)
+    → TestsGive (profiles_of reading tables) text (Ok loaded) → (e : LoadFault)
+    → NamesFirstConflict loaded.profiles e → RefusesEachAs reading text tables e
+refuses_each_of_conflict reading text tables loaded gives (faults.Conflict number first second) k = (loaded, gives, k)
+refuses_each_of_conflict reading text tables loaded gives faults.Memory k = tt
+refuses_each_of_conflict reading text tables loaded gives e k = absurd k

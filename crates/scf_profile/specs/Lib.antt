@@ -10,6 +10,7 @@ pub mod NumberTests
 pub mod PlainProfile
 pub mod Profile
 pub mod ProfileAnswers
+pub mod Readings
 pub mod Reasons
 pub mod References
 pub mod Relation

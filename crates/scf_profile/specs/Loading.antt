@@ -9,6 +9,8 @@ use Rattle.scf_profile.specs.declared.load_fault.LoadFault.{LoadFault}
 use Rattle.scf_profile.specs.declared.load_fault.LoadFault.TheVariants as faults
 use Rattle.scf_profile.specs.declared.loaded.Loaded.{Loaded}
 use Rattle.scf_profile.specs.declared.loaded.LoadedProfiles.{LoadedProfiles}
+use Rattle.scf_profile.specs.declared.reading.Reading.{Reading}
+use Rattle.scf_profile.specs.declared.reading.Reading.TheVariants.{Strict}
 use Rattle.scf_profile.specs.Rule.{Conflicts}
 use Rattle.scf_profile.specs.Limits.{max_text_len}
 use Rattle.scf_profile.specs.Profile.{Profile, HaveNoConflict}
@@ -53,15 +55,24 @@ pub record IsFirstConflict (profiles : List Profile) (number first second : ℕ)
 abbrev pub TestsGive : {A : Type 0} → (Data → Result A LoadFault) → List ℕ → Result A LoadFault → Type 0
 TestsGive tests text stated = (value : Data) × IsText text value × (tests value ≡ stated)
 
--- what the text and the table state, and no two rules conflict
-abbrev pub Loads : List ℕ → Names → Loaded → Type 0
-Loads text table loaded = TestsGive (profile_of table) text (Ok loaded) × HaveNoConflict X8664 loaded.profile.rules
+-- what the text and the table state by a reading, and no two rules conflict
+abbrev pub LoadsAs : Reading → List ℕ → Names → Loaded → Type 0
+LoadsAs reading text table loaded =
+    TestsGive (profile_of reading table) text (Ok loaded) × HaveNoConflict X8664 loaded.profile.rules
 
--- what the text and the tables state, and no two rules of one architecture conflict
-abbrev pub LoadsEach : List ℕ → Tables → LoadedProfiles → Type 0
-LoadsEach text tables loaded =
-    TestsGive (profiles_of tables) text (Ok loaded)
+-- by the words of the text
+abbrev pub Loads : List ℕ → Names → Loaded → Type 0
+Loads = LoadsAs Strict
+
+-- what the text and the tables state by a reading, and no two rules of one architecture conflict
+abbrev pub LoadsEachAs : Reading → List ℕ → Tables → LoadedProfiles → Type 0
+LoadsEachAs reading text tables loaded =
+    TestsGive (profiles_of reading tables) text (Ok loaded)
     × All (λ p. HaveNoConflict p.architecture p.rules) loaded.profiles
+
+-- by the words of the text
+abbrev pub LoadsEach : List ℕ → Tables → LoadedProfiles → Type 0
+LoadsEach = LoadsEachAs Strict
 
 -- When a text is refused with a fault, the first test that fails, the last of which is that what is stated has no
 -- conflict. Want of memory may come in place of anything.
@@ -75,10 +86,16 @@ RefusesBy {A} tests HasConflict text (faults.Conflict number first second) =
     (loaded : A) × TestsGive tests text (Ok loaded) × HasConflict loaded number first second
 RefusesBy tests HasConflict text fault = TestsGive tests text (Err fault)
 
+abbrev pub RefusesAs : Reading → List ℕ → Names → LoadFault → Type 0
+RefusesAs reading text table fault =
+    RefusesBy (profile_of reading table) (λ loaded. IsLeastConflict X8664 loaded.profile.rules) text fault
+
 abbrev pub Refuses : List ℕ → Names → LoadFault → Type 0
-Refuses text table fault =
-    RefusesBy (profile_of table) (λ loaded. IsLeastConflict X8664 loaded.profile.rules) text fault
+Refuses = RefusesAs Strict
+
+abbrev pub RefusesEachAs : Reading → List ℕ → Tables → LoadFault → Type 0
+RefusesEachAs reading text tables fault =
+    RefusesBy (profiles_of reading tables) (λ loaded. IsFirstConflict loaded.profiles) text fault
 
 abbrev pub RefusesEach : List ℕ → Tables → LoadFault → Type 0
-RefusesEach text tables fault =
-    RefusesBy (profiles_of tables) (λ loaded. IsFirstConflict loaded.profiles) text fault
+RefusesEach = RefusesEachAs Strict

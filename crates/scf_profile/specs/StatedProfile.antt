@@ -1,7 +1,7 @@
 -- What a JSON value and call tables state as a profile (OCI runtime specification, config-linux.md, seccomp): the
 -- tests in their order, each a function to what is stated or to its fault. A fault carries the index of the entry of
 -- `syscalls` in which it stands, and none where it stands outside of them.
-use Rattle.std.specs.Prelude.{ℕ, ◌+◌, Bool, true, false, not, ◌&&◌, ◌==◌, List, [], ◌∷◌, ◌++◌, codes, length, map}
+use Rattle.std.specs.Prelude.{ℕ, ◌+◌, ◌^◌, Bool, true, false, not, ◌&&◌, ◌==◌, List, [], ◌∷◌, ◌++◌, codes, length, map}
 use Rattle.std.specs.Prelude.{◌||◌, Option, Some, None, ok_or, Result, Ok, nat_lt, if◌then◌else◌, is_none, is_some, option_map, ⊤}
 use Rattle.std.specs.List.{list_all, list_any, filter, find, flat_map, filter_map}
 use Rattle.std.specs.Map.{lookup}
@@ -29,10 +29,13 @@ use Rattle.scf_profile.specs.declared.load_fault.LoadFault.{LoadFault}
 use Rattle.scf_profile.specs.declared.load_fault.LoadFault.TheVariants as faults
 use Rattle.scf_profile.specs.declared.loaded.Loaded.{Loaded}
 use Rattle.scf_profile.specs.declared.loaded.LoadedProfiles.{LoadedProfiles}
+use Rattle.scf_profile.specs.declared.reading.Reading.{Reading}
+use Rattle.scf_profile.specs.declared.reading.Reading.TheVariants.{Strict}
 use Rattle.scf_profile.specs.Profile.{Profile}
 use Rattle.scf_profile.specs.Steps.{◌>>=◌, refused_if}
 use Rattle.scf_profile.specs.JsonMembers.{member, whole_number, unsigned_number, each}
 use Rattle.scf_profile.specs.Limits.{max_errno, max_rules, number_below}
+use Rattle.scf_profile.specs.Readings.{ignores_errno, is_runtime, left_out}
 use Rattle.scf_profile.specs.Table.{Names}
 
 -- ---- members
@@ -62,18 +65,19 @@ takes_errno actions.Errno = true
 takes_errno actions.Trace = true
 takes_errno action = false
 
--- an errno that is there
-unfoldable pub errno_of : Option ℕ → Action → Data → Result ℕ LoadFault
-errno_of entry action d = do
+-- an errno that is there; one that is ignored is a number from 0 on all the same
+unfoldable pub errno_of : Reading → Option ℕ → Action → Data → Result ℕ LoadFault
+errno_of reading entry action d = do
   number ← ok_or (whole_number d) (faults.Kind entry)
-  _ ← refused_if (not (takes_errno action)) (faults.Errno entry)
-  ok_or (number_below (max_errno + 1) number) (faults.ErrnoRange entry)
+  _ ← refused_if (not (takes_errno action || ignores_errno reading)) (faults.Errno entry)
+  errno ← ok_or (number_below (if takes_errno action then max_errno + 1 else 2 ^ 64) number) (faults.ErrnoRange entry)
+  Ok (if takes_errno action then errno else 0)
 
 -- an action with its errno, which is 1 (EPERM) where it takes one and has none
-unfoldable pub answer_in : Option ℕ → List ℕ → List ℕ → Data → Result Answer LoadFault
-answer_in entry name errno_name d = do
+unfoldable pub answer_in : Reading → Option ℕ → List ℕ → List ℕ → Data → Result Answer LoadFault
+answer_in reading entry name errno_name d = do
   action ← required entry name as_str d >>= λ text. ok_or (action_named text) (faults.Action entry)
-  errno ← option_map_or (errno_of entry action) (member errno_name d) (Ok (if takes_errno action then 1 else 0))
+  errno ← option_map_or (errno_of reading entry action) (member errno_name d) (Ok (if takes_errno action then 1 else 0))
   Ok (record { 0 = answer_of action errno })
 
 -- ---- what depends on an engine, and texts
@@ -115,14 +119,14 @@ condition_of entry earlier d = do
 
 -- ---- an entry of `syscalls`
 
-unfoldable pub entry_of : Option ℕ → Data → Result Entry LoadFault
-entry_of entry d = do
+unfoldable pub entry_of : Reading → Option ℕ → Data → Result Entry LoadFault
+entry_of reading entry d = do
   _ ← ok_or (as_object d) (faults.Kind entry)
   _ ← no_engine_form entry (codes "includes") d
   _ ← no_engine_form entry (codes "excludes") d
   names ← required entry (codes "names") as_array d
       >>= λ items. refused_if (items_len items == 0) (faults.EmptyNames entry) >>= λ _. strings_of entry items
-  answer ← answer_in entry (codes "action") (codes "errnoRet") d
+  answer ← answer_in reading entry (codes "action") (codes "errnoRet") d
   conditions ← optional no_items entry (codes "args") as_array d >>= each (condition_of entry) []
   Ok (record { names = names; conditions = conditions; answer = answer })
 
@@ -145,18 +149,18 @@ pub record Head : Type 0 where
   pub default_answer : Answer
   pub architectures : List (List ℕ)
 
-unfoldable pub head_of : Data → Result Head LoadFault
-head_of root = do
+unfoldable pub head_of : Reading → Data → Result Head LoadFault
+head_of reading root = do
   d ← seccomp_of root
-  default_answer ← answer_in None (codes "defaultAction") (codes "defaultErrnoRet") d
+  default_answer ← answer_in reading None (codes "defaultAction") (codes "defaultErrnoRet") d
   names ← optional no_items None (codes "architectures") as_array d >>= strings_of None
   Ok (record { object = d; default_answer = default_answer; architectures = names })
 
 -- the entries, behind that test; each is at its index, which is how many stand before it
-unfoldable pub entries_of : Data → Result (List Entry) LoadFault
-entries_of d = do
+unfoldable pub entries_of : Reading → Data → Result (List Entry) LoadFault
+entries_of reading d = do
   _ ← no_engine_form None (codes "archMap") d
-  optional no_items None (codes "syscalls") as_array d >>= each (λ before. entry_of (Some (length before))) []
+  optional no_items None (codes "syscalls") as_array d >>= each (λ before. entry_of reading (Some (length before))) []
 
 -- ---- with call tables
 
@@ -185,11 +189,16 @@ rules_named architecture table index e names = filter_map (λ name. option_map (
   entry = index;
 }) (get table name)) names
 
+-- the names of an entry, and none where entries with its answer are left out
+abbrev pub names_kept : Option Answer → Entry → List (List ℕ)
+names_kept left_out e = if option_map_or (λ answer. answer.0 == e.answer.0) left_out false then [] else e.names
+
 -- those of the entries from this index on
-abbrev pub rules_from : Architecture → Names → ℕ → List Entry → List Rule
-rules_from architecture table index [] = []
-rules_from architecture table index (e ∷ es) =
-    rules_named architecture table index e e.names ++ rules_from architecture table (index + 1) es
+abbrev pub rules_from : Option Answer → Architecture → Names → ℕ → List Entry → List Rule
+rules_from left_out architecture table index [] = []
+rules_from left_out architecture table index (e ∷ es) =
+    rules_named architecture table index e (names_kept left_out e)
+    ++ rules_from left_out architecture table (index + 1) es
 
 -- each occurrence of a name that no table has
 abbrev pub skipped_names : Tables → List Entry → List (List ℕ)
@@ -201,23 +210,28 @@ abbrev pub other_names : Tables → List (List ℕ) → List (List ℕ)
 other_names tables names = filter (λ name. not (list_any (λ t. is_named name t.0) tables)) names
 
 -- the profile of an architecture that has a table
-abbrev pub profile_for : Tables → Answer → List Entry → Architecture → Option Profile
-profile_for tables default_answer entries architecture = option_map (λ table. record {
+abbrev pub profile_for : Option Answer → Tables → Answer → List Entry → Architecture → Option Profile
+profile_for left_out tables default_answer entries architecture = option_map (λ table. record {
   architecture = architecture;
   default_answer = default_answer;
-  rules = rules_from architecture table 0 entries;
+  rules = rules_from left_out architecture table 0 entries;
 }) (table_for tables architecture)
 
 -- those of all architectures, in their order
-abbrev pub profiles_from : Tables → Answer → List Entry → List Profile
-profiles_from tables default_answer entries = filter_map (profile_for tables default_answer entries) architectures
+abbrev pub profiles_from : Option Answer → Tables → Answer → List Entry → List Profile
+profiles_from left_out tables default_answer entries =
+    filter_map (profile_for left_out tables default_answer entries) architectures
 
 -- ---- which architectures have to be listed
 
--- no names stand for x86-64 where it has a table, and else for aarch64
-abbrev pub listed_names : Tables → List (List ℕ) → List (List ℕ)
-listed_names tables [] = (row_of (if is_some (table_for tables X8664) then X8664 else Aarch64)).name ∷ []
-listed_names tables (name ∷ names) = name ∷ names
+-- the machine's own architecture: x86-64 where it has a table, and else aarch64
+abbrev pub own_architecture : Tables → Architecture
+own_architecture tables = if is_some (table_for tables X8664) then X8664 else Aarch64
+
+-- no names stand for the machine's own; a runtime's filter has that one beside all names
+abbrev pub listed_names : Reading → Tables → List (List ℕ) → List (List ℕ)
+listed_names Strict tables (name ∷ names) = name ∷ names
+listed_names reading tables names = (row_of (own_architecture tables)).name ∷ names
 
 -- each table's architecture has to be among the names; the tables begin at this index
 unfoldable pub all_listed : ℕ → List (List ℕ) → Tables → Result ⊤ LoadFault
@@ -228,36 +242,37 @@ all_listed index names ((architecture, table) ∷ tables) = do
 
 -- ---- what the root states, but for conflicts among its rules
 
--- With a table of x86-64 alone: x86-64 has to be among the architectures, unless there are none.
-unfoldable pub profile_of : Names → Data → Result Loaded LoadFault
-profile_of table root = do
-  head ← head_of root
+-- With a table of x86-64 alone: x86-64 has to be among the architectures, unless there are none or a runtime adds it.
+unfoldable pub profile_of : Reading → Names → Data → Result Loaded LoadFault
+profile_of reading table root = do
+  head ← head_of reading root
   _ ← refused_if
-      (nat_lt 0 (length head.architectures) && not (list_any (λ name. is_named name X8664) head.architectures))
+      (not (is_runtime reading)
+      && (nat_lt 0 (length head.architectures) && not (list_any (λ name. is_named name X8664) head.architectures)))
       (faults.NoX8664 None)
-  entries ← entries_of head.object
-  _ ← refused_if (nat_lt max_rules (length (rules_from X8664 table 0 entries))) faults.TooMany
+  entries ← entries_of reading head.object
+  _ ← refused_if (nat_lt max_rules (length (rules_from (left_out reading head.default_answer) X8664 table 0 entries))) faults.TooMany
   Ok (record {
     profile = record {
       architecture = X8664;
       default_answer = head.default_answer;
-      rules = rules_from X8664 table 0 entries;
+      rules = rules_from (left_out reading head.default_answer) X8664 table 0 entries;
     };
     skipped = skipped_names ((X8664, table) ∷ []) entries;
     other_architectures = other_names ((X8664, table) ∷ []) head.architectures;
   })
 
 -- with tables of several architectures
-unfoldable pub profiles_of : Tables → Data → Result LoadedProfiles LoadFault
-profiles_of tables root = do
-  head ← head_of root
-  _ ← all_listed 0 (listed_names tables head.architectures) tables
-  entries ← entries_of head.object
+unfoldable pub profiles_of : Reading → Tables → Data → Result LoadedProfiles LoadFault
+profiles_of reading tables root = do
+  head ← head_of reading root
+  _ ← all_listed 0 (listed_names reading tables head.architectures) tables
+  entries ← entries_of reading head.object
   _ ← refused_if
-      (list_any (λ p. nat_lt max_rules (length p.rules)) (profiles_from tables head.default_answer entries))
+      (list_any (λ p. nat_lt max_rules (length p.rules)) (profiles_from (left_out reading head.default_answer) tables head.default_answer entries))
       faults.TooMany
   Ok (record {
-    profiles = profiles_from tables head.default_answer entries;
+    profiles = profiles_from (left_out reading head.default_answer) tables head.default_answer entries;
     skipped = skipped_names tables entries;
     other_architectures = other_names tables head.architectures;
   })

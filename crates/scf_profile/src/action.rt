@@ -11,6 +11,7 @@ ghost use Rattle.scf_profile.specs.Steps.{◌>>=◌ as and_then};
 use crate::json_members::member_of;
 use crate::limits::MAX_ERRNO;
 use crate::load_fault::LoadFault;
+use crate::reading::Reading;
 use scf_insn::{Action, Answer};
 use serde_json::Value;
 
@@ -48,19 +49,25 @@ fn find_action(entry: Option<u32>, name: &str, object: &Value) -> Result<Action,
     action_of(text).ok_or(LoadFault::Action { entry })
 }
 
-/// The errno that a JSON value gives for an action, 0 to 65535.
+/// The errno that a JSON value gives for an action, 0 to 65535; 0 if it is ignored.
 #[tactic(auto, unfolding(crate::specs::StatedProfile::errno_of))]
-fn errno_of(entry: Option<u32>, action: Action, value: &Value) -> Result<u16, LoadFault>
-    ensures { result ≡ errno_stated entry action (view value.now) }
+fn errno_of(
+    reading: Reading,
+    entry: Option<u32>,
+    action: Action,
+    value: &Value,
+) -> Result<u16, LoadFault>
+    ensures { result ≡ errno_stated reading entry action (view value.now) }
 {
     let number = value.as_u64();
     if number.is_none() && !value.is_i64() {
         return Err(LoadFault::Kind { entry });
     }
-    if !takes_errno(action) {
+    if !takes_errno(action) && !reading.ignores_errno() {
         return Err(LoadFault::Errno { entry });
     }
     match number {
+        Some(_) if !takes_errno(action) => Ok(0),
         Some(errno) if errno <= MAX_ERRNO => Ok(errno as u16),
         _ => Err(LoadFault::ErrnoRange { entry }),
     }
@@ -69,18 +76,19 @@ fn errno_of(entry: Option<u32>, action: Action, value: &Value) -> Result<u16, Lo
 /// The answer of the action that a member names, with the errno of another member; EPERM if that is absent.
 #[tactic(auto, unfolding(crate::specs::StatedProfile::answer_in))]
 pub(crate) fn find_answer(
+    reading: Reading,
     entry: Option<u32>,
     name: &str,
     errno_name: &str,
     object: &Value,
 ) -> Result<Answer, LoadFault>
-    ensures value { result ≡ answer_in entry name.now errno_name.now (view object.now) }
+    ensures value { result ≡ answer_in reading entry name.now errno_name.now (view object.now) }
     ensures range { IfOk result (λ answer. answer.0 < 2 ^ 32) }
 {
     let action = find_action(entry, name, object)?;
     let errno = match member_of(object, errno_name) {
         None => u16::from(takes_errno(action)),
-        Some(found) => errno_of(entry, action, found)?,
+        Some(found) => errno_of(reading, entry, action, found)?,
     };
     Ok(Answer::new(action, errno))
 }

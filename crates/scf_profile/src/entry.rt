@@ -10,6 +10,7 @@ use crate::args::find_conditions;
 use crate::condition::Conditions;
 use crate::forms::{check_no_engine_form, find_names};
 use crate::load_fault::LoadFault;
+use crate::reading::Reading;
 use crate::texts::BorrowedTexts;
 use scf_insn::Answer;
 use serde_json::Value;
@@ -29,8 +30,13 @@ impl<'v> Entry<'v> {
 
     /// Parses the entry at an index.
     #[tactic(auto, using(std::proofs::lemmas::Grind::common_steps), unfolding(crate::specs::StatedProfile::entry_of))]
-    pub(crate) fn read(alloc: Global, index: u32, object: &'v Value) -> Result<Entry<'v>, LoadFault>
-        ensures value { Gives Memory result (entry_stated (Some index) (view object.now)) }
+    pub(crate) fn read(
+        alloc: Global,
+        reading: Reading,
+        index: u32,
+        object: &'v Value,
+    ) -> Result<Entry<'v>, LoadFault>
+        ensures value { Gives Memory result (entry_stated reading (Some index) (view object.now)) }
         ensures range { IfOk result IsEntry }
     {
         let entry = Some(index);
@@ -40,7 +46,7 @@ impl<'v> Entry<'v> {
         check_no_engine_form(entry, "includes", object)?;
         check_no_engine_form(entry, "excludes", object)?;
         let names = find_names(alloc, entry, object)?;
-        let answer = find_answer(entry, "action", "errnoRet", object)?;
+        let answer = find_answer(reading, entry, "action", "errnoRet", object)?;
         let conditions = find_conditions(alloc, entry, object)?;
         Ok(Entry {
             names,

@@ -1,12 +1,13 @@
 //! From the names of entries to rules with syscall numbers.
 
-ghost use Rattle.std.specs.Prelude.{◌≡◌, ◌≢◌, ◌≤◌, ◌^◌, ◌++◌, ◌∷◌, [], length, vec_len, IfOk, IfErr, OnOk, is_none};
+ghost use Rattle.std.specs.Prelude.{◌==◌, false, ◌≡◌, ◌≢◌, ◌≤◌, ◌^◌, ◌++◌, ◌∷◌, [], length, vec_len, IfOk, IfErr, OnOk, is_none};
 ghost use Rattle.std.specs.List.{filter, flat_map, list_all, list_any};
 ghost use Rattle.std.specs.FinMap.{get};
+ghost use Rattle.std.specs.Option.{option_map_or};
 ghost use Rattle.scf_profile.specs.internal.EntryRanges.{TellsTooMany};
 ghost use Rattle.scf_profile.specs.Limits.{max_rules};
 ghost use Rattle.scf_profile.specs.References.{texts_at};
-ghost use Rattle.scf_profile.specs.StatedProfile.{rules_named, rules_from, skipped_names, other_names, tables_of, is_named as named};
+ghost use Rattle.scf_profile.specs.StatedProfile.{names_kept, rules_named, rules_from, skipped_names, other_names, tables_of, is_named as named};
 
 use crate::architecture_table::ArchitectureTable;
 use crate::entry::Entry;
@@ -16,7 +17,7 @@ use crate::object::is_named;
 use crate::rule::Rule;
 use crate::table::CallTable;
 use crate::texts::{BorrowedTexts, Texts};
-use scf_insn::Architecture;
+use scf_insn::{Answer, Architecture};
 use std::alloc::{AllocError, Global};
 
 /// Adds the rule of an entry for one name, if the table has it.
@@ -51,43 +52,60 @@ fn add_name(
     Ok(())
 }
 
-/// Adds the rules of an entry for all its names.
+/// Whether entries with an answer are left out.
+fn is_left_out(left_out: Option<Answer>, answer: Answer) -> bool
+    ensures { result ≡ option_map_or (λ out. out.0 == answer.0) left_out false }
+{
+    match left_out {
+        Some(out) => out == answer,
+        None => false,
+    }
+}
+
+/// Adds the rules of an entry for all its names; none if entries with its answer are left out.
 #[tactic(auto, using(std::proofs::lemmas::Grind::common_steps, crate::proofs::StatedRules::names_first))]
 fn add_entry(
     rules: &mut Vec<Rule>,
     alloc: Global,
     table: &ArchitectureTable,
+    left_out: Option<Answer>,
     index: u32,
     entry: &Entry,
 ) -> Result<(), LoadFault>
     requires { vec_len rules.old ≤ max_rules }
-    ensures rules { OnOk result (rules.new.items
-        ≡ rules.old.items ++ rules_named table.now.architecture table.now.table.now index entry.now entry.now.names) }
+    ensures rules { OnOk result (rules.new.items ≡ rules.old.items
+        ++ rules_named table.now.architecture table.now.table.now index entry.now (names_kept left_out entry.now)) }
     ensures few { OnOk result (vec_len rules.new ≤ max_rules) }
-    ensures err { IfErr result (TellsTooMany
-        (rules.old.items ++ rules_named table.now.architecture table.now.table.now index entry.now entry.now.names)) }
+    ensures err { IfErr result (TellsTooMany (rules.old.items
+        ++ rules_named table.now.architecture table.now.table.now index entry.now (names_kept left_out entry.now))) }
 {
+    if is_left_out(left_out, entry.answer) {
+        return Ok(());
+    }
     for name in entry.names.as_slice() {
         add_name(rules, alloc, table, index, entry, name)?;
     }
     Ok(())
 }
 
-/// The rules of entries under the table of an architecture, at most `MAX_RULES`.
+/// The rules of entries under the table of an architecture, at most `MAX_RULES`; none of entries with the answer that
+/// is left out.
 pub(crate) fn rules_under(
     alloc: Global,
     table: &ArchitectureTable,
+    left_out: Option<Answer>,
     entries: &[Entry],
 ) -> Result<Vec<Rule>, LoadFault>
     requires { length entries.now ≤ 2 ^ 32 }
     ensures rules { IfOk result (λ rules. rules.items
-        ≡ rules_from table.now.architecture table.now.table.now 0 entries.now) }
+        ≡ rules_from left_out table.now.architecture table.now.table.now 0 entries.now) }
     ensures few { IfOk result (λ rules. vec_len rules ≤ max_rules) }
-    ensures err { IfErr result (TellsTooMany (rules_from table.now.architecture table.now.table.now 0 entries.now)) }
+    ensures err { IfErr result (TellsTooMany
+        (rules_from left_out table.now.architecture table.now.table.now 0 entries.now)) }
 {
     let mut rules = Vec::new(alloc);
     for (i, entry) in entries.iter().enumerate() {
-        add_entry(&mut rules, alloc, table, i as u32, entry)?;
+        add_entry(&mut rules, alloc, table, left_out, i as u32, entry)?;
     }
     Ok(rules)
 }

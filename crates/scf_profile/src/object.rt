@@ -10,10 +10,12 @@ ghost use Rattle.serde_json.specs.View.{view, items_view};
 ghost use Rattle.scf_profile.specs.declared.load_fault.LoadFault.TheVariants as faults;
 ghost use Rattle.scf_profile.specs.internal.EntryRanges.{IsEntry};
 ghost use Rattle.scf_profile.specs.JsonMembers.{each};
+ghost use Rattle.scf_profile.specs.Readings.{is_runtime};
 ghost use Rattle.scf_profile.specs.References.{texts_at};
 ghost use Rattle.scf_profile.specs.StatedProfile.{required, optional, strings_of as strings_stated, entry_of};
 ghost use Rattle.scf_profile.specs.StatedProfile.{object as object_stated, seccomp_of, is_named as named};
-ghost use Rattle.scf_profile.specs.StatedProfile.{all_listed as all_are_listed, listed_names, tables_of};
+ghost use Rattle.scf_profile.specs.StatedProfile.{all_listed as all_are_listed, listed_names, own_architecture as own_stated, tables_of};
+ghost use Rattle.scf_profile.specs.internal.Stated.{with_own};
 ghost use Rattle.scf_profile.specs.Steps.{◌>>=◌ as and_then, refused_if, Gives};
 ghost use Rattle.scf_profile.specs.internal.Results.{result_map};
 
@@ -22,6 +24,7 @@ use crate::entry::Entry;
 use crate::forms::{find_items, strings_of};
 use crate::json_members::member_of;
 use crate::load_fault::LoadFault;
+use crate::reading::Reading;
 use crate::texts::BorrowedTexts;
 use scf_insn::Architecture;
 use serde_json::Value;
@@ -71,50 +74,74 @@ fn is_listed(names: &[&str], architecture: Architecture) -> bool
     names.iter().any(|name| is_named(name, architecture))
 }
 
-/// Refuses architectures without x86-64, unless there are none.
-pub(crate) fn check_architectures(architectures: &BorrowedTexts) -> Result<(), LoadFault>
-    ensures { result ≡ refused_if
-        (nat_lt 0 (length architectures.now) && not (list_any (λ name. named name X8664) architectures.now))
+/// Refuses architectures without x86-64, unless there are none or a runtime adds it.
+pub(crate) fn check_architectures(
+    reading: Reading,
+    architectures: &BorrowedTexts,
+) -> Result<(), LoadFault>
+    ensures { result ≡ refused_if (not (is_runtime reading)
+        && (nat_lt 0 (length architectures.now) && not (list_any (λ name. named name X8664) architectures.now)))
         (faults.NoX8664 None) }
 {
     let names = architectures.as_slice();
-    if names.len() > 0 && !is_listed(names, Architecture::X8664) {
+    if !reading.is_runtime() && names.len() > 0 && !is_listed(names, Architecture::X8664) {
         return Err(LoadFault::NoX8664 { entry: None });
     }
     Ok(())
 }
 
-/// Refuses the first table whose architecture isn't among the names.
-fn all_listed(names: &[&str], tables: &[ArchitectureTable]) -> Result<(), LoadFault>
-    ensures { result ≡ all_are_listed 0 (texts_at names.now) (tables_of tables.now) }
+/// Whether an architecture is this one, or among those of these names.
+fn is_own_or_listed(own: Option<Architecture>, names: &[&str], architecture: Architecture) -> bool
+    ensures { result ≡ list_any (λ name. named name architecture) (with_own own (texts_at names.now)) }
+{
+    match own {
+        Some(own) => is_named(own.name(), architecture) || is_listed(names, architecture),
+        None => is_listed(names, architecture),
+    }
+}
+
+/// Refuses the first table whose architecture is neither this one nor among the names.
+fn all_listed(
+    own: Option<Architecture>,
+    names: &[&str],
+    tables: &[ArchitectureTable],
+) -> Result<(), LoadFault>
+    ensures { result ≡ all_are_listed 0 (with_own own (texts_at names.now)) (tables_of tables.now) }
 {
     for (i, table) in tables.iter().enumerate() {
-        if !is_listed(names, table.architecture) {
+        if !is_own_or_listed(own, names, table.architecture) {
             return Err(LoadFault::NotListed { table: i });
         }
     }
     Ok(())
 }
 
-/// Refuses the first table whose architecture isn't listed. No names stand for x86-64 if it has a table, else for
-/// aarch64.
-pub(crate) fn check_listed(
-    tables: &[ArchitectureTable],
-    architectures: &BorrowedTexts,
-) -> Result<(), LoadFault>
-    ensures { result ≡ all_are_listed 0 (listed_names (tables_of tables.now) architectures.now)
-        (tables_of tables.now) }
+/// The machine's own architecture: x86-64 if it has a table, else aarch64.
+fn own_architecture(tables: &[ArchitectureTable]) -> Architecture
+    ensures { result ≡ own_stated (tables_of tables.now) }
 {
-    let names = architectures.as_slice();
-    if names.len() > 0 {
-        return all_listed(names, tables);
-    }
-    let default = if table_for(tables, Architecture::X8664).is_some() {
+    if table_for(tables, Architecture::X8664).is_some() {
         Architecture::X8664
     } else {
         Architecture::Aarch64
-    };
-    all_listed(&[default.name()], tables)
+    }
+}
+
+/// Refuses the first table whose architecture isn't listed. No names stand for the machine's own; a runtime adds that
+/// to all names.
+pub(crate) fn check_listed(
+    reading: Reading,
+    tables: &[ArchitectureTable],
+    architectures: &BorrowedTexts,
+) -> Result<(), LoadFault>
+    ensures { result ≡ all_are_listed 0 (listed_names reading (tables_of tables.now) architectures.now)
+        (tables_of tables.now) }
+{
+    let names = architectures.as_slice();
+    if !reading.is_runtime() && names.len() > 0 {
+        return all_listed(None, names, tables);
+    }
+    all_listed(Some(own_architecture(tables)), names, tables)
 }
 
 /// The architectures of the object; none if they are absent.
@@ -130,9 +157,13 @@ pub(crate) fn find_architectures(
 }
 
 /// Parses the entries of an array, each with its index.
-fn entries_of<'v>(alloc: Global, items: &'v [Value]) -> Result<Vec<Entry<'v>>, LoadFault>
+fn entries_of<'v>(
+    alloc: Global,
+    reading: Reading,
+    items: &'v [Value],
+) -> Result<Vec<Entry<'v>>, LoadFault>
     ensures value { Gives faults.Memory (result_map (λ v. v.items) result)
-        (each (λ before. entry_of (Some (length before))) [] (items_view items.now)) }
+        (each (λ before. entry_of reading (Some (length before))) [] (items_view items.now)) }
     ensures range { IfOk result (λ v. All IsEntry v.items) }
     ensures count { IfOk result (λ v. vec_len v ≤ 2 ^ 32) }
 {
@@ -142,7 +173,7 @@ fn entries_of<'v>(alloc: Global, items: &'v [Value]) -> Result<Vec<Entry<'v>>, L
         let Ok(index) = u32::try_from(entries.len()) else {
             return Err(LoadFault::Memory);
         };
-        let entry = Entry::read(alloc, index, item)?;
+        let entry = Entry::read(alloc, reading, index, item)?;
         entries.push(entry)?;
     }
     Ok(entries)
@@ -150,12 +181,16 @@ fn entries_of<'v>(alloc: Global, items: &'v [Value]) -> Result<Vec<Entry<'v>>, L
 
 /// The entries of the object's `syscalls`; none if it is absent.
 #[tactic(auto, unfolding(crate::specs::JsonMembers::each))]
-pub(crate) fn find_entries(alloc: Global, object: &Value) -> Result<Vec<Entry<'_>>, LoadFault>
+pub(crate) fn find_entries(
+    alloc: Global,
+    reading: Reading,
+    object: &Value,
+) -> Result<Vec<Entry<'_>>, LoadFault>
     ensures value { Gives faults.Memory (result_map (λ v. v.items) result)
         (and_then (optional no_items None (codes "syscalls") as_array (view object.now))
-        (each (λ before. entry_of (Some (length before))) [])) }
+        (each (λ before. entry_of reading (Some (length before))) [])) }
     ensures range { IfOk result (λ v. All IsEntry v.items) }
     ensures count { IfOk result (λ v. vec_len v ≤ 2 ^ 32) }
 {
-    entries_of(alloc, find_items(None, "syscalls", object)?)
+    entries_of(alloc, reading, find_items(None, "syscalls", object)?)
 }

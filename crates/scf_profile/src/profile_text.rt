@@ -7,7 +7,7 @@ ghost use Rattle.scf_insn.specs.declared.architecture.Architecture.TheVariants.{
 ghost use Rattle.scf_profile.specs.declared.load_fault.LoadFault.TheVariants.{Memory, TooMany};
 ghost use Rattle.scf_profile.specs.internal.EntryRanges.{AreStatedRules, IsEntry, TellsOneTooMany, TellsTooMany};
 ghost use Rattle.scf_profile.specs.Limits.{max_text_len};
-ghost use Rattle.scf_profile.specs.Loading.{IsText, Loads, LoadsEach, Refuses, RefusesEach};
+ghost use Rattle.scf_profile.specs.Loading.{IsText, Loads, LoadsAs, LoadsEach, LoadsEachAs, Refuses, RefusesAs, RefusesEach, RefusesEachAs};
 ghost use Rattle.scf_profile.specs.internal.Refusals.{NamesFirstConflict, NamesLeastConflict, ParseRefuses};
 ghost use Rattle.scf_profile.specs.internal.Results.{result_map};
 ghost use Rattle.scf_profile.specs.internal.Stated.{head_stated, loaded_of, loaded_profiles_of, stated_profile};
@@ -30,6 +30,7 @@ use crate::object::{
 };
 use crate::profile::Profile;
 use crate::profiles::Profiles;
+use crate::reading::Reading;
 use crate::rule::Rule;
 use crate::table::CallTable;
 use crate::texts::{BorrowedTexts, Texts};
@@ -63,12 +64,12 @@ struct Head<'v> {
 
 /// Parses the root up to its architectures.
 #[tactic(auto, unfolding(crate::specs::StatedProfile::head_of))]
-fn read_head(alloc: Global, root: &Value) -> Result<Head<'_>, LoadFault>
-    ensures value { Gives Memory (result_map head_stated result) (head_of (view root.now)) }
+fn read_head(alloc: Global, reading: Reading, root: &Value) -> Result<Head<'_>, LoadFault>
+    ensures value { Gives Memory (result_map head_stated result) (head_of reading (view root.now)) }
     ensures range { IfOk result (λ head. head.default_answer.0 < 2 ^ 32) }
 {
     let object = find_seccomp(root)?;
-    let default_answer = find_answer(None, "defaultAction", "defaultErrnoRet", object)?;
+    let default_answer = find_answer(reading, None, "defaultAction", "defaultErrnoRet", object)?;
     let architectures = find_architectures(alloc, object)?;
     Ok(Head {
         object,
@@ -79,13 +80,17 @@ fn read_head(alloc: Global, root: &Value) -> Result<Head<'_>, LoadFault>
 
 /// Parses the entries.
 #[tactic(auto, unfolding(crate::specs::StatedProfile::entries_of))]
-fn read_entries(alloc: Global, object: &Value) -> Result<Vec<Entry<'_>>, LoadFault>
-    ensures value { Gives Memory (result_map (λ v. v.items) result) (entries_of (view object.now)) }
+fn read_entries(
+    alloc: Global,
+    reading: Reading,
+    object: &Value,
+) -> Result<Vec<Entry<'_>>, LoadFault>
+    ensures value { Gives Memory (result_map (λ v. v.items) result) (entries_of reading (view object.now)) }
     ensures range { IfOk result (λ v. All IsEntry v.items) }
     ensures count { IfOk result (λ v. vec_len v ≤ 2 ^ 32) }
 {
     check_no_engine_form(None, "archMap", object)?;
-    find_entries(alloc, object)
+    find_entries(alloc, reading, object)
 }
 
 /// Rules of an architecture before the test for conflicts.
@@ -99,17 +104,19 @@ struct StatedRules {
 fn stated_rules(
     alloc: Global,
     table: &ArchitectureTable,
+    left_out: Option<Answer>,
     entries: &[Entry],
 ) -> Result<StatedRules, LoadFault>
     requires count { length entries.now ≤ 2 ^ 32 }
     requires range { All IsEntry entries.now }
     ensures rules { IfOk result (λ stated. stated.rules.items
-        ≡ rules_from table.now.architecture table.now.table.now 0 entries.now) }
+        ≡ rules_from left_out table.now.architecture table.now.table.now 0 entries.now) }
     ensures architecture { IfOk result (λ stated. stated.architecture ≡ table.now.architecture) }
     ensures range { IfOk result (λ stated. AreStatedRules stated.architecture stated.rules.items) }
-    ensures err { IfErr result (TellsTooMany (rules_from table.now.architecture table.now.table.now 0 entries.now)) }
+    ensures err { IfErr result (TellsTooMany
+        (rules_from left_out table.now.architecture table.now.table.now 0 entries.now)) }
 {
-    let rules = rules_under(alloc, table, entries)?;
+    let rules = rules_under(alloc, table, left_out, entries)?;
     table.table.within_range();
     Ok(StatedRules {
         architecture: table.architecture,
@@ -128,20 +135,26 @@ struct Stated {
 
 /// Parses the root under a table of x86-64, or the first test that fails.
 #[tactic(auto, unfolding(crate::specs::StatedProfile::profile_of))]
-fn read_root(alloc: Global, table: &CallTable, root: &Value) -> Result<Stated, LoadFault>
-    ensures value { Gives Memory (result_map loaded_of result) (profile_of table.now (view root.now)) }
+fn read_root(
+    alloc: Global,
+    reading: Reading,
+    table: &CallTable,
+    root: &Value,
+) -> Result<Stated, LoadFault>
+    ensures value { Gives Memory (result_map loaded_of result) (profile_of reading table.now (view root.now)) }
     ensures architecture { IfOk result (λ s. s.rules.architecture ≡ X8664) }
     ensures range { IfOk result (λ s. AreStatedRules s.rules.architecture s.rules.rules.items) }
     ensures default_range { IfOk result (λ s. s.default_answer.0 < 2 ^ 32) }
 {
-    let head = read_head(alloc, root)?;
-    check_architectures(&head.architectures)?;
-    let entries = read_entries(alloc, head.object)?;
+    let head = read_head(alloc, reading, root)?;
+    check_architectures(reading, &head.architectures)?;
+    let entries = read_entries(alloc, reading, head.object)?;
     let tables = [ArchitectureTable {
         architecture: Architecture::X8664,
         table,
     }];
-    let rules = stated_rules(alloc, &tables[0], &entries)?;
+    let left_out = reading.left_out(head.default_answer);
+    let rules = stated_rules(alloc, &tables[0], left_out, &entries)?;
     let skipped = skipped_under(alloc, &tables, &entries)?;
     let other_architectures = other_architectures(alloc, &tables, &head.architectures)?;
     Ok(Stated {
@@ -177,15 +190,30 @@ fn without_conflict(
 
 /// Loads a profile from JSON text (at most 4194304 bytes); a syscall table gives the names their numbers. An error is
 /// the first test that fails, the last being that no two rules conflict, or `Memory` if an allocation failed.
-#[tactic(auto, using(crate::proofs::TestFaults::refuses_of_fault))]
 pub fn load(alloc: Global, text: &[u8], table: &CallTable) -> Result<Loaded, LoadFault>
     ensures ok { IfOk result (λ loaded. Loads text.now table.now loaded) }
     ensures err { IfErr result (λ fault. Refuses text.now table.now fault) }
     // A text that is too long is refused before anything is allocated.
     ensures long { max_text_len < length text.now → result ≡ Err TooMany }
 {
+    load_as(alloc, Reading::Strict, text, table)
+}
+
+/// Loads a profile as `load` does, but reads it as a container runtime does.
+#[tactic(auto, using(crate::proofs::TestFaults::refuses_of_fault))]
+pub fn load_as(
+    alloc: Global,
+    reading: Reading,
+    text: &[u8],
+    table: &CallTable,
+) -> Result<Loaded, LoadFault>
+    ensures ok { IfOk result (λ loaded. LoadsAs reading text.now table.now loaded) }
+    ensures err { IfErr result (λ fault. RefusesAs reading text.now table.now fault) }
+    // A text that is too long is refused before anything is allocated.
+    ensures long { max_text_len < length text.now → result ≡ Err TooMany }
+{
     let value = parse(alloc, text)?;
-    let stated = read_root(alloc, table, &value)?;
+    let stated = read_root(alloc, reading, table, &value)?;
     Ok(Loaded {
         profile: without_conflict(alloc, stated.default_answer, stated.rules)?,
         skipped: stated.skipped,
@@ -206,16 +234,17 @@ struct StatedProfiles {
 fn rules_for(
     alloc: Global,
     tables: &[ArchitectureTable],
+    left_out: Option<Answer>,
     entries: &[Entry],
     architecture: Architecture,
 ) -> Result<Option<StatedRules>, LoadFault>
     requires count { length entries.now ≤ 2 ^ 32 }
     requires range { All IsEntry entries.now }
     ensures rules { IfOk result (λ found. (default : Answer) → option_map (stated_profile default) found
-        ≡ profile_for (tables_of tables.now) default entries.now architecture) }
+        ≡ profile_for left_out (tables_of tables.now) default entries.now architecture) }
     ensures range { IfOk result (λ found. IfSome found (λ s. AreStatedRules s.architecture s.rules.items)) }
     ensures err { IfErr result (λ fault. (default : Answer) → TellsOneTooMany
-        (filter_map (profile_for (tables_of tables.now) default entries.now) (architecture ∷ [])) fault) }
+        (filter_map (profile_for left_out (tables_of tables.now) default entries.now) (architecture ∷ [])) fault) }
 {
     let Some(table) = table_for(tables, architecture) else {
         return Ok(None);
@@ -224,27 +253,28 @@ fn rules_for(
         architecture,
         table,
     };
-    Ok(Some(stated_rules(alloc, &own, entries)?))
+    Ok(Some(stated_rules(alloc, &own, left_out, entries)?))
 }
 
 /// The rules of entries for each architecture that has a table.
 fn stated_for(
     alloc: Global,
     tables: &[ArchitectureTable],
+    left_out: Option<Answer>,
     entries: &[Entry],
 ) -> Result<Vec<StatedRules>, LoadFault>
     requires count { length entries.now ≤ 2 ^ 32 }
     requires range { All IsEntry entries.now }
     ensures rules { IfOk result (λ stated. (default : Answer)
-        → map (stated_profile default) stated.items ≡ profiles_from (tables_of tables.now) default entries.now) }
+        → map (stated_profile default) stated.items ≡ profiles_from left_out (tables_of tables.now) default entries.now) }
     ensures range { IfOk result (λ stated. All (λ s. AreStatedRules s.architecture s.rules.items) stated.items) }
     ensures err { IfErr result (λ fault. (default : Answer)
-        → TellsOneTooMany (profiles_from (tables_of tables.now) default entries.now) fault) }
+        → TellsOneTooMany (profiles_from left_out (tables_of tables.now) default entries.now) fault) }
 {
     let mut stated = Vec::new(alloc);
     let architectures = Architecture::all();
     for architecture in &architectures {
-        if let Some(own) = rules_for(alloc, tables, entries, *architecture)? {
+        if let Some(own) = rules_for(alloc, tables, left_out, entries, *architecture)? {
             stated.push(own)?;
         }
     }
@@ -255,19 +285,21 @@ fn stated_for(
 #[tactic(auto, unfolding(crate::specs::StatedProfile::profiles_of))]
 fn read_root_for(
     alloc: Global,
+    reading: Reading,
     tables: &[ArchitectureTable],
     root: &Value,
 ) -> Result<StatedProfiles, LoadFault>
     ensures value { Gives Memory (result_map loaded_profiles_of result)
-        (profiles_of (tables_of tables.now) (view root.now)) }
+        (profiles_of reading (tables_of tables.now) (view root.now)) }
     ensures range { IfOk result (λ s. All (λ r. AreStatedRules r.architecture r.rules.items) s.rules.items) }
     ensures default_range { IfOk result (λ s. s.default_answer.0 < 2 ^ 32) }
     ensures apart { IfOk result (λ s. AreOfApart (map (stated_profile s.default_answer) s.rules.items)) }
 {
-    let head = read_head(alloc, root)?;
-    check_listed(tables, &head.architectures)?;
-    let entries = read_entries(alloc, head.object)?;
-    let rules = stated_for(alloc, tables, &entries)?;
+    let head = read_head(alloc, reading, root)?;
+    check_listed(reading, tables, &head.architectures)?;
+    let entries = read_entries(alloc, reading, head.object)?;
+    let left_out = reading.left_out(head.default_answer);
+    let rules = stated_for(alloc, tables, left_out, &entries)?;
     let skipped = skipped_under(alloc, tables, &entries)?;
     let other_architectures = other_architectures(alloc, tables, &head.architectures)?;
     Ok(StatedProfiles {
@@ -302,7 +334,6 @@ fn all_without_conflict(
 /// Loads the profile of each architecture that has a table, from JSON text (at most 4194304 bytes). The architecture of
 /// each table has to be listed. An error is the first test that fails, the last being that no two rules of one
 /// architecture conflict, or `Memory` if an allocation failed.
-#[tactic(auto, using(crate::proofs::TestFaults::refuses_each_of_fault))]
 pub fn load_profiles(
     alloc: Global,
     text: &[u8],
@@ -313,8 +344,25 @@ pub fn load_profiles(
     // A text that is too long is refused before anything is allocated.
     ensures long { max_text_len < length text.now → result ≡ Err TooMany }
 {
+    load_profiles_as(alloc, Reading::Strict, text, tables)
+}
+
+/// Loads profiles as `load_profiles` does, but reads them as a container runtime does, which adds the machine's own
+/// architecture to those that are listed: x86-64 if it has a table, else aarch64.
+#[tactic(auto, using(crate::proofs::TestFaults::refuses_each_of_fault))]
+pub fn load_profiles_as(
+    alloc: Global,
+    reading: Reading,
+    text: &[u8],
+    tables: &[ArchitectureTable],
+) -> Result<LoadedProfiles, LoadFault>
+    ensures ok { IfOk result (λ loaded. LoadsEachAs reading text.now (tables_of tables.now) loaded) }
+    ensures err { IfErr result (λ fault. RefusesEachAs reading text.now (tables_of tables.now) fault) }
+    // A text that is too long is refused before anything is allocated.
+    ensures long { max_text_len < length text.now → result ≡ Err TooMany }
+{
     let value = parse(alloc, text)?;
-    let stated = read_root_for(alloc, tables, &value)?;
+    let stated = read_root_for(alloc, reading, tables, &value)?;
     Ok(LoadedProfiles {
         profiles: all_without_conflict(alloc, stated.default_answer, stated.rules)?,
         skipped: stated.skipped,

@@ -9,6 +9,7 @@ use Rattle.scf_profile.specs.Profile.{Profile}
 use Rattle.scf_profile.specs.StatedProfile.{profiles_of}
 use Rattle.scf_profile.specs.Steps.{◌>>=◌}
 use Rattle.scf_profile.specs.declared.loaded.LoadedProfiles.{LoadedProfiles}
+use Rattle.scf_profile.specs.declared.reading.Reading.TheVariants.{Strict}
 use Rattle.scf_profile.specs.declared.relation.Relation.{Relation}
 use Rattle.scf_compare.specs.Sides.{profile_behavior, stack_behavior}
 use Rattle.scf_request.specs.declared.request.Limits.{Limits}
@@ -37,7 +38,7 @@ abbrev IsOnlyOf : Architecture → LoadedProfiles → Type 0
 IsOnlyOf a loaded = map (λ p. p.architecture) loaded.profiles ≡ a ∷ []
 
 one_stated : (a : Architecture) (names : Names) (root : Data)
-    → GivesBy (IsOnlyOf a) (profiles_of ((a, names) ∷ []) root)
+    → GivesBy (IsOnlyOf a) (profiles_of Strict ((a, names) ∷ []) root)
 unfolding profiles_of
 one_stated X8664 names root = search (rules, then_gives, ok_gives) depth 40 fits 4000
 one_stated X86 names root = search (rules, then_gives, ok_gives) depth 40 fits 4000

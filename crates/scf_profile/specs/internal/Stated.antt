@@ -1,7 +1,9 @@
 -- What was read of a text, as it is loaded where no rules conflict.
-use Rattle.std.specs.Prelude.{map}
+use Rattle.std.specs.Prelude.{ℕ, List, ◌∷◌, Option, Some, None, map}
 use Rattle.serde_json.specs.View.{view}
+use Rattle.scf_insn.specs.Architectures.{row_of}
 use Rattle.scf_insn.specs.declared.answer.Answer.{Answer}
+use Rattle.scf_insn.specs.declared.architecture.Architecture.{Architecture}
 use Rattle.scf_profile.specs.declared.profile_text.Head.{Head as HeadRead}
 use Rattle.scf_profile.specs.declared.profile_text.Stated.{Stated}
 use Rattle.scf_profile.specs.declared.profile_text.StatedProfiles.{StatedProfiles}
@@ -10,6 +12,11 @@ use Rattle.scf_profile.specs.declared.loaded.Loaded.{Loaded}
 use Rattle.scf_profile.specs.declared.loaded.LoadedProfiles.{LoadedProfiles}
 use Rattle.scf_profile.specs.Profile.{Profile}
 use Rattle.scf_profile.specs.StatedProfile.{Head}
+
+-- names, and before them that of an architecture, if there is one
+abbrev pub with_own : Option Architecture → List (List ℕ) → List (List ℕ)
+with_own None names = names
+with_own (Some own) names = (row_of own).name ∷ names
 
 abbrev pub head_stated : HeadRead → Head
 head_stated head = record {

@@ -6,7 +6,7 @@ pub returns-clause-value : goal.returns-clause-value
 unfolding profiles_of
 returns-clause-value c =
     let default = c.in_ok-head.head.default_answer in
-    let same = rw c.deref.ensures.value at (c.in_ok-rules.ensures.rules default) in
+    let same = rw (c.deref.ensures.value, c.left_out-left_out.ensures) at (c.in_ok-rules.ensures.rules default) in
     let few = none_too_many default c.in_ok-rules.rules.items c.in_ok-rules.ensures.range in
     let skipped = rw c.deref-2.ensures.value at c.in_ok-skipped.ensures in
     rw (
@@ -23,4 +23,4 @@ pub returns-clause-apart : goal.returns-clause-apart
 returns-clause-apart c =
     let default = c.in_ok-head.head.default_answer in
     subst AreOfApart (sym (c.in_ok-rules.ensures.rules default))
-    (profiles_apart (tables_of c.args.tables.now) default c.deref.result.now)
+    (profiles_apart c.left_out-left_out.result (tables_of c.args.tables.now) default c.deref.result.now)

@@ -8,8 +8,8 @@ use Rattle.scf_profile.proofs.profile_text.stated_for.Goals.{in-Some+in_ok-push,
 pub returns-in_err-own-clause-err : goal.returns-in_err-own-clause-err
 returns-in_err-own-clause-err c =
     handed_fault (λ fault. (default : Answer) → TellsOneTooMany
-    (profiles_from (tables_of c.args.tables.now) default c.args.entries.now) fault) _ _ c.from_residual.ensures.1
-    (λ default. one_too_many (tables_of c.args.tables.now) c.args.entries.now c.all-architectures.result
+    (profiles_from c.args.left_out (tables_of c.args.tables.now) default c.args.entries.now) fault) _ _ c.from_residual.ensures.1
+    (λ default. one_too_many c.args.left_out (tables_of c.args.tables.now) c.args.entries.now c.all-architectures.result
     c.loop-architecture.architecture-index (rw c.all-architectures.ensures c.loop-architecture-test.true) default
     c.loop-architecture.stated.items _ _
     (c.loop-architecture.invariant.rules default) (c.in_err-own.ensures.err default))
@@ -22,10 +22,10 @@ loop-architecture-preserved c =
     let i = c.loop-architecture.architecture-index in
     let stated = c.loop-architecture.stated.items in
     let more : (found : Option StatedRules) → ((default : Answer) → option_map (stated_profile default) found
-    ≡ profile_for tables default entries (get_or all i X8664)) → (default : Answer)
+    ≡ profile_for c.args.left_out tables default entries (get_or all i X8664)) → (default : Answer)
     → map (stated_profile default) (with_found stated found)
-    ++ filter_map (profile_for tables default entries) (drop (i + 1) all) ≡ profiles_from tables default entries =
-    λ found is default. stated_more tables entries all i (rw c.all-architectures.ensures c.loop-architecture-test.true)
+    ++ filter_map (profile_for c.args.left_out tables default entries) (drop (i + 1) all) ≡ profiles_from c.args.left_out tables default entries =
+    λ found is default. stated_more c.args.left_out tables entries all i (rw c.all-architectures.ensures c.loop-architecture-test.true)
     default stated found _ (is default) (c.loop-architecture.invariant.rules default) in
     let own = c.in_ok-own.ensures in
     elim c.match-branch-2.branch [
