@@ -16,7 +16,7 @@ pub use Rattle.std.proofs.lemmas.List.Folds.{list_all-map, list_any-append}
 pub use Rattle.std.proofs.lemmas.List.Kept.{AllPairs-cons, AllPairs-filter, AllPairs-from_increasing, IsStrictlySortedBy-filter}
 pub use Rattle.std.proofs.lemmas.List.Sorted.{All-permutation, Contains-permutation, IsPermutation-cons, IsPermutation-refl, IsPermutation-remove, IsPermutation-sym, IsPermutation-trans, length_permutation, sum_by-IsPermutation}
 pub use Rattle.std.proofs.lemmas.List.Splits.{length-slice_split, slice_split-cons_yes, slice_split_at, slice_split_none}
-pub use Rattle.std.proofs.lemmas.List.Sums.{AllPass-from_list_all, list_all-from_AllPass, sum-map, sum_by-cons, sum_by-le}
+pub use Rattle.std.proofs.lemmas.List.Sums.{length-filter, count_by-le-length, AllPass-from_list_all, list_all-from_AllPass, sum-map, sum_by-cons, sum_by-le}
 pub use Rattle.std.proofs.lemmas.Map.Entries.{lookup-filter-values, option_filter}
 pub use Rattle.std.proofs.lemmas.Map.Keys.{IsDistinct-IsPermutation, IsDistinct-from_sorted, IsDistinct-head, IsDistinct-tail, IsStrictlyIncreasing-from_sorted}
 pub use Rattle.std.proofs.lemmas.Map.Lookups.{exact_bytes, exact_unsigned}
@@ -61,6 +61,7 @@ pub use Rattle.scf_profile.specs.NumberRules.{AreNumbersOf}
 pub use Rattle.scf_profile.specs.PlainProfile.{IsPlainCondition, IsPlainProfile, IsPlainRule}
 pub use Rattle.scf_profile.specs.Profile.{Profile as Answering, AreOfApart, HaveNoConflict, IsNative, IsProfile, Profile}
 pub use Rattle.scf_profile.specs.ProfileAnswers.{ProfileAnswers, ProfilesAnswer, by_none, by_profile, by_default, by_rule, foreign}
+pub use Rattle.scf_profile.specs.Readings.{compares_nothing, effective_profile, effective_rules, first_unconditional, is_effective, is_unconditional}
 pub use Rattle.scf_profile.specs.Reasons.{IsAnswerOf, IsReason, entries_met}
 pub use Rattle.scf_profile.specs.References.{texts_at}
 pub use Rattle.scf_profile.specs.Rule.{AreConditions, Conflicts, HaveDistinctIndices, IsCondition, IsRule, all_hold, meets}
@@ -93,4 +94,4 @@ pub use Rattle.scf_profile.specs.internal.NumberSets.{HaveCommonNumber, IsGreate
 pub use Rattle.scf_profile.specs.internal.Overlaps.{HoldAt, Overlap, OverlapAt}
 pub use Rattle.scf_profile.specs.internal.Refusals.{NamesFirstConflict, NamesLeastConflict}
 pub use Rattle.scf_profile.specs.internal.RulesUnder.{AreUnder, Under, number_rules, rules_under}
-pub use Rattle.scf_profile.specs.internal.Stated.{head_stated, loaded_of, loaded_profiles_of, stated_profile, with_own}
+pub use Rattle.scf_profile.specs.internal.Stated.{effective_of, head_stated, loaded_of, loaded_profiles_of, stated_profile, with_own}

@@ -1,5 +1,5 @@
 -- Profiles that are stated one after another.
-use Rattle.scf_profile.proofs.Common.{◌≡◌, ℕ, ◌+◌, ◌<◌, ◌∙◌, Bool, true, false, ◌||◌, List, [], ◌∷◌, ◌++◌, Option, Some, None, All, option_map, cons_option, filter_map, list_any, map, drop, get_or, length, ltb, refl, arith, add-one, drop-cons, le-ltb, map-append, append_assoc, list_any-append, false≢true, AllPairs-cons, All-head, All-tail, All-contains, All-cons, All-nil, AllByRecursion, Contains-append_right, Answer, Architecture, AreApart, AreOfApart, X8664, Profile, HaveNoConflict, LoadFault, AreStatedRules, TellsOneTooMany, max_rules, architectures, profile_for, profiles_from, table_for, Tables, Names, stated_profile, NamesLeastConflict, NamesFirstConflict, rules_from}
+use Rattle.scf_profile.proofs.Common.{◌≡◌, ℕ, ◌+◌, ◌<◌, ◌∙◌, Bool, true, false, ◌||◌, List, [], ◌∷◌, ◌++◌, Option, Some, None, All, option_map, cons_option, filter_map, list_any, map, drop, get_or, length, ltb, refl, arith, add-one, drop-cons, le-ltb, length-map, get_or-map, map-append, append_assoc, list_any-append, false≢true, AllPairs-cons, All-head, All-tail, All-contains, All-cons, All-nil, AllByRecursion, Contains-append_right, Answer, Architecture, AreApart, AreOfApart, X8664, Profile, HaveNoConflict, LoadFault, AreStatedRules, TellsOneTooMany, max_rules, architectures, profile_for, profiles_from, table_for, Tables, Names, stated_profile, effective_of, effective_rules, Reading, NamesLeastConflict, NamesFirstConflict, rules_from}
 use Rattle.scf_insn.proofs.Architectures.{EachApart, each_apart}
 use Rattle.scf_profile.specs.declared.entry.Entry.{Entry}
 use Rattle.scf_profile.specs.declared.load_fault.LoadFault.TheVariants as faults
@@ -102,25 +102,38 @@ module _ (out : Option Answer) (tables : Tables) (default : Answer) (entries : L
   pub profiles_apart : AreOfApart (profiles_from out tables default entries)
   profiles_apart = all_apart architectures each_apart
 
+-- what a reading changes of profiles leaves them apart
+pub effective_apart : (reading : Reading) (default : Answer) (stated : List StatedRules)
+    → AreOfApart (map (stated_profile default) stated) → AreOfApart (map (effective_of reading default) stated)
+effective_apart reading default [] apart i j d lt within = absurd (omega arith)
+effective_apart reading default (s ∷ stated) apart i j d lt within =
+    let all = s ∷ stated in
+    let f = effective_of reading default in
+    let g = stated_profile default in
+    let inside : j < length all = rw (length-map all f) at within in
+    let held = apart i j (g s) lt (rw (length-map all g) inside) in
+    rw (get_or-map f all i s d (omega (arith, lt, inside)), get_or-map f all j s d inside)
+    (rw (get_or-map g all i s (g s) (omega (arith, lt, inside)), get_or-map g all j s (g s) inside) at held)
+
 -- ---- conflicts of one profile after another
 
-module _ (default : Answer) (all before : List StatedRules) (own : StatedRules) (behind : List StatedRules)
+module _ (reading : Reading) (default : Answer) (all before : List StatedRules) (own : StatedRules) (behind : List StatedRules)
     (split : before ++ own ∷ behind ≡ all) where
   -- what holds of all holds of one
   pub of_own : (P : StatedRules → Type 0) → All P all → P own
   of_own P holds =
       All-contains P all own holds (rw (← split) (Contains-append_right before (own ∷ behind) own (0, omega arith, refl)))
 
-  pub first_conflict : (profiles : List Profile) (fault : LoadFault) → profiles ≡ map (stated_profile default) before
+  pub first_conflict : (profiles : List Profile) (fault : LoadFault) → profiles ≡ map (effective_of reading default) before
       → All (λ p. HaveNoConflict p.architecture p.rules) profiles
-      → NamesLeastConflict own.architecture own.rules.items fault
-      → NamesFirstConflict (map (stated_profile default) all) fault
+      → NamesLeastConflict own.architecture (effective_rules reading own.architecture own.rules.items) fault
+      → NamesFirstConflict (map (effective_of reading default) all) fault
   first_conflict profiles faults.Memory is none names = tt
   first_conflict profiles (faults.Conflict number first second) is none names = record {
-    before = map (stated_profile default) before;
-    profile = stated_profile default own;
-    behind = map (stated_profile default) behind;
-    split = rw (← split) (map-append (stated_profile default) before (own ∷ behind));
+    before = map (effective_of reading default) before;
+    profile = effective_of reading default own;
+    behind = map (effective_of reading default) behind;
+    split = rw (← split) (map-append (effective_of reading default) before (own ∷ behind));
     none = rw (← is) none;
     least = names;
   }

@@ -1,8 +1,9 @@
 -- The rules that entries state: their ranges, and one answer for each entry.
-use Rattle.scf_profile.proofs.Common.{◌≡◌, ℕ, suc, Bool, ◌+◌, ◌<◌, ◌≤◌, ◌^◌, List, [], ◌∷◌, ◌++◌, length, get_or, map, Some, None, Option, All, refl, sym, ap, ◌∙◌, arith, inl, inr, Contains, option_map, cons_option, filter, get, cases_order, recursion_from_All, All-nil, All-cons, All-append, All-head, All-tail, All-contains, All-same, All-weaker, filter-append, filter_map-append, Architecture, row_of, Rule, IsEntry, AreStatedRules, Answer, EntriesConflict, max_rules, IsProfile, HaveNoConflict, Conflicts, IsRule, Names, AreCallNumbers, names_kept, rules_named, rules_from}
+use Rattle.scf_profile.proofs.Common.{◌≡◌, ℕ, suc, Bool, ◌+◌, ◌<◌, ◌≤◌, ◌^◌, List, [], ◌∷◌, ◌++◌, length, get_or, map, Some, None, Option, All, refl, sym, ap, ◌∙◌, arith, inl, inr, Contains, count_by-le-length, length-filter, option_map, cons_option, All-contains_itself, All-filter, Reading, effective_rules, is_effective, filter, get, cases_order, recursion_from_All, All-nil, All-cons, All-append, All-head, All-tail, All-contains, All-same, All-weaker, filter-append, filter_map-append, Architecture, row_of, Rule, IsEntry, AreStatedRules, Answer, EntriesConflict, max_rules, IsProfile, HaveNoConflict, Conflicts, IsRule, Names, AreCallNumbers, names_kept, rules_named, rules_from}
 use Rattle.scf_insn.proofs.Architectures.{number_within}
 use Rattle.scf_profile.specs.declared.entry.Entry.{Entry}
 use Rattle.scf_profile.specs.Loading.{IsClash}
+use Rattle.scf_profile.specs.declared.reading.Reading.TheVariants.{Strict, Runc, Crun}
 use Rattle.scf_profile.proofs.Answering.{conflicts_both_ways}
 
 -- the rule that an entry at an index states for a number
@@ -78,6 +79,26 @@ stated_rules out a table es rules below each is few =
           let at : one.0 ≡ two.0 = omega (arith, one.2, two.2) in
           one.3 ∙ ap (λ (k : ℕ). get_or answers k (record { 0 = 0 })) at ∙ sym two.3;
     }
+
+-- ---- the rules that a reading leaves
+
+filter_stated : (p : Rule → Bool) (a : Architecture) (rules : List Rule) → AreStatedRules a rules
+    → AreStatedRules a (filter p rules)
+filter_stated p a rules stated =
+    let inside : (r : Rule) → Contains (filter p rules) r → Contains rules r =
+    λ r. All-contains (Contains rules) (filter p rules) r
+    (All-filter p (Contains rules) rules (All-contains_itself rules)) in
+    record {
+      few = omega (arith, length-filter p rules, count_by-le-length p rules, stated.few);
+      each = All-filter p (IsRule a) rules stated.each;
+      one_answer = λ r s has_r has_s. stated.one_answer r s (inside r has_r) (inside s has_s);
+    }
+
+pub effective_stated : (reading : Reading) (a : Architecture) (rules : List Rule) → AreStatedRules a rules
+    → AreStatedRules a (effective_rules reading a rules)
+effective_stated Strict a rules stated = stated
+effective_stated Runc a rules stated = filter_stated (is_effective a rules) a rules stated
+effective_stated Crun a rules stated = filter_stated (is_effective a rules) a rules stated
 
 -- ---- conflicts
 

@@ -1,15 +1,27 @@
 -- In which points a container runtime reads a profile otherwise than its words say. runc (getAction and matchCall of
 -- libcontainer/seccomp) and crun (libcrun_generate_seccomp of src/libcrun/seccomp.c) hand the entries, one after
 -- another, to libseccomp (src/db.c).
-use Rattle.std.specs.Prelude.{Bool, true, false, Option, Some, None}
+use Rattle.std.specs.Prelude.{ℕ, Bool, true, false, ◌&&◌, ◌==◌, List, Option, Some, None}
+use Rattle.std.specs.List.{filter, find, list_all}
+use Rattle.std.specs.Option.{option_map_or}
+use Rattle.scf_insn.specs.Architectures.{row_of, taken_of}
 use Rattle.scf_insn.specs.declared.answer.Answer.{Answer}
+use Rattle.scf_insn.specs.declared.architecture.Architecture.{Architecture}
+use Rattle.scf_insn.specs.declared.architecture.ArgumentBits.{ArgumentBits}
+use Rattle.scf_profile.specs.declared.condition.Operator.{Operator}
+use Rattle.scf_profile.specs.declared.condition.Operator.TheVariants.{MaskedEqual}
+use Rattle.scf_profile.specs.declared.condition.Condition.{Condition}
 use Rattle.scf_profile.specs.declared.reading.Reading.{Reading}
 use Rattle.scf_profile.specs.declared.reading.Reading.TheVariants.{Strict, Runc}
+use Rattle.scf_profile.specs.declared.rule.Rule.{Rule}
+use Rattle.scf_profile.specs.Profile.{Profile}
 
 -- A runtime's reading. Its filter has the machine's own architecture, whether or not that is listed (seccomp_init).
 abbrev pub is_runtime : Reading → Bool
 is_runtime Strict = false
 is_runtime reading = true
+
+-- ---- entries
 
 -- runc ignores an errno beside an action that takes none (getAction); crun refuses it
 abbrev pub ignores_errno : Reading → Bool
@@ -20,3 +32,39 @@ ignores_errno reading = false
 abbrev pub left_out : Reading → Answer → Option Answer
 left_out Strict default_answer = None
 left_out reading default_answer = Some default_answer
+
+-- ---- rules of one syscall
+
+abbrev pub is_masked : Operator → Bool
+is_masked MaskedEqual = true
+is_masked op = false
+
+-- a condition whose mask has no bit of an argument, which libseccomp skips (_db_arg_cmp_need_hi, _db_arg_cmp_need_lo)
+abbrev pub compares_nothing : ArgumentBits → Condition → Bool
+compares_nothing bits c = is_masked c.op && (taken_of bits c.value == 0)
+
+abbrev pub is_unconditional : Architecture → Rule → Bool
+is_unconditional architecture r = list_all (compares_nothing (row_of architecture).bits) r.conditions
+
+-- the first rule of a number without conditions: wherever it stands, it alone has all calls of the number (db_rule_add)
+abbrev pub first_unconditional : Architecture → ℕ → List Rule → Option Rule
+first_unconditional architecture number rules =
+    find (λ r. (r.number == number) && is_unconditional architecture r) rules
+
+-- the rule answers as that one, if there is one
+abbrev pub is_effective : Architecture → List Rule → Rule → Bool
+is_effective architecture rules r =
+    option_map_or (λ first. first.answer.0 == r.answer.0) (first_unconditional architecture r.number rules) true
+
+-- The rules that a runtime's filter answers by. Of two others that one call meets, with different answers, libseccomp
+-- may refuse the second (EEXIST of _db_tree_add): they stay a conflict.
+abbrev pub effective_rules : Reading → Architecture → List Rule → List Rule
+effective_rules Strict architecture rules = rules
+effective_rules reading architecture rules = filter (is_effective architecture rules) rules
+
+abbrev pub effective_profile : Reading → Profile → Profile
+effective_profile reading p = record {
+  architecture = p.architecture;
+  default_answer = p.default_answer;
+  rules = effective_rules reading p.architecture p.rules;
+}

@@ -35,7 +35,7 @@ use Rattle.scf_profile.specs.Profile.{Profile}
 use Rattle.scf_profile.specs.Steps.{◌>>=◌, refused_if}
 use Rattle.scf_profile.specs.JsonMembers.{member, whole_number, unsigned_number, each}
 use Rattle.scf_profile.specs.Limits.{max_errno, max_rules, number_below}
-use Rattle.scf_profile.specs.Readings.{ignores_errno, is_runtime, left_out}
+use Rattle.scf_profile.specs.Readings.{effective_profile, ignores_errno, is_runtime, left_out}
 use Rattle.scf_profile.specs.Table.{Names}
 
 -- ---- members
@@ -253,11 +253,11 @@ profile_of reading table root = do
   entries ← entries_of reading head.object
   _ ← refused_if (nat_lt max_rules (length (rules_from (left_out reading head.default_answer) X8664 table 0 entries))) faults.TooMany
   Ok (record {
-    profile = record {
+    profile = effective_profile reading (record {
       architecture = X8664;
       default_answer = head.default_answer;
       rules = rules_from (left_out reading head.default_answer) X8664 table 0 entries;
-    };
+    });
     skipped = skipped_names ((X8664, table) ∷ []) entries;
     other_architectures = other_names ((X8664, table) ∷ []) head.architectures;
   })
@@ -272,7 +272,8 @@ profiles_of reading tables root = do
       (list_any (λ p. nat_lt max_rules (length p.rules)) (profiles_from (left_out reading head.default_answer) tables head.default_answer entries))
       faults.TooMany
   Ok (record {
-    profiles = profiles_from (left_out reading head.default_answer) tables head.default_answer entries;
+    profiles = map (effective_profile reading)
+        (profiles_from (left_out reading head.default_answer) tables head.default_answer entries);
     skipped = skipped_names tables entries;
     other_architectures = other_names tables head.architectures;
   })

@@ -1,6 +1,7 @@
 //! Conditions on syscall arguments (OCI runtime specification, config-linux.md, seccomp).
 
 ghost use Rattle.std.specs.Prelude.{◌≡◌, ◌≤◌, ◌↔◌, ℕ, IsTrue, All, IfOk, IfSome};
+ghost use Rattle.std.specs.List.{list_all};
 ghost use Rattle.scf_profile.specs.Condition.{condition_holds};
 ghost use Rattle.scf_profile.specs.NumberTests.{test_of};
 ghost use Rattle.scf_profile.specs.internal.NumberSets.{IsNumberSet, is_in_some};
@@ -8,6 +9,7 @@ ghost use Rattle.scf_insn.specs.Architectures.{greatest_argument};
 ghost use Rattle.scf_insn.specs.SimpleMask.{IsSimpleMask};
 ghost use Rattle.scf_insn.specs.Words.{low, high};
 ghost use Rattle.scf_profile.specs.PlainProfile.{IsPlainCondition};
+ghost use Rattle.scf_profile.specs.Readings.{compares_nothing as nothing_compared};
 
 use crate::number_set::NumberSet;
 use crate::number_test::NumberTest;
@@ -81,6 +83,13 @@ impl Condition {
         }
     }
 
+    /// Whether its mask has no bit of an argument.
+    pub(crate) fn compares_nothing(&self, bits: ArgumentBits) -> bool
+        ensures { result ≡ nothing_compared bits self.now }
+    {
+        matches!(self.op, Operator::MaskedEqual) && bits.taken(self.value) == 0
+    }
+
     /// Whether the condition holds for an argument.
     pub(crate) fn holds_of(&self, argument: u64) -> bool
         ensures { result ≡ condition_holds self.now argument }
@@ -152,6 +161,13 @@ impl Conditions {
         ensures { IsTrue result ↔ All IsPlainCondition self.now }
     {
         self.list.iter().all(|c| c.is_plain())
+    }
+
+    /// Whether none of them compares anything.
+    pub(crate) fn compare_nothing(&self, bits: ArgumentBits) -> bool
+        ensures { result ≡ list_all (nothing_compared bits) self.now }
+    {
+        self.list.iter().all(|c| c.compares_nothing(bits))
     }
 
     /// The conditions, in order.

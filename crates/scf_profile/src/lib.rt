@@ -6,6 +6,7 @@ mod architecture_table;
 mod args;
 mod condition;
 mod conflict;
+mod effective;
 mod entry;
 mod expand;
 mod forms;

@@ -10,14 +10,16 @@ ghost use Rattle.scf_profile.specs.Limits.{max_text_len};
 ghost use Rattle.scf_profile.specs.Loading.{IsText, Loads, LoadsAs, LoadsEach, LoadsEachAs, Refuses, RefusesAs, RefusesEach, RefusesEachAs};
 ghost use Rattle.scf_profile.specs.internal.Refusals.{NamesFirstConflict, NamesLeastConflict, ParseRefuses};
 ghost use Rattle.scf_profile.specs.internal.Results.{result_map};
-ghost use Rattle.scf_profile.specs.internal.Stated.{head_stated, loaded_of, loaded_profiles_of, stated_profile};
+ghost use Rattle.scf_profile.specs.internal.Stated.{effective_of, head_stated, loaded_of, loaded_profiles_of, stated_profile};
 ghost use Rattle.scf_profile.specs.Profile.{AreOfApart, HaveNoConflict};
+ghost use Rattle.scf_profile.specs.Readings.{effective_rules as effective_by};
 ghost use Rattle.scf_profile.specs.Steps.{Gives};
 ghost use Rattle.scf_profile.specs.StatedProfile.{entries_of, head_of, profile_for, profile_of, profiles_from, profiles_of, rules_from, tables_of};
 
 use crate::action::find_answer;
 use crate::architecture_table::{ArchitectureTable, table_for};
 use crate::conflict::least_conflict;
+use crate::effective::effective_rules;
 use crate::entry::Entry;
 use crate::expand::{other_architectures, rules_under, skipped_under};
 use crate::forms::check_no_engine_form;
@@ -141,7 +143,7 @@ fn read_root(
     table: &CallTable,
     root: &Value,
 ) -> Result<Stated, LoadFault>
-    ensures value { Gives Memory (result_map loaded_of result) (profile_of reading table.now (view root.now)) }
+    ensures value { Gives Memory (result_map (loaded_of reading) result) (profile_of reading table.now (view root.now)) }
     ensures architecture { IfOk result (λ s. s.rules.architecture ≡ X8664) }
     ensures range { IfOk result (λ s. AreStatedRules s.rules.architecture s.rules.rules.items) }
     ensures default_range { IfOk result (λ s. s.default_answer.0 < 2 ^ 32) }
@@ -188,6 +190,27 @@ fn without_conflict(
     }
 }
 
+/// The profile of the rules that are effective by a reading, unless two of them conflict or an allocation fails.
+fn effective_profile(
+    alloc: Global,
+    reading: Reading,
+    default_answer: Answer,
+    stated: StatedRules,
+) -> Result<Profile, LoadFault>
+    requires rules { AreStatedRules stated.architecture stated.rules.items }
+    requires default_answer { default_answer.0 < 2 ^ 32 }
+    ensures ok { IfOk result (λ profile. profile ≡ effective_of reading default_answer stated) }
+    ensures no_conflict { IfOk result (λ profile. HaveNoConflict profile.architecture profile.rules) }
+    ensures err { IfErr result (NamesLeastConflict stated.architecture
+        (effective_by reading stated.architecture stated.rules.items)) }
+{
+    let own = StatedRules {
+        architecture: stated.architecture,
+        rules: effective_rules(alloc, reading, stated.architecture, stated.rules)?,
+    };
+    without_conflict(alloc, default_answer, own)
+}
+
 /// Loads a profile from JSON text (at most 4194304 bytes); a syscall table gives the names their numbers. An error is
 /// the first test that fails, the last being that no two rules conflict, or `Memory` if an allocation failed.
 pub fn load(alloc: Global, text: &[u8], table: &CallTable) -> Result<Loaded, LoadFault>
@@ -215,7 +238,7 @@ pub fn load_as(
     let value = parse(alloc, text)?;
     let stated = read_root(alloc, reading, table, &value)?;
     Ok(Loaded {
-        profile: without_conflict(alloc, stated.default_answer, stated.rules)?,
+        profile: effective_profile(alloc, reading, stated.default_answer, stated.rules)?,
         skipped: stated.skipped,
         other_architectures: stated.other_architectures,
     })
@@ -289,11 +312,11 @@ fn read_root_for(
     tables: &[ArchitectureTable],
     root: &Value,
 ) -> Result<StatedProfiles, LoadFault>
-    ensures value { Gives Memory (result_map loaded_profiles_of result)
+    ensures value { Gives Memory (result_map (loaded_profiles_of reading) result)
         (profiles_of reading (tables_of tables.now) (view root.now)) }
     ensures range { IfOk result (λ s. All (λ r. AreStatedRules r.architecture r.rules.items) s.rules.items) }
     ensures default_range { IfOk result (λ s. s.default_answer.0 < 2 ^ 32) }
-    ensures apart { IfOk result (λ s. AreOfApart (map (stated_profile s.default_answer) s.rules.items)) }
+    ensures apart { IfOk result (λ s. AreOfApart (map (effective_of reading s.default_answer) s.rules.items)) }
 {
     let head = read_head(alloc, reading, root)?;
     check_listed(reading, tables, &head.architectures)?;
@@ -313,20 +336,21 @@ fn read_root_for(
 /// The profiles, unless two rules of one conflict or an allocation fails.
 fn all_without_conflict(
     alloc: Global,
+    reading: Reading,
     default_answer: Answer,
     stated: Vec<StatedRules>,
 ) -> Result<Profiles, LoadFault>
     requires rules { All (λ s. AreStatedRules s.architecture s.rules.items) stated.items }
     requires default_answer { default_answer.0 < 2 ^ 32 }
-    requires apart { AreOfApart (map (stated_profile default_answer) stated.items) }
-    ensures ok { IfOk result (λ profiles. profiles ≡ map (stated_profile default_answer) stated.items) }
+    requires apart { AreOfApart (map (effective_of reading default_answer) stated.items) }
+    ensures ok { IfOk result (λ profiles. profiles ≡ map (effective_of reading default_answer) stated.items) }
     ensures no_conflict { IfOk result (λ profiles.
         All (λ p. HaveNoConflict p.architecture p.rules) profiles) }
-    ensures err { IfErr result (NamesFirstConflict (map (stated_profile default_answer) stated.items)) }
+    ensures err { IfErr result (NamesFirstConflict (map (effective_of reading default_answer) stated.items)) }
 {
     let mut profiles = Vec::new(alloc);
     for own in stated {
-        profiles.push(without_conflict(alloc, default_answer, own)?)?;
+        profiles.push(effective_profile(alloc, reading, default_answer, own)?)?;
     }
     Ok(Profiles::from_vec(profiles))
 }
@@ -364,7 +388,7 @@ pub fn load_profiles_as(
     let value = parse(alloc, text)?;
     let stated = read_root_for(alloc, reading, tables, &value)?;
     Ok(LoadedProfiles {
-        profiles: all_without_conflict(alloc, stated.default_answer, stated.rules)?,
+        profiles: all_without_conflict(alloc, reading, stated.default_answer, stated.rules)?,
         skipped: stated.skipped,
         other_architectures: stated.other_architectures,
     })

@@ -3,6 +3,7 @@
 ghost use Rattle.std.specs.Prelude.{◌≡◌, ◌<◌, ◌↔◌, IsTrue, IfOk, All};
 ghost use Rattle.scf_insn.specs.Kernel.{seccomp_data_args};
 ghost use Rattle.scf_profile.specs.PlainProfile.{IsPlainRule};
+ghost use Rattle.scf_profile.specs.Readings.{is_unconditional as unconditional};
 ghost use Rattle.scf_profile.specs.Rule.{Conflicts, IsRule, all_hold as all_conditions_hold, meets};
 
 use crate::condition::{Condition, Conditions};
@@ -39,6 +40,14 @@ impl Rule {
         ensures { IsTrue result ↔ IsPlainRule self.now }
     {
         self.conditions.are_plain()
+    }
+
+    /// Whether all records of an architecture with its syscall number meet the rule, since its conditions compare nothing.
+    pub(crate) fn is_unconditional(&self, architecture: Architecture) -> bool
+        ensures { result ≡ unconditional architecture self.now }
+    {
+        self.conditions
+            .compare_nothing(architecture.argument_bits())
     }
 
     /// Whether a record of an architecture meets the rule.

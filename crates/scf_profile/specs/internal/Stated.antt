@@ -10,7 +10,9 @@ use Rattle.scf_profile.specs.declared.profile_text.StatedProfiles.{StatedProfile
 use Rattle.scf_profile.specs.declared.profile_text.StatedRules.{StatedRules}
 use Rattle.scf_profile.specs.declared.loaded.Loaded.{Loaded}
 use Rattle.scf_profile.specs.declared.loaded.LoadedProfiles.{LoadedProfiles}
+use Rattle.scf_profile.specs.declared.reading.Reading.{Reading}
 use Rattle.scf_profile.specs.Profile.{Profile}
+use Rattle.scf_profile.specs.Readings.{effective_profile}
 use Rattle.scf_profile.specs.StatedProfile.{Head}
 
 -- names, and before them that of an architecture, if there is one
@@ -33,16 +35,20 @@ stated_profile default_answer s = record {
   rules = s.rules.items;
 }
 
-abbrev pub loaded_of : Stated → Loaded
-loaded_of s = record {
-  profile = stated_profile s.default_answer s.rules;
+-- and as a reading has it
+abbrev pub effective_of : Reading → Answer → StatedRules → Profile
+effective_of reading default_answer s = effective_profile reading (stated_profile default_answer s)
+
+abbrev pub loaded_of : Reading → Stated → Loaded
+loaded_of reading s = record {
+  profile = effective_profile reading (stated_profile s.default_answer s.rules);
   skipped = s.skipped;
   other_architectures = s.other_architectures;
 }
 
-abbrev pub loaded_profiles_of : StatedProfiles → LoadedProfiles
-loaded_profiles_of s = record {
-  profiles = map (stated_profile s.default_answer) s.rules.items;
+abbrev pub loaded_profiles_of : Reading → StatedProfiles → LoadedProfiles
+loaded_profiles_of reading s = record {
+  profiles = map (effective_of reading s.default_answer) s.rules.items;
   skipped = s.skipped;
   other_architectures = s.other_architectures;
 }

@@ -1,4 +1,4 @@
-use Rattle.scf_profile.proofs.Common.{◌≡◌, ◌∷◌, [], ◌∙◌, List, length, refl, sym, ap, subst, arith, append_assoc, append-nil, map, map-append, All-push, AreOfApart, AreStatedRules, HaveNoConflict, NamesFirstConflict, Profile, stated_profile}
+use Rattle.scf_profile.proofs.Common.{◌≡◌, ◌∷◌, [], ◌∙◌, List, length, refl, sym, ap, subst, arith, append_assoc, append-nil, map, map-append, All-push, AreOfApart, AreStatedRules, HaveNoConflict, NamesFirstConflict, Profile, effective_of}
 use Rattle.std.specs.Vec.Iter.{into_iter_items}
 use Rattle.scf_profile.specs.declared.profile_text.StatedRules.{StatedRules}
 use Rattle.scf_profile.proofs.Handed.{handed_fault}
@@ -9,28 +9,28 @@ nothing_left : (rules : List StatedRules) → length rules ≡ 0 → rules ≡ [
 nothing_left [] none = refl
 nothing_left (s ∷ rules) none = absurd (omega arith)
 
-pub without_conflict-requires-clause-rules : goal.without_conflict-requires-clause-rules
-without_conflict-requires-clause-rules c =
-    of_own c.args.default_answer c.args.stated.items c.loop-own.yielded c.in-Some.own (into_iter_items c.next.new.self)
+pub effective_profile-requires-clause-rules : goal.effective_profile-requires-clause-rules
+effective_profile-requires-clause-rules c =
+    of_own c.args.reading c.args.default_answer c.args.stated.items c.loop-own.yielded c.in-Some.own (into_iter_items c.next.new.self)
     (rw (← c.in-Some.ensures.steps.0) c.loop-own.invariant.left ∙ c.into_iter-own-iterator.ensures.into_iter_gives.0)
     (λ s. AreStatedRules s.architecture s.rules.items) c.requires.rules
 
-pub returns-in_err-without_conflict-clause-err : goal.returns-in_err-without_conflict-clause-err
-returns-in_err-without_conflict-clause-err c =
-    handed_fault (NamesFirstConflict (map (stated_profile c.args.default_answer) c.args.stated.items)) _ _
+pub returns-in_err-effective_profile-clause-err : goal.returns-in_err-effective_profile-clause-err
+returns-in_err-effective_profile-clause-err c =
+    handed_fault (NamesFirstConflict (map (effective_of c.args.reading c.args.default_answer) c.args.stated.items)) _ _
     c.from_residual.ensures.1
-    (first_conflict c.args.default_answer c.args.stated.items c.loop-own.yielded c.in-Some.own
+    (first_conflict c.args.reading c.args.default_answer c.args.stated.items c.loop-own.yielded c.in-Some.own
     (into_iter_items c.next.new.self)
     (rw (← c.in-Some.ensures.steps.0) c.loop-own.invariant.left ∙ c.into_iter-own-iterator.ensures.into_iter_gives.0)
     c.loop-own.profiles.items _ c.loop-own.invariant.same c.loop-own.invariant.none
-    c.in_err-without_conflict.ensures.err)
+    c.in_err-effective_profile.ensures.err)
 
 pub loop-own-preserved : goal.loop-own-preserved
 loop-own-preserved c =
     let at = c.loop-own in
     let own = c.in-Some.own in
     let steps : into_iter_items at.own-iterator ≡ own ∷ into_iter_items c.next.new.self = c.in-Some.ensures.steps.0 in
-    let profile = c.in_ok-without_conflict.ensures.ok in
+    let profile = c.in_ok-effective_profile.ensures.ok in
     record {
       left = append_assoc at.yielded (own ∷ []) _ ∙ rw (← steps) at.invariant.left;
       count =
@@ -39,11 +39,11 @@ loop-own-preserved c =
           let short = ap length steps in
           omega arith;
       same =
-          c.in_ok-push.ensures.items ∙ rw (map-append (stated_profile c.args.default_answer) at.yielded (own ∷ []))
+          c.in_ok-push.ensures.items ∙ rw (map-append (effective_of c.args.reading c.args.default_answer) at.yielded (own ∷ []))
           (rw (at.invariant.same, profile) refl);
       none = rw c.in_ok-push.ensures.items
           (All-push (λ (p : Profile). HaveNoConflict p.architecture p.rules) at.profiles.items _ at.invariant.none
-          c.in_ok-without_conflict.ensures.no_conflict);
+          c.in_ok-effective_profile.ensures.no_conflict);
     }
 
 pub from_vec-requires : goal.from_vec-requires
@@ -53,7 +53,7 @@ from_vec-requires c =
     nothing_left _ (sym at.invariant.count ∙ c.in-None.ensures.steps.0) in
     let whole = sym (append-nil at.yielded) ∙ rw empty at at.invariant.left
     ∙ c.into_iter-own-iterator.ensures.into_iter_gives.0 in
-    subst AreOfApart (sym (at.invariant.same ∙ ap (map (stated_profile c.args.default_answer)) whole)) c.requires.apart
+    subst AreOfApart (sym (at.invariant.same ∙ ap (map (effective_of c.args.reading c.args.default_answer)) whole)) c.requires.apart
 
 pub returns-clause-no_conflict : goal.returns-clause-no_conflict
 returns-clause-no_conflict c = rw c.from_vec.ensures c.loop-own.invariant.none

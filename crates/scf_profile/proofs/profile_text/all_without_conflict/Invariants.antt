@@ -1,4 +1,4 @@
-use Rattle.scf_profile.proofs.Common.{◌≡◌, ◌++◌, length, map, All, HaveNoConflict, stated_profile}
+use Rattle.scf_profile.proofs.Common.{◌≡◌, ◌++◌, length, map, All, HaveNoConflict, effective_of}
 use Rattle.std.specs.Vec.Iter.{into_iter_items, into_iter_len}
 use Rattle.scf_profile.proofs.profile_text.all_without_conflict.Given as goal
 
@@ -7,6 +7,6 @@ abbrev pub invariant-loop-own : goal.invariant-loop-own
 invariant-loop-own l = record {
   left : l.yielded ++ into_iter_items l.own-iterator ≡ into_iter_items l.initial.own-iterator;
   count : into_iter_len l.own-iterator ≡ length (into_iter_items l.own-iterator);
-  same : l.profiles.items ≡ map (stated_profile l.default_answer) l.yielded;
+  same : l.profiles.items ≡ map (effective_of l.reading l.default_answer) l.yielded;
   none : All (λ p. HaveNoConflict p.architecture p.rules) l.profiles.items;
 }

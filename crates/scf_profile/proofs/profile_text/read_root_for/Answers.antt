@@ -1,5 +1,5 @@
-use Rattle.scf_profile.proofs.Common.{refl, profiles_of, subst, sym, AreOfApart, tables_of}
-use Rattle.scf_profile.proofs.Stated.{none_too_many, profiles_apart}
+use Rattle.scf_profile.proofs.Common.{refl, profiles_of, effective_profile, map-map, stated_profile, subst, sym, AreOfApart, tables_of}
+use Rattle.scf_profile.proofs.Stated.{effective_apart, none_too_many, profiles_apart}
 use Rattle.scf_profile.proofs.profile_text.read_root_for.Goals as goal
 
 pub returns-clause-value : goal.returns-clause-value
@@ -14,6 +14,7 @@ returns-clause-value c =
       ← c.in_ok-check_listed.ensures,
       c.in_ok-entries.ensures.value,
       ← same,
+      map-map (effective_profile c.args.reading) (stated_profile default) c.in_ok-rules.rules.items,
       few,
       skipped,
       c.in_ok-other_architectures.ensures,
@@ -22,5 +23,6 @@ returns-clause-value c =
 pub returns-clause-apart : goal.returns-clause-apart
 returns-clause-apart c =
     let default = c.in_ok-head.head.default_answer in
-    subst AreOfApart (sym (c.in_ok-rules.ensures.rules default))
-    (profiles_apart c.left_out-left_out.result (tables_of c.args.tables.now) default c.deref.result.now)
+    effective_apart c.args.reading default c.in_ok-rules.rules.items
+    (subst AreOfApart (sym (c.in_ok-rules.ensures.rules default))
+    (profiles_apart c.left_out-left_out.result (tables_of c.args.tables.now) default c.deref.result.now))
