@@ -12,6 +12,7 @@ pub use Rattle.std.proofs.lemmas.Iterator.{YieldsList-from_slice, cases_from_all
 pub use Rattle.std.proofs.lemmas.Iterator.Search.{all_from_yields_List, any_from_yields_List, true_from_All}
 pub use Rattle.std.proofs.lemmas.List.{get_or_default, get_or-map, get_or-take, get_or_past, length-map, length-take, map-append}
 pub use Rattle.std.proofs.lemmas.List.Elements.{All-append, All-cons, All-contains, All-contains_itself, All-filter, All-from_recursion, All-head, All-map, All-more, All-nil, All-push, All-same, All-tail, All-weaker, Contains-append_right, Contains-get_or, filter-append, filter_map-append, filter_passes, recursion_from_All}
+pub use Rattle.std.proofs.lemmas.List.Concat.{flat_map-cons}
 pub use Rattle.std.proofs.lemmas.List.Folds.{list_all-map, list_any-append}
 pub use Rattle.std.proofs.lemmas.List.Kept.{AllPairs-cons, AllPairs-filter, AllPairs-from_increasing, IsStrictlySortedBy-filter}
 pub use Rattle.std.proofs.lemmas.List.Sorted.{All-permutation, Contains-permutation, IsPermutation-cons, IsPermutation-refl, IsPermutation-remove, IsPermutation-sym, IsPermutation-trans, length_permutation, sum_by-IsPermutation}
@@ -61,13 +62,13 @@ pub use Rattle.scf_profile.specs.NumberRules.{AreNumbersOf}
 pub use Rattle.scf_profile.specs.PlainProfile.{IsPlainCondition, IsPlainProfile, IsPlainRule}
 pub use Rattle.scf_profile.specs.Profile.{Profile as Answering, AreOfApart, HaveNoConflict, IsNative, IsProfile, Profile}
 pub use Rattle.scf_profile.specs.ProfileAnswers.{ProfileAnswers, ProfilesAnswer, by_none, by_profile, by_default, by_rule, foreign}
-pub use Rattle.scf_profile.specs.Readings.{compares_nothing, effective_profile, effective_rules, first_unconditional, is_effective, is_unconditional}
+pub use Rattle.scf_profile.specs.Readings.{alternatives, compares_nothing, conditions_read, has_repeated_index, effective_profile, effective_rules, first_unconditional, is_effective, is_unconditional}
 pub use Rattle.scf_profile.specs.Reasons.{IsAnswerOf, IsReason, entries_met}
 pub use Rattle.scf_profile.specs.References.{texts_at}
 pub use Rattle.scf_profile.specs.Rule.{AreConditions, Conflicts, HaveDistinctIndices, IsCondition, IsRule, all_hold, meets}
 pub use Rattle.scf_profile.specs.RulesByNumber.{numbers_of, rules_of}
 pub use Rattle.scf_profile.specs.SameAnswers.{AnswersRelated, SameAnswers}
-pub use Rattle.scf_profile.specs.StatedProfile.{Head, Tables, is_named, names_kept, profile_for, listed_names, own_architecture, other_names, profiles_from, rules_from, rules_named, skipped_names, strings_of, table_for, tables_of}
+pub use Rattle.scf_profile.specs.StatedProfile.{Head, Tables, is_named, rules_by_each, rules_of_entry, profile_for, listed_names, own_architecture, other_names, profiles_from, rules_from, rules_named, skipped_names, strings_of, table_for, tables_of}
 unfoldable pub use Rattle.scf_profile.specs.StatedProfile.{answer_in, condition_of, condition_of as condition_stated, entry_of, errno_of, no_engine_form, all_listed, entries_of, head_of, profile_of, profiles_of, seccomp_of}
 pub use Rattle.scf_profile.specs.Steps.{◌>>=◌}
 pub use Rattle.scf_profile.specs.Table.{AreCallNumbers, BeginWithCall, Names, entry_in, fields, is_separator, is_in_name, is_call_name, table_of, with_entry}

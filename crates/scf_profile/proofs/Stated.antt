@@ -17,7 +17,8 @@ by_either true b c h = refl
 by_either false true c h = refl
 by_either false false c h = absurd (false≢true h)
 
-module _ (out : Option Answer) (tables : Tables) (entries : List Entry) (all : List Architecture) (i : ℕ) (lt : i < length all) where
+module _ (out : Option Answer) (tables : Tables) (entries : List Entry) (all : List Architecture) (i : ℕ)
+    (lt : i < length all) where
   abbrev one : Answer → Option Profile
   one default = profile_for out tables default entries (get_or all i X8664)
 
@@ -93,7 +94,8 @@ module _ (out : Option Answer) (tables : Tables) (default : Answer) (entries : L
   all_apart [] h = λ i j d lt within. absurd (omega arith)
   all_apart (a ∷ all) h = by_table (table_for tables a) (all_apart all h.1) where
     by_table : (o : Option Names) → AreOfApart (filter_map (profile_for out tables default entries) all)
-        → AreOfApart (cons_option (option_map (profile_of a) o) (filter_map (profile_for out tables default entries) all))
+        → AreOfApart
+        (cons_option (option_map (profile_of a) o) (filter_map (profile_for out tables default entries) all))
     by_table None others = others
     by_table (Some table) others =
         AllPairs-cons (λ (p : Profile) (later : Profile). AreApart p.architecture later.architecture)
@@ -117,14 +119,15 @@ effective_apart reading default (s ∷ stated) apart i j d lt within =
 
 -- ---- conflicts of one profile after another
 
-module _ (reading : Reading) (default : Answer) (all before : List StatedRules) (own : StatedRules) (behind : List StatedRules)
-    (split : before ++ own ∷ behind ≡ all) where
+module _ (reading : Reading) (default : Answer) (all before : List StatedRules) (own : StatedRules)
+    (behind : List StatedRules) (split : before ++ own ∷ behind ≡ all) where
   -- what holds of all holds of one
   pub of_own : (P : StatedRules → Type 0) → All P all → P own
   of_own P holds =
       All-contains P all own holds (rw (← split) (Contains-append_right before (own ∷ behind) own (0, omega arith, refl)))
 
-  pub first_conflict : (profiles : List Profile) (fault : LoadFault) → profiles ≡ map (effective_of reading default) before
+  pub first_conflict : (profiles : List Profile) (fault : LoadFault)
+      → profiles ≡ map (effective_of reading default) before
       → All (λ p. HaveNoConflict p.architecture p.rules) profiles
       → NamesLeastConflict own.architecture (effective_rules reading own.architecture own.rules.items) fault
       → NamesFirstConflict (map (effective_of reading default) all) fault

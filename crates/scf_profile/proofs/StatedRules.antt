@@ -1,30 +1,83 @@
 -- The rules that entries state: their ranges, and one answer for each entry.
-use Rattle.scf_profile.proofs.Common.{◌≡◌, ℕ, suc, Bool, ◌+◌, ◌<◌, ◌≤◌, ◌^◌, List, [], ◌∷◌, ◌++◌, length, get_or, map, Some, None, Option, All, refl, sym, ap, ◌∙◌, arith, inl, inr, Contains, count_by-le-length, length-filter, option_map, cons_option, All-contains_itself, All-filter, Reading, effective_rules, is_effective, filter, get, cases_order, recursion_from_All, All-nil, All-cons, All-append, All-head, All-tail, All-contains, All-same, All-weaker, filter-append, filter_map-append, Architecture, row_of, Rule, IsEntry, AreStatedRules, Answer, EntriesConflict, max_rules, IsProfile, HaveNoConflict, Conflicts, IsRule, Names, AreCallNumbers, names_kept, rules_named, rules_from}
+use Rattle.scf_profile.proofs.Common.{◌≡◌, ℕ, suc, Bool, ◌+◌, ◌<◌, ◌≤◌, ◌^◌, List, [], ◌∷◌, ◌++◌, length, get_or, map, Some, None, Option, All, refl, sym, ap, ◌∙◌, arith, inl, inr, Contains, count_by-le-length, length-filter, option_map, cons_option, All-contains_itself, All-filter, Reading, effective_rules, is_effective, filter, get, cases_order, recursion_from_All, All-nil, All-cons, All-append, All-head, All-tail, All-contains, All-same, All-weaker, filter-append, filter_map-append, Architecture, row_of, Rule, IsEntry, AreStatedRules, Answer, EntriesConflict, max_rules, IsProfile, HaveNoConflict, Conflicts, IsRule, Names, AreCallNumbers, option_map_or, rules_by_each, rules_of_entry, rules_named, rules_from, Condition, IsCondition, AreConditions, HaveDistinctIndices, AllByRecursion, alternatives, has_repeated_index, cond, true, false, list_any, or_parts, eqb, eqb-false, ◌≢◌, append-nil, flat_map-cons}
 use Rattle.scf_insn.proofs.Architectures.{number_within}
 use Rattle.scf_profile.specs.declared.entry.Entry.{Entry}
 use Rattle.scf_profile.specs.Loading.{IsClash}
 use Rattle.scf_profile.specs.declared.reading.Reading.TheVariants.{Strict, Runc, Crun}
 use Rattle.scf_profile.proofs.Answering.{conflicts_both_ways}
 
--- the rule that an entry at an index states for a number
-abbrev rule_for : Architecture → ℕ → Entry → ℕ → Rule
-rule_for a index e number = record {
+-- the rule that an entry at an index states by conditions for a number
+abbrev rule_for : Architecture → ℕ → List Condition → Answer → ℕ → Rule
+rule_for a index conditions answer number = record {
   number = (row_of a).first + number;
-  conditions = e.conditions;
-  answer = e.answer;
+  conditions = conditions;
+  answer = answer;
   entry = index;
 }
 
 -- what holds of the rule for each number that a name has
-module _ (a : Architecture) (P : Rule → Type 0) (table : Names) (index : ℕ) (e : Entry)
-    (each : (name : List ℕ) (number : ℕ) → get table name ≡ Some number → P (rule_for a index e number)) where
-  all_named : (names : List (List ℕ)) → All P (rules_named a table index e names)
+module _ (a : Architecture) (P : Rule → Type 0) (table : Names) (index : ℕ) (conditions : List Condition)
+    (answer : Answer) (each : (name : List ℕ) (number : ℕ) → get table name ≡ Some number
+    → P (rule_for a index conditions answer number)) where
+  all_named : (names : List (List ℕ)) → All P (rules_named a table index conditions answer names)
   all_named [] = All-nil P
   all_named (name ∷ names) = by_number (get table name) refl (all_named names) where
-    by_number : (o : Option ℕ) → get table name ≡ o → All P (rules_named a table index e names)
-        → All P (cons_option (option_map (rule_for a index e) o) (rules_named a table index e names))
+    by_number : (o : Option ℕ) → get table name ≡ o → All P (rules_named a table index conditions answer names)
+        → All P (cons_option (option_map (rule_for a index conditions answer) o)
+        (rules_named a table index conditions answer names))
     by_number None is rest = rest
-    by_number (Some number) is rest = All-cons P (rule_for a index e number) _ (each name number is) rest
+    by_number (Some number) is rest =
+        All-cons P (rule_for a index conditions answer number) _ (each name number is) rest
+
+all_unless : (P : Rule → Type 0) (out : Bool) (rules : List Rule) → All P rules → All P (cond out [] rules)
+all_unless P true rules all = All-nil P
+all_unless P false rules all = all
+
+-- what holds of the rules by each list of conditions
+all_by_each : (P : Rule → Type 0) (a : Architecture) (table : Names) (index : ℕ) (answer : Answer)
+    (names : List (List ℕ)) (several : List (List Condition))
+    → All (λ cs. (names : List (List ℕ)) → All P (rules_named a table index cs answer names)) several
+    → All P (rules_by_each a table index several answer names)
+all_by_each P a table index answer names [] each = All-nil P
+all_by_each P a table index answer names (cs ∷ several) each =
+    let Q : List Condition → Type 0 =
+    λ ds. (names : List (List ℕ)) → All P (rules_named a table index ds answer names) in
+    All-append P (rules_named a table index cs answer names) (rules_by_each a table index several answer names)
+    (All-head Q cs several each names)
+    (all_by_each P a table index answer names several (All-tail Q cs several each))
+
+-- ---- lists of conditions
+
+all_apart : (c : Condition) (cs : List Condition) → list_any (λ d. eqb d.index c.index) cs ≡ false
+    → AllByRecursion (λ d. c.index ≢ d.index) cs
+all_apart c [] none = tt
+all_apart c (d ∷ ds) none =
+    let parts = or_parts (eqb d.index c.index) (list_any (λ e. eqb e.index c.index) ds) none in
+    (λ same. eqb-false d.index c.index parts.0 (sym same), all_apart c ds parts.1)
+
+distinct_of : (cs : List Condition) → has_repeated_index cs ≡ false → HaveDistinctIndices cs
+distinct_of [] none = tt
+distinct_of (c ∷ cs) none =
+    let parts = or_parts (list_any (λ d. eqb d.index c.index) cs) (has_repeated_index cs) none in
+    (all_apart c cs parts.0, distinct_of cs parts.1)
+
+one_fine : (c : Condition) → IsCondition c → AreConditions (c ∷ [])
+one_fine c is = record { each = (is, tt); distinct = (tt, tt) }
+
+each_fine : (cs : List Condition) → All IsCondition cs → All AreConditions (map (λ c. c ∷ []) cs)
+each_fine [] each = All-nil AreConditions
+each_fine (c ∷ cs) each =
+    All-cons AreConditions (c ∷ []) (map (λ d. d ∷ []) cs) (one_fine c (All-head IsCondition c cs each))
+    (each_fine cs (All-tail IsCondition c cs each))
+
+alternatives_fine : (cs : List Condition) → All IsCondition cs → All AreConditions (alternatives cs)
+alternatives_fine cs each = by_test (has_repeated_index cs) refl where
+  by_test : (b : Bool) → has_repeated_index cs ≡ b → All AreConditions (cond b (map (λ c. c ∷ []) cs) (cs ∷ []))
+  by_test true is = each_fine cs each
+  by_test false is = All-cons AreConditions cs [] (record {
+    each = recursion_from_All IsCondition cs each;
+    distinct = distinct_of cs is;
+  }) (All-nil AreConditions)
 
 -- a rule is within its ranges, and has the answer of the entry at its index, where these are those from an index on
 abbrev IsStated : Architecture → ℕ → List Answer → Rule → Type 0
@@ -39,24 +92,27 @@ all_stated out a table below index (e ∷ es) h =
     let here : IsEntry e = All-head IsEntry e es h in
     let answers = map (λ (x : Entry). x.answer) es in
     let P = IsStated a index (e.answer ∷ answers) in
-    All-append P (rules_named a table index e (names_kept out e)) (rules_from out a table (index + 1) es)
-    (all_named a P table index e (λ name number is.
-    let fine : IsRule a (rule_for a index e number) = record {
+    All-append P (rules_of_entry out a table index e) (rules_from out a table (index + 1) es)
+    (all_unless P (option_map_or (λ (answer : Answer). eqb answer.0 e.answer.0) out false) _
+    (all_by_each P a table index e.answer e.names (alternatives e.conditions)
+    (All-weaker AreConditions (λ cs. (names : List (List ℕ)) → All P (rules_named a table index cs e.answer names))
+    (λ cs fine. all_named a P table index cs e.answer (λ name number is.
+    let rule : IsRule a (rule_for a index cs e.answer number) = record {
       first = omega arith;
       last = number_within a number (below name number is);
       answer = here.answer;
-      conditions = here.conditions;
-    } in (0, fine, omega arith, refl)) (names_kept out e))
+      conditions = fine;
+    } in (0, rule, omega arith, refl))) (alternatives e.conditions) (alternatives_fine e.conditions here.conditions))))
     (All-weaker (IsStated a (index + 1) answers) P (λ r h. (suc h.0, h.1, omega (arith, h.2), h.3))
     (rules_from out a table (index + 1) es) (all_stated out a table below (index + 1) es (All-tail IsEntry e es h)))
 
 -- ---- one name after another
 
-pub rules_first : (a : Architecture) (table : Names) (index : ℕ) (e : Entry) (name : List ℕ) (names : List (List ℕ))
-    → rules_named a table index e (name ∷ names)
-    ≡ rules_named a table index e (name ∷ []) ++ rules_named a table index e names
-rules_first a table index e name names =
-    filter_map-append (λ n. option_map (rule_for a index e) (get table n)) (name ∷ []) names
+pub rules_first : (a : Architecture) (table : Names) (index : ℕ) (conditions : List Condition) (answer : Answer)
+    (name : List ℕ) (names : List (List ℕ)) → rules_named a table index conditions answer (name ∷ names)
+    ≡ rules_named a table index conditions answer (name ∷ []) ++ rules_named a table index conditions answer names
+rules_first a table index conditions answer name names =
+    filter_map-append (λ n. option_map (rule_for a index conditions answer) (get table n)) (name ∷ []) names
 
 pub skipped_first : (lacks : List ℕ → Bool) (name : List ℕ) (names : List (List ℕ))
     → filter lacks (name ∷ names) ≡ filter lacks (name ∷ []) ++ filter lacks names
@@ -64,12 +120,29 @@ skipped_first lacks name names = filter-append lacks (name ∷ []) names
 
 pub ruleset names_first = (rules_first, skipped_first)
 
+-- ---- one condition after another
+
+pub by_each_first : (a : Architecture) (table : Names) (index : ℕ) (cs : List Condition)
+    (several : List (List Condition)) (answer : Answer) (names : List (List ℕ)) → rules_by_each a table index (cs ∷ several) answer names
+    ≡ rules_named a table index cs answer names ++ rules_by_each a table index several answer names
+by_each_first a table index cs several answer names =
+    flat_map-cons (λ conditions. rules_named a table index conditions answer names) cs several
+
+pub by_one : (a : Architecture) (table : Names) (index : ℕ) (cs : List Condition) (answer : Answer)
+    (names : List (List ℕ)) → rules_by_each a table index (cs ∷ []) answer names
+    ≡ rules_named a table index cs answer names
+by_one a table index cs answer names = append-nil (rules_named a table index cs answer names)
+
+pub ruleset conditions_first = (by_each_first, by_one)
+
 -- the rules, where they are few enough
-pub stated_rules : (out : Option Answer) (a : Architecture) (table : Names) (es : List Entry) (rules : List Rule) → AreCallNumbers table
+pub stated_rules : (out : Option Answer) (a : Architecture) (table : Names) (es : List Entry) (rules : List Rule)
+    → AreCallNumbers table
     → All IsEntry es → rules ≡ rules_from out a table 0 es → length rules ≤ max_rules → AreStatedRules a rules
 stated_rules out a table es rules below each is few =
     let answers = map (λ (e : Entry). e.answer) es in
-    let all = All-same (IsStated a 0 answers) rules (rules_from out a table 0 es) is (all_stated out a table below 0 es each) in
+    let all = All-same (IsStated a 0 answers) rules (rules_from out a table 0 es) is
+    (all_stated out a table below 0 es each) in
     record {
       few = few;
       each = All-weaker (IsStated a 0 answers) (IsRule a) (λ r h. h.1) rules all;

@@ -94,14 +94,14 @@ module _ {A : Type 0} (tests : Data → Result A LoadFault) (is_test : (d : Data
 pub refuses_of_fault : (reading : Reading) (text : List ℕ) (table : Names) (d : Data) (e : LoadFault) → IsText text d
     → (e ≢ faults.Memory → profile_of reading table d ≡ Err e) → RefusesAs reading text table e
 refuses_of_fault reading text table d e is_text fails =
-    refused (profile_of reading table) (profile_test reading table) (λ loaded. IsLeastConflict X8664 loaded.profile.rules) text d e
-    is_text fails
+    refused (profile_of reading table) (profile_test reading table)
+    (λ loaded. IsLeastConflict X8664 loaded.profile.rules) text d e is_text fails
 
 pub refuses_each_of_fault : (reading : Reading) (text : List ℕ) (tables : Tables) (d : Data) (e : LoadFault)
     → IsText text d → (e ≢ faults.Memory → profiles_of reading tables d ≡ Err e) → RefusesEachAs reading text tables e
 refuses_each_of_fault reading text tables d e is_text fails =
-    refused (profiles_of reading tables) (profiles_test reading tables) (λ loaded. IsFirstConflict loaded.profiles) text d e
-    is_text fails
+    refused (profiles_of reading tables) (profiles_test reading tables)
+    (λ loaded. IsFirstConflict loaded.profiles) text d e is_text fails
 
 -- the least conflict of what the value of a text states
 pub refuses_of_conflict : (reading : Reading) (text : List ℕ) (table : Names) (loaded : Loaded)

@@ -1,10 +1,11 @@
 -- In which points a container runtime reads a profile otherwise than its words say. runc (getAction and matchCall of
 -- libcontainer/seccomp) and crun (libcrun_generate_seccomp of src/libcrun/seccomp.c) hand the entries, one after
 -- another, to libseccomp (src/db.c).
-use Rattle.std.specs.Prelude.{ℕ, Bool, true, false, ◌&&◌, ◌==◌, List, Option, Some, None}
-use Rattle.std.specs.List.{filter, find, list_all}
+use Rattle.std.specs.Prelude.{ℕ, Bool, true, false, ◌&&◌, ◌||◌, ◌==◌, List, [], ◌∷◌, Option, Some, None, map, take, if◌then◌else◌}
+use Rattle.std.specs.List.{filter, find, list_all, list_any}
 use Rattle.std.specs.Option.{option_map_or}
 use Rattle.scf_insn.specs.Architectures.{row_of, taken_of}
+use Rattle.scf_insn.specs.Kernel.{seccomp_data_args}
 use Rattle.scf_insn.specs.declared.answer.Answer.{Answer}
 use Rattle.scf_insn.specs.declared.architecture.Architecture.{Architecture}
 use Rattle.scf_insn.specs.declared.architecture.ArgumentBits.{ArgumentBits}
@@ -12,7 +13,7 @@ use Rattle.scf_profile.specs.declared.condition.Operator.{Operator}
 use Rattle.scf_profile.specs.declared.condition.Operator.TheVariants.{MaskedEqual}
 use Rattle.scf_profile.specs.declared.condition.Condition.{Condition}
 use Rattle.scf_profile.specs.declared.reading.Reading.{Reading}
-use Rattle.scf_profile.specs.declared.reading.Reading.TheVariants.{Strict, Runc}
+use Rattle.scf_profile.specs.declared.reading.Reading.TheVariants.{Strict, Runc, Crun}
 use Rattle.scf_profile.specs.declared.rule.Rule.{Rule}
 use Rattle.scf_profile.specs.Profile.{Profile}
 
@@ -32,6 +33,22 @@ ignores_errno reading = false
 abbrev pub left_out : Reading → Answer → Option Answer
 left_out Strict default_answer = None
 left_out reading default_answer = Some default_answer
+
+-- the conditions of an entry that are read: crun reads the first six
+abbrev pub conditions_read : Reading → List Condition → List Condition
+conditions_read Crun conditions = take seccomp_data_args conditions
+conditions_read reading conditions = conditions
+
+-- two conditions on one argument
+abbrev pub has_repeated_index : List Condition → Bool
+has_repeated_index [] = false
+has_repeated_index (c ∷ cs) = list_any (λ d. d.index == c.index) cs || has_repeated_index cs
+
+-- An entry is a rule by all its conditions. Where two are on one argument, which libseccomp takes in no rule, it is a
+-- rule by each condition alone.
+abbrev pub alternatives : List Condition → List (List Condition)
+alternatives conditions =
+    if has_repeated_index conditions then map (λ c. c ∷ []) conditions else conditions ∷ []
 
 -- ---- rules of one syscall
 

@@ -35,7 +35,7 @@ use Rattle.scf_profile.specs.Profile.{Profile}
 use Rattle.scf_profile.specs.Steps.{◌>>=◌, refused_if}
 use Rattle.scf_profile.specs.JsonMembers.{member, whole_number, unsigned_number, each}
 use Rattle.scf_profile.specs.Limits.{max_errno, max_rules, number_below}
-use Rattle.scf_profile.specs.Readings.{effective_profile, ignores_errno, is_runtime, left_out}
+use Rattle.scf_profile.specs.Readings.{alternatives, conditions_read, effective_profile, ignores_errno, is_runtime, left_out}
 use Rattle.scf_profile.specs.Table.{Names}
 
 -- ---- members
@@ -105,16 +105,16 @@ operator_named name = lookup (bytes_eq name) (
     ∷ (codes "SCMP_CMP_GE", operators.GreaterOrEqual) ∷ (codes "SCMP_CMP_GT", operators.Greater)
     ∷ (codes "SCMP_CMP_MASKED_EQ", operators.MaskedEqual) ∷ [])
 
--- one member, after members that state these conditions
-unfoldable pub condition_of : Option ℕ → List Condition → Data → Result Condition LoadFault
-condition_of entry earlier d = do
+-- one member, after members that state these conditions; a runtime takes several on one argument
+unfoldable pub condition_of : Reading → Option ℕ → List Condition → Data → Result Condition LoadFault
+condition_of reading entry earlier d = do
   _ ← ok_or (as_object d) (faults.Kind entry)
   index ← required entry (codes "index") whole_number d
       >>= λ number. ok_or (number_below seccomp_data_args number) (faults.Index entry)
   op ← required entry (codes "op") as_str d >>= λ text. ok_or (operator_named text) (faults.Operator entry)
   value ← required entry (codes "value") unsigned_number d
   value_two ← optional 0 entry (codes "valueTwo") unsigned_number d
-  _ ← refused_if (list_any (λ c. c.index == index) earlier) (faults.RepeatedIndex entry)
+  _ ← refused_if (not (is_runtime reading) && list_any (λ c. c.index == index) earlier) (faults.RepeatedIndex entry)
   Ok (record { index = index; op = op; value = value; value_two = value_two })
 
 -- ---- an entry of `syscalls`
@@ -127,7 +127,8 @@ entry_of reading entry d = do
   names ← required entry (codes "names") as_array d
       >>= λ items. refused_if (items_len items == 0) (faults.EmptyNames entry) >>= λ _. strings_of entry items
   answer ← answer_in reading entry (codes "action") (codes "errnoRet") d
-  conditions ← optional no_items entry (codes "args") as_array d >>= each (condition_of entry) []
+  conditions ← optional no_items entry (codes "args") as_array d >>= each (condition_of reading entry) []
+      >>= λ all. Ok (conditions_read reading all)
   Ok (record { names = names; conditions = conditions; answer = answer })
 
 -- ---- the seccomp object
@@ -180,25 +181,31 @@ abbrev pub table_for : Tables → Architecture → Option Names
 table_for tables architecture =
     option_map (λ t. t.1) (find (λ t. is_named (row_of architecture).name t.0) tables)
 
--- the rules that an entry at an index states: one for each occurrence of a name that the table has
-abbrev pub rules_named : Architecture → Names → ℕ → Entry → List (List ℕ) → List Rule
-rules_named architecture table index e names = filter_map (λ name. option_map (λ number. record {
+-- the rules that an entry at an index states by conditions: one for each occurrence of a name that the table has
+abbrev pub rules_named : Architecture → Names → ℕ → List Condition → Answer → List (List ℕ) → List Rule
+rules_named architecture table index conditions answer names = filter_map (λ name. option_map (λ number. record {
   number = (row_of architecture).first + number;
-  conditions = e.conditions;
-  answer = e.answer;
+  conditions = conditions;
+  answer = answer;
   entry = index;
 }) (get table name)) names
 
--- the names of an entry, and none where entries with its answer are left out
-abbrev pub names_kept : Option Answer → Entry → List (List ℕ)
-names_kept left_out e = if option_map_or (λ answer. answer.0 == e.answer.0) left_out false then [] else e.names
+-- by each of several lists of conditions
+abbrev pub rules_by_each : Architecture → Names → ℕ → List (List Condition) → Answer → List (List ℕ) → List Rule
+rules_by_each architecture table index several answer names =
+    flat_map (λ conditions. rules_named architecture table index conditions answer names) several
+
+-- by the alternatives of an entry at an index; none where entries with its answer are left out
+abbrev pub rules_of_entry : Option Answer → Architecture → Names → ℕ → Entry → List Rule
+rules_of_entry left_out architecture table index e =
+    if option_map_or (λ answer. answer.0 == e.answer.0) left_out false then []
+    else rules_by_each architecture table index (alternatives e.conditions) e.answer e.names
 
 -- those of the entries from this index on
 abbrev pub rules_from : Option Answer → Architecture → Names → ℕ → List Entry → List Rule
 rules_from left_out architecture table index [] = []
 rules_from left_out architecture table index (e ∷ es) =
-    rules_named architecture table index e (names_kept left_out e)
-    ++ rules_from left_out architecture table (index + 1) es
+    rules_of_entry left_out architecture table index e ++ rules_from left_out architecture table (index + 1) es
 
 -- each occurrence of a name that no table has
 abbrev pub skipped_names : Tables → List Entry → List (List ℕ)
@@ -251,7 +258,9 @@ profile_of reading table root = do
       && (nat_lt 0 (length head.architectures) && not (list_any (λ name. is_named name X8664) head.architectures)))
       (faults.NoX8664 None)
   entries ← entries_of reading head.object
-  _ ← refused_if (nat_lt max_rules (length (rules_from (left_out reading head.default_answer) X8664 table 0 entries))) faults.TooMany
+  _ ← refused_if
+      (nat_lt max_rules (length (rules_from (left_out reading head.default_answer) X8664 table 0 entries)))
+      faults.TooMany
   Ok (record {
     profile = effective_profile reading (record {
       architecture = X8664;
@@ -269,7 +278,8 @@ profiles_of reading tables root = do
   _ ← all_listed 0 (listed_names reading tables head.architectures) tables
   entries ← entries_of reading head.object
   _ ← refused_if
-      (list_any (λ p. nat_lt max_rules (length p.rules)) (profiles_from (left_out reading head.default_answer) tables head.default_answer entries))
+      (list_any (λ p. nat_lt max_rules (length p.rules))
+      (profiles_from (left_out reading head.default_answer) tables head.default_answer entries))
       faults.TooMany
   Ok (record {
     profiles = map (effective_profile reading)

@@ -1,6 +1,6 @@
 //! Parses the `args` of an entry.
 
-ghost use Rattle.std.specs.Prelude.{◌≡◌, ◌<◌, ◌==◌, [], ok_or, IfOk, codes, false};
+ghost use Rattle.std.specs.Prelude.{◌≡◌, ◌<◌, ◌==◌, [], All, ok_or, IfOk, Ok, codes};
 ghost use Rattle.std.specs.List.{list_any};
 ghost use Rattle.serde_json.specs.Data.{no_items};
 ghost use Rattle.serde_json.specs.Find.{as_array, as_str};
@@ -9,7 +9,8 @@ ghost use Rattle.scf_insn.specs.Kernel.{seccomp_data_args};
 ghost use Rattle.scf_profile.specs.declared.load_fault.LoadFault.TheVariants as faults;
 ghost use Rattle.scf_profile.specs.JsonMembers.{each, whole_number, unsigned_number};
 ghost use Rattle.scf_profile.specs.Limits.{number_below};
-ghost use Rattle.scf_profile.specs.Rule.{IsCondition, AreConditions};
+ghost use Rattle.scf_profile.specs.Readings.{conditions_read, has_repeated_index as has_repeated};
+ghost use Rattle.scf_profile.specs.Rule.{IsCondition};
 ghost use Rattle.scf_profile.specs.StatedProfile.{required, optional, operator_named};
 ghost use Rattle.scf_profile.specs.StatedProfile.{condition_of as condition_stated};
 ghost use Rattle.scf_profile.specs.Steps.{◌>>=◌ as and_then, Gives};
@@ -20,6 +21,7 @@ use crate::forms::find_items;
 use crate::json_members::member_of;
 use crate::limits::ARGUMENTS;
 use crate::load_fault::LoadFault;
+use crate::reading::Reading;
 use serde_json::Value;
 use std::alloc::Global;
 
@@ -82,22 +84,34 @@ fn find_value_two(entry: Option<u32>, object: &Value) -> Result<u64, LoadFault>
     }
 }
 
+/// Whether two conditions are on one argument.
+pub(crate) fn has_repeated_index(conditions: &[Condition]) -> bool
+    ensures { result ≡ has_repeated conditions.now }
+{
+    for (i, condition) in conditions.iter().enumerate() {
+        if has_index(condition.index, &conditions[i + 1..]) {
+            return true;
+        }
+    }
+    false
+}
+
 fn has_index(index: u8, conditions: &[Condition]) -> bool
     ensures { result ≡ list_any (λ c. c.index == index) conditions.now }
 {
     conditions.iter().any(|c| c.index == index)
 }
 
-/// Parses one condition of `args`, given those before it.
+/// Parses one condition of `args`, given those before it. A runtime takes several on one argument.
 #[tactic(auto, unfolding(crate::specs::StatedProfile::condition_of))]
 fn condition_of(
+    reading: Reading,
     entry: Option<u32>,
     earlier: &[Condition],
     object: &Value,
 ) -> Result<Condition, LoadFault>
-    ensures value { result ≡ condition_stated entry earlier.now (view object.now) }
+    ensures value { result ≡ condition_stated reading entry earlier.now (view object.now) }
     ensures range { IfOk result IsCondition }
-    ensures apart { IfOk result (λ c. list_any (λ d. d.index == c.index) earlier.now ≡ false) }
 {
     if !object.is_object() {
         return Err(LoadFault::Kind { entry });
@@ -106,7 +120,7 @@ fn condition_of(
     let op = find_operator(entry, object)?;
     let value = find_value(entry, object)?;
     let value_two = find_value_two(entry, object)?;
-    if has_index(index, earlier) {
+    if !reading.is_runtime() && has_index(index, earlier) {
         return Err(LoadFault::RepeatedIndex { entry });
     }
     Ok(Condition {
@@ -120,33 +134,54 @@ fn condition_of(
 /// Parses the conditions of `args`, one after another.
 fn conditions_of(
     alloc: Global,
+    reading: Reading,
     entry: Option<u32>,
     members: &[Value],
 ) -> Result<Vec<Condition>, LoadFault>
     ensures value { Gives faults.Memory (result_map (λ v. v.items) result)
-        (each (condition_stated entry) [] (items_view members.now)) }
-    ensures range { IfOk result (λ v. AreConditions v.items) }
+        (each (condition_stated reading entry) [] (items_view members.now)) }
+    ensures range { IfOk result (λ v. All IsCondition v.items) }
 {
     let mut conditions = Vec::new(alloc);
     for member in members {
-        let condition = condition_of(entry, &conditions, member)?;
+        let condition = condition_of(reading, entry, &conditions, member)?;
         conditions.push(condition)?;
     }
     Ok(conditions)
 }
 
-/// The conditions of an entry; none without `args`.
+/// All conditions of an entry; none without `args`.
 #[tactic(auto, unfolding(crate::specs::JsonMembers::each))]
+fn all_conditions(
+    alloc: Global,
+    reading: Reading,
+    entry: Option<u32>,
+    object: &Value,
+) -> Result<Vec<Condition>, LoadFault>
+    ensures value { Gives faults.Memory (result_map (λ v. v.items) result)
+        (and_then (optional no_items entry (codes "args") as_array (view object.now))
+        (each (condition_stated reading entry) [])) }
+    ensures range { IfOk result (λ v. All IsCondition v.items) }
+{
+    let members = find_items(entry, "args", object)?;
+    conditions_of(alloc, reading, entry, members)
+}
+
+/// The conditions of an entry that are read.
 pub(crate) fn find_conditions(
     alloc: Global,
+    reading: Reading,
     entry: Option<u32>,
     object: &Value,
 ) -> Result<Conditions, LoadFault>
     ensures value { Gives faults.Memory result
-        (and_then (optional no_items entry (codes "args") as_array (view object.now))
-        (each (condition_stated entry) [])) }
-    ensures range { IfOk result AreConditions }
+        (and_then (and_then (optional no_items entry (codes "args") as_array (view object.now))
+        (each (condition_stated reading entry) [])) (λ conditions. Ok (conditions_read reading conditions))) }
+    ensures range { IfOk result (λ conditions. All IsCondition conditions) }
 {
-    let members = find_items(entry, "args", object)?;
-    Ok(Conditions::from_vec(conditions_of(alloc, entry, members)?))
+    let mut conditions = all_conditions(alloc, reading, entry, object)?;
+    if matches!(reading, Reading::Crun) {
+        conditions.truncate(usize::from(ARGUMENTS));
+    }
+    Ok(Conditions::from_vec(conditions))
 }

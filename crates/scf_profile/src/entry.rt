@@ -47,7 +47,7 @@ impl<'v> Entry<'v> {
         check_no_engine_form(entry, "excludes", object)?;
         let names = find_names(alloc, entry, object)?;
         let answer = find_answer(reading, entry, "action", "errnoRet", object)?;
-        let conditions = find_conditions(alloc, entry, object)?;
+        let conditions = find_conditions(alloc, reading, entry, object)?;
         Ok(Entry {
             names,
             conditions,

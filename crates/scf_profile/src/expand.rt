@@ -1,15 +1,17 @@
 //! From the names of entries to rules with syscall numbers.
 
-ghost use Rattle.std.specs.Prelude.{◌==◌, false, ◌≡◌, ◌≢◌, ◌≤◌, ◌^◌, ◌++◌, ◌∷◌, [], length, vec_len, IfOk, IfErr, OnOk, is_none};
+ghost use Rattle.std.specs.Prelude.{◌==◌, false, ◌≡◌, ◌≢◌, ◌≤◌, ◌^◌, ◌++◌, ◌∷◌, [], length, map, vec_len, IfOk, IfErr, OnOk, is_none};
 ghost use Rattle.std.specs.List.{filter, flat_map, list_all, list_any};
 ghost use Rattle.std.specs.FinMap.{get};
 ghost use Rattle.std.specs.Option.{option_map_or};
 ghost use Rattle.scf_profile.specs.internal.EntryRanges.{TellsTooMany};
 ghost use Rattle.scf_profile.specs.Limits.{max_rules};
 ghost use Rattle.scf_profile.specs.References.{texts_at};
-ghost use Rattle.scf_profile.specs.StatedProfile.{names_kept, rules_named, rules_from, skipped_names, other_names, tables_of, is_named as named};
+ghost use Rattle.scf_profile.specs.StatedProfile.{rules_by_each, rules_named, rules_of_entry, rules_from, skipped_names, other_names, tables_of, is_named as named};
 
 use crate::architecture_table::ArchitectureTable;
+use crate::args::has_repeated_index;
+use crate::condition::{Condition, Conditions};
 use crate::entry::Entry;
 use crate::limits::MAX_RULES;
 use crate::load_fault::LoadFault;
@@ -20,21 +22,23 @@ use crate::texts::{BorrowedTexts, Texts};
 use scf_insn::{Answer, Architecture};
 use std::alloc::{AllocError, Global};
 
-/// Adds the rule of an entry for one name, if the table has it.
+/// Adds the rule of an entry by conditions for one name, if the table has it.
 fn add_name(
     rules: &mut Vec<Rule>,
     alloc: Global,
     table: &ArchitectureTable,
     index: u32,
-    entry: &Entry,
+    conditions: &[Condition],
+    answer: Answer,
     name: &str,
 ) -> Result<(), LoadFault>
     requires { vec_len rules.old ≤ max_rules }
     ensures rules { OnOk result (rules.new.items
-        ≡ rules.old.items ++ rules_named table.now.architecture table.now.table.now index entry.now (name.now ∷ [])) }
+        ≡ rules.old.items
+        ++ rules_named table.now.architecture table.now.table.now index conditions.now answer (name.now ∷ [])) }
     ensures few { OnOk result (vec_len rules.new ≤ max_rules) }
-    ensures err { IfErr result (TellsTooMany
-        (rules.old.items ++ rules_named table.now.architecture table.now.table.now index entry.now (name.now ∷ []))) }
+    ensures err { IfErr result (TellsTooMany (rules.old.items
+        ++ rules_named table.now.architecture table.now.table.now index conditions.now answer (name.now ∷ []))) }
 {
     let Some(number) = table.table.number_of(name) else {
         return Ok(());
@@ -42,11 +46,11 @@ fn add_name(
     if rules.len() == MAX_RULES {
         return Err(LoadFault::TooMany);
     }
-    let conditions = entry.conditions.try_clone(alloc)?;
+    let conditions = Conditions::from_vec(Vec::from_slice(alloc, conditions)?);
     rules.push(Rule {
         number: table.architecture.first() + number,
         conditions,
-        answer: entry.answer,
+        answer,
         entry: index,
     })?;
     Ok(())
@@ -62,8 +66,55 @@ fn is_left_out(left_out: Option<Answer>, answer: Answer) -> bool
     }
 }
 
-/// Adds the rules of an entry for all its names; none if entries with its answer are left out.
+/// Adds the rules of an entry by conditions for all its names.
 #[tactic(auto, using(std::proofs::lemmas::Grind::common_steps, crate::proofs::StatedRules::names_first))]
+fn add_names(
+    rules: &mut Vec<Rule>,
+    alloc: Global,
+    table: &ArchitectureTable,
+    index: u32,
+    conditions: &[Condition],
+    entry: &Entry,
+) -> Result<(), LoadFault>
+    requires { vec_len rules.old ≤ max_rules }
+    ensures rules { OnOk result (rules.new.items ≡ rules.old.items ++ rules_named
+        table.now.architecture table.now.table.now index conditions.now entry.now.answer entry.now.names) }
+    ensures few { OnOk result (vec_len rules.new ≤ max_rules) }
+    ensures err { IfErr result (TellsTooMany (rules.old.items ++ rules_named
+        table.now.architecture table.now.table.now index conditions.now entry.now.answer entry.now.names)) }
+{
+    for name in entry.names.as_slice() {
+        add_name(rules, alloc, table, index, conditions, entry.answer, name)?;
+    }
+    Ok(())
+}
+
+/// Adds the rules of an entry by each of its conditions alone.
+#[tactic(auto, using(std::proofs::lemmas::Grind::common_steps, crate::proofs::StatedRules::conditions_first))]
+fn add_alternatives(
+    rules: &mut Vec<Rule>,
+    alloc: Global,
+    table: &ArchitectureTable,
+    index: u32,
+    entry: &Entry,
+) -> Result<(), LoadFault>
+    requires { vec_len rules.old ≤ max_rules }
+    ensures rules { OnOk result (rules.new.items ≡ rules.old.items
+        ++ rules_by_each table.now.architecture table.now.table.now index
+        (map (λ c. c ∷ []) entry.now.conditions) entry.now.answer entry.now.names) }
+    ensures few { OnOk result (vec_len rules.new ≤ max_rules) }
+    ensures err { IfErr result (TellsTooMany (rules.old.items
+        ++ rules_by_each table.now.architecture table.now.table.now index
+        (map (λ c. c ∷ []) entry.now.conditions) entry.now.answer entry.now.names)) }
+{
+    for condition in entry.conditions.as_slice() {
+        add_names(rules, alloc, table, index, &[*condition], entry)?;
+    }
+    Ok(())
+}
+
+/// Adds the rules of an entry; none if entries with its answer are left out.
+#[tactic(auto, using(std::proofs::lemmas::Grind::common_steps, crate::proofs::StatedRules::conditions_first))]
 fn add_entry(
     rules: &mut Vec<Rule>,
     alloc: Global,
@@ -74,18 +125,19 @@ fn add_entry(
 ) -> Result<(), LoadFault>
     requires { vec_len rules.old ≤ max_rules }
     ensures rules { OnOk result (rules.new.items ≡ rules.old.items
-        ++ rules_named table.now.architecture table.now.table.now index entry.now (names_kept left_out entry.now)) }
+        ++ rules_of_entry left_out table.now.architecture table.now.table.now index entry.now) }
     ensures few { OnOk result (vec_len rules.new ≤ max_rules) }
     ensures err { IfErr result (TellsTooMany (rules.old.items
-        ++ rules_named table.now.architecture table.now.table.now index entry.now (names_kept left_out entry.now))) }
+        ++ rules_of_entry left_out table.now.architecture table.now.table.now index entry.now)) }
 {
     if is_left_out(left_out, entry.answer) {
         return Ok(());
     }
-    for name in entry.names.as_slice() {
-        add_name(rules, alloc, table, index, entry, name)?;
+    let conditions = entry.conditions.as_slice();
+    if has_repeated_index(conditions) {
+        return add_alternatives(rules, alloc, table, index, entry);
     }
-    Ok(())
+    add_names(rules, alloc, table, index, conditions, entry)
 }
 
 /// The rules of entries under the table of an architecture, at most `MAX_RULES`; none of entries with the answer that

@@ -143,7 +143,8 @@ fn read_root(
     table: &CallTable,
     root: &Value,
 ) -> Result<Stated, LoadFault>
-    ensures value { Gives Memory (result_map (loaded_of reading) result) (profile_of reading table.now (view root.now)) }
+    ensures value { Gives Memory (result_map (loaded_of reading) result)
+        (profile_of reading table.now (view root.now)) }
     ensures architecture { IfOk result (λ s. s.rules.architecture ≡ X8664) }
     ensures range { IfOk result (λ s. AreStatedRules s.rules.architecture s.rules.rules.items) }
     ensures default_range { IfOk result (λ s. s.default_answer.0 < 2 ^ 32) }
@@ -289,7 +290,8 @@ fn stated_for(
     requires count { length entries.now ≤ 2 ^ 32 }
     requires range { All IsEntry entries.now }
     ensures rules { IfOk result (λ stated. (default : Answer)
-        → map (stated_profile default) stated.items ≡ profiles_from left_out (tables_of tables.now) default entries.now) }
+        → map (stated_profile default) stated.items
+        ≡ profiles_from left_out (tables_of tables.now) default entries.now) }
     ensures range { IfOk result (λ stated. All (λ s. AreStatedRules s.architecture s.rules.items) stated.items) }
     ensures err { IfErr result (λ fault. (default : Answer)
         → TellsOneTooMany (profiles_from left_out (tables_of tables.now) default entries.now) fault) }

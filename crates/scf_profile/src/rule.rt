@@ -42,7 +42,8 @@ impl Rule {
         self.conditions.are_plain()
     }
 
-    /// Whether all records of an architecture with its syscall number meet the rule, since its conditions compare nothing.
+    /// Whether no condition compares a bit of an argument, so that all records of an architecture with the syscall
+    /// number meet the rule.
     pub(crate) fn is_unconditional(&self, architecture: Architecture) -> bool
         ensures { result ≡ unconditional architecture self.now }
     {

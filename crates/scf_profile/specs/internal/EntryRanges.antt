@@ -8,10 +8,10 @@ use Rattle.scf_profile.specs.declared.load_fault.LoadFault.TheVariants as faults
 use Rattle.scf_profile.specs.declared.rule.Rule.{Rule}
 use Rattle.scf_profile.specs.Profile.{Profile}
 use Rattle.scf_profile.specs.Limits.{max_rules}
-use Rattle.scf_profile.specs.Rule.{AreConditions, IsRule}
+use Rattle.scf_profile.specs.Rule.{IsCondition, IsRule}
 
 pub record IsEntry (e : Entry) : Type 0 where
-  pub conditions : AreConditions e.conditions
+  pub conditions : All IsCondition e.conditions
   pub answer : e.answer.0 < 2 ^ 32
 
 -- rules that entries state: few enough, each within its ranges, and those of one entry with one answer

@@ -4,16 +4,17 @@ use Rattle.scf_profile.proofs.object.all_listed.Goals as goal
 
 pub returns-then-not-is_own_or_listed : goal.returns-then-not-is_own_or_listed
 returns-then-not-is_own_or_listed c =
-    sym (unlisted_here (with_own c.args.own (texts_at c.args.names.now)) c.args.tables.now c.loop-i.i c.index-tables-i.result
-    c.loop-i-test.true (rw (← c.index-tables-i.is) (sym c.is_own_or_listed.ensures ∙ c.if-not-is_own_or_listed.true)))
+    sym (unlisted_here (with_own c.args.own (texts_at c.args.names.now)) c.args.tables.now c.loop-i.i
+    c.index-tables-i.result c.loop-i-test.true (rw (← c.index-tables-i.is) (sym c.is_own_or_listed.ensures ∙ c.if-not-is_own_or_listed.true)))
     ∙ c.loop-i.invariant
 
 pub loop-i-preserved : goal.loop-i-preserved
 loop-i-preserved c =
-    sym (listed_here (with_own c.args.own (texts_at c.args.names.now)) c.args.tables.now c.loop-i.i c.index-tables-i.result
-    c.loop-i-test.true (rw (← c.index-tables-i.is) (sym c.is_own_or_listed.ensures ∙ c.if-not-is_own_or_listed.false)))
+    sym (listed_here (with_own c.args.own (texts_at c.args.names.now)) c.args.tables.now c.loop-i.i
+    c.index-tables-i.result c.loop-i-test.true (rw (← c.index-tables-i.is) (sym c.is_own_or_listed.ensures ∙ c.if-not-is_own_or_listed.false)))
     ∙ c.loop-i.invariant
 
 pub returns : goal.returns
 returns c =
-    sym (listed_end (with_own c.args.own (texts_at c.args.names.now)) c.args.tables.now c.loop-i.i c.loop-i-test.false) ∙ c.loop-i.invariant
+    sym (listed_end (with_own c.args.own (texts_at c.args.names.now)) c.args.tables.now c.loop-i.i c.loop-i-test.false)
+    ∙ c.loop-i.invariant

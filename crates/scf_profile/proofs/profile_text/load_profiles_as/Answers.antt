@@ -5,9 +5,11 @@ use Rattle.scf_profile.proofs.profile_text.load_profiles_as.Goals as goal
 
 pub returns-in_err-all_without_conflict-clause-err : goal.returns-in_err-all_without_conflict-clause-err
 returns-in_err-all_without_conflict-clause-err c =
-    let stated = c.in_ok-stated.stated in
-    let gives : TestsGive (profiles_of c.args.reading (tables_of c.args.tables.now)) c.args.text.now (Ok (loaded_profiles_of c.args.reading stated)) =
+    let reading = c.args.reading in
+    let tables = tables_of c.args.tables.now in
+    let loaded = loaded_profiles_of reading c.in_ok-stated.stated in
+    let gives : TestsGive (profiles_of reading tables) c.args.text.now (Ok loaded) =
     (view c.in_ok-value.value, c.in_ok-value.ensures.ok, c.in_ok-stated.ensures.value) in
-    handed_fault (RefusesEachAs c.args.reading c.args.text.now (tables_of c.args.tables.now)) _ _
+    handed_fault (RefusesEachAs reading c.args.text.now tables) _ _
     c.from_residual-in_err-all_without_conflict.ensures.1
-    (refuses_each_of_conflict _ _ _ (loaded_profiles_of c.args.reading stated) gives _ c.in_err-all_without_conflict.ensures.err)
+    (refuses_each_of_conflict _ _ _ loaded gives _ c.in_err-all_without_conflict.ensures.err)

@@ -8,7 +8,8 @@ use Rattle.scf_profile.proofs.profile_text.stated_for.Goals.{in-Some+in_ok-push,
 pub returns-in_err-own-clause-err : goal.returns-in_err-own-clause-err
 returns-in_err-own-clause-err c =
     handed_fault (λ fault. (default : Answer) → TellsOneTooMany
-    (profiles_from c.args.left_out (tables_of c.args.tables.now) default c.args.entries.now) fault) _ _ c.from_residual.ensures.1
+    (profiles_from c.args.left_out (tables_of c.args.tables.now) default c.args.entries.now) fault) _ _
+    c.from_residual.ensures.1
     (λ default. one_too_many c.args.left_out (tables_of c.args.tables.now) c.args.entries.now c.all-architectures.result
     c.loop-architecture.architecture-index (rw c.all-architectures.ensures c.loop-architecture-test.true) default
     c.loop-architecture.stated.items _ _
@@ -24,9 +25,10 @@ loop-architecture-preserved c =
     let more : (found : Option StatedRules) → ((default : Answer) → option_map (stated_profile default) found
     ≡ profile_for c.args.left_out tables default entries (get_or all i X8664)) → (default : Answer)
     → map (stated_profile default) (with_found stated found)
-    ++ filter_map (profile_for c.args.left_out tables default entries) (drop (i + 1) all) ≡ profiles_from c.args.left_out tables default entries =
-    λ found is default. stated_more c.args.left_out tables entries all i (rw c.all-architectures.ensures c.loop-architecture-test.true)
-    default stated found _ (is default) (c.loop-architecture.invariant.rules default) in
+    ++ filter_map (profile_for c.args.left_out tables default entries) (drop (i + 1) all)
+    ≡ profiles_from c.args.left_out tables default entries =
+    λ found is default. stated_more c.args.left_out tables entries all i
+    (rw c.all-architectures.ensures c.loop-architecture-test.true) default stated found _ (is default) (c.loop-architecture.invariant.rules default) in
     let own = c.in_ok-own.ensures in
     elim c.match-branch-2.branch [
       | in-Some+in_ok-push w ↦ rw (w.stated-is, w.in_ok-push.ensures.items) (record {

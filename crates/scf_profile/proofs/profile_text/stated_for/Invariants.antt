@@ -5,7 +5,8 @@ use Rattle.scf_profile.proofs.profile_text.stated_for.Given as goal
 abbrev pub invariant-loop-architecture : goal.invariant-loop-architecture
 invariant-loop-architecture l = record {
   rules : (default : Answer) → map (stated_profile default) l.stated.items
-      ++ filter_map (profile_for l.left_out (tables_of l.tables) default l.entries) (drop l.architecture-index l.architecture-items)
+      ++ filter_map (profile_for l.left_out (tables_of l.tables) default l.entries)
+      (drop l.architecture-index l.architecture-items)
       ≡ profiles_from l.left_out (tables_of l.tables) default l.entries;
   range : All (λ s. AreStatedRules s.architecture s.rules.items) l.stated.items;
 }
