@@ -1,7 +1,8 @@
 -- In which points a container runtime reads a profile otherwise than its words say. runc (getAction and matchCall of
 -- libcontainer/seccomp) and crun (libcrun_generate_seccomp of src/libcrun/seccomp.c) hand the entries, one after
--- another, to libseccomp (src/db.c).
-use Rattle.std.specs.Prelude.{ℕ, Bool, true, false, ◌&&◌, ◌||◌, ◌==◌, List, [], ◌∷◌, Option, Some, None, map, take, if◌then◌else◌}
+-- another, to libseccomp (src/db.c). Neither knows an errno by name: podman writes its number before.
+use Rattle.std.specs.Prelude.{ℕ, Bool, true, false, ◌&&◌, ◌||◌, ◌==◌, List, [], ◌∷◌, map, take, if◌then◌else◌}
+use Rattle.std.specs.Prelude.{Option, Some, None}
 use Rattle.std.specs.List.{filter, find, list_all, list_any}
 use Rattle.std.specs.Option.{option_map_or}
 use Rattle.scf_insn.specs.Architectures.{row_of, taken_of}
@@ -73,8 +74,9 @@ abbrev pub is_effective : Architecture → List Rule → Rule → Bool
 is_effective architecture rules r =
     option_map_or (λ first. first.answer.0 == r.answer.0) (first_unconditional architecture r.number rules) true
 
--- The rules that a runtime's filter answers by. Of two others that one call meets, with different answers, libseccomp
--- may refuse the second (EEXIST of _db_tree_add): they stay a conflict.
+-- The rules by which a runtime's filter answers. Where one call meets two rules with conditions and different answers,
+-- libseccomp may refuse the second (EEXIST of _db_tree_add): they stay a conflict, but where a rule without conditions
+-- has their calls. A runtime may refuse these, too.
 abbrev pub effective_rules : Reading → Architecture → List Rule → List Rule
 effective_rules Strict architecture rules = rules
 effective_rules reading architecture rules = filter (is_effective architecture rules) rules
