@@ -2,8 +2,8 @@
 
 ghost use Rattle.std.specs.Prelude.{◌≡◌, ◌+◌, ◌<◌, ◌≤◌, ◌↔◌, ◌⊎◌, ℕ, IsTrue, false, IfSome, IfNone, bit_and, bit_or};
 ghost use Rattle.std.specs.Int.{IsPowerOfTwo};
-ghost use Rattle.scf_facts.specs.Bits.{FixesNumber, HasBits};
-ghost use Rattle.scf_facts.specs.internal.Bits.{LacksBits, SomeLack};
+ghost use Rattle.scf_facts.specs.Bits.{FixesNumber, HasBits, LacksBits};
+ghost use Rattle.scf_facts.specs.internal.Bits.{SomeLack};
 
 /// A mask and a value. A number `n` has these bits if `n & mask == value`.
 #[derive(Clone, Copy, Debug)]

@@ -1,9 +1,10 @@
 //! The search for a value without refuted bits.
 
 ghost use Rattle.std.specs.Prelude.{◌≡◌, ◌<◌, ◌≤◌, ◌^◌, ℕ, All, IsTrue, false, IfSome, IfNone};
-ghost use Rattle.scf_facts.specs.Bits.{HasBits};
-ghost use Rattle.scf_facts.specs.internal.Bits.{LacksBits, SomeLack};
-ghost use Rattle.scf_facts.specs.internal.Intervals.{LiesInOne, AreApart};
+ghost use Rattle.scf_facts.specs.Bits.{HasBits, LacksBits};
+ghost use Rattle.scf_facts.specs.Intervals.{LiesInOne};
+ghost use Rattle.scf_facts.specs.internal.Bits.{SomeLack};
+ghost use Rattle.scf_facts.specs.internal.Intervals.{AreApart};
 
 use crate::bits::Bits;
 use crate::interval::Interval;

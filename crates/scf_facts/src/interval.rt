@@ -1,10 +1,10 @@
 //! One interval of values.
 
 /// The values `low..=high`.
-#[derive(Clone, Copy)]
-pub(crate) struct Interval {
-    pub(crate) low: u32,
-    pub(crate) high: u32,
+#[derive(Clone, Copy, Debug)]
+pub struct Interval {
+    pub low: u32,
+    pub high: u32,
 }
 
 impl Interval {

@@ -2,7 +2,8 @@
 
 ghost use Rattle.std.specs.Prelude.{◌≡◌, ◌<◌, ◌≤◌, ◌↔◌, ℕ, [], ◌∷◌, length, IsTrue, IfSome, IfNone, IfOk};
 ghost use Rattle.std.specs.List.{AllWithin};
-ghost use Rattle.scf_facts.specs.internal.Intervals.{LiesIn, LiesInOne, AreApart, ArePartsOf};
+ghost use Rattle.scf_facts.specs.Intervals.{LiesIn, LiesInOne};
+ghost use Rattle.scf_facts.specs.internal.Intervals.{AreApart, ArePartsOf};
 
 use crate::interval::Interval;
 use std::alloc::{AllocError, Global};

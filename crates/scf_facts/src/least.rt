@@ -2,9 +2,9 @@
 
 ghost use Rattle.std.specs.Prelude.{◌≡◌, ◌<◌, ◌≤◌, ◌^◌, ◌/◌, ℕ, IfSome, IfNone};
 ghost use Rattle.std.specs.Int.{bit_at};
-ghost use Rattle.scf_facts.specs.Bits.{HasBits};
-ghost use Rattle.scf_facts.specs.internal.Bits.{LacksBits};
-ghost use Rattle.scf_facts.specs.internal.Intervals.{LiesIn, LiesInOne, AreApart};
+ghost use Rattle.scf_facts.specs.Bits.{HasBits, LacksBits};
+ghost use Rattle.scf_facts.specs.Intervals.{LiesIn, LiesInOne};
+ghost use Rattle.scf_facts.specs.internal.Intervals.{AreApart};
 
 use crate::bits::Bits;
 use crate::interval::Interval;

@@ -15,7 +15,7 @@ pub(crate) struct SharedSet {
 }
 
 impl Model for SharedSet {
-    ghost use Rattle.scf_facts.specs.internal.WordSets.{NumberFacts};
+    ghost use Rattle.scf_facts.specs.WordSets.{NumberFacts};
 
     ghost Value = { NumberFacts };
 

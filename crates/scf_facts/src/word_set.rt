@@ -4,11 +4,12 @@ ghost use Rattle.std.specs.Prelude.{◌≡◌, ◌↔◌, ◌⊎◌, ◌<◌, �
 ghost use Rattle.std.specs.Prelude.{IsSome, IfSome, IfNone, IfOk};
 ghost use Rattle.std.specs.Int.{IsPowerOfTwo};
 ghost use Rattle.scf_facts.specs.Atoms.{answer_at};
-ghost use Rattle.scf_facts.specs.Bits.{HasBits};
-ghost use Rattle.scf_facts.specs.internal.Bits.{LacksBits};
+ghost use Rattle.scf_facts.specs.Bits.{HasBits, LacksBits};
 ghost use Rattle.scf_facts.specs.Exactness.{KeepsExact};
-ghost use Rattle.scf_facts.specs.internal.Intervals.{AreApart, LiesIn, LiesInOne};
-ghost use Rattle.scf_facts.specs.internal.WordSets.{AllowsNumber, EachNumber, SomeNumber, is_exact_set, no_facts};
+ghost use Rattle.scf_facts.specs.Intervals.{LiesIn, LiesInOne};
+ghost use Rattle.scf_facts.specs.WordSets.{AllowsNumber};
+ghost use Rattle.scf_facts.specs.internal.Intervals.{AreApart};
+ghost use Rattle.scf_facts.specs.internal.WordSets.{EachNumber, SomeNumber, is_exact_set, no_facts};
 
 use crate::atom::{Atom, Tell};
 use crate::bits::Bits;
@@ -28,7 +29,7 @@ const MOST_TRIES: u32 = 256;
 ///
 /// Refuted bits have at least two bits in their mask: refuting a single bit makes its other value known.
 #[derive(Drop)]
-pub(crate) struct WordSet {
+pub struct WordSet {
     intervals: Vec<Interval>,
     known: Bits,
     refuted: Vec<Bits>,
@@ -36,7 +37,7 @@ pub(crate) struct WordSet {
 
 impl Model for WordSet {
     ghost use Rattle.scf_facts.specs.internal.Intervals.{AreApart};
-    ghost use Rattle.scf_facts.specs.internal.WordSets.{NumberFacts};
+    ghost use Rattle.scf_facts.specs.WordSets.{NumberFacts};
 
     ghost Value = { NumberFacts };
 
@@ -250,6 +251,27 @@ impl WordSet {
             → (x : ℕ) × (x < 2 ^ 32) × AllowsNumber self.now x }
     {
         self.has_none(Interval::ALL, self.known) || matches!(self.free_number(), Searched::Nothing)
+    }
+
+    /// The intervals that the values lie in, in order and apart.
+    pub fn intervals(&self) -> &[Interval]
+        ensures { result.now ≡ self.now.intervals }
+    {
+        &self.intervals
+    }
+
+    /// The bits that every value has.
+    pub fn known(&self) -> Bits
+        ensures { result ≡ self.now.known }
+    {
+        self.known
+    }
+
+    /// Bits that no value has.
+    pub fn refuted(&self) -> &[Bits]
+        ensures { result.now ≡ self.now.refuted }
+    {
+        &self.refuted
     }
 
     /// Whether the word may have this value.

@@ -3,11 +3,13 @@
 ghost use Rattle.std.specs.Prelude.{◌≡◌, ◌<◌, ℕ, List, All, IsTrue, length, slice_index_or, true, false};
 ghost use Rattle.std.specs.List.{list_all};
 ghost use Rattle.scf_facts.specs.Atoms.{atom_answer, word_of};
-ghost use Rattle.scf_facts.specs.internal.WordSets.{AllowsWords, is_exact_set};
+ghost use Rattle.scf_facts.specs.WordSets.{AllowsWords};
+ghost use Rattle.scf_facts.specs.internal.WordSets.{is_exact_set};
 
 use crate::atom::{Atom, Tell};
 use crate::bits::Bits;
 use crate::shared_set::SharedSet;
+use crate::snapshot::{Snapshot, Snapshots};
 use crate::word_facts::WordFacts;
 use crate::word_set::WordSet;
 use scf_insn::Memory;
@@ -99,6 +101,14 @@ impl WordFacts for WordSets {
             words[index] = set.as_set().pick()?;
         }
         Some(words)
+    }
+}
+
+impl Snapshots for WordSets {
+    #[tactic(auto, using(crate::proofs::Levels::now))]
+    fn snapshot(&self) -> Result<Snapshot, Memory> {
+        let sets = self.sets.clone()?;
+        Ok(Snapshot { sets })
     }
 }
 

@@ -6,7 +6,7 @@ use Rattle.scf_facts.specs.declared.query.Query.{Query}
 use Rattle.scf_facts.specs.declared.query.Query.TheVariants.{Within, Masked}
 use Rattle.scf_facts.specs.Atoms.{answer_at}
 use Rattle.scf_facts.specs.Bits.{HasBits}
-use Rattle.scf_facts.specs.internal.Intervals.{LiesIn}
+use Rattle.scf_facts.specs.Intervals.{LiesIn}
 use Rattle.scf_facts.specs.Exactness.{KeepsExact}
 
 -- the answer of the atom by where the number lies, or by bits whose value lies within their mask

@@ -1,27 +1,11 @@
--- What is known of each word, and which lists of words that allows.
-use Rattle.std.specs.Prelude.{◌==◌, ◌<◌, ◌^◌, ℕ, List, [], Bool, All, length, slice_index, slice_index_or}
-use Rattle.scf_insn.specs.Words.{IsWords}
-use Rattle.scf_facts.specs.declared.bits.Bits.{Bits}
-use Rattle.scf_facts.specs.declared.interval.Interval.{Interval}
-use Rattle.scf_facts.specs.Bits.{HasBits}
-use Rattle.scf_facts.specs.internal.Bits.{LacksBits}
-use Rattle.scf_facts.specs.internal.Intervals.{LiesInOne, all_intervals}
-
--- what is known of one word: it lies in one of the intervals, has the known bits and none of the refuted ones
-pub record NumberFacts : Type 0 where
-  pub intervals : List Interval
-  pub known : Bits
-  pub refuted : List Bits
+-- What the facts of a word say of all its numbers.
+use Rattle.std.specs.Prelude.{◌==◌, ◌<◌, ◌^◌, ℕ, [], Bool, length}
+use Rattle.scf_facts.specs.WordSets.{AllowsNumber, NumberFacts}
+use Rattle.scf_facts.specs.internal.Intervals.{all_intervals}
 
 -- nothing is known
 abbrev pub no_facts : NumberFacts
 no_facts = record { intervals = all_intervals; known = record { mask = 0; value = 0 }; refuted = [] }
-
--- the numbers that a word may be
-pub record AllowsNumber (facts : NumberFacts) (x : ℕ) : Type 0 where
-  pub inside : LiesInOne facts.intervals x
-  pub known : HasBits facts.known x
-  pub unrefuted : All (λ bits. LacksBits bits x) facts.refuted
 
 -- each number that the word may be has a property
 abbrev pub EachNumber : NumberFacts → (ℕ → Type 0) → Type 0
@@ -34,9 +18,3 @@ SomeNumber facts P = (x : ℕ) × (x < 2 ^ 32) × AllowsNumber facts x × P x
 -- what is known of the number is in its intervals and known bits
 abbrev pub is_exact_set : NumberFacts → Bool
 is_exact_set facts = length facts.refuted == 0
-
--- the lists of words that are allowed, where each word has its facts
-pub record AllowsWords (sets : List NumberFacts) (words : List ℕ) : Type 0 where
-  pub sixteen : IsWords words
-  pub each : (index : ℕ) (default : NumberFacts) → index < length sets
-      → AllowsNumber (slice_index_or sets index default) (slice_index words index)
