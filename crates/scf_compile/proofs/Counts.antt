@@ -1,5 +1,5 @@
 -- The distinct numbers of a profile's rules: how many there are, and the bounds that their search keeps.
-use Rattle.scf_compile.proofs.Common.{◌≡◌, ℕ, zero, suc, ◌+◌, ◌/◌, ◌^◌, ◌<◌, ◌≤◌, List, [], ◌∷◌, length, map, All, ap, arith, inl, inr, sum_by, Contains, cases_eq, eq-eqb, ne_eqb, All-contains, row_of, refl, sum_by-cons, All-head, All-tail, Rule, IsPlainRule, IsPlainProfile, Profile, IsProfile, IsRule, numbers_of, number_there, rules_of, Answer, NrRange, digits_within, binary_digits, greatest, rule_bound, AllRules, AreServed, AreRangesOf, AreSearched, AreSearchesOf, IsSearchOf, IsSearchPut, Insn, Position, Search, code_from, range_bound, size_bound_of}
+use Rattle.scf_compile.proofs.Common.{◌≡◌, ℕ, zero, suc, ◌+◌, ◌/◌, ◌^◌, ◌<◌, ◌≤◌, List, [], ◌∷◌, length, map, All, ap, arith, inl, inr, sum_by, Contains, cases_eq, eq-eqb, ne_eqb, All-contains, row_of, refl, sum_by-cons, All-head, All-tail, Rule, IsPlainRule, IsPlainProfile, Profile, IsProfile, IsRule, numbers_of, number_there, rules_of, Answer, NrRange, digits_within, binary_digits, greatest, rule_bound, AllRules, AreServed, AreRangesOf, AreSearched, AreSearchesOf, IsSearchOf, IsSearchPut, Insn, Position, Search, code_from, MayBePut, most_ranges, size_bound_of}
 use Rattle.scf_insn.proofs.Architectures.{some_number}
 use Rattle.scf_compile.proofs.Runs.{more}
 use Rattle.scf_compile.proofs.Sizes.{rules_valid, size_small}
@@ -70,16 +70,17 @@ module _ (p : Profile) (valid : IsProfile p) (ss : List NrRange)
   of_profile : (P : Rule → Type 0) → All P p.rules → AllRules P ss
   of_profile P all k d lt j r inside = All-contains P p.rules _ all (laid.own k d lt j r inside)
 
-  pub may_be_put : (0 < length ss) × AllRules (IsRule p.architecture) ss × (sum_by range_bound ss < 2 ^ 18)
-  may_be_put = (
-    some_served _ _ _ _ ss (omega (arith, some_number p.architecture)) laid.serve,
-    of_profile (IsRule p.architecture) (rules_valid p valid),
-    omega (arith, laid.small, size_small p valid),
-  )
+  pub may_be_put : MayBePut p ss
+  may_be_put = record {
+    some = some_served _ _ _ _ ss (omega (arith, some_number p.architecture)) laid.serve;
+    few = omega (arith, laid.few);
+    rules = of_profile (IsRule p.architecture) (rules_valid p valid);
+    small = omega (arith, laid.small, size_small p valid);
+  }
 
   -- The search of the ranges is that of the profile.
   pub search_of_profile : {before code : List Insn} {index : Position}
-      → IsSearchPut p.architecture p.default_answer ss before code index
+      → IsSearchPut p.architecture p.default_answer (most_ranges p) ss before code index
       → IsSearchOf p code (record { architecture = p.architecture; index = index })
   search_of_profile found = record {
     architecture = refl;
@@ -89,12 +90,13 @@ module _ (p : Profile) (valid : IsProfile p) (ss : List NrRange)
         let few = below_digits count in
         more (found.ends call (λ nr. rules_of nr p.rules) (row_of p.architecture).first
         ((row_of p.architecture).last + 1) (suc (binary_digits count)) fits laid.serve own.first
-        (omega (arith, own.last)) (omega (arith, laid.few))) (omega (arith, sum_at_most p.rules call.nr));
+        (omega (arith, own.last)) (omega (arith, few))) (omega (arith, sum_at_most p.rules call.nr));
   }
 
   -- It is put before those of other profiles.
   pub searched_more : {before code : List Insn} {index : Position} {others : List Profile} {searches : List Search}
-      → AreSearched others before searches → IsSearchPut p.architecture p.default_answer ss before code index
+      → AreSearched others before searches
+      → IsSearchPut p.architecture p.default_answer (most_ranges p) ss before code index
       → AreSearched (p ∷ others) code (record { architecture = p.architecture; index = index } ∷ searches)
   searched_more {others} {searches} before found = record {
     each = (search_of_profile found, searches_stay _ _ found.put.longer found.put.stays others searches before.each);

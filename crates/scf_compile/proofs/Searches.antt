@@ -19,29 +19,30 @@ all_parts P low high all = (
   λ k d lt. rw (get_or-append-add low high k d) at (all (length low + k) d (omega (arith, length-append low high))),
 )
 
-module _ (a : Architecture) (default : Answer) (lower upper : List NrRange) (s : NrRange) (some : 0 < length lower)
-    (halves : (length lower ≤ length upper) × (length upper ≤ length lower + 1)) (is : s ≡ get_or upper 0 s)
+module _ (a : Architecture) (default : Answer) {half most : ℕ} (lower upper : List NrRange) (s : NrRange)
+    (some : 0 < length upper) (many : 1 < most) (halved : 2 * half ≤ most + 1) (is : s ≡ get_or upper 0 s)
     {before mid both after : List Insn} {to_miss to_hit index : Position}
-    (under : IsSearchPut a default lower before mid to_miss) (over : IsSearchPut a default upper mid both to_hit)
+    (under : IsSearchPut a default half lower before mid to_miss)
+    (over : IsSearchPut a default half upper mid both to_hit)
     (first : IsFirst (branch_code GreaterOrEqual s.first (length both - to_hit.0) (length both - to_miss.0)) both after
     index) where
   -- a number is looked for in the upper ranges, or in the lower ones
   search_ends : (call : CallRecord) (wanted : ℕ → List Rule) (low high halvings : ℕ) → IsRecord call
       → AreServed default wanted low (lower ++ upper) high → low ≤ call.nr → call.nr < high
-      → length lower + length upper ≤ 2 ^ halvings
+      → most ≤ 2 ^ halvings
       → EndsWithin (words_of call) after call.nr (first_answer a call default (wanted call.nr))
       (2 * halvings + (1 + sum_by rule_bound (wanted call.nr)))
   search_ends call wanted low high zero fits served from below few = absurd (omega arith)
   search_ends call wanted low high (suc n) fits served from below few =
       let parts = served_parts default wanted low high lower upper served in
-      let middle : s.first ≡ parts.0 = begins_at default wanted parts.0 high upper s (omega arith) is parts.2 in
+      let middle : s.first ≡ parts.0 = begins_at default wanted parts.0 high upper s some is parts.2 in
       more (branch_ends GreaterOrEqual s.first to_hit to_miss first call.nr 2 first.few
       (λ e. over.ends call wanted parts.0 high n fits parts.2 (grind (arith, nat_tests, e, middle)) below (omega arith))
       (λ e. rw (over.put.stays to_miss under.put.near.stands)
       (under.ends call wanted low parts.0 n fits parts.1 from (grind (arith, nat_tests, e, middle)) (omega arith))))
       (omega arith)
 
-  pub search_branch : IsSearchPut a default (lower ++ upper) before after index
+  pub search_branch : IsSearchPut a default most (lower ++ upper) before after index
   search_branch =
       let branch = branch_stays GreaterOrEqual s.first to_hit to_miss first in
       let hit = over.put in
@@ -60,8 +61,7 @@ module _ (a : Architecture) (default : Answer) (lower upper : List NrRange) (s :
               (miss.sound asked (λ e. (all_parts IsPlainRule lower upper (is e)).0) sound));
         };
         ends = λ call wanted low high halvings fits served from below few.
-            rw (from_first after index first.first) (search_ends call wanted low high halvings fits served from below
-            (omega (arith, length-append lower upper)));
+            rw (from_first after index first.first) (search_ends call wanted low high halvings fits served from below few);
       }
 
 pub one_is : (ss : List NrRange) (s : NrRange) → 0 < length ss → length ss ≤ 1 → s ≡ get_or ss 0 s → ss ≡ s ∷ []
@@ -69,10 +69,11 @@ one_is [] s some one is = absurd (omega arith)
 one_is (t ∷ []) s some one is = ap (λ (u : NrRange). u ∷ []) (sym is)
 one_is (t ∷ u ∷ ss) s some one is = absurd (omega arith)
 
-pub search_one : (a : Architecture) (default : Answer) (s : NrRange) (before after : List Insn) (index : Position)
+pub search_one : (a : Architecture) (default : Answer) (most : ℕ) (s : NrRange) (before after : List Insn)
+    (index : Position)
     → AllRules (IsRule a) (s ∷ []) → IsPut (rules_code a default s.rules.now) before after index
-    → IsSearchPut a default (s ∷ []) before after index
-search_one a default s before after index fine put =
+    → IsSearchPut a default most (s ∷ []) before after index
+search_one a default most s before after index fine put =
     let rs = s.rules.now in
     let own = recursion_from_All (IsRule a) rs (fine 0 s (omega arith)) in
     let bounded = rules_bounded rs in

@@ -5,24 +5,70 @@ ghost use Rattle.scf_machine.specs.Machine.{RunAnswers};
 ghost use Rattle.scf_machine.specs.Plain.{IsPlainProgram};
 ghost use Rattle.scf_profile.specs.PlainProfile.{IsPlainProfile};
 ghost use Rattle.scf_insn.specs.Kernel.{bpf_maxinsns};
-ghost use Rattle.scf_profile.specs.Profile.{AreOfApart, Profile};
+ghost use Rattle.scf_profile.specs.Profile.{AreOfApart, IsProfile, Profile};
 ghost use Rattle.scf_profile.specs.SameAnswers.{SameAnswers, SameAnswersAsEach};
 ghost use Rattle.scf_compile.specs.SearchBound.{AnswersWithin, search_bound_of, search_bound_of_each};
 ghost use Rattle.scf_compile.specs.SizeBound.{size_bound_of, size_bound_of_each};
-ghost use Rattle.scf_compile.specs.internal.Filters.{AreSearched, IsFilterOf};
+ghost use Rattle.scf_compile.specs.internal.Filters.{AreSearched, IsFilterOf, IsSearchPut, MayBePut, most_ranges};
+ghost use Rattle.scf_compile.specs.internal.NrRanges.{AreRangesOf};
 
 use crate::dispatch::{Search, put_dispatch};
 use crate::fault::CompileFault;
 use crate::insns::load_word;
 use crate::placing::Position;
-use crate::ranges::ranges_of;
+use crate::ranges::{NrRange, NrWeight, equal_weights, range_weights, ranges_of};
 use crate::search::put_search;
 use scf_insn::kernel::BPF_MAXINSNS;
 use scf_insn::{Insn, Memory};
 use scf_machine::{CheckFault, Program, check};
 use scf_profile::{Profile, Profiles};
-use std::alloc::Global;
+use std::alloc::{AllocError, Global};
 use std::collections::VecDeque;
+
+/// The ranges of a profile's syscall numbers.
+fn own_ranges<'a>(alloc: Global, profile: &'a Profile) -> Result<Vec<NrRange<'a>>, AllocError>
+    ensures profile { IsProfile profile.now }
+    ensures ranges { IfOk result (λ ranges. AreRangesOf profile.now.architecture profile.now.default_answer ranges.items
+        profile.now.rules) }
+{
+    ranges_of(
+        alloc,
+        profile.architecture(),
+        profile.numbers(),
+        profile.default_answer(),
+    )
+}
+
+/// Puts the binary search over ranges of a profile's rules, cut by the weights of syscall numbers, in front of the code.
+fn put_ranges(
+    alloc: Global,
+    code: &mut VecDeque<Insn>,
+    profile: &Profile,
+    ranges: &[NrRange],
+    weights: &[NrWeight],
+) -> Result<Position, Memory>
+    requires ranges { MayBePut profile.now ranges.now }
+    requires few { length code.now.items ≤ 2 ^ 31 }
+    ensures { IfOk result (IsSearchPut profile.now.architecture profile.now.default_answer (most_ranges profile.now)
+        ranges.now code.old.items code.new.items) }
+{
+    let weights = range_weights(alloc, ranges, weights)?;
+    // Two for each number with rules, its own and the gap in front of it, and two behind all of them.
+    let most = 2 * profile.numbers().len() + 2;
+    let earlier = Position(code.len());
+    let default = profile.default_answer();
+    let index = put_search(
+        alloc,
+        code,
+        profile.architecture(),
+        ranges,
+        &weights,
+        most,
+        default,
+        earlier,
+    )?;
+    Ok(index)
+}
 
 /// Puts the binary search for a profile's rules in front of those of other profiles.
 fn put_profile(
@@ -36,13 +82,11 @@ fn put_profile(
         → AreSearched (profile.now ∷ ps) code.new.items searches.new.items) }
     ensures small { OnOk result (length code.new.items ≤ length code.old.items + 2 ^ 18) }
 {
-    let architecture = profile.architecture();
-    let default = profile.default_answer();
-    let ranges = ranges_of(alloc, architecture, profile.numbers(), default)?;
-    let earlier = Position(code.len());
-    let index = put_search(alloc, code, architecture, &ranges, default, earlier)?;
+    let ranges = own_ranges(alloc, profile)?;
+    let weights = equal_weights(alloc, profile.numbers())?;
+    let index = put_ranges(alloc, code, profile, &ranges, &weights)?;
     searches.push_front(Search {
-        architecture,
+        architecture: profile.architecture(),
         index,
     })?;
     Ok(())

@@ -1,6 +1,6 @@
 //! Ranges of syscall numbers whose rules answer alike.
 
-ghost use Rattle.std.specs.Prelude.{◌≡◌, ◌<◌, ◌≤◌, ◌^◌, [], All, IfOk, IsTrue, List, OnOk};
+ghost use Rattle.std.specs.Prelude.{◌≡◌, ◌<◌, ◌≤◌, ◌^◌, [], All, IfOk, IsTrue, List, OnOk, length};
 ghost use Rattle.scf_insn.specs.Architectures.{row_of};
 ghost use Rattle.scf_insn.specs.declared.answer.Answer.{Answer};
 ghost use Rattle.scf_profile.specs.declared.rule.Rule.{Rule};
@@ -16,6 +16,13 @@ use std::alloc::{AllocError, Global};
 pub(crate) struct NrRange<'a> {
     pub(crate) first: u32,
     pub(crate) rules: &'a [Rule],
+}
+
+/// How often a syscall number is called, beside others.
+#[derive(Clone, Copy)]
+pub(crate) struct NrWeight {
+    pub(crate) nr: u32,
+    pub(crate) weight: u64,
 }
 
 /// Whether two lists of rules answer alike, whatever their syscall numbers: equal conditions and answers, in order.
@@ -92,4 +99,36 @@ pub(crate) fn ranges_of<'a>(
     }
     fill_gap(&mut ranges, next, u64::from(architecture.last()) + 1)?;
     Ok(ranges)
+}
+
+/// A weight of 1 for each number that has rules.
+pub(crate) fn equal_weights(
+    alloc: Global,
+    numbers: &[NumberRules],
+) -> Result<Vec<NrWeight>, AllocError> {
+    numbers
+        .iter()
+        .map(|own| NrWeight {
+            nr: own.number,
+            weight: 1,
+        })
+        .collect(alloc)
+}
+
+/// For each of the ranges, in rising order, the sum of the weights of its numbers, or `u64::MAX` if that is less.
+pub(crate) fn range_weights(
+    alloc: Global,
+    ranges: &[NrRange],
+    weights: &[NrWeight],
+) -> Result<Vec<u64>, AllocError>
+    ensures { IfOk result (λ sums. length sums.items ≡ length ranges.now) }
+{
+    let mut sums = vec![in alloc; 0u64; ranges.len()]?;
+    for number in weights {
+        let begun = ranges.partition_point(|range| range.first <= number.nr);
+        if begun > 0 {
+            sums[begun - 1] = sums[begun - 1].saturating_add(number.weight);
+        }
+    }
+    Ok(sums)
 }

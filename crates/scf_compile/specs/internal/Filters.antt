@@ -11,7 +11,8 @@ use Rattle.scf_profile.specs.declared.rule.Rule.{Rule}
 use Rattle.scf_profile.specs.PlainProfile.{IsPlainProfile, IsPlainRule}
 use Rattle.scf_profile.specs.Profile.{Profile}
 use Rattle.scf_profile.specs.ProfileAnswers.{ProfilesAnswer}
-use Rattle.scf_profile.specs.RulesByNumber.{rules_of}
+use Rattle.scf_profile.specs.Rule.{IsRule}
+use Rattle.scf_profile.specs.RulesByNumber.{numbers_of, rules_of}
 use Rattle.scf_compile.specs.declared.dispatch.Search.{Search}
 use Rattle.scf_compile.specs.declared.placing.Position.{Position}
 use Rattle.scf_compile.specs.declared.ranges.NrRange.{NrRange}
@@ -53,15 +54,26 @@ pub record ArePut (plain : Type 0) (before after : List Insn) (index : Position)
   pub sound : (asked : Bool) → (IsTrue asked → plain) → AreSound asked before → AreSound asked after
 
 -- From an index on each call with a number that the ranges serve is answered by the rules wanted of it, after two
--- steps for each halving of the ranges.
-pub record IsSearchPut (a : Architecture) (default : Answer) (ranges : List NrRange) (before after : List Insn)
-    (index : Position) : Type 0 where
+-- steps for each halving of so many ranges.
+pub record IsSearchPut (a : Architecture) (default : Answer) (most : ℕ) (ranges : List NrRange)
+    (before after : List Insn) (index : Position) : Type 0 where
   pub small : length after + 2 ≤ length before + sum_by range_bound ranges
   pub put : ArePut (AllRules IsPlainRule ranges) before after index
   pub ends : (call : CallRecord) (wanted : ℕ → List Rule) (low high halvings : ℕ) → IsRecord call
-      → AreServed default wanted low ranges high → low ≤ call.nr → call.nr < high → length ranges ≤ 2 ^ halvings
+      → AreServed default wanted low ranges high → low ≤ call.nr → call.nr < high → most ≤ 2 ^ halvings
       → EndsWithin (words_of call) (code_from index after) call.nr (first_answer a call default (wanted call.nr))
       (2 * halvings + (1 + sum_by rule_bound (wanted call.nr)))
+
+-- the most ranges that the search of a profile may have: two for each number, and two more
+abbrev pub most_ranges : Profile → ℕ
+most_ranges p = 2 * length (numbers_of p.rules) + 2
+
+-- Ranges of which the search of a profile may be.
+pub record MayBePut (p : Profile) (ranges : List NrRange) : Type 0 where
+  pub some : 0 < length ranges
+  pub few : length ranges ≤ most_ranges p
+  pub rules : AllRules (IsRule p.architecture) ranges
+  pub small : sum_by range_bound ranges < 2 ^ 31
 
 -- From its index on each call of the profile's architecture is answered by the profile's rules of the number.
 pub record IsSearchOf (p : Profile) (code : List Insn) (s : Search) : Type 0 where

@@ -7,7 +7,7 @@ put_search-requires t c =
     let halves = c.split_at.ensures in
     let sums = rw sum_by-append at (ap (sum_by range_bound) halves.by_index.0) in
     let own = all_parts (IsRule c.args.architecture) _ _ (rw halves.by_index.0 at c.requires.rules) in
-    (omega arith, (omega arith, (own.0, omega arith)))
+    (omega arith, (omega arith, (omega arith, (omega arith, (own.0, omega arith)))))
 
 pub put_search-requires-then-ranges-gt1 : goal.put_search-requires-then-ranges-gt1
 put_search-requires-then-ranges-gt1 t c =
@@ -17,8 +17,14 @@ put_search-requires-then-ranges-gt1 t c =
       (
         omega arith,
         (
-          (all_parts (IsRule c.args.architecture) _ _ (rw halves.by_index.0 at c.requires.rules)).1,
-          omega (arith, c.in_ok-miss.ensures.small),
+          omega arith,
+          (
+            omega arith,
+            (
+              (all_parts (IsRule c.args.architecture) _ _ (rw halves.by_index.0 at c.requires.rules)).1,
+              omega (arith, c.in_ok-miss.ensures.small),
+            ),
+          ),
         ),
       ),
     )
@@ -33,8 +39,9 @@ returns-then-ranges-gt1 t c =
     let s = c.index-high-0.result in
     let more = c.if-ranges-gt1.true in
     rw c.split_at.ensures.by_index.0 (IfOk-weaker c.put_branch.result (IsFirst _ _ _)
-    (IsSearchPut c.args.architecture c.args.default (c.split_at.result.0.now ++ c.split_at.result.1.now) _ _)
-    (λ index first. search_branch c.args.architecture c.args.default _ _ s (omega arith) (omega arith, omega arith)
+    (IsSearchPut c.args.architecture c.args.default c.args.most
+    (c.split_at.result.0.now ++ c.split_at.result.1.now) _ _)
+    (λ index first. search_branch c.args.architecture c.args.default _ _ s (omega arith) (omega arith) (omega arith)
     c.index-high-0.is c.in_ok-miss.ensures c.in_ok-hit.ensures (rw (← c.index-high-0.is) at first))
     c.put_branch.ensures)
 
@@ -46,7 +53,7 @@ returns t c =
     let is = one_is ss s c.requires.some (omega arith) c.index-ranges-0.is in
     let block : c.deref.result.now ≡ rules_code c.args.architecture c.args.default s.rules.now = search rules in
     IfOk-weaker c.put_shared.result (IsPut c.deref.result.now c.args.code.now.items c.put_shared.new.code.items)
-    (IsSearchPut c.args.architecture c.args.default ss _ _)
-    (λ index put. rw is (search_one c.args.architecture c.args.default s _ _ index (rw is at c.requires.rules)
-    (rw block at put)))
+    (IsSearchPut c.args.architecture c.args.default c.args.most ss _ _)
+    (λ index put. rw is (search_one c.args.architecture c.args.default c.args.most s _ _ index
+    (rw is at c.requires.rules) (rw block at put)))
     c.put_shared.ensures
