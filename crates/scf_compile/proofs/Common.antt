@@ -58,10 +58,10 @@ pub use Rattle.scf_compile.specs.declared.placing.Position.{Position}
 pub use Rattle.scf_compile.specs.declared.ranges.NrRange.{NrRange}
 pub use Rattle.scf_compile.specs.internal.Blocks.{argument_word, bit_code, condition_code, exits, half_code_of, narrow_code, test_code, value_of, wide_code, word_code}
 unfoldable pub use Rattle.scf_compile.specs.internal.Blocks.{half_code, masked_code, order_code}
-pub use Rattle.scf_compile.specs.internal.Dispatch.{AllStand, AreTestsPut, IsDispatchPut, IsGatePut, IsSearched, audit_of}
+pub use Rattle.scf_compile.specs.internal.Dispatch.{AllStand, AreTestsPut, IsDispatchPut, IsGatePut, IsGated, IsSearched, audit_of}
 pub use Rattle.scf_compile.specs.internal.Filters.{AnswersCall, ArePut, AreSearched, AreSearchesOf, IsFilterOf, IsSearchOf, IsSearchPut, MayBePut, behind_rule, conditions_code, most_ranges, rules_code}
 pub use Rattle.scf_compile.specs.internal.Insns.{and_with, jump_if, jump_over, load_word, return_with}
 pub use Rattle.scf_compile.specs.internal.Placing.{IsFirst, IsPut, branch_code, code_from, skip_code}
 pub use Rattle.scf_compile.specs.internal.Runs.{EndsWithin, at}
 pub use Rattle.scf_compile.specs.internal.Sound.{AreSound, IsSound, Keeps}
-pub use Rattle.scf_compile.specs.internal.NrRanges.{AllRules, AreServed, AreRangesOf, AreRangesUpTo, AreEffective, IsLaid, IsServed, StandsFor, begins, first_answer, continues, rules_bound, range_bound}
+pub use Rattle.scf_compile.specs.internal.NrRanges.{AllRules, AreAllRanges, AreServed, AreRangesOf, AreRangesUpTo, AreEffective, IsLaid, IsServed, StandsFor, begins, first_answer, continues, rules_bound, range_bound}

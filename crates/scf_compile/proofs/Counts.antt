@@ -30,7 +30,7 @@ at_most_greatest f (m ∷ ns) n (suc k, lt, e) = omega (arith, at_most_greatest 
 abbrev sum_of : List Rule → ℕ → ℕ
 sum_of rules number = sum_by rule_bound (rules_of number rules)
 
-sum_at_most : (rules : List Rule) (nr : ℕ) → sum_of rules nr ≤ greatest (map (sum_of rules) (numbers_of rules))
+pub sum_at_most : (rules : List Rule) (nr : ℕ) → sum_of rules nr ≤ greatest (map (sum_of rules) (numbers_of rules))
 sum_at_most rules nr =
     elim (number_there nr rules) [
       | inl named ↦ at_most_greatest (sum_of rules) (numbers_of rules) nr named
@@ -39,7 +39,7 @@ sum_at_most rules nr =
 
 -- ---- the search of a profile
 
-some_served : (default : Answer) (wanted : ℕ → List Rule) (low high : ℕ) (ss : List NrRange) → low < high
+pub some_served : (default : Answer) (wanted : ℕ → List Rule) (low high : ℕ) (ss : List NrRange) → low < high
     → AreServed default wanted low ss high → 0 < length ss
 some_served default wanted low high [] lt serve = absurd (omega arith)
 some_served default wanted low high (s ∷ ss) lt serve = omega arith
@@ -67,7 +67,7 @@ module _ (p : Profile) (valid : IsProfile p) (ss : List NrRange)
   abbrev count : ℕ
   count = length (numbers_of p.rules)
 
-  of_profile : (P : Rule → Type 0) → All P p.rules → AllRules P ss
+  pub of_profile : (P : Rule → Type 0) → All P p.rules → AllRules P ss
   of_profile P all k d lt j r inside = All-contains P p.rules _ all (laid.own k d lt j r inside)
 
   pub may_be_put : MayBePut p ss

@@ -5,7 +5,7 @@ use Rattle.scf_profile.proofs.Answering.{answered as profile_answers, own_or_for
 use Rattle.scf_compile.proofs.Runs.{more, loads, load_sound}
 
 -- the first of the rules with its number that a call meets is the first of all
-first_met : (a : Architecture) (default : Answer) (call : CallRecord) (rs : List Rule)
+pub first_met : (a : Architecture) (default : Answer) (call : CallRecord) (rs : List Rule)
     → first_answer a call default (rules_of call.nr rs)
     ≡ option_map_or (λ (r : Rule). r.answer.0) (find (λ r. meets a r call) rs) default.0
 first_met a default call [] = refl

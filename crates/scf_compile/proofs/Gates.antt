@@ -1,5 +1,5 @@
 -- What is put before searches leads each call to the one of its architecture.
-use Rattle.scf_compile.proofs.Common.{◌≡◌, ◌≢◌, ℕ, suc, ◌+◌, ◌-◌, ◌*◌, ◌<◌, ◌≤◌, ◌^◌, Bool, true, eqb, not, filter, List, [], ◌∷◌, ◌++◌, length, refl, sym, ap, ◌∙◌, arith, inl, inr, cases_eq, cases_Bool, eq-eqb, ne_eqb, eqb-true, eqb-false, nil_from_length, le-leb, nat_tests, length-append, length-filter_both, AllByRecursion, Insn, CallRecord, Test, Equal, GreaterOrEqual, JumpIf, Constant, IsPlainOperation, words_of, IsOf, row_of, seccomp_ret_kill_process as kill, Position, Search, load_word, jump_if, return_with, branch_code, skip_code, code_from, IsFirst, IsPut, ArePut, EndsWithin, audit_of, AllStand, IsSearched, AreTestsPut, IsGatePut, IsDispatchPut}
+use Rattle.scf_compile.proofs.Common.{◌≡◌, ◌≢◌, ℕ, suc, ◌+◌, ◌-◌, ◌*◌, ◌<◌, ◌≤◌, ◌^◌, Bool, true, eqb, not, filter, List, [], ◌∷◌, ◌++◌, length, refl, sym, ap, ◌∙◌, arith, inl, inr, cases_eq, cases_Bool, eq-eqb, ne_eqb, eqb-true, eqb-false, nil_from_length, le-leb, nat_tests, length-append, length-filter_both, AllByRecursion, Insn, CallRecord, Test, Equal, GreaterOrEqual, JumpIf, Constant, IsPlainOperation, words_of, IsOf, row_of, seccomp_ret_kill_process as kill, Position, Search, load_word, jump_if, return_with, branch_code, skip_code, code_from, IsFirst, IsPut, ArePut, EndsWithin, audit_of, AllStand, IsSearched, AreTestsPut, IsGatePut, IsGated, IsDispatchPut}
 use Rattle.scf_insn.proofs.Architectures.{reach}
 use Rattle.scf_compile.proofs.Runs.{more, loads, passes, load_sound, pass_sound}
 use Rattle.scf_compile.proofs.RuleCode.{Answers, return_answers, answers_put, answers_there, from_behind, from_first}
@@ -206,6 +206,43 @@ gate_put ss {before} {mid} {after} {index} gate some tests whole here =
       ends = λ call a answer most fits own is.
           rw whole (more (loads 0 a (omega arith) refl
           (rw (from_first mid index front) at (tests.ends call answer most fits own (omega arith) is))) (omega arith));
+    }
+
+-- the only code that calls are led to
+pub gated : (audit : ℕ) {before loaded killed tested after : List Insn} {beside index : Position} (gate : Position)
+    → 0 < length before → loaded ≡ load_word 0 ∷ before → gate.0 ≡ length loaded
+    → IsPut (return_with kill ∷ []) loaded killed beside
+    → IsFirst (branch_code Equal audit (length killed - gate.0) (length killed - beside.0)) killed tested index
+    → after ≡ load_word 1 ∷ tested → IsGated audit before after
+gated audit {before} {loaded} {killed} {tested} {after} {beside} gate some load here kills put whole =
+    let killed_put = kill_put kills in
+    let longer = killed_put.longer in
+    let near = killed_put.near in
+    let few = branch_one Equal audit gate beside put (omega (arith, near.near)) in
+    let len : length loaded ≡ suc (length before) = ap (λ (l : List Insn). length l) load in
+    let whole_len : length after ≡ suc (length tested) = ap (λ (l : List Insn). length l) whole in
+    let there : Stands gate killed = (omega arith, omega arith) in
+    let branch = branch_put Equal audit gate beside put (λ h m. tt) there (put_stands killed_put) in
+    record {
+      some = omega arith;
+      small = omega (arith, kills.few);
+      sound = λ asked s.
+          rw whole (
+            load_sound 1 (omega arith) (omega (arith, branch.longer)),
+            branch.sound asked (λ _. tt) (killed_put.sound asked (λ _. tt)
+                (rw load (load_sound 0 (omega arith) some, s))),
+          );
+      own = λ call answer most fits same e.
+          rw whole (more (loads 1 0 (omega arith) refl (branch_ends Equal audit gate beside put {most = suc most}
+          call.arch 1 few
+          (λ _. rw (killed_put.stays gate (omega arith), from_first loaded gate here, load)
+          (loads 0 call.arch (omega arith) refl e))
+          (λ differs. absurd (eqb-false call.arch audit differs same)))) (omega arith));
+      foreign = λ call fits differs.
+          rw whole (more (loads 1 0 (omega arith) refl (branch_ends Equal audit gate beside put {most = 1}
+          call.arch 1 few
+          (λ same. absurd (differs (eqb-true call.arch audit same)))
+          (λ _. answers_there kill_answers kills call fits call.arch))) (omega arith));
     }
 
 -- ---- searches with a value of `arch`, and the others

@@ -1,5 +1,5 @@
 -- Ranges are put one behind another until each number has its rules.
-use Rattle.scf_compile.proofs.Common.{◌≡◌, ℕ, get_or, take, ◌+◌, ◌-◌, ◌*◌, ◌<◌, ◌≤◌, All, List, [], ◌∷◌, ◌++◌, length, map, refl, sym, ap, ◌∙◌, subst, arith, inl, inr, eqb, length-append, length-map, get_or-map, get_or_default, sum_by, Contains, cases_eq, cases_lt, take_all, take_more, All-contains_itself, All-filter, All-push, sum_by-cons, sum_by-append, Answer, Architecture, row_of, All-map, Rule, numbers_of, rules_of, NumberRules, AreNumbersOf, NrRange, rule_bound, StandsFor, AreEffective, rules_bound, range_bound, IsServed, AreServed, IsLaid, begins, continues, AreRangesUpTo, AreRangesOf, Contains-permutation, sum_by_more, number_there, number_in, own_some, rises, count_of_numbers, sum_of_rules}
+use Rattle.scf_compile.proofs.Common.{◌≡◌, ℕ, get_or, take, ◌+◌, ◌-◌, ◌*◌, ◌<◌, ◌≤◌, All, List, [], ◌∷◌, ◌++◌, length, map, refl, sym, ap, ◌∙◌, subst, arith, inl, inr, eqb, length-append, length-map, get_or-map, get_or_default, sum_by, Contains, cases_eq, cases_lt, take_all, take_more, All-contains_itself, All-filter, All-push, sum_by-cons, sum_by-append, Answer, Architecture, row_of, All-map, Rule, numbers_of, rules_of, NumberRules, AreNumbersOf, NrRange, AllRules, rule_bound, StandsFor, AreEffective, rules_bound, range_bound, IsServed, AreServed, IsLaid, begins, continues, AreRangesUpTo, AreRangesOf, Contains-permutation, sum_by_more, number_there, number_in, own_some, rises, count_of_numbers, sum_of_rules}
 use Rattle.scf_insn.proofs.Architectures.{some_number}
 
 -- ---- one range more
@@ -18,6 +18,74 @@ module _ (default : Answer) (wanted : ℕ → List Rule) where
   served_parts low high (s ∷ ss) ts served =
       let rest = served_parts served.0 high ss ts served.2 in (rest.0, (served.0, served.1, rest.1), rest.2)
 
+  -- they are in rising order
+  served_rising : (low high : ℕ) (ss : List NrRange) → AreServed default wanted low ss high → low ≤ high
+  served_rising low high [] served = omega arith
+  served_rising low high (s ∷ ss) served = omega (arith, served.1.some, served_rising served.0 high ss served.2)
+
+  -- and serve all that wants the same
+  pub served_as : (others : ℕ → List Rule) (low high : ℕ) (ss : List NrRange) → AreServed default wanted low ss high
+      → ((nr : ℕ) → low ≤ nr → nr < high → wanted nr ≡ others nr) → AreServed default others low ss high
+  served_as others low high [] served same = served
+  served_as others low high (s ∷ ss) served same =
+      let is = served.1 in
+      let some = is.some in
+      let rising = served_rising served.0 high ss served.2 in (
+        served.0,
+        record {
+          first = is.first;
+          some = some;
+          stand = λ nr from below. rw (← same nr from (omega arith)) (is.stand nr from below);
+        },
+        served_as others served.0 high ss served.2 (λ nr from below. same nr (omega arith) below),
+      )
+
+module _ {before after : List NrRange} {next : ℕ} {rules : List Rule} where
+  pub laid_few : IsLaid before next rules after
+      → (length after ≤ length before + 1)
+      × (sum_by range_bound after ≤ sum_by range_bound before + rules_bound rules)
+  laid_few (begins s here is put) = rw put (
+    omega (arith, length-append before (s ∷ [])),
+    omega (
+      arith,
+      ap rules_bound is,
+      sum_by-append range_bound before (s ∷ []),
+      sum_by-cons range_bound s [],
+    ),
+  )
+  laid_few (continues earlier last is alike same) = rw same (omega arith, omega arith)
+
+  pub laid_rules : (P : Rule → Type 0) → IsLaid before next rules after → AllRules P before → All P rules
+      → AllRules P after
+  laid_rules P (begins s here is put) all own =
+      rw put (All-push (λ (t : NrRange). All P t.rules.now) before s all (rw is own))
+  laid_rules P (continues earlier last is alike same) all own = rw same all
+
+  pub laid_served : (default : Answer) (wanted : ℕ → List Rule) (first end : ℕ) → IsLaid before next rules after
+      → AreServed default wanted first before next → next < end
+      → ((nr : ℕ) → next ≤ nr → nr < end → StandsFor default rules (wanted nr))
+      → AreServed default wanted first after end
+  laid_served default wanted first end (begins s here is put) served lt stand =
+      rw put (served_push default wanted first next end before s served
+      (record { first = here; some = lt; stand = λ nr from below. rw is (stand nr from below) }))
+  laid_served default wanted first end (continues earlier last is alike same) served lt stand =
+      let parts = served_parts default wanted first next earlier (last ∷ []) (rw is at served) in
+      let old = parts.2.1 in
+      let past = parts.2.2 in
+      rw same (rw is (served_push default wanted first parts.0 end earlier last parts.1 (record {
+        first = old.first;
+        some = omega (arith, old.some);
+        stand = λ nr from below. elim (cases_lt nr next) [
+          | inl inside ↦ old.stand nr from (omega arith)
+          | inr later ↦
+              let same = alike default in
+              let rest = stand nr later below in record {
+                answers = λ a call. same.answers a call ∙ rest.answers a call;
+                small = omega (arith, same.small, rest.small);
+              }
+        ];
+      })))
+
 -- ---- the ranges up to a number
 
 module _ {default : Answer} {rules : List Rule} {first next most bound : ℕ} {before : List NrRange}
@@ -35,41 +103,12 @@ module _ {default : Answer} {rules : List Rule} {first next most bound : ℕ} {b
       → All (Contains rules) others
       → ((nr : ℕ) → next ≤ nr → nr < end → StandsFor default others (rules_of nr rules))
       → AreRangesUpTo first end (most + 1) (bound + rules_bound others) default after rules
-  laid_more end (begins s here is put) lt own stand = rw put (record {
-    serve = served_push default (λ nr. rules_of nr rules) first next end before s laid.serve
-        (record { first = here; some = lt; stand = λ nr from below. rw is (stand nr from below) });
-    own = All-push (λ (t : NrRange). All (Contains rules) t.rules.now) before s laid.own (rw is own);
-    few = omega (arith, laid.few, length-append before (s ∷ []));
-    small = omega (
-      arith,
-      laid.small,
-      ap rules_bound is,
-      sum_by-append range_bound before (s ∷ []),
-      sum_by-cons range_bound s [],
-    );
-  })
-  laid_more end (continues earlier last is alike same) lt own stand =
-      let parts = served_parts default (λ nr. rules_of nr rules) first next earlier (last ∷ []) (rw is at laid.serve) in
-      let old = parts.2.1 in
-      let past = parts.2.2 in
-      rw same (record {
-        serve = rw is (served_push default (λ nr. rules_of nr rules) first parts.0 end earlier last parts.1 (record {
-          first = old.first;
-          some = omega (arith, old.some);
-          stand = λ nr from below. elim (cases_lt nr next) [
-            | inl inside ↦ old.stand nr from (omega arith)
-            | inr later ↦
-                let same = alike default in
-                let rest = stand nr later below in record {
-                  answers = λ a call. same.answers a call ∙ rest.answers a call;
-                  small = omega (arith, same.small, rest.small);
-                }
-          ];
-        }));
-        own = laid.own;
-        few = omega (arith, laid.few);
-        small = omega (arith, laid.small);
-      })
+  laid_more end put lt own stand = record {
+    serve = laid_served default (λ nr. rules_of nr rules) first end put laid.serve lt stand;
+    own = laid_rules (Contains rules) put laid.own own;
+    few = omega (arith, laid.few, laid_few put);
+    small = omega (arith, laid.small, laid_few put);
+  }
 
   -- no rules apply up to another number
   pub laid_gap : {after : List NrRange} (end : ℕ) → (next < end → IsLaid before next [] after)

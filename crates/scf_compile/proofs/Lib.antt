@@ -9,3 +9,4 @@ pub mod Searches
 pub mod Sizes
 pub mod Tests
 pub mod Valid
+pub mod Whole

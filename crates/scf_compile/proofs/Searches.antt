@@ -1,5 +1,5 @@
 -- The search of ranges finds that of each number.
-use Rattle.scf_compile.proofs.Common.{◌≡◌, ℕ, zero, suc, ◌+◌, ◌-◌, ◌*◌, ◌^◌, ◌<◌, ◌≤◌, List, [], ◌∷◌, ◌++◌, length, get_or, get_or-append-add, get_or_append_left, sym, ap, ◌∙◌, arith, length-append, sum_by, nat_tests, recursion_from_All, sum_by-cons, sum_by-append, Answer, Architecture, Insn, CallRecord, IsRecord, GreaterOrEqual, words_of, Rule, IsPlainRule, IsRule, Position, NrRange, rule_bound, branch_code, IsFirst, IsPut, rules_code, IsSearchPut, EndsWithin, AllRules, AreServed, first_answer, range_bound}
+use Rattle.scf_compile.proofs.Common.{◌≡◌, ℕ, zero, suc, ◌+◌, ◌-◌, ◌*◌, ◌^◌, ◌<◌, ◌≤◌, List, [], ◌∷◌, ◌++◌, length, get_or, get_or-append-add, get_or_append_left, sym, ap, ◌∙◌, arith, length-append, sum_by, nat_tests, inl, inr, length-drop, recursion_from_All, sum_by-cons, sum_by-append, Answer, Architecture, Insn, CallRecord, IsRecord, GreaterOrEqual, words_of, Rule, IsPlainRule, IsRule, Position, NrRange, rule_bound, branch_code, IsFirst, IsPut, rules_code, IsSearchPut, EndsWithin, AllRules, AreServed, first_answer, range_bound}
 use Rattle.scf_compile.proofs.Laying.{served_parts}
 use Rattle.scf_compile.proofs.Runs.{more}
 use Rattle.scf_compile.proofs.RuleCode.{rules_answer, rules_bounded, branch_ends, branch_sound, branch_stays}
@@ -60,14 +60,29 @@ module _ (a : Architecture) (default : Answer) {half most : ℕ} (lower upper : 
               (hit.sound asked (λ e. (all_parts IsPlainRule lower upper (is e)).1)
               (miss.sound asked (λ e. (all_parts IsPlainRule lower upper (is e)).0) sound));
         };
+        front = λ none. first.first;
         ends = λ call wanted low high halvings fits served from below few.
-            rw (from_first after index first.first) (search_ends call wanted low high halvings fits served from below few);
+            rw (from_first after index first.first)
+            (search_ends call wanted low high halvings fits served from below few);
       }
 
 pub one_is : (ss : List NrRange) (s : NrRange) → 0 < length ss → length ss ≤ 1 → s ≡ get_or ss 0 s → ss ≡ s ∷ []
 one_is [] s some one is = absurd (omega arith)
 one_is (t ∷ []) s some one is = ap (λ (u : NrRange). u ∷ []) (sym is)
 one_is (t ∷ u ∷ ss) s some one is = absurd (omega arith)
+
+-- a block that is put where no code was begins the code
+begins_code : {block before after : List Insn} {index : Position} → IsPut block before after index → 0 < length block
+    → before ≡ [] → index.0 ≡ length after
+begins_code {block} {before} {after} {index} put some none =
+    let there = ap (λ (l : List Insn). length l) put.there ∙ length-append block put.behind in
+    let whole = ap (λ (l : List Insn). length l) put.whole ∙ length-append put.front before in
+    let nothing = ap (λ (l : List Insn). length l) none in
+    let dropped = length-drop (length after - index.0) after in
+    elim put.put [
+      | inl empty ↦ omega (arith, ap (λ (l : List Insn). length l) empty, put.near.stands)
+      | inr all ↦ omega (arith, ap (λ (l : List Insn). length l) all, put.near.stands)
+    ]
 
 pub search_one : (a : Architecture) (default : Answer) (most : ℕ) (s : NrRange) (before after : List Insn)
     (index : Position)
@@ -82,6 +97,7 @@ search_one a default most s before after index fine put =
       small = omega (arith, code.len, put.few, sum_by-cons range_bound s []);
       put = answers_put (AllRules IsPlainRule (s ∷ [])) code
           (λ all. recursion_from_All IsPlainRule rs (all 0 s (omega arith))) put;
+      front = begins_code put code.some;
       ends = λ call wanted low high n fits served from below few.
           let stand = served.1.stand call.nr from (omega (arith, served.2)) in
           rw (← stand.answers a call) (more (answers_there code put call fits call.nr) (omega (arith, stand.small)));

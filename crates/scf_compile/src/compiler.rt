@@ -1,6 +1,7 @@
 //! From profiles to a filter.
 
-ghost use Rattle.std.specs.Prelude.{◌≡◌, ◌+◌, ◌*◌, ◌^◌, ◌<◌, ◌≤◌, ◌∷◌, All, IfErr, IfOk, List, OnOk, length, max};
+ghost use Rattle.std.specs.Prelude.{◌≡◌, ◌+◌, ◌*◌, ◌^◌, ◌<◌, ◌≤◌, [], ◌∷◌, All, IfErr, IfOk, List, OnOk, length, max};
+ghost use Rattle.scf_insn.specs.Architectures.{row_of};
 ghost use Rattle.scf_machine.specs.Machine.{RunAnswers};
 ghost use Rattle.scf_machine.specs.Plain.{IsPlainProgram};
 ghost use Rattle.scf_profile.specs.PlainProfile.{IsPlainProfile};
@@ -10,18 +11,19 @@ ghost use Rattle.scf_profile.specs.SameAnswers.{SameAnswers, SameAnswersAsEach};
 ghost use Rattle.scf_compile.specs.SearchBound.{AnswersWithin, search_bound_of, search_bound_of_each};
 ghost use Rattle.scf_compile.specs.SizeBound.{size_bound_of, size_bound_of_each};
 ghost use Rattle.scf_compile.specs.internal.Filters.{AreSearched, IsFilterOf, IsSearchPut, MayBePut, most_ranges};
-ghost use Rattle.scf_compile.specs.internal.NrRanges.{AreRangesOf};
+ghost use Rattle.scf_compile.specs.internal.NrRanges.{AreAllRanges, AreRangesOf};
 
-use crate::dispatch::{Search, put_dispatch};
+use crate::dispatch::{Search, put_dispatch, put_only_gate};
 use crate::fault::CompileFault;
 use crate::insns::load_word;
 use crate::placing::Position;
-use crate::ranges::{NrRange, NrWeight, equal_weights, range_weights, ranges_of};
+use crate::ranges::{NrRange, NrWeight, equal_weights, fill, range_weights, ranges_of};
+use crate::rules::foreign_rule;
 use crate::search::put_search;
 use scf_insn::kernel::BPF_MAXINSNS;
 use scf_insn::{Insn, Memory};
 use scf_machine::{CheckFault, Program, check};
-use scf_profile::{Profile, Profiles};
+use scf_profile::{Profile, Profiles, Rule};
 use std::alloc::{AllocError, Global};
 use std::collections::VecDeque;
 
@@ -39,7 +41,7 @@ fn own_ranges<'a>(alloc: Global, profile: &'a Profile) -> Result<Vec<NrRange<'a>
     )
 }
 
-/// Puts the binary search over ranges of a profile's rules, cut by the weights of syscall numbers, in front of the code.
+/// Puts the binary search over ranges of a profile's rules, cut by weights of syscall numbers, in front of the code.
 fn put_ranges(
     alloc: Global,
     code: &mut VecDeque<Insn>,
@@ -106,8 +108,48 @@ fn searches_of(alloc: Global, profiles: &[Profile]) -> Result<(VecDeque<Insn>, V
     Ok((code, Vec::from(searches)))
 }
 
-/// The instructions of the filter of profiles, however many there are.
-fn filter_of(alloc: Global, profiles: &[Profile]) -> Result<Vec<Insn>, Memory>
+/// The ranges of a profile's syscall numbers, and behind them one of other rules for the numbers above its
+/// architecture's, if there are any.
+fn all_ranges<'a>(
+    alloc: Global,
+    profile: &'a Profile,
+    others: &'a [Rule],
+) -> Result<Vec<NrRange<'a>>, AllocError>
+    ensures profile { IsProfile profile.now }
+    ensures ranges { IfOk result (λ ranges. AreAllRanges profile.now.architecture profile.now.default_answer
+        profile.now.rules others.now ranges.items) }
+{
+    let mut ranges = own_ranges(alloc, profile)?;
+    fill(
+        &mut ranges,
+        u64::from(profile.architecture().last()) + 1,
+        1 << 32,
+        others,
+    )?;
+    Ok(ranges)
+}
+
+/// The instructions of the filter of one profile, whose architecture's numbers begin at 0. The numbers behind them are
+/// one more range of the search, in place of a test that each record would take.
+fn filter_of_one(
+    alloc: Global,
+    profile: &Profile,
+    weights: &[NrWeight],
+) -> Result<Vec<Insn>, Memory>
+    requires { (row_of profile.now.architecture).first ≡ 0 }
+    ensures { IfOk result (λ code. IsFilterOf (profile.now ∷ []) code.items) }
+{
+    let architecture = profile.architecture();
+    let foreign = foreign_rule(alloc, architecture);
+    let ranges = all_ranges(alloc, profile, std::slice::from_ref(&foreign))?;
+    let mut code = VecDeque::new(alloc);
+    put_ranges(alloc, &mut code, profile, &ranges, weights)?;
+    put_only_gate(&mut code, architecture.audit())?;
+    Ok(Vec::from(code))
+}
+
+/// The instructions of the filter of profiles: a search for each, and what leads a record to its search.
+fn filter_of_several(alloc: Global, profiles: &[Profile]) -> Result<Vec<Insn>, Memory>
     requires few { length profiles.now ≤ bpf_maxinsns }
     requires apart { AreOfApart profiles.now }
     ensures { IfOk result (λ code. IsFilterOf profiles.now code.items) }
@@ -116,6 +158,19 @@ fn filter_of(alloc: Global, profiles: &[Profile]) -> Result<Vec<Insn>, Memory>
     put_dispatch(alloc, &mut code, &searches)?;
     code.push_front(load_word(1))?;
     Ok(Vec::from(code))
+}
+
+/// The instructions of the filter of profiles, however many there are.
+fn filter_of(alloc: Global, profiles: &[Profile]) -> Result<Vec<Insn>, Memory>
+    requires few { length profiles.now ≤ bpf_maxinsns }
+    requires apart { AreOfApart profiles.now }
+    ensures { IfOk result (λ code. IsFilterOf profiles.now code.items) }
+{
+    if profiles.len() == 1 && profiles[0].architecture().first() == 0 {
+        let weights = equal_weights(alloc, profiles[0].numbers())?;
+        return filter_of_one(alloc, &profiles[0], &weights);
+    }
+    filter_of_several(alloc, profiles)
 }
 
 /// The filter of profiles, of which no two are for one record.

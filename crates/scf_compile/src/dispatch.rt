@@ -1,10 +1,11 @@
 //! What leads a record to the search of its architecture: tests of its `arch`, and then of its syscall number, which
 //! architectures with one value of `arch` share.
 
-ghost use Rattle.std.specs.Prelude.{◌≡◌, ◌+◌, ◌*◌, ◌==◌, ◌^◌, ◌<◌, [], ◌∷◌, IfOk, length, not};
+ghost use Rattle.std.specs.Prelude.{◌≡◌, ◌+◌, ◌*◌, ◌==◌, ◌^◌, ◌<◌, [], ◌∷◌, IfOk, OnOk, length, not};
 ghost use Rattle.std.specs.List.{filter};
 ghost use Rattle.scf_insn.specs.Kernel.{seccomp_ret_kill_process};
-ghost use Rattle.scf_compile.specs.internal.Dispatch.{audit_of, AllStand, AreTestsPut, IsDispatchPut, IsGatePut};
+ghost use Rattle.scf_compile.specs.internal.Dispatch.{audit_of, AllStand, AreTestsPut, IsDispatchPut, IsGated};
+ghost use Rattle.scf_compile.specs.internal.Dispatch.{IsGatePut};
 ghost use Rattle.scf_compile.specs.internal.Insns.{return_with};
 ghost use Rattle.scf_compile.specs.internal.Placing.{IsPut};
 
@@ -66,6 +67,21 @@ fn put_gate(code: &mut VecDeque<Insn>, searches: &[Search]) -> Result<Position, 
     put_tests(code, 0, searches)?;
     code.push_front(load_word(0))?;
     Ok(Position(code.len()))
+}
+
+/// Puts what loads and tests `arch`, and loads the syscall number, in front of code for records with a value of `arch`.
+/// Others get KILL_PROCESS.
+pub(crate) fn put_only_gate(code: &mut VecDeque<Insn>, audit: u32) -> Result<(), AllocError>
+    requires some { 0 < length code.now.items }
+    requires few { length code.now.items + 2 < 2 ^ 32 }
+    ensures { OnOk result (IsGated audit code.old.items code.new.items) }
+{
+    code.push_front(load_word(0))?;
+    let own = Position(code.len());
+    let foreign = put_foreign(code)?;
+    put_branch(code, Test::Equal, audit, own, foreign)?;
+    code.push_front(load_word(1))?;
+    Ok(())
 }
 
 /// The searches for architectures with a value of `arch`.

@@ -1,6 +1,6 @@
 //! Ranges of syscall numbers whose rules answer alike.
 
-ghost use Rattle.std.specs.Prelude.{◌≡◌, ◌<◌, ◌≤◌, ◌^◌, [], All, IfOk, IsTrue, List, OnOk, length};
+ghost use Rattle.std.specs.Prelude.{◌≡◌, ◌<◌, ◌≤◌, ◌^◌, All, IfOk, IsTrue, List, OnOk, length};
 ghost use Rattle.scf_insn.specs.Architectures.{row_of};
 ghost use Rattle.scf_insn.specs.declared.answer.Answer.{Answer};
 ghost use Rattle.scf_profile.specs.declared.rule.Rule.{Rule};
@@ -64,14 +64,19 @@ fn add_range<'a>(
     Ok(())
 }
 
-/// Appends a range without rules for the numbers from `first` up to `end`, if there are any.
-fn fill_gap(ranges: &mut Vec<NrRange>, first: u64, end: u64) -> Result<(), AllocError>
+/// Appends the rules for the numbers from `first` up to `end`, if there are any such numbers.
+pub(crate) fn fill<'a>(
+    ranges: &mut Vec<NrRange<'a>>,
+    first: u64,
+    end: u64,
+    rules: &'a [Rule],
+) -> Result<(), AllocError>
     requires { end ≤ 2 ^ 32 }
-    ensures some { OnOk result (first < end → IsLaid ranges.old.items first [] ranges.new.items) }
+    ensures some { OnOk result (first < end → IsLaid ranges.old.items first rules.now ranges.new.items) }
     ensures none { OnOk result (end ≤ first → ranges.new.items ≡ ranges.old.items) }
 {
     if first < end {
-        add_range(ranges, first as u32, &[])?;
+        add_range(ranges, first as u32, rules)?;
     }
     Ok(())
 }
@@ -93,11 +98,11 @@ pub(crate) fn ranges_of<'a>(
     let mut next = u64::from(architecture.first());
     for own in numbers {
         let number = u64::from(own.number);
-        fill_gap(&mut ranges, next, number)?;
+        fill(&mut ranges, next, number, &[])?;
         add_range(&mut ranges, own.number, effective_rules(own, default))?;
         next = number + 1;
     }
-    fill_gap(&mut ranges, next, u64::from(architecture.last()) + 1)?;
+    fill(&mut ranges, next, u64::from(architecture.last()) + 1, &[])?;
     Ok(ranges)
 }
 

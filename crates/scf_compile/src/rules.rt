@@ -1,16 +1,31 @@
 //! Code of rules.
 
-ghost use Rattle.std.specs.Prelude.{◌≡◌, ◌++◌, ◌<◌, ◌≤◌, IfOk, OnOk, length, All};
-ghost use Rattle.scf_insn.specs.Kernel.{seccomp_data_args};
+ghost use Rattle.std.specs.Prelude.{◌≡◌, ◌++◌, ◌<◌, ◌≤◌, [], IfOk, OnOk, length, All};
+ghost use Rattle.scf_insn.specs.Kernel.{seccomp_data_args, seccomp_ret_kill_process};
 ghost use Rattle.scf_profile.specs.Rule.{IsRule};
 ghost use Rattle.scf_compile.specs.internal.Filters.{conditions_code, rule_code, rules_code};
 
 use crate::blocks::put_condition;
 use crate::insns::return_with;
 use scf_insn::{Answer, Architecture, Insn};
-use scf_profile::{Condition, Rule};
+use scf_profile::{Condition, Conditions, FOREIGN_ANSWER, Rule};
 use std::alloc::{AllocError, Global};
 use std::collections::VecDeque;
+
+/// The rule that gives each record KILL_PROCESS, as records of other architectures get it. Its number is any of the
+/// architecture's.
+pub(crate) fn foreign_rule(alloc: Global, architecture: Architecture) -> Rule
+    ensures rule { IsRule architecture result }
+    ensures always { result.conditions ≡ [] }
+    ensures answer { result.answer.0 ≡ seccomp_ret_kill_process }
+{
+    Rule {
+        number: architecture.first(),
+        conditions: Conditions::from_vec(Vec::new(alloc)),
+        answer: FOREIGN_ANSWER,
+        entry: 0,
+    }
+}
 
 /// Puts the tests of conditions in front of the code. If one fails, the remaining ones and one more instruction are
 /// skipped.

@@ -1,5 +1,5 @@
 -- What leads a call to the search of its profile: tests of its architecture, and of its number.
-use Rattle.std.specs.Prelude.{◌≡◌, ℕ, ◌+◌, ◌*◌, ◌<◌, ◌≤◌, ◌⊎◌, List, [], length, max}
+use Rattle.std.specs.Prelude.{◌≡◌, ◌≢◌, ℕ, ◌+◌, ◌*◌, ◌<◌, ◌≤◌, ◌⊎◌, Bool, List, [], length, max}
 use Rattle.std.specs.List.{AllByRecursion}
 use Rattle.scf_insn.specs.Architectures.{IsOf, row_of}
 use Rattle.scf_insn.specs.declared.insn.Insn.{Insn}
@@ -11,6 +11,7 @@ use Rattle.scf_compile.specs.declared.placing.Position.{Position}
 use Rattle.scf_compile.specs.internal.Filters.{ArePut}
 use Rattle.scf_compile.specs.internal.Placing.{code_from}
 use Rattle.scf_compile.specs.internal.Runs.{EndsWithin}
+use Rattle.scf_compile.specs.internal.Sound.{AreSound}
 
 -- the value of `arch` in the calls of a search
 abbrev pub audit_of : Search → ℕ
@@ -48,6 +49,17 @@ pub record IsGatePut (searches : List Search) (before after : List Insn) (index 
   pub ends : (call : CallRecord) (a answer most : ℕ) → IsRecord call
       → AllByRecursion (λ s. call.arch ≡ audit_of s) searches → IsSearched searches before call answer most
       → EndsWithin (words_of call) after a answer (1 + 2 * length searches + most)
+
+-- A call with a value of `arch` is led in three steps to the code that stood, with its number in the accumulator. Other
+-- calls get KILL_PROCESS.
+pub record IsGated (audit : ℕ) (before after : List Insn) : Type 0 where
+  pub some : 0 < length after
+  pub small : length after ≤ length before + 4
+  pub sound : (asked : Bool) → AreSound asked before → AreSound asked after
+  pub own : (call : CallRecord) (answer most : ℕ) → IsRecord call → call.arch ≡ audit
+      → EndsWithin (words_of call) before call.nr answer most → EndsWithin (words_of call) after 0 answer (3 + most)
+  pub foreign : (call : CallRecord) → IsRecord call → call.arch ≢ audit
+      → EndsWithin (words_of call) after 0 seccomp_ret_kill_process 3
 
 -- The code begins with tests of `arch`, and leads each call to its search.
 pub record IsDispatchPut (searches : List Search) (before after : List Insn) (index : Position) : Type 0 where

@@ -54,11 +54,12 @@ pub record ArePut (plain : Type 0) (before after : List Insn) (index : Position)
   pub sound : (asked : Bool) → (IsTrue asked → plain) → AreSound asked before → AreSound asked after
 
 -- From an index on each call with a number that the ranges serve is answered by the rules wanted of it, after two
--- steps for each halving of so many ranges.
+-- steps for each halving of so many ranges. Where no code was before, the search begins the code.
 pub record IsSearchPut (a : Architecture) (default : Answer) (most : ℕ) (ranges : List NrRange)
     (before after : List Insn) (index : Position) : Type 0 where
   pub small : length after + 2 ≤ length before + sum_by range_bound ranges
   pub put : ArePut (AllRules IsPlainRule ranges) before after index
+  pub front : before ≡ [] → index.0 ≡ length after
   pub ends : (call : CallRecord) (wanted : ℕ → List Rule) (low high halvings : ℕ) → IsRecord call
       → AreServed default wanted low ranges high → low ≤ call.nr → call.nr < high → most ≤ 2 ^ halvings
       → EndsWithin (words_of call) (code_from index after) call.nr (first_answer a call default (wanted call.nr))

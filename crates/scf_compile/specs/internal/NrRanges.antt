@@ -1,5 +1,5 @@
 -- The rules that apply from each number on.
-use Rattle.std.specs.Prelude.{◌≡◌, ℕ, ◌+◌, ◌*◌, ◌<◌, ◌≤◌, ◌⊎◌, All, Contains, List, [], ◌∷◌, ◌++◌, length, sum_by}
+use Rattle.std.specs.Prelude.{◌≡◌, ℕ, ◌+◌, ◌-◌, ◌*◌, ◌^◌, ◌<◌, ◌≤◌, ◌⊎◌, All, Contains, List, [], ◌∷◌, ◌++◌, length, sum_by}
 use Rattle.std.specs.Prelude.{if◌then◌else◌}
 use Rattle.scf_insn.specs.declared.answer.Answer.{Answer}
 use Rattle.scf_insn.specs.declared.architecture.Architecture.{Architecture}
@@ -75,3 +75,11 @@ AreRangesOf a default ranges rules =
     let count = length (numbers_of rules) in
     AreRangesUpTo (row_of a).first ((row_of a).last + 1) (1 + 2 * count) (3 + 4 * count + sum_by rule_bound rules)
     default ranges rules
+
+-- The ranges of an architecture's rules, and behind them other rules for the numbers above the architecture's.
+pub record AreAllRanges (a : Architecture) (default : Answer) (rules others : List Rule) (ranges : List NrRange)
+    : Type 0 where
+  pub first : List NrRange
+  pub laid : AreRangesOf a default first rules
+  pub some : (row_of a).last < 2 ^ 32 - 1 → IsLaid first ((row_of a).last + 1) others ranges
+  pub none : (row_of a).last ≡ 2 ^ 32 - 1 → ranges ≡ first

@@ -11,11 +11,11 @@ pub loop-own-preserved : goal.loop-own-preserved
 loop-own-preserved c = λ rules are.
     let below = rw (← c.own-item.is) at (c.requires.last c.loop-own.own-index c.own-item.result c.loop-own-test.true) in
     rw c.from-number.ensures (laid_own c.args.numbers.now rules are (c.loop-own.invariant rules are) c.own-item.result
-    c.own-item.is c.loop-own-test.true below (rw c.from-number.ensures at c.in_ok-fill_gap.ensures.some)
-    (rw c.from-number.ensures at c.in_ok-fill_gap.ensures.none) c.effective_rules.ensures c.in_ok-add_range.ensures)
+    c.own-item.is c.loop-own-test.true below (rw c.from-number.ensures at c.in_ok-fill.ensures.some)
+    (rw c.from-number.ensures at c.in_ok-fill.ensures.none) c.effective_rules.ensures c.in_ok-add_range.ensures)
 
 pub returns : goal.returns
 returns c = λ rules are.
     let last = (rw c.last.ensures at c.from.ensures) in
     laid_all c.args.numbers.now rules are (c.loop-own.invariant rules are) (omega arith)
-    (rw last at c.in_ok-fill_gap-2.ensures.some) (rw last at c.in_ok-fill_gap-2.ensures.none)
+    (rw last at c.in_ok-fill-2.ensures.some) (rw last at c.in_ok-fill-2.ensures.none)

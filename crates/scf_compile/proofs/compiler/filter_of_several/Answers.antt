@@ -1,6 +1,6 @@
 use Rattle.scf_compile.proofs.Common.{auto_rules, ◌≡◌, ◌∷◌, arith, load_word}
 use Rattle.scf_compile.proofs.Filters.{all_stand, filter_put}
-use Rattle.scf_compile.proofs.compiler.filter_of.Goals as goal
+use Rattle.scf_compile.proofs.compiler.filter_of_several.Goals as goal
 
 pub put_dispatch-requires-clause-stand : goal.put_dispatch-requires-clause-stand
 put_dispatch-requires-clause-stand c =
