@@ -61,10 +61,10 @@ def reordered(rules):
     return [*(it for it in reversed(rules) if it[0] not in conditional), *(it for it in rules if it[0] in conditional)]
 
 
-def made(seccomp, profile, form, is_reordered=False):
-    """The filter that libseccomp makes of a resolved profile for x86-64, i386 and x32."""
+def made(seccomp, profile, form, is_reordered=False, others=(I386, X32)):
+    """The filter that libseccomp makes of a resolved profile for x86-64 and other architectures."""
     context = ctypes.c_void_p(seccomp.seccomp_init(answer_of(profile["defaultAction"], profile.get("defaultErrnoRet"))))
-    for architecture in (I386, X32):
+    for architecture in others:
         assert seccomp.seccomp_arch_add(context, architecture) == 0
     assert seccomp.seccomp_attr_set(context, OPTIMIZE, form) == 0
     rules = list(rules_of(seccomp, profile))
