@@ -1,8 +1,13 @@
 -- Open branches, as one is opened and one is taken.
-use Rattle.scf_compare.proofs.Common.{◌≡◌, ℕ, zero, suc, ◌+◌, ◌<◌, ◌≤◌, ◌↔◌, ◌⊎◌, inl, inr, List, [], ◌∷◌, ◌++◌, length, refl, ap, ◌∙◌, arith, length-append, Option, None, Some, true, false, cases_Bool, Atom, Branch, GoesOver, WereSeen, Which, atom_answer, IsTrue, slice_get, slice_get_within, sum_by-append, AreWordsIn, Store, IsSameLevel, Frontier, Compared, GivesAnswer, LearnsExactly, IsFrontier, open_size, Tree}
+use Rattle.scf_compare.proofs.Common.{◌≡◌, ℕ, zero, suc, ◌+◌, ◌<◌, ◌≤◌, ◌↔◌, ◌⊎◌, inl, inr, List, [], ◌∷◌, ◌++◌, length, refl, ap, ◌∙◌, arith, length-append, Option, None, Some, true, false, cases_Bool, cases_lt, Atom, Branch, GoesOver, atom_answer, IsTrue, slice_get, slice_get_within, sum_by-append, AreWordsIn, Store, IsSameLevel, Frontier, Compared, GivesAnswer, LearnsExactly, IsFrontier, open_size, Tree}
 use Rattle.scf_compare.specs.declared.frontier.OpenBranch.{OpenBranch}
 use Rattle.scf_compare.specs.internal.Trees.{GoesEither, IsStep, KeepsAsked}
+use Rattle.scf_compare.specs.internal.Frontier.{IsBefore, IsWhole, IsWhollyAhead, StaysWhole, first_open_after, first_open_left}
 use Rattle.scf_compare.specs.internal.Leaves.{pair_leaves}
+use Rattle.scf_compare.specs.internal.Stages.{IsStageAfter}
+use Rattle.scf_compare.specs.declared.frontier.Stage.{Stage}
+use Rattle.scf_compare.specs.declared.frontier.Stage.TheVariants.{At as AtNode, AllSeen, Found}
+use Rattle.std.specs.Prelude.{IfOk, IfSome, IsSome, Result, Ok, Err}
 
 -- ---- indices in a list with one more at its end
 
@@ -62,11 +67,11 @@ pub opened : {F K N : Type 0} (store : Store F) (compared : Compared) (tree : K 
     (known : K) (atom : Option Atom) (if_true if_false : N)
     → IsFrontier store tree (AreWordsIn compared) old
     → HasOpened store old new (record { known = known; node = if_false; asked = atom })
-    → (here : Tree N) (from : N) (found : Option (Which × ℕ))
+    → (here : Tree N) (from : N)
     → IsStep (pair_leaves compared) (store.allows old.facts (store.level old.facts)) here from (tree known)
     (Branch atom if_true if_false)
-    → GoesOver store compared tree old new here from (tree known) found if_true
-opened {K = K} {N = N} store compared tree old new known atom if_true if_false f h here from found step =
+    → GoesOver store compared tree old new here from (tree known) (λ words. ⊥) if_true
+opened {K = K} {N = N} store compared tree old new known atom if_true if_false f h here from step =
     let b : OpenBranch K N = record { known = known; node = if_false; asked = atom } in
     let more = length_more old.branches.items new.branches.items b h.branches in
     let cases = λ (index : ℕ) (branch : OpenBranch K N) (stands : slice_get new.branches.items index ≡ Some branch).
@@ -133,12 +138,11 @@ pub taken : {F K N : Type 0} (store : Store F) (compared : Compared) (tree : K �
     (b : OpenBranch K N)
     → IsFrontier store tree (AreWordsIn compared) old
     → HasTaken store old new b
-    → (here : Tree N) (from : N) (found : Option (Which × ℕ))
-    → ((words : List ℕ) → store.allows old.facts (store.level old.facts) words → here.reaches from words
-    → WereSeen compared found words)
+    → (here : Tree N) (from : N)
     → 1 ≤ here.size from
-    → GoesOver store compared tree old new here from (tree b.known) found b.node
-taken {K = K} {N = N} store compared tree old new b f h here from found seen costs =
+    → GoesOver store compared tree old new here from (tree b.known)
+    (λ words. store.allows old.facts (store.level old.facts) words × here.reaches from words) b.node
+taken {K = K} {N = N} store compared tree old new b f h here from costs =
     let more = length_more new.branches.items old.branches.items b h.branches in
     let marks : store.level new.facts ≡ length new.branches.items = omega (arith, f.marks, h.marks) in
     let last : slice_get old.branches.items (store.level new.facts) ≡ Some b =
@@ -167,7 +171,7 @@ taken {K = K} {N = N} store compared tree old new b f h here from found seen cos
               })
           | inr at ↦ inr (grind (arith, marks, h.known words))
         ])
-        | inr at ↦ inl (seen words at.0 at.1)
+        | inr at ↦ inl at
       ];
       size = omega (arith, size_more tree new old b h.branches, costs);
       exact = λ all.
@@ -181,3 +185,278 @@ taken {K = K} {N = N} store compared tree old new b f h here from found seen cos
             reached = λ words allowed. let known = (h.known words).0 allowed in newest.reached words known.0 known.1;
           };
     }
+
+-- ---- paths whose tests were all decided
+
+-- an atom that is asked leaves it open where the first open test was
+after_atom : (first : Option ℕ) (atom : Option Atom) (count : ℕ) → IsSome atom
+    → first_open_after first atom count ≡ first
+after_atom None None count asked = grind (arith, asked)
+after_atom None (Some atom) count asked = refl
+after_atom (Some first) atom count asked = refl
+
+-- what is decided behind a branch was before it
+before_after : (first : Option ℕ) (atom : Option Atom) (count : ℕ) → first_open_after first atom count ≡ None
+    → (first ≡ None) × IsSome atom
+before_after None None count is = grind (arith, is)
+before_after None (Some atom) count is = (refl, refl)
+before_after (Some first) atom count is = grind (arith, is)
+
+-- of the branches before one that is opened the same are decided
+was_before : (first : Option ℕ) (atom : Option Atom) (count index : ℕ)
+    → IsBefore (first_open_after first atom count) index → IsBefore first index
+was_before None atom count index before = tt
+was_before (Some first) atom count index before = before
+
+-- the branch that is opened is decided only where an atom is asked, and each test before it was decided
+new_before : (first : Option ℕ) (atom : Option Atom) (count : ℕ) → IfSome first (λ f. f ≤ count)
+    → IsBefore (first_open_after first atom count) count → (first ≡ None) × IsSome atom
+new_before None None count few before = absurd (omega arith)
+new_before None (Some atom) count few before = (refl, refl)
+new_before (Some first) atom count few before = absurd (omega arith)
+
+few_after : (first : Option ℕ) (atom : Option Atom) (count : ℕ) → IfSome first (λ f. f ≤ count)
+    → IfSome (first_open_after first atom count) (λ f. f ≤ count + 1)
+few_after None None count few = omega arith
+few_after None (Some atom) count few = tt
+few_after (Some first) atom count few = omega arith
+
+-- where an atom is asked, the words come on with its answers
+by_asked : (atom : Option Atom) → IsSome atom → (words : List ℕ) (first second : Type 0)
+    → GoesEither atom words first second
+    → (GivesAnswer atom true words → first) × (GivesAnswer atom false words → second)
+by_asked None asked words first second goes = grind (arith, asked)
+by_asked (Some atom) asked words first second goes = goes
+
+pub opened_whole : {F K N : Type 0} (store : Store F) (compared : Compared) (tree : K → Tree N) (old new : Frontier F K N)
+    (known : K) (atom : Option Atom) (if_true if_false : N)
+    → IsFrontier store tree (AreWordsIn compared) old
+    → HasOpened store old new (record { known = known; node = if_false; asked = atom })
+    → (here : Tree N) (from : N)
+    (first : Option ℕ)
+    → IsStep (pair_leaves compared) (store.allows old.facts (store.level old.facts)) here from (tree known)
+    (Branch atom if_true if_false)
+    → IsWhole store tree old first (here.reaches from)
+    → StaysWhole store tree old new first (first_open_after first atom (length old.branches.items))
+    ((tree known).reaches if_true)
+opened_whole {K = K} {N = N} store compared tree old new known atom if_true if_false f h here from first step whole =
+    let b : OpenBranch K N = record { known = known; node = if_false; asked = atom } in
+    let count = length old.branches.items in
+    let more = length_more old.branches.items new.branches.items b h.branches in
+    let cases = λ (index : ℕ) (branch : OpenBranch K N) (stands : slice_get new.branches.items index ≡ Some branch).
+    index_cases old.branches.items b index branch (rw h.branches at stands) in
+    let comes = λ (is : first ≡ None) (asked : IsSome atom) (words : List ℕ)
+        (allowed : store.allows old.facts (store.level old.facts) words).
+    by_asked atom asked words _ _ (step.leads words allowed (whole.here is words allowed)) in
+    let was = λ (index : ℕ) (within : index ≤ count) (words : List ℕ) (allowed : store.allows new.facts index words).
+    let lower : index ≤ store.level old.facts = omega (arith, f.marks) in ((h.levels index lower).0 words).0 allowed in
+    (
+      record {
+        few = rw more (few_after first atom count whole.few);
+        asked = λ index branch stands before. elim (cases index branch stands) [
+          | inl old_one ↦ whole.asked index branch old_one.1 (was_before first atom count index before)
+          | inr new_one ↦
+              let at : IsBefore (first_open_after first atom count) count = rw new_one.0 at before in
+              rw (← new_one.1) (new_before first atom count whole.few at).1
+        ];
+        branches = λ index branch stands before words allowed given. elim (cases index branch stands) [
+          | inl old_one ↦
+              whole.branches index branch old_one.1 (was_before first atom count index before) words
+              (was index (omega (arith, old_one.0)) words allowed) given
+          | inr new_one ↦
+              let at : IsBefore (first_open_after first atom count) count = rw new_one.0 at before in
+              let decided = new_before first atom count whole.few at in
+              let now : store.allows old.facts (store.level old.facts) words =
+              rw (f.marks, ← new_one.0) (was index (omega (arith, new_one.0)) words allowed) in
+              rw (← new_one.1) ((comes decided.0 decided.1 words now).1 (rw (← new_one.1) at given))
+        ];
+        answered = λ index branch stands level below within words allowed. elim (cases_lt count level) [
+          | inr older ↦ elim (cases index branch stands) [
+            | inl old_one ↦
+                whole.answered index branch old_one.1 level below older words (was level older words allowed)
+            | inr new_one ↦ absurd (omega (arith, new_one.0))
+          ]
+          | inl newest ↦
+              let now : level ≡ store.level new.facts = omega (arith, h.marks, f.marks, more) in
+              let known_now = (h.known words).0 (rw now at allowed) in
+              elim (cases index branch stands) [
+                | inl old_one ↦
+                    whole.answered index branch old_one.1 count old_one.0 (omega arith) words
+                    (rw f.marks at known_now.0)
+                | inr new_one ↦ rw (← new_one.1) known_now.1
+              ]
+        ];
+        here = λ is words allowed.
+            let decided = before_after first atom count is in
+            let known_now = (h.known words).0 allowed in
+            (comes decided.0 decided.1 words known_now.0).0 known_now.1;
+      },
+      λ words ahead. elim ahead [
+        | inl (index, branch, stands, before, allowed, given) ↦ elim (cases index branch stands) [
+          | inl old_one ↦ inl (
+            index,
+            branch,
+            old_one.1,
+            was_before first atom count index before,
+            was index (omega (arith, old_one.0)) words allowed,
+            given,
+          )
+          | inr new_one ↦
+              let at : IsBefore (first_open_after first atom count) count = rw new_one.0 at before in
+              inr (
+                (new_before first atom count whole.few at).0,
+                rw (f.marks, ← new_one.0) (was index (omega (arith, new_one.0)) words allowed),
+              )
+        ]
+        | inr now ↦ inr ((before_after first atom count now.0).0, ((h.known words).0 now.1).0)
+      ],
+    )
+
+-- an answer that the facts know changes nothing
+pub decided_whole : {F K N : Type 0} (store : Store F) (tree : K → Tree N) (frontier : Frontier F K N)
+    (first : Option ℕ) (atom : Atom) {comes_on on : List ℕ → Type 0} (count : ℕ)
+    → IsWhole store tree frontier first comes_on
+    → ((words : List ℕ) → store.allows frontier.facts (store.level frontier.facts) words → comes_on words → on words)
+    → StaysWhole store tree frontier frontier first (first_open_after first (Some atom) count) on
+decided_whole store tree frontier first atom count whole goes =
+    rw (after_atom first (Some atom) count refl) (
+      record {
+        few = whole.few;
+        asked = whole.asked;
+        branches = whole.branches;
+        answered = whole.answered;
+        here = λ is words allowed. goes words allowed (whole.here is words allowed);
+      },
+      λ words ahead. ahead,
+    )
+
+-- the branches before one that is taken were decided
+was_left : (first : Option ℕ) (count index : ℕ) → index < count → IsBefore (first_open_left first count) index
+    → IsBefore first index
+was_left None count index lower before = tt
+was_left (Some first) count index lower before = grind (arith, before)
+
+-- it was, where all is decided behind it
+left_decided : (first : Option ℕ) (count : ℕ) → first_open_left first count ≡ None → IsBefore first count
+left_decided None count is = tt
+left_decided (Some first) count is = grind (arith, is)
+
+few_left : (first : Option ℕ) (count : ℕ) → IfSome (first_open_left first count) (λ f. f ≤ count)
+few_left None count = tt
+few_left (Some first) count = grind arith
+
+-- an atom doesn't have both answers
+one_answer_alone : (atom : Option Atom) (words : List ℕ) → IsSome atom → GivesAnswer atom true words
+    → GivesAnswer atom false words → ⊥
+one_answer_alone None words asked given_true given_false = grind (arith, asked)
+one_answer_alone (Some atom) words asked given_true given_false = grind (arith, given_true, given_false)
+
+pub taken_whole : {F K N : Type 0} (store : Store F) (compared : Compared) (tree : K → Tree N) (old new : Frontier F K N)
+    (b : OpenBranch K N)
+    → IsFrontier store tree (AreWordsIn compared) old
+    → HasTaken store old new b
+    → (here : Tree N) (from : N) (first : Option ℕ) → IsWhole store tree old first (here.reaches from)
+    → let after = first_open_left first (length new.branches.items) in
+    StaysWhole store tree old new first after ((tree b.known).reaches b.node)
+    × (first ≡ None → (words : List ℕ) → store.allows old.facts (store.level old.facts) words
+    → IsWhollyAhead store tree new after words → ⊥)
+taken_whole {K = K} {N = N} store compared tree old new b f h here from first whole =
+    let count = length new.branches.items in
+    let more = length_more new.branches.items old.branches.items b h.branches in
+    let marks : store.level new.facts ≡ count = omega (arith, more, f.marks, h.marks) in
+    let last : slice_get old.branches.items count ≡ Some b = rw h.branches (index_last new.branches.items b) in
+    let before = λ (index : ℕ) (branch : OpenBranch K N) (stands : slice_get new.branches.items index ≡ Some branch).
+    let old_stands : slice_get old.branches.items index ≡ Some branch =
+    rw h.branches (index_before new.branches.items b index branch stands) in old_stands in
+    let was = λ (index : ℕ) (lower : index < count) (words : List ℕ) (allowed : store.allows new.facts index words).
+    let below : index < store.level new.facts = omega (arith, marks) in ((h.levels index below).0 words).0 allowed in
+    let known_now : (words : List ℕ) → store.allows new.facts (store.level new.facts) words
+    → store.allows old.facts count words × GivesAnswer b.asked false words =
+    λ words allowed. rw marks at ((h.known words).0 allowed) in
+    let fewer : (words : List ℕ) → IsWhollyAhead store tree new (first_open_left first count) words
+    → (index : ℕ) × (branch : OpenBranch K N) × (slice_get old.branches.items index ≡ Some branch)
+    × IsBefore first index × store.allows old.facts index words × GivesAnswer branch.asked false words =
+    λ words ahead. elim ahead [
+      | inl (index, branch, stands, decided, allowed, given) ↦
+          let lower = slice_get_within new.branches.items index branch stands in
+          (
+            index,
+            branch,
+            before index branch stands,
+            was_left first count index lower decided,
+            was index lower words allowed,
+            given,
+          )
+      | inr now ↦
+          let both = known_now words now.1 in (count, b, last, left_decided first count now.0, both.0, both.1)
+    ] in
+    (
+      (
+        record {
+          few = few_left first count;
+          asked = λ index branch stands decided.
+              let lower = slice_get_within new.branches.items index branch stands in
+              whole.asked index branch (before index branch stands) (was_left first count index lower decided);
+          branches = λ index branch stands decided words allowed given.
+              let lower = slice_get_within new.branches.items index branch stands in
+              whole.branches index branch (before index branch stands) (was_left first count index lower decided) words
+              (was index lower words allowed) given;
+          answered = λ index branch stands level below within words allowed.
+              let old_stands = before index branch stands in
+              elim (cases_lt level count) [
+                | inl lower ↦
+                    whole.answered index branch old_stands level below (omega (arith, more)) words
+                    (was level lower words allowed)
+                | inr newest ↦
+                    let now : level ≡ store.level new.facts = omega (arith, marks) in
+                    whole.answered index branch old_stands count (omega arith) (omega (arith, more)) words
+                    (known_now words (rw now at allowed)).0
+              ];
+          here = λ is words allowed.
+              let both = known_now words allowed in
+              whole.branches count b last (left_decided first count is) words both.0 both.1;
+        },
+        λ words ahead. inl (fewer words ahead),
+      ),
+      λ none words allowed ahead.
+          let (index, branch, stands, decided, there, given) = fewer words ahead in
+          let lower = slice_get_within old.branches.items index branch stands in
+          one_answer_alone branch.asked words (whole.asked index branch stands decided)
+          (whole.answered index branch stands (store.level old.facts) (omega (arith, f.marks, lower))
+          (omega (arith, f.marks)) words allowed) given,
+    )
+
+-- ---- what was seen
+
+-- where these words were seen, those were
+pub weaken : {F K N : Type 0} {store : Store F} {compared : Compared} {tree : K → Tree N} {old new : Frontier F K N}
+    {here : Tree N} {from : N} {there : Tree N} {was more : List ℕ → Type 0} {next : N}
+    → ((words : List ℕ) → was words → more words)
+    → GoesOver store compared tree old new here from there was next
+    → GoesOver store compared tree old new here from there more next
+weaken follows over = record {
+  frontier = over.frontier;
+  node = over.node;
+  words = λ words ahead. elim (over.words words ahead) [ inl seen ↦ inl (follows words seen) | inr left ↦ inr left ];
+  size = over.size;
+  exact = over.exact;
+}
+
+pub weaken_stage : (F K N : Type 0) (store : Store F) (compared : Compared) (tree : K → Tree N) (old new : Frontier F K N)
+    (here : Tree N) (from : N) (there : Tree N) (was more : List ℕ → Type 0) (stage : Stage N)
+    → ((words : List ℕ) → was words → more words)
+    → IsStageAfter store compared tree old new here from there was stage
+    → IsStageAfter store compared tree old new here from there more stage
+weaken_stage F K N store compared tree old new here from there was more (AtNode next) follows over = weaken follows over
+weaken_stage F K N store compared tree old new here from there was more AllSeen follows all =
+    λ words ahead. follows words (all words ahead)
+weaken_stage F K N store compared tree old new here from there was more (Found finding) follows found = found
+
+pub weaken_ok : (F K N E : Type 0) (store : Store F) (compared : Compared) (tree : K → Tree N) (old new : Frontier F K N)
+    (here : Tree N) (from : N) (there : Tree N) (was more : List ℕ → Type 0) (result : Result (Stage N) E)
+    → ((words : List ℕ) → was words → more words)
+    → IfOk result (IsStageAfter store compared tree old new here from there was)
+    → IfOk result (IsStageAfter store compared tree old new here from there more)
+weaken_ok F K N E store compared tree old new here from there was more (Ok stage) follows after =
+    weaken_stage F K N store compared tree old new here from there was more stage follows after
+weaken_ok F K N E store compared tree old new here from there was more (Err why) follows after = after

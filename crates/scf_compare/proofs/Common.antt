@@ -55,10 +55,11 @@ unfoldable pub use Rattle.scf_compare.specs.Paths.{tree_sizes}
 pub use Rattle.scf_profile.specs.Relation.{IsRelated}
 pub use Rattle.scf_profile.specs.Scope.{IsInScope, RelatedAnswersIn, SameAnswersIn}
 pub use Rattle.scf_compare.specs.Findings.{AllRelated, Compared, IsTrueFinding, compared_in}
-pub use Rattle.scf_compare.specs.Sides.{behavior_of, profile_behavior, stack_behavior}
+pub use Rattle.scf_compare.specs.Sides.{behavior_of, filter_at, profile_behavior, stack_behavior}
 pub use Rattle.scf_compare.specs.Verdicts.{IsDecided, IsTrueOf, IsTrueOfStackBy, finding_of}
 pub use Rattle.scf_compare.specs.declared.finding.Finding.{Finding}
 pub use Rattle.scf_compare.specs.declared.finding.Which.{Which}
+pub use Rattle.scf_compare.specs.declared.filter.FilterLeaf.{FilterLeaf}
 pub use Rattle.scf_compare.specs.declared.filter.FilterNode.{FilterNode}
 pub use Rattle.scf_compare.specs.declared.control_flow.ControlFlow.{ControlFlow}
 pub use Rattle.scf_compare.specs.declared.control_flow.ControlFlow.TheVariants.{ConditionalJump, DivideByIndex, Jump, FallThrough, ReturnAccumulator, ReturnConstant}
@@ -83,7 +84,7 @@ pub use Rattle.scf_compare.specs.internal.Laws.{paths_count, scaled_costs, side_
 pub use Rattle.scf_compare.specs.internal.NumberedProfiles.{IsNumbered, NumberedProfile}
 pub use Rattle.scf_compare.specs.internal.KnownBits.{IsLowEnd}
 pub use Rattle.scf_compare.specs.internal.Profiles.{IsAtCondition, IsAtRule, IsFrom, numbers_size, own_conditions, own_rules, size_behind}
-pub use Rattle.scf_compare.specs.internal.Stacks.{IsStackLeaf, filter_at, stack_is_node, stack_is_plain, stack_reaches, stack_size}
+pub use Rattle.scf_compare.specs.internal.Stacks.{IsStackLeaf, stack_is_node, stack_is_plain, stack_reaches, stack_size}
 pub use Rattle.scf_compare.specs.internal.Stages.{GoesOver, finding_of_all}
 pub use Rattle.scf_compare.specs.internal.Trees.{GoesOn, Tree}
 pub use Rattle.scf_compare.specs.internal.Values.{Decides, Describes, IsPlainValue}

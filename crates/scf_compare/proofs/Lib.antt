@@ -1,3 +1,4 @@
+pub mod AddedRegions
 pub mod AffineTerms
 pub mod Bits
 pub mod BitSets

@@ -1,6 +1,8 @@
 -- A profile's numbers: which rules a call can still meet, and how many steps the numbers take.
-use Rattle.scf_compare.proofs.Common.{drop-drop, ◌-◌, ◌≡◌, ◌≢◌, ℕ, ◌+◌, ◌<◌, ◌≤◌, false, true, eqb, List, [], Some, length, map, drop, get_or, sym, ap, arith, inl, inr, slice_get, slice_get-get_or, slice_get-map, slice_get_within, get_or_from_slice_get, get_or-take, length-take, take_all, eqb-true, All, All-contains, All-contains_itself, All-filter, filter_passes, contains_filtered, Contains, CallRecord, Condition, NotEqual, NumberRules, Rule, IsOf, ProfileAnswers, by_rule, by_default, meets, rules_of, AreNumbersOf, number_among, numbers_rise, sum_of_own, sum_by-drop_more, sum_by-take-drop, conditions_size, rules_size, numbers_size, own_conditions, own_rules, size_behind, IsAtCondition, IsAtRule, IsFrom, ConditionPosition, IsNumbered, NumberedProfile}
+use Rattle.scf_compare.proofs.Common.{drop-drop, ◌-◌, ◌≡◌, ◌≢◌, ℕ, ◌+◌, ◌<◌, ◌≤◌, false, true, eqb, List, [], Some, length, map, drop, get_or, refl, sym, ap, arith, inl, inr, slice_get, slice_get-get_or, slice_get-map, slice_get_within, get_or_from_slice_get, get_or-take, length-take, take_all, eqb-true, All, All-contains, All-contains_itself, All-filter, filter_passes, contains_filtered, Contains, CallRecord, Condition, NotEqual, NumberRules, Rule, IsOf, ProfileAnswers, by_rule, by_default, meets, rules_of, AreNumbersOf, number_among, numbers_rise, sum_of_own, sum_by-drop_more, sum_by-take-drop, conditions_size, rules_size, numbers_size, own_conditions, own_rules, size_behind, IsAtCondition, IsAtRule, IsFrom, ConditionPosition, IsNumbered, NumberedProfile}
 use Rattle.scf_compare.specs.Effort.{spread}
+use Rattle.scf_compare.specs.Sides.{HasReason}
+use Rattle.scf_profile.specs.declared.reason.Reason.TheVariants.{Default, Entry}
 use Rattle.scf_compare.proofs.Rules.{contains_here, rules_more, unmet_apart}
 
 -- ---- what is read
@@ -55,31 +57,35 @@ module _ (s : NumberedProfile) (call : CallRecord) where
   -- a rule that the call is at, all of whose conditions hold of it
   pub by_own_rule : (at : ConditionPosition) (r : Rule) → IsAtCondition s at call
       → slice_get (own_rules s.numbers at.number) at.rule ≡ Some r → length r.conditions ≤ at.condition
-      → ProfileAnswers s.profile call r.answer.0
+      → ProfileAnswers s.profile call r.answer.0 × HasReason s.profile call (Entry r.entry)
   by_own_rule at r is here all =
       let own = own_rule call.nr s.profile.rules r
       (rw is.at_rule.own (contains_here (own_rules s.numbers at.number) at.rule r here)) in
       let held = rw (conditions_read s.numbers at r here, take_all at.condition r.conditions all) at is.held in
-      by_rule r is.at_rule.is_of own.0 (grind arith)
+      let met : meets s.profile.architecture r call ≡ true = grind arith in
+      (by_rule r is.at_rule.is_of own.0 met, (r, is.at_rule.is_of, own.0, met, refl))
 
   -- a call of the architecture that meets none of the rules of its number
   unmet_own : IsOf s.profile.architecture call
       → All (λ r. meets s.profile.architecture r call ≡ false) (rules_of call.nr s.profile.rules)
-      → ProfileAnswers s.profile call s.profile.default_answer.0
-  unmet_own is_of unmet = by_default is_of (λ r has.
+      → ProfileAnswers s.profile call s.profile.default_answer.0 × HasReason s.profile call Default
+  unmet_own is_of unmet =
+      let none = λ (r : Rule) (has : Contains s.profile.rules r).
       let among = contains_filtered (λ (q : Rule). eqb q.number call.nr) s.profile.rules r in
       let unmet_one = All-contains (λ q. meets s.profile.architecture q call ≡ false)
       (rules_of call.nr s.profile.rules) r unmet in
-      grind (arith, among, unmet_one, unmet_apart))
+      let unmet_r : meets s.profile.architecture r call ≡ false = grind (arith, among, unmet_one, unmet_apart) in
+      unmet_r in
+      (by_default is_of none, (is_of, none))
 
   -- a call past the last rule of its number
   pub past_rules : (number rule : ℕ) → IsAtRule s number rule call → length (own_rules s.numbers number) ≤ rule
-      → ProfileAnswers s.profile call s.profile.default_answer.0
+      → ProfileAnswers s.profile call s.profile.default_answer.0 × HasReason s.profile call Default
   past_rules number rule is past = unmet_own is.is_of (grind (arith, take_all))
 
   -- a call with none of the numbers
   pub of_no_number : IsNumbered s → IsOf s.profile.architecture call → All (λ own. call.nr ≢ own.number) s.numbers
-      → ProfileAnswers s.profile call s.profile.default_answer.0
+      → ProfileAnswers s.profile call s.profile.default_answer.0 × HasReason s.profile call Default
   of_no_number numbered is_of apart = elim (number_among s.numbers s.profile.rules numbered.numbers call.nr) [
     | inl (own, has, same) ↦ absurd (All-contains (λ o. call.nr ≢ o.number) s.numbers own apart has (sym same))
     | inr none ↦ unmet_own is_of (rw none (λ k d lt. absurd (omega arith)))

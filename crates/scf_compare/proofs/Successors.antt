@@ -1,5 +1,5 @@
 -- The runs that come to the nodes of a filter's tree.
-use Rattle.scf_compare.proofs.Common.{◌≡◌, ℕ, ◌+◌, ◌==◌, Bool, true, false, List, ◌∷◌, length, refl, subst, ◌∙◌, arith, Insn, Operation, State, Outcome, Goes, Ends, Faults, step, effect, jumps_to, holds, operand_of, RunAnswers, RunsSafely, Stands, SideLeaf, FilterNode, ControlFlow, FallThrough, Jump, ConditionalJump, DivideByIndex, ReturnConstant, ReturnAccumulator, KnownRegisters, Step, Decision, control_flow_at, Tree, GoesOn, Describes, Decides, ComesTo, IsStepOf}
+use Rattle.scf_compare.proofs.Common.{◌≡◌, ℕ, ◌+◌, ◌==◌, Bool, true, false, List, ◌∷◌, length, refl, subst, ◌∙◌, arith, Insn, Operation, State, Outcome, Goes, Ends, Faults, step, effect, jumps_to, holds, operand_of, RunAnswers, RunsSafely, Stands, FilterLeaf, FilterNode, ControlFlow, FallThrough, Jump, ConditionalJump, DivideByIndex, ReturnConstant, ReturnAccumulator, KnownRegisters, Step, Decision, control_flow_at, Tree, GoesOn, Describes, Decides, ComesTo, IsStepOf}
 use Rattle.scf_compare.proofs.ControlFlows.{Does, does}
 
 -- A run over the words comes to an instruction, whose values are known.
@@ -69,8 +69,8 @@ module _ {insns : List Insn} {words : List ℕ} {index : ℕ} {i : Insn} {operat
       (does operation i words c.state)))
 
 -- where words go on from a test
-pub step_leads : (tree : Tree FilterNode) (tells : SideLeaf → List ℕ → Type 0) (words : List ℕ) (decision : Decision)
-    (if_true if_false : FilterNode) (step : Step FilterNode SideLeaf) (test : Bool)
+pub step_leads : (tree : Tree FilterNode) (tells : FilterLeaf → List ℕ → Type 0) (words : List ℕ) (decision : Decision)
+    (if_true if_false : FilterNode) (step : Step FilterNode FilterLeaf) (test : Bool)
     → IsStepOf decision if_true if_false step → Decides decision words test → (test ≡ true → tree.reaches if_true words)
     → (test ≡ false → tree.reaches if_false words) → GoesOn tree tells step words
 step_leads tree tells words decision if_true if_false step test e d ht hf = grind arith

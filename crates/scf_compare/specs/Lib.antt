@@ -3,6 +3,7 @@ pub mod Findings
 pub mod Headline
 pub mod Limits
 pub mod Paths
+pub mod Regions
 pub mod SideLaws
 pub mod Sides
 pub mod Splits

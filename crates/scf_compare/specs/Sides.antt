@@ -1,17 +1,26 @@
 -- The sides of a comparison.
-use Rattle.std.specs.Prelude.{◌≡◌, ◌*◌, ◌⊎◌, ℕ, List, [], ◌∷◌, All, Contains}
+use Rattle.std.specs.Prelude.{◌≡◌, ◌*◌, ◌<◌, ◌⊎◌, ℕ, List, [], ◌∷◌, All, Contains, false, length, slice_index_or, true}
+use Rattle.scf_insn.specs.Architectures.{IsOf}
 use Rattle.scf_insn.specs.declared.insn.Insn.{Insn}
 use Rattle.scf_insn.specs.declared.operation.Arithmetic.TheVariants.{Div}
 use Rattle.scf_insn.specs.declared.operation.Operand.TheVariants.{Index}
 use Rattle.scf_insn.specs.declared.operation.Operation.{Operation}
 use Rattle.scf_insn.specs.declared.operation.Operation.TheVariants.{Compute, ReturnConstant, ReturnAccumulator}
+use Rattle.scf_insn.specs.declared.record.CallRecord.{CallRecord}
 use Rattle.scf_insn.specs.Words.{call_of}
+use Rattle.scf_machine.specs.Machine.{RunAnswers}
 use Rattle.scf_machine.specs.Plain.{IsPlainProgram}
 use Rattle.scf_machine.specs.Precedence.{StackAnswers}
 use Rattle.scf_machine.specs.Rules.{Stands}
 use Rattle.scf_profile.specs.PlainProfile.{IsPlainProfile}
 use Rattle.scf_profile.specs.Profile.{Profile}
 use Rattle.scf_profile.specs.ProfileAnswers.{ProfileAnswers}
+use Rattle.scf_profile.specs.Rule.{meets}
+use Rattle.scf_profile.specs.declared.reason.Reason.{Reason}
+use Rattle.scf_profile.specs.declared.reason.Reason.TheVariants.{Foreign, Entry, Default}
+use Rattle.scf_profile.specs.declared.rule.Rule.{Rule}
+use Rattle.scf_compare.specs.declared.origin.Origin.{Origin}
+use Rattle.scf_compare.specs.declared.origin.Origin.TheVariants.{Filter, Profile as OfReason}
 use Rattle.scf_compare.specs.declared.side.Side.{Side}
 use Rattle.scf_compare.specs.declared.side.Side.TheVariants.{Stack, Profile as OfProfile}
 use Rattle.scf_compare.specs.Effort.{spread, stack_paths}
@@ -38,10 +47,46 @@ pub record ReturnsAccumulatorAt (insns : List Insn) (at : ℕ) : Type 0 where
 abbrev pub StackIsOpenAt : List (List Insn) → ℕ → Type 0
 StackIsOpenAt filters at = (one : List Insn) × Contains filters one × ReturnsAccumulatorAt one at
 
--- What a side is to a comparison: what it answers to the words of a call, at which instructions it ends, and at which
--- of them its answer may be unknown, how many steps its whole tree takes, and whether a complete store decides it.
+-- the index of the instruction that an answer comes from, 0 in a profile
+abbrev pub origin_index : Origin → ℕ
+origin_index (Filter filter index) = index
+origin_index (OfReason reason) = 0
+
+-- the filter at an index of a stack
+abbrev pub filter_at : List (List Insn) → ℕ → List Insn
+filter_at filters index = slice_index_or filters index []
+
+-- one of the filters answers the words so, and a run of it can end at this instruction
+abbrev pub FilterGives : List (List Insn) → Origin → List ℕ → ℕ → Type 0
+FilterGives filters (Filter filter index) words answer =
+    (filter < length filters) × CanEndAt (filter_at filters filter) index
+    × RunAnswers (filter_at filters filter) words answer
+FilterGives filters (OfReason reason) words answer = ⊥
+
+-- so it is in a stack, and both indices are 0 where there is no filter
+abbrev pub StackGives : List (List Insn) → Origin → List ℕ → ℕ → Type 0
+StackGives [] origin words answer = origin ≡ Filter 0 0
+StackGives (oldest ∷ newer) origin words answer = FilterGives (oldest ∷ newer) origin words answer
+
+-- The call is of another architecture, meets a rule of this entry, or meets no rule.
+abbrev pub HasReason : Profile → CallRecord → Reason → Type 0
+HasReason p call Foreign = IsOf p.architecture call → ⊥
+HasReason p call (Entry index) = (r : Rule) × IsOf p.architecture call × Contains p.rules r
+    × (meets p.architecture r call ≡ true) × (r.entry ≡ index)
+HasReason p call Default =
+    IsOf p.architecture call × ((r : Rule) → Contains p.rules r → meets p.architecture r call ≡ false)
+
+-- the words of a call have the reason of an origin
+abbrev pub ProfileGives : Profile → Origin → List ℕ → Type 0
+ProfileGives p (Filter filter index) words = ⊥
+ProfileGives p (OfReason reason) words = HasReason p (call_of words) reason
+
+-- What a side is to a comparison: what it answers to the words of a call, from which origin it gives them an answer, at
+-- which instructions it ends, and at which of them its answer may be unknown, how many steps its whole tree takes, and
+-- whether a complete store decides it.
 pub record Behavior : Type 1 where
   pub answers : List ℕ → ℕ → Type 0
+  pub gives : Origin → List ℕ → ℕ → Type 0
   pub ends_at : ℕ → Type 0
   pub is_open_at : ℕ → Type 0
   pub size : ℕ
@@ -51,6 +96,7 @@ pub record Behavior : Type 1 where
 abbrev pub stack_behavior : List (List Insn) → Behavior
 stack_behavior filters = record {
   answers = StackAnswers filters;
+  gives = StackGives filters;
   ends_at = StackCanEndAt filters;
   is_open_at = StackIsOpenAt filters;
   size = stack_paths filters;
@@ -61,11 +107,16 @@ stack_behavior filters = record {
 abbrev pub profile_behavior : Profile → Behavior
 profile_behavior p = record {
   answers = λ words answer. ProfileAnswers p (call_of words) answer;
+  gives = λ origin words answer. ProfileGives p origin words;
   ends_at = λ at. at ≡ 0;
   is_open_at = λ at. ⊥;
   size = spread p.rules;
   is_plain = IsPlainProfile p;
 }
+
+-- a side answers the words so, from this origin
+abbrev pub AnswersFrom : Behavior → Origin → List ℕ → ℕ → Type 0
+AnswersFrom behavior origin words answer = behavior.answers words answer × behavior.gives origin words answer
 
 abbrev pub behavior_of : Side → Behavior
 behavior_of (Stack filters) = stack_behavior filters.now

@@ -14,6 +14,7 @@ pub mod Leaves
 pub mod NumberedProfiles
 pub mod Pairs
 pub mod Profiles
+pub mod Regions
 pub mod Settling
 pub mod Stacks
 pub mod Stages

@@ -3,7 +3,7 @@
 ghost use Rattle.std.specs.Prelude.{◌≡◌, ◌↔◌, ℕ, List, IsTrue, false, IfOk, IfSome, IfNone, IsSome};
 ghost use Rattle.scf_insn.specs.Words.{IsRecord, words_of};
 ghost use Rattle.scf_compare.specs.Findings.{WordsRelated};
-ghost use Rattle.scf_compare.specs.internal.Leaves.{AreWordsIn, IsFirstUndecided, IsLeaf, IsUndecidedLeaf};
+ghost use Rattle.scf_compare.specs.internal.Leaves.{AreWordsIn, IsFirstUndecided, IsLeaf, IsUndecidedLeaf, WereSeen};
 ghost use Rattle.scf_compare.specs.internal.Leaves.{KnowsBoth, Tells};
 ghost use Rattle.scf_compare.specs.internal.Frontier.{IsFrontier, IsExact};
 ghost use Rattle.scf_compare.specs.internal.Stages.{IsExplored, IsFound, IsJudged, IsStageAfter, finding_of_all};
@@ -46,8 +46,8 @@ fn open_end_of<C: Comparison>(comparison: &C, leaf: PairLeaf) -> (Which, usize)
 {
     let _ = comparison;
     match (leaf.left.answer, leaf.right.answer) {
-        (Some(_), None) => (Which::Right, leaf.right.at),
-        _ => (Which::Left, leaf.left.at),
+        (Some(_), None) => (Which::Right, leaf.right.origin.index()),
+        _ => (Which::Left, leaf.left.origin.index()),
     }
 }
 
@@ -112,7 +112,7 @@ fn advance<C: Comparison, F: WordFacts>(
     ensures stage { IfOk result (
         IsStageAfter F.WordFacts (C.compared comparison.now) (C.tree comparison.now)
         frontier.old frontier.new (C.tree comparison.now known.old) node (C.tree comparison.now known.new)
-        first_undecided.new) }
+        (WereSeen (C.compared comparison.now) first_undecided.new)) }
     ensures index { IfSome first_undecided.new (IsFirstUndecided (C.compared comparison.now)) }
     ensures still { IsSome first_undecided.old → IsSome first_undecided.new }
     ensures exact { let here = C.tree comparison.now known.old in

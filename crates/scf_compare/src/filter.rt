@@ -10,7 +10,6 @@ ghost use Rattle.scf_compare.specs.internal.Trees.{IsStep};
 
 use crate::control_flow::ControlFlow;
 use crate::registers::KnownRegisters;
-use crate::side_tree::SideLeaf;
 use crate::sources::OpenTest;
 use crate::step::Step;
 use crate::value::{Decision, Value};
@@ -23,6 +22,13 @@ use scf_machine::Program;
 pub(crate) enum FilterNode {
     At(usize),
     Stopped(Answer, usize),
+}
+
+/// A leaf of a filter's tree: its answer, if it is known, and the index of the instruction there.
+#[derive(Clone, Copy)]
+pub(crate) struct FilterLeaf {
+    pub(crate) answer: Option<Answer>,
+    pub(crate) at: usize,
 }
 
 /// The root of a filter's tree, and what is known of the registers there. `open` is of the filters before.
@@ -46,7 +52,7 @@ pub(crate) fn step_in_filter<F: WordFacts>(
     facts: &F,
     registers: &mut KnownRegisters,
     node: FilterNode,
-) -> Step<FilterNode, SideLeaf>
+) -> Step<FilterNode, FilterLeaf>
     requires { filter_is_node program.now registers.old node }
     ensures { IsStep (leaves_of_filter program.now)
         (λ words. IsWords words × F.allows facts.now (F.level facts.now) words)
@@ -78,17 +84,17 @@ pub(crate) fn step_in_filter<F: WordFacts>(
                     registers.apply(facts, insn, operation);
                     step_by(decision, stopped, FilterNode::At(next))
                 }
-                ControlFlow::ReturnConstant => Step::Leaf(SideLeaf {
+                ControlFlow::ReturnConstant => Step::Leaf(FilterLeaf {
                     answer: Some(Answer(insn.k)),
                     at: index,
                 }),
-                ControlFlow::ReturnAccumulator => Step::Leaf(SideLeaf {
+                ControlFlow::ReturnAccumulator => Step::Leaf(FilterLeaf {
                     answer: registers.answer(facts),
                     at: index,
                 }),
             }
         }
-        FilterNode::Stopped(answer, at) => Step::Leaf(SideLeaf {
+        FilterNode::Stopped(answer, at) => Step::Leaf(FilterLeaf {
             answer: Some(answer),
             at,
         }),
@@ -100,7 +106,7 @@ fn step_by(
     decision: Decision,
     if_true: FilterNode,
     if_false: FilterNode,
-) -> Step<FilterNode, SideLeaf>
+) -> Step<FilterNode, FilterLeaf>
     ensures { IsStepOf decision if_true if_false result }
 {
     match decision {

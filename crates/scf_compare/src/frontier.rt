@@ -1,14 +1,15 @@
 //! The open branches of a walk.
 
-ghost use Rattle.std.specs.Prelude.{◌≡◌, ◌<◌, ◌↔◌, ◌⊎◌, [], ℕ, Option, List, IsTrue, OnOk, IfOk};
+ghost use Rattle.std.specs.Prelude.{◌≡◌, ◌<◌, ◌↔◌, ◌⊎◌, [], ℕ, Option, List, IsTrue, OnOk, IfOk, length};
 ghost use Rattle.scf_facts.specs.Levels.{IsSameLevel};
-ghost use Rattle.scf_compare.specs.internal.Leaves.{AreWordsIn, IsLeaf, WereSeen, pair_leaves};
-ghost use Rattle.scf_compare.specs.internal.Frontier.{GivesAnswer, LearnsExactly, IsFrontier};
-ghost use Rattle.scf_compare.specs.internal.Stages.{GoesOver, IsStageAfter};
+ghost use Rattle.scf_compare.specs.internal.Leaves.{AreWordsIn, IsLeaf, pair_leaves};
+ghost use Rattle.scf_compare.specs.internal.Frontier.{GivesAnswer, LearnsExactly, IsFrontier, IsWhole, StaysWhole};
+ghost use Rattle.scf_compare.specs.internal.Frontier.{first_open_after};
+ghost use Rattle.scf_compare.specs.internal.Stages.{FindsNothing, GoesOver, IsStageAfter, IsWholeStage};
 ghost use Rattle.scf_compare.specs.internal.Trees.{IsAsked, IsProper, IsStep};
 
 use crate::comparison::Comparison;
-use crate::finding::{Finding, Which};
+use crate::finding::Finding;
 use crate::step::Step;
 use scf_facts::{Atom, Tell, WordFacts};
 use scf_insn::Memory;
@@ -84,13 +85,17 @@ pub(crate) fn take_branch<C: Comparison, F: WordFacts>(
     known: &mut C::Known,
 ) -> Result<Stage<C::Node>, Memory>
     requires { IsFrontier F.WordFacts (C.tree comparison.now) (AreWordsIn (C.compared comparison.now)) frontier.old }
-    ensures { let compared = C.compared comparison.now in
+    ensures stage { let compared = C.compared comparison.now in
         let tree = C.tree comparison.now in
-        (before : C.Known) (from : C.Node) (found : Option (Which × ℕ))
-        → ((words : List ℕ) → F.allows frontier.old.facts (F.level frontier.old.facts) words
-        → (tree before).reaches from words → WereSeen compared found words)
+        (before : C.Known) (from : C.Node)
         → IfOk result (IsStageAfter F.WordFacts compared tree frontier.old frontier.new
-        (tree before) from (tree known.new) found) }
+        (tree before) from (tree known.new)
+        (λ words. F.allows frontier.old.facts (F.level frontier.old.facts) words × (tree before).reaches from words)) }
+    ensures whole { let tree = C.tree comparison.now in
+        (before : C.Known) (from : C.Node) (first_open : Option ℕ)
+        → IsWhole F.WordFacts tree frontier.old first_open ((tree before).reaches from)
+        → IfOk result (IsWholeStage F.WordFacts tree frontier.old frontier.new first_open (tree known.new)) }
+    ensures nothing { IfOk result FindsNothing }
 {
     let _ = comparison;
     let Some(branch) = frontier.branches.pop() else {
@@ -120,11 +125,20 @@ pub(crate) fn ask<C: Comparison, F: WordFacts>(
     ensures goes { let compared = C.compared comparison.now in
         let tree = C.tree comparison.now in
         let given = F.allows frontier.old.facts (F.level frontier.old.facts) in
-        (before : C.Known) (from : C.Node) (found : Option (Which × ℕ))
+        (before : C.Known) (from : C.Node)
         → let step = Step.Branch atom if_true if_false in
         IsStep (pair_leaves compared) given (tree before) from (tree known.now) step
         → IfOk result (GoesOver F.WordFacts compared tree frontier.old frontier.new
-        (tree before) from (tree known.now) found) }
+        (tree before) from (tree known.now) (λ words. ⊥)) }
+    ensures whole { let tree = C.tree comparison.now in
+        let given = F.allows frontier.old.facts (F.level frontier.old.facts) in
+        (before : C.Known) (from : C.Node) (first_open : Option ℕ)
+        → let step = Step.Branch atom if_true if_false in
+        IsStep (pair_leaves (C.compared comparison.now)) given (tree before) from (tree known.now) step
+        → IsWhole F.WordFacts tree frontier.old first_open ((tree before).reaches from)
+        → let after = first_open_after first_open atom (length frontier.old.branches.items) in
+        IfOk result (λ next.
+        StaysWhole F.WordFacts tree frontier.old frontier.new first_open after ((tree known.now).reaches next)) }
 {
     let _ = comparison;
     let question = atom;

@@ -57,10 +57,13 @@ mod fixed_bits;
 mod frontier;
 mod known_bits;
 mod laws;
+mod origin;
 mod pair;
 mod plain;
 mod profile;
 mod question;
+mod region;
+mod regions;
 mod registers;
 mod scope;
 mod settle;
@@ -82,7 +85,10 @@ pub use laws::{
     no_more_and_no_less_is_one_disposition, same_holds_by_all, same_is_no_more_and_no_less,
     sides_headline, splits_end,
 };
+pub use origin::Origin;
 pub use plain::is_plain;
+pub use region::Region;
+pub use regions::{Regions, regions_of};
 pub use scf_profile::{Relation, Scope};
 pub use side::Side;
 pub use tree_sizes::{effort, effort_sides, effort_stack};

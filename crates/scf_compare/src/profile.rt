@@ -18,13 +18,14 @@ ghost use Rattle.scf_compare.specs.internal.Trees.{IsStep};
 
 use crate::asking::{number_from, word_is};
 use crate::by_number::ByNumber;
+use crate::origin::Origin;
 use crate::question::{ConditionPart, Successor, question_of};
 use crate::side_tree::{SideLeaf, SideTree};
 use crate::sources::OpenTest;
 use crate::step::Step;
 use scf_facts::{Tell, WordFacts};
 use scf_insn::{Answer, CallRecord};
-use scf_profile::{FOREIGN_ANSWER, Rule};
+use scf_profile::{FOREIGN_ANSWER, Reason, Rule};
 
 /// Where a condition stands, by indices.
 #[derive(Clone, Copy)]
@@ -50,8 +51,18 @@ pub(crate) enum ProfileNode {
     Number(usize),
     /// Does this part of a condition hold?
     Condition(ConditionPosition, ConditionPart),
-    /// The profile's answer.
-    Answer(Answer),
+    /// The profile's answer, and its reason.
+    Answer(Answer, Reason),
+}
+
+/// A leaf of a profile's tree.
+fn leaf_by(answer: Answer, reason: Reason) -> SideLeaf
+    ensures { result ≡ record { answer = Some answer; origin = Origin.Profile reason } }
+{
+    SideLeaf {
+        answer: Some(answer),
+        origin: Origin::Profile(reason),
+    }
 }
 
 impl SideTree for ByNumber<'_> {
@@ -113,21 +124,21 @@ impl ByNumber<'_> {
             ProfileNode::Architecture => Step::Branch(
                 Some(word_is(1, architecture.audit())),
                 self.at_first(),
-                ProfileNode::Answer(FOREIGN_ANSWER),
+                ProfileNode::Answer(FOREIGN_ANSWER, Reason::Foreign),
             ),
             ProfileNode::First => Step::Branch(
                 Some(number_from(architecture.first())),
                 self.at_last(),
-                ProfileNode::Answer(FOREIGN_ANSWER),
+                ProfileNode::Answer(FOREIGN_ANSWER, Reason::Foreign),
             ),
             ProfileNode::Last => Step::Branch(
                 Some(number_from(architecture.last() + 1)),
-                ProfileNode::Answer(FOREIGN_ANSWER),
+                ProfileNode::Answer(FOREIGN_ANSWER, Reason::Foreign),
                 ProfileNode::Number(0),
             ),
             ProfileNode::Number(index) => self.ask_number(facts, index),
             ProfileNode::Condition(at, part) => self.ask_condition(at, part),
-            ProfileNode::Answer(answer) => Step::Leaf(SideLeaf::of_no_filter(answer)),
+            ProfileNode::Answer(answer, reason) => Step::Leaf(leaf_by(answer, reason)),
         }
     }
 
@@ -172,11 +183,11 @@ impl ByNumber<'_> {
         let numbers = self.numbers();
         let from = self.first_possible(facts, index);
         if from >= numbers.len() {
-            return Step::Leaf(SideLeaf::of_no_filter(default_answer));
+            return Step::Leaf(leaf_by(default_answer, Reason::Default));
         }
         let own = &numbers[from];
         match facts.tell(number_from(own.number)) {
-            Tell::Never => Step::Leaf(SideLeaf::of_no_filter(default_answer)),
+            Tell::Never => Step::Leaf(leaf_by(default_answer, Reason::Default)),
             Tell::Always | Tell::Maybe => Step::Branch(
                 Some(word_is(0, own.number)),
                 self.next_rule(from, 0),
@@ -255,7 +266,7 @@ impl ByNumber<'_> {
                 condition: 0,
             })
         } else {
-            ProfileNode::Answer(self.profile().default_answer())
+            ProfileNode::Answer(self.profile().default_answer(), Reason::Default)
         }
     }
 
@@ -275,7 +286,7 @@ impl ByNumber<'_> {
         if at.condition < rule.conditions.as_slice().len() {
             ProfileNode::Condition(at, ConditionPart::High)
         } else {
-            ProfileNode::Answer(rule.answer)
+            ProfileNode::Answer(rule.answer, Reason::Entry(rule.entry))
         }
     }
 

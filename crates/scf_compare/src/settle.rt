@@ -6,7 +6,7 @@ ghost use Rattle.scf_compare.specs.internal.Budgets.{LeavesSteps};
 ghost use Rattle.scf_compare.specs.internal.FixedBits.{AreWhole, HaveBits, IsOpenBit};
 ghost use Rattle.scf_compare.specs.Splits.{open_bits};
 ghost use Rattle.scf_compare.specs.internal.Frontier.{IsFrontier};
-ghost use Rattle.scf_compare.specs.internal.Leaves.{AreWordsIn};
+ghost use Rattle.scf_compare.specs.internal.Leaves.{AreWordsIn, WereSeen};
 ghost use Rattle.scf_compare.specs.internal.Settling.{
   IsSettled,
   IsTurn,
@@ -66,7 +66,8 @@ fn restart<C: Comparison, F: WordFacts>(
     ensures stage { let own = settling.now in
         let trees = settling_trees (C.tree own.comparison.now) own.start own.root in
         (before : C.Known) → IfOk result (λ stage. IfSome stage (IsStageAfter F.WordFacts
-        (C.compared own.comparison.now) trees frontier.old frontier.new (trees before) from (trees known.new) None)) }
+        (C.compared own.comparison.now) trees frontier.old frontier.new (trees before) from (trees known.new)
+        (WereSeen (C.compared own.comparison.now) None))) }
     ensures splits { IfOk result (λ stage. IsTurn from stage budget.old.splits budget.new.splits) }
     ensures steps { budget.new.steps ≡ budget.old.steps }
 {
@@ -110,7 +111,8 @@ fn advance_again<C: Comparison, F: WordFacts>(
     ensures stage { let own = settling.now in
         let trees = settling_trees (C.tree own.comparison.now) own.start own.root in
         IfOk result (λ stage. IfSome stage (IsStageAfter F.WordFacts (C.compared own.comparison.now) trees
-        frontier.old frontier.new (trees known.old) node (trees known.new) None)) }
+        frontier.old frontier.new (trees known.old) node (trees known.new)
+        (WereSeen (C.compared own.comparison.now) None))) }
     ensures splits { IfOk result (λ stage. IsTurn node stage budget.old.splits budget.new.splits) }
     ensures steps { budget.new.steps ≡ budget.old.steps }
 {

@@ -1,33 +1,22 @@
 //! A side of a comparison as a tree of questions about the words of a call record.
 
-ghost use Rattle.std.specs.Prelude.{◌≡◌, ◌<◌, ℕ, List, Some};
+ghost use Rattle.std.specs.Prelude.{◌≡◌, ◌<◌, ℕ, List};
 ghost use Rattle.scf_insn.specs.Words.{words_of, IsWords};
 ghost use Rattle.scf_compare.specs.Sides.{Behavior};
 ghost use Rattle.scf_compare.specs.internal.Leaves.{IsOnlyAnswer, side_leaves};
 ghost use Rattle.scf_compare.specs.internal.Trees.{Tree, IsStep};
 
+use crate::origin::Origin;
 use crate::sources::OpenTest;
 use crate::step::Step;
 use scf_facts::WordFacts;
 use scf_insn::{Answer, CallRecord};
 
-/// A leaf of a side's tree: its answer, if it is known, and the index of the instruction there, 0 in a profile.
+/// A leaf of a side's tree: its answer, if it is known, and where that comes from.
 #[derive(Clone, Copy)]
 pub(crate) struct SideLeaf {
     pub(crate) answer: Option<Answer>,
-    pub(crate) at: usize,
-}
-
-impl SideLeaf {
-    /// A leaf of a profile's tree, or of a stack without filters.
-    pub(crate) fn of_no_filter(answer: Answer) -> SideLeaf
-        ensures { result ≡ record { answer = Some answer; at = 0 } }
-    {
-        SideLeaf {
-            answer: Some(answer),
-            at: 0,
-        }
-    }
+    pub(crate) origin: Origin,
 }
 
 /// A side as a tree of questions.

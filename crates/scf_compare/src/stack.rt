@@ -1,17 +1,16 @@
 //! A stack of filters as a tree of questions: the filters are walked one after another, the oldest first.
 
-ghost use Rattle.std.specs.Prelude.{◌≡◌, ◌+◌, ◌<◌, ℕ, List, All, IfSome, length, take};
+ghost use Rattle.std.specs.Prelude.{◌≡◌, ◌+◌, ◌<◌, ℕ, List, All, IfSome, length};
 ghost use Rattle.scf_insn.specs.Words.{IsWords};
 ghost use Rattle.scf_insn.specs.declared.insn.Insn.{Insn};
-ghost use Rattle.scf_machine.specs.Machine.{RunAnswers};
-ghost use Rattle.scf_machine.specs.Precedence.{StackAnswers};
-ghost use Rattle.scf_compare.specs.Sides.{stack_behavior};
+ghost use Rattle.scf_compare.specs.Sides.{filter_at, stack_behavior};
 ghost use Rattle.scf_compare.specs.internal.Leaves.{KnowsAnswer, SideTells, side_leaves};
-ghost use Rattle.scf_compare.specs.internal.Stacks.{IsOlder, IsStackLeaf, OlderTells, filter_at};
+ghost use Rattle.scf_compare.specs.internal.Stacks.{FirstAnswer, IsOlder, IsStackLeaf, NextAnswers, OlderTells};
 ghost use Rattle.scf_compare.specs.internal.Stacks.{stack_is_node, stack_tree};
 ghost use Rattle.scf_compare.specs.internal.Trees.{IsStep};
 
 use crate::filter::{FilterNode, start_in_filter, step_in_filter};
+use crate::origin::Origin;
 use crate::registers::KnownRegisters;
 use crate::side_tree::{SideLeaf, SideTree};
 use crate::sources::OpenTest;
@@ -60,7 +59,13 @@ impl SideTree for StackSide<'_> {
         node: StackNode,
     ) -> Step<StackNode, SideLeaf> {
         match node {
-            Empty => Step::Leaf(SideLeaf::of_no_filter(Answer::new(Action::Allow, 0))),
+            Empty => Step::Leaf(SideLeaf {
+                answer: Some(Answer::new(Action::Allow, 0)),
+                origin: Origin::Filter {
+                    filter: 0,
+                    index: 0,
+                },
+            }),
             At(index, older, node) => step_from(self.filters, facts, known, index, older, node),
         }
     }
@@ -98,8 +103,8 @@ fn decided_at(older: Option<SideLeaf>, newest: SideLeaf) -> SideLeaf
     ensures known { IfSome older KnowsAnswer → KnowsAnswer newest → KnowsAnswer result }
     ensures decides { (filters : List (List Insn)) (index : ℕ) (words : List ℕ) → index < length filters
         → IsOlder filters index older → OlderTells filters index older words
-        → SideTells (RunAnswers (filter_at filters index)) newest words
-        → SideTells (StackAnswers (take (index + 1) filters)) result words }
+        → SideTells (NextAnswers filters index) newest words
+        → SideTells (FirstAnswer filters (index + 1)) result words }
 {
     let Some(older) = older else {
         return newest;
@@ -144,7 +149,14 @@ fn step_from<F: WordFacts>(
                 return Step::Branch(atom, At(index, older, if_true), At(index, older, if_false));
             }
             Step::Leaf(leaf) => {
-                let decided = decided_at(older, leaf);
+                let newest = SideLeaf {
+                    answer: leaf.answer,
+                    origin: Origin::Filter {
+                        filter: index,
+                        index: leaf.at,
+                    },
+                };
+                let decided = decided_at(older, newest);
                 index += 1;
                 if index == filters.len() {
                     return Step::Leaf(decided);

@@ -1,12 +1,12 @@
 -- A filter as a tree of questions.
-use Rattle.std.specs.Prelude.{◌≡◌, ◌<◌, ℕ, List, Option, None, Some, length, if◌then◌else◌}
+use Rattle.std.specs.Prelude.{◌≡◌, ◌<◌, ℕ, List, Option, None, Some, IfSome, IsSome, length, if◌then◌else◌}
 use Rattle.scf_insn.specs.declared.answer.Answer.{Answer}
 use Rattle.scf_insn.specs.declared.insn.Insn.{Insn}
 use Rattle.scf_insn.specs.declared.operation.Operation.{Operation}
 use Rattle.scf_machine.specs.Machine.{State, start, IsChain, RunAnswers}
 use Rattle.scf_machine.specs.Plain.{IsPlainProgram}
 use Rattle.scf_machine.specs.Rules.{Stands}
-use Rattle.scf_compare.specs.declared.side_tree.SideLeaf.{SideLeaf}
+use Rattle.scf_compare.specs.declared.filter.FilterLeaf.{FilterLeaf}
 use Rattle.scf_compare.specs.declared.filter.FilterNode.{FilterNode}
 use Rattle.scf_compare.specs.declared.filter.FilterNode.TheVariants.{At, Stopped}
 use Rattle.scf_compare.specs.declared.control_flow.ControlFlow.{ControlFlow}
@@ -18,7 +18,6 @@ use Rattle.scf_compare.specs.declared.value.Decision.{Decision}
 use Rattle.scf_compare.specs.declared.value.Decision.TheVariants.{Known as Decided, Asks, Open}
 use Rattle.scf_compare.specs.Paths.{tree_size}
 use Rattle.scf_compare.specs.internal.ControlFlow.{control_flow_at}
-use Rattle.scf_compare.specs.internal.Leaves.{filter_leaves}
 use Rattle.scf_compare.specs.internal.Trees.{Leaves, Tree}
 use Rattle.scf_compare.specs.internal.Values.{AreValues, IsPlainValue, Describes}
 
@@ -39,7 +38,7 @@ EndsWith (DivideByIndex next) i answer = answer ≡ Some (record { 0 = 0 })
 EndsWith _ i answer = ⊥
 
 -- A leaf of a filter, at the index where a run of it ends: only what is in the accumulator isn't known there.
-pub record IsFilterEnd (insns : List Insn) (leaf : SideLeaf) : Type 0 where
+pub record IsFilterEnd (insns : List Insn) (leaf : FilterLeaf) : Type 0 where
   pub insn : Insn
   pub operation : Operation
   pub stands : Stands insns leaf.at insn operation
@@ -71,11 +70,15 @@ filter_tree insns registers = record {
   is_plain = filter_is_plain insns registers;
 }
 
-abbrev pub leaves_of_filter : List Insn → Leaves SideLeaf
-leaves_of_filter insns = filter_leaves (IsFilterEnd insns) (RunAnswers insns)
+abbrev pub leaves_of_filter : List Insn → Leaves FilterLeaf
+leaves_of_filter insns = record {
+  is_leaf = IsFilterEnd insns;
+  tells = λ leaf words. IfSome leaf.answer (λ answer. RunAnswers insns words answer.0);
+  tells_all = λ leaf. IsSome leaf.answer;
+}
 
 -- the successors of a test
-abbrev pub IsStepOf : Decision → FilterNode → FilterNode → Step FilterNode SideLeaf → Type 0
+abbrev pub IsStepOf : Decision → FilterNode → FilterNode → Step FilterNode FilterLeaf → Type 0
 IsStepOf (Decided outcome) if_true if_false step = step ≡ Next (if outcome then if_true else if_false)
 IsStepOf (Asks atom holds) if_true if_false step =
     step ≡ (if holds then Branch (Some atom) if_true if_false else Branch (Some atom) if_false if_true)

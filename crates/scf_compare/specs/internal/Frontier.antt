@@ -1,5 +1,5 @@
 -- The open branches of a tree, and where the words are that are still to be seen.
-use Rattle.std.specs.Prelude.{◌≡◌, ◌≤◌, ◌⊎◌, ℕ, List, Bool, false, IsTrue, Option, Some, None, length, slice_get, sum_by}
+use Rattle.std.specs.Prelude.{◌≡◌, ◌<◌, ◌≤◌, ◌⊎◌, ℕ, List, Bool, false, true, IfSome, IsSome, IsTrue, Option, Some, None, if◌then◌else◌, length, nat_lt, slice_get, sum_by}
 use Rattle.scf_facts.specs.declared.word_facts.WordFacts.{Ghosts as Store}
 use Rattle.scf_facts.specs.declared.atom.Atom.{Atom}
 use Rattle.scf_facts.specs.Atoms.{atom_answer}
@@ -74,3 +74,46 @@ module _ {F K N : Type 0} (store : Store F) (tree : K → Tree N) where
     pub plain : is_plain
     pub reached : (words : List ℕ) → store.allows frontier.facts (store.level frontier.facts) words
         → comes_on words
+
+-- how many branches were open at the first test of a path that nothing decides, behind a branch on an atom, or on none
+abbrev pub first_open_after : Option ℕ → Option Atom → ℕ → Option ℕ
+first_open_after None None count = Some count
+first_open_after first_open atom count = first_open
+
+-- behind a branch that was taken, where so many others are still open
+abbrev pub first_open_left : Option ℕ → ℕ → Option ℕ
+first_open_left None count = None
+first_open_left (Some first) count = if nat_lt count first then None else Some first
+
+-- the branch at an index was opened where each test of its path was decided
+abbrev pub IsBefore : Option ℕ → ℕ → Type 0
+IsBefore first_open index = IfSome first_open (λ first. index < first)
+
+module _ {F K N : Type 0} (store : Store F) (tree : K → Tree N) where
+  -- Where each test of a path was decided, all words that are allowed come on: from here, and in each open branch those
+  -- that give its answer.
+  pub record IsWhole (frontier : Frontier F K N) (first_open : Option ℕ) (comes_on : List ℕ → Type 0) : Type 0 where
+    pub few : IfSome first_open (λ first. first ≤ length frontier.branches.items)
+    pub asked : (index : ℕ) (branch : OpenBranch K N) → slice_get frontier.branches.items index ≡ Some branch
+        → IsBefore first_open index → IsSome branch.asked
+    pub branches : (index : ℕ) (branch : OpenBranch K N) → slice_get frontier.branches.items index ≡ Some branch
+        → IsBefore first_open index → (words : List ℕ) → store.allows frontier.facts index words
+        → GivesAnswer branch.asked false words → (tree branch.known).reaches branch.node words
+    -- behind an open branch the other answer was learned
+    pub answered : (index : ℕ) (branch : OpenBranch K N) → slice_get frontier.branches.items index ≡ Some branch
+        → (level : ℕ) → index < level → level ≤ length frontier.branches.items
+        → (words : List ℕ) → store.allows frontier.facts level words → GivesAnswer branch.asked true words
+    pub here : first_open ≡ None → (words : List ℕ)
+        → store.allows frontier.facts (store.level frontier.facts) words → comes_on words
+
+  -- The words are allowed in an open branch, or here, and each test of the path to it was decided.
+  abbrev pub IsWhollyAhead : Frontier F K N → Option ℕ → List ℕ → Type 0
+  IsWhollyAhead frontier first_open words =
+      ((index : ℕ) × (branch : OpenBranch K N) × (slice_get frontier.branches.items index ≡ Some branch)
+      × IsBefore first_open index × store.allows frontier.facts index words × GivesAnswer branch.asked false words)
+      ⊎ ((first_open ≡ None) × store.allows frontier.facts (store.level frontier.facts) words)
+
+  -- All words still come on, and none are ahead that weren't.
+  abbrev pub StaysWhole : Frontier F K N → Frontier F K N → Option ℕ → Option ℕ → (List ℕ → Type 0) → Type 0
+  StaysWhole old new before after comes_on = IsWhole new after comes_on
+      × ((words : List ℕ) → IsWhollyAhead new after words → IsWhollyAhead old before words)

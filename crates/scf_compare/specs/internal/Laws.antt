@@ -10,7 +10,8 @@ use Rattle.scf_compare.specs.declared.pair.PairNode.TheVariants.{AtLeft, AtRight
 use Rattle.scf_compare.specs.declared.registers.KnownRegisters.{KnownRegisters}
 use Rattle.scf_compare.specs.declared.stack.StackNode.{StackNode}
 use Rattle.scf_compare.specs.declared.stack.StackNode.TheVariants.{Empty, At as InStack}
-use Rattle.scf_compare.specs.internal.Stacks.{filter_at, stack_tree}
+use Rattle.scf_compare.specs.Sides.{filter_at}
+use Rattle.scf_compare.specs.internal.Stacks.{stack_tree}
 use Rattle.scf_compare.specs.declared.profile.ProfileNode.{ProfileNode}
 use Rattle.scf_profile.specs.declared.rule.Rule.{Rule}
 use Rattle.scf_compare.specs.Effort.{spread, stack_paths}

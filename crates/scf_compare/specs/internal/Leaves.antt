@@ -6,18 +6,19 @@ use Rattle.scf_compare.specs.declared.finding.Finding.{Finding}
 use Rattle.scf_compare.specs.declared.finding.Finding.TheVariants.{Undecided}
 use Rattle.scf_compare.specs.declared.finding.Which.{Which}
 use Rattle.scf_compare.specs.declared.finding.Which.TheVariants.{Right}
+use Rattle.scf_compare.specs.declared.origin.Origin.{Origin}
 use Rattle.scf_compare.specs.declared.side_tree.SideLeaf.{SideLeaf}
 use Rattle.scf_compare.specs.Findings.{Compared, IsOpenEnd, WordsRelated}
-use Rattle.scf_compare.specs.Sides.{Behavior}
+use Rattle.scf_compare.specs.Sides.{AnswersFrom, Behavior, origin_index}
 use Rattle.scf_compare.specs.internal.Trees.{Leaves}
 
 -- the words of a call record of the scope
 abbrev pub AreWordsIn : Compared → List ℕ → Type 0
 AreWordsIn compared words = IsWords words × compared.in_scope (call_of words)
 
--- a leaf of a side's tree tells its answer to words, where it knows it
-abbrev pub SideTells : (List ℕ → ℕ → Type 0) → SideLeaf → List ℕ → Type 0
-SideTells answers leaf words = IfSome leaf.answer (λ answer. answers words answer.0)
+-- a leaf of a side's tree tells its answer to words, where it knows it, and its origin
+abbrev pub SideTells : (Origin → List ℕ → ℕ → Type 0) → SideLeaf → List ℕ → Type 0
+SideTells answers leaf words = IfSome leaf.answer (λ answer. answers leaf.origin words answer.0)
 
 -- a leaf of a side's tree knows its answer
 abbrev pub KnowsAnswer : SideLeaf → Type 0
@@ -25,19 +26,20 @@ KnowsAnswer leaf = IsSome leaf.answer
 
 -- a leaf is where the side ends, and may be open there if it doesn't know its answer
 abbrev pub IsSideLeaf : Behavior → SideLeaf → Type 0
-IsSideLeaf behavior leaf = behavior.ends_at leaf.at × IfNone leaf.answer (behavior.is_open_at leaf.at)
-
--- the leaves of trees of filters that answer so
-abbrev pub filter_leaves : (SideLeaf → Type 0) → (List ℕ → ℕ → Type 0) → Leaves SideLeaf
-filter_leaves is_leaf answers = record { is_leaf = is_leaf; tells = SideTells answers; tells_all = KnowsAnswer }
+IsSideLeaf behavior leaf =
+    let at = origin_index leaf.origin in behavior.ends_at at × IfNone leaf.answer (behavior.is_open_at at)
 
 -- the leaves of a side's tree
 abbrev pub side_leaves : Behavior → Leaves SideLeaf
-side_leaves behavior = filter_leaves (IsSideLeaf behavior) behavior.answers
+side_leaves behavior = record {
+  is_leaf = IsSideLeaf behavior;
+  tells = SideTells (AnswersFrom behavior);
+  tells_all = KnowsAnswer;
+}
 
 abbrev pub Tells : Compared → PairLeaf → List ℕ → Type 0
 Tells compared leaf words =
-    SideTells compared.left.answers leaf.left words × SideTells compared.right.answers leaf.right words
+    SideTells (AnswersFrom compared.left) leaf.left words × SideTells (AnswersFrom compared.right) leaf.right words
 
 abbrev pub IsLeaf : Compared → PairLeaf → Type 0
 IsLeaf compared leaf = IsSideLeaf compared.left leaf.left × IsSideLeaf compared.right leaf.right

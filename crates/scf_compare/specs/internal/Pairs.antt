@@ -5,6 +5,7 @@ use Rattle.scf_compare.specs.declared.pair.PairKnown.{PairKnown}
 use Rattle.scf_compare.specs.declared.pair.PairNode.{PairNode}
 use Rattle.scf_compare.specs.declared.pair.PairNode.TheVariants.{AtLeft, AtRight}
 use Rattle.scf_compare.specs.Findings.{Compared}
+use Rattle.scf_compare.specs.Sides.{AnswersFrom}
 use Rattle.scf_compare.specs.internal.Leaves.{IsSideLeaf, KnowsAnswer, SideTells}
 use Rattle.scf_compare.specs.internal.Trees.{Tree}
 
@@ -16,7 +17,7 @@ module _ {K M A B : Type 0} (compared : Compared) (left : K → Tree A) (right :
   abbrev pub pair_reaches : PairKnown K M → PairNode A B → List ℕ → Type 0
   pair_reaches known (AtLeft node) words = IsWords words × (left known.left).reaches node words
   pair_reaches known (AtRight leaf node) words =
-      IsWords words × SideTells compared.left.answers leaf words × (right known.right).reaches node words
+      IsWords words × SideTells (AnswersFrom compared.left) leaf words × (right known.right).reaches node words
 
   -- each leaf of the left tree has the whole right tree behind it
   abbrev pub pair_size : PairKnown K M → PairNode A B → ℕ

@@ -17,6 +17,7 @@ use Rattle.scf_compare.specs.declared.profile.ProfileNode.TheVariants.{Architect
 use Rattle.scf_compare.specs.declared.question.ConditionPart.{ConditionPart}
 use Rattle.scf_compare.specs.internal.Conditions.{IsAtTest, part_size}
 use Rattle.scf_compare.specs.Effort.{conditions_size, rules_size}
+use Rattle.scf_compare.specs.Sides.{HasReason}
 use Rattle.scf_compare.specs.internal.NumberedProfiles.{NumberedProfile}
 use Rattle.scf_compare.specs.internal.Trees.{Tree}
 
@@ -66,7 +67,7 @@ profile_is_node s First = Unit {0}
 profile_is_node s Last = (row_of s.profile.architecture).last < 2 ^ 32 - 1
 profile_is_node s (Number index) = Unit {0}
 profile_is_node s (OfCondition at part) = StandsAt s.numbers at
-profile_is_node s (Answers answer) = Unit {0}
+profile_is_node s (Answers answer reason) = Unit {0}
 
 abbrev pub profile_reaches : NumberedProfile → ProfileNode → List ℕ → Type 0
 profile_reaches s Architecture words = Unit {0}
@@ -77,7 +78,8 @@ profile_reaches s Last words =
 profile_reaches s (Number index) words =
     IsOf s.profile.architecture (call_of words) × IsFrom index s.numbers (call_of words)
 profile_reaches s (OfCondition at part) words = KnowsPart s at part (call_of words)
-profile_reaches s (Answers answer) words = ProfileAnswers s.profile (call_of words) answer.0
+profile_reaches s (Answers answer reason) words =
+    ProfileAnswers s.profile (call_of words) answer.0 × HasReason s.profile (call_of words) reason
 
 -- the size of what is asked once a rule failed
 abbrev pub size_behind : List NumberRules → ConditionPosition → ℕ
@@ -98,7 +100,7 @@ profile_size s First = 5 + numbers_size s.numbers
 profile_size s Last = 3 + numbers_size s.numbers
 profile_size s (Number index) = 1 + numbers_size (drop index s.numbers)
 profile_size s (OfCondition at part) = part_size part (size_of_rest s.numbers at) (size_behind s.numbers at)
-profile_size s (Answers answer) = 1
+profile_size s (Answers answer reason) = 1
 
 -- all of a plain profile's nodes are plain
 abbrev pub profile_tree : NumberedProfile → Tree ProfileNode

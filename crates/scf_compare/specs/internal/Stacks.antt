@@ -1,26 +1,43 @@
 -- A stack of filters as a tree of questions: the filters are asked one after another, the oldest first.
-use Rattle.std.specs.Prelude.{◌≡◌, ◌+◌, ◌*◌, ◌<◌, ℕ, List, [], ◌∷◌, Option, Some, None, All, Contains, IfSome, length, take, drop, slice_index_or}
+use Rattle.std.specs.Prelude.{◌≡◌, ◌+◌, ◌*◌, ◌<◌, ℕ, List, [], ◌∷◌, Option, Some, None, All, IfSome, length, take, drop}
+use Rattle.scf_insn.specs.declared.answer.Answer.{Answer}
 use Rattle.scf_insn.specs.declared.insn.Insn.{Insn}
 use Rattle.scf_insn.specs.Kernel.{seccomp_ret_allow}
+use Rattle.scf_machine.specs.Machine.{RunAnswers}
 use Rattle.scf_machine.specs.Plain.{IsPlainProgram}
 use Rattle.scf_machine.specs.Precedence.{StackAnswers}
+use Rattle.scf_compare.specs.declared.origin.Origin.{Origin}
+use Rattle.scf_compare.specs.declared.origin.Origin.TheVariants.{Filter, Profile as OfReason}
 use Rattle.scf_compare.specs.declared.side_tree.SideLeaf.{SideLeaf}
 use Rattle.scf_compare.specs.declared.registers.KnownRegisters.{KnownRegisters}
 use Rattle.scf_compare.specs.declared.stack.StackNode.{StackNode}
 use Rattle.scf_compare.specs.declared.stack.StackNode.TheVariants.{Empty, At}
 use Rattle.scf_compare.specs.Effort.{stack_paths}
+use Rattle.scf_compare.specs.Sides.{StackGives, filter_at}
 use Rattle.scf_compare.specs.internal.Leaves.{KnowsAnswer, SideTells}
 use Rattle.scf_compare.specs.internal.Filters.{IsFilterEnd, filter_is_node, filter_reaches, filter_size, filter_is_plain}
 use Rattle.scf_compare.specs.internal.Trees.{Tree}
 
--- the filter at an index of a stack
-abbrev pub filter_at : List (List Insn) → ℕ → List Insn
-filter_at filters index = slice_index_or filters index []
+-- an end of one of the filters
+abbrev pub IsEndAt : List (List Insn) → Origin → Option Answer → Type 0
+IsEndAt filters (Filter filter index) answer = (filter < length filters)
+    × IsFilterEnd (filter_at filters filter) (record { answer = answer; at = index })
+IsEndAt filters (OfReason reason) answer = ⊥
 
 -- An end of one of the filters, or of none, which allow.
 abbrev pub IsStackLeaf : List (List Insn) → SideLeaf → Type 0
-IsStackLeaf [] leaf = leaf ≡ record { answer = Some (record { 0 = seccomp_ret_allow }); at = 0 }
-IsStackLeaf (filter ∷ filters) leaf = (one : List Insn) × Contains (filter ∷ filters) one × IsFilterEnd one leaf
+IsStackLeaf [] leaf = leaf ≡ record { answer = Some (record { 0 = seccomp_ret_allow }); origin = Filter 0 0 }
+IsStackLeaf (oldest ∷ newer) leaf = IsEndAt (oldest ∷ newer) leaf.origin leaf.answer
+
+-- the filter at an index answers so, from this origin
+abbrev pub NextAnswers : List (List Insn) → ℕ → Origin → List ℕ → ℕ → Type 0
+NextAnswers filters index origin words answer =
+    RunAnswers (filter_at filters index) words answer × StackGives filters origin words answer
+
+-- so many filters, the oldest first, answer so, from this origin
+abbrev pub FirstAnswer : List (List Insn) → ℕ → Origin → List ℕ → ℕ → Type 0
+FirstAnswer filters count origin words answer =
+    StackAnswers (take count filters) words answer × StackGives filters origin words answer
 
 -- what the filters before an index decide, from the second one on
 abbrev pub IsOlder : List (List Insn) → ℕ → Option SideLeaf → Type 0
@@ -29,7 +46,7 @@ IsOlder filters index (Some leaf) = IsStackLeaf filters leaf
 
 -- what is known of what they decide is so
 abbrev pub OlderTells : List (List Insn) → ℕ → Option SideLeaf → List ℕ → Type 0
-OlderTells filters index older words = IfSome older (λ leaf. SideTells (StackAnswers (take index filters)) leaf words)
+OlderTells filters index older words = IfSome older (λ leaf. SideTells (FirstAnswer filters index) leaf words)
 
 abbrev pub stack_is_node : List (List Insn) → KnownRegisters → StackNode → Type 0
 stack_is_node filters registers Empty = filters ≡ []

@@ -1,5 +1,5 @@
 -- From one stage of an exploration to the next.
-use Rattle.std.specs.Prelude.{◌+◌, ◌≤◌, ◌⊎◌, ℕ, List, Option, Some, None}
+use Rattle.std.specs.Prelude.{◌≡◌, ◌+◌, ◌≤◌, ◌⊎◌, ℕ, List, Option, Some, None, length}
 use Rattle.scf_facts.specs.declared.word_facts.WordFacts.{Ghosts as Store}
 use Rattle.scf_compare.specs.declared.explore.Judged.{Judged}
 use Rattle.scf_compare.specs.declared.explore.Judged.TheVariants.{Related, Fails as ShownBy, Open}
@@ -10,8 +10,8 @@ use Rattle.scf_compare.specs.declared.finding.Finding.{Finding}
 use Rattle.scf_compare.specs.declared.finding.Finding.TheVariants.{Holds, Fails, Undecided}
 use Rattle.scf_compare.specs.declared.finding.Which.{Which}
 use Rattle.scf_compare.specs.Findings.{AllRelated, AreSteps, Compared, IsFindingDecided, IsFindingWithin, IsTrueFinding, WordsRelated}
-use Rattle.scf_compare.specs.internal.Leaves.{AreWordsIn, WereSeen}
-use Rattle.scf_compare.specs.internal.Frontier.{IsAhead, IsFrontier, IsExact, open_size}
+use Rattle.scf_compare.specs.internal.Leaves.{AreWordsIn}
+use Rattle.scf_compare.specs.internal.Frontier.{IsAhead, IsFrontier, IsExact, IsWhollyAhead, StaysWhole, first_open_left, open_size}
 use Rattle.scf_compare.specs.internal.Trees.{Tree}
 
 -- a difference that was found: it is true, and so the relation doesn't hold of all
@@ -47,14 +47,14 @@ IsJudged compared have_come Open = Unit {0}
 
 -- The tree at a node is the one for what is known there.
 module _ {F K N : Type 0} (store : Store F) (compared : Compared) (tree : K → Tree N) (old new : Frontier F K N)
-    (here : Tree N) (from : N) (there : Tree N) (found : Option (Which × ℕ)) where
-  -- A step goes from one node to another, and the first undecided leaf is known, if there was one: the words that were
-  -- ahead still are, or were seen; at least one step fewer is left; and what complete facts decide they still decide.
+    (here : Tree N) (from : N) (there : Tree N) (was_seen : List ℕ → Type 0) where
+  -- A step goes from one node to another: the words that were ahead still are, or were seen; at least one step fewer is
+  -- left; and what complete facts decide they still decide.
   pub record GoesOver (next : N) : Type 0 where
     pub frontier : IsFrontier store tree (AreWordsIn compared) new
     pub node : there.is_node next
     pub words : (words : List ℕ) → IsAhead store tree old (here.reaches from) words
-        → WereSeen compared found words ⊎ IsAhead store tree new (there.reaches next) words
+        → was_seen words ⊎ IsAhead store tree new (there.reaches next) words
     pub size : open_size tree new + there.size next + 1 ≤ open_size tree old + here.size from
     pub exact : IsExact store tree old (here.is_plain from) (here.reaches from)
         → IsExact store tree new (there.is_plain next) (there.reaches next)
@@ -63,5 +63,22 @@ module _ {F K N : Type 0} (store : Store F) (compared : Compared) (tree : K → 
   abbrev pub IsStageAfter : Stage N → Type 0
   IsStageAfter (At next) = GoesOver next
   IsStageAfter AllSeen =
-      (words : List ℕ) → IsAhead store tree old (here.reaches from) words → WereSeen compared found words
+      (words : List ℕ) → IsAhead store tree old (here.reaches from) words → was_seen words
   IsStageAfter (Found finding) = IsFound compared finding
+
+-- All words still come on from a stage that is at a node, and none that were allowed before are ahead.
+abbrev pub IsWholeStage : {F K N : Type 0} → Store F → (K → Tree N) → Frontier F K N → Frontier F K N → Option ℕ
+    → Tree N → Stage N → Type 0
+IsWholeStage store tree old new before there (At next) =
+    let after = first_open_left before (length new.branches.items) in
+    StaysWhole store tree old new before after (there.reaches next)
+    × (before ≡ None → (words : List ℕ) → store.allows old.facts (store.level old.facts) words
+    → IsWhollyAhead store tree new after words → ⊥)
+IsWholeStage store tree old new before there AllSeen = Unit {0}
+IsWholeStage store tree old new before there (Found finding) = Unit {0}
+
+-- a stage is at no finding
+abbrev pub FindsNothing : {N : Type 0} → Stage N → Type 0
+FindsNothing (At next) = Unit {0}
+FindsNothing AllSeen = Unit {0}
+FindsNothing (Found finding) = ⊥

@@ -10,6 +10,7 @@ use Rattle.scf_compare.specs.declared.settling.SettlingNode.{SettlingNode}
 use Rattle.scf_compare.specs.Findings.{Compared}
 use Rattle.scf_compare.specs.Splits.{open_bits}
 use Rattle.scf_compare.specs.internal.Budgets.{AreCounted}
+use Rattle.scf_compare.specs.internal.Leaves.{WereSeen}
 use Rattle.scf_compare.specs.internal.Settling.{settling_trees}
 use Rattle.scf_compare.specs.internal.Stages.{GoesOver}
 use Rattle.scf_compare.specs.internal.Trees.{Tree}
@@ -22,11 +23,13 @@ module _ {F K N : Type 0} (store : Store F) (compared : Compared) (tree : K → 
     Begun : Walk first start root 0 0 first start root
     Step : {steps splits : ℕ} {old new : Frontier F K (SettlingNode N)} {before after : K}
         {from next : SettlingNode N} → Walk first start root steps splits old before from
-        → GoesOver store compared tree old new (tree before) from (tree after) None next
+        → GoesOver store compared tree old new (tree before) from (tree after)
+        (WereSeen compared None) next
         → Walk first start root (steps + 1) splits new after next
     Split : {steps splits : ℕ} {old new : Frontier F K (SettlingNode N)} {before after : K}
         {from next : SettlingNode N} → Walk first start root steps splits old before from
-        → GoesOver store compared tree old new (tree before) from (tree after) None next
+        → GoesOver store compared tree old new (tree before) from (tree after)
+        (WereSeen compared None) next
         → open_bits next.fixed.words < open_bits from.fixed.words
         → Walk first start root (steps + 1) (splits + 1) new after next
 

@@ -1,5 +1,5 @@
 use Rattle.scf_compare.proofs.Common.{length, arith}
-use Rattle.scf_compare.proofs.Branches.{index_last, taken}
+use Rattle.scf_compare.proofs.Branches.{index_last, taken, taken_whole}
 use Rattle.scf_compare.proofs.frontier.take_branch.Goals as goal
 
 pub learn_answer-requires : goal.learn_answer-requires
@@ -7,8 +7,8 @@ learn_answer-requires g c =
     (c.requires.branches (length c.pop.new.self.items) c.in-Some.branch
     (rw c.in-Some.ensures.items (index_last c.pop.new.self.items c.in-Some.branch))).asks
 
-pub returns : goal.returns
-returns g c = λ before from found seen.
+pub returns-clause-stage : goal.returns-clause-stage
+returns-clause-stage g c = λ before from.
     let tree = g.C.Comparison.tree c.args.comparison.now in
     let closed = c.undo.ensures.closed in
     let undone = c.undo.ensures.law_undo in
@@ -22,4 +22,21 @@ returns g c = λ before from found seen.
       known = λ words. grind (arith, closed, undone, learned.marks, learned.learned words);
       exact = λ keeps was. grind (arith, closed, undone, learned.marks, learned.exact keeps);
     })
-    (tree before) from found seen (g.met.C.Comparison.counts c.args.comparison.now before from)
+    (tree before) from (g.met.C.Comparison.counts c.args.comparison.now before from)
+
+pub returns-clause-whole : goal.returns-clause-whole
+returns-clause-whole g c = λ before from.
+    let tree = g.C.Comparison.tree c.args.comparison.now in
+    let closed = c.undo.ensures.closed in
+    let undone = c.undo.ensures.law_undo in
+    let learned = c.in_ok-learn_answer.ensures in
+    taken_whole g.F.WordFacts (g.C.Comparison.compared c.args.comparison.now) tree c.args.frontier.now
+    (record { facts = c.learn_answer.new.facts; branches = c.pop.new.self }) c.in-Some.branch c.requires
+    (record {
+      branches = c.in-Some.ensures.items;
+      marks = omega (arith, closed, learned.marks);
+      levels = λ index below. grind (arith, closed, undone index, learned.at_marks index);
+      known = λ words. grind (arith, closed, undone, learned.marks, learned.learned words);
+      exact = λ keeps was. grind (arith, closed, undone, learned.marks, learned.exact keeps);
+    })
+    (tree before) from

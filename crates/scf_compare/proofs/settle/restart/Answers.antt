@@ -1,4 +1,5 @@
-use Rattle.scf_compare.proofs.Common.{None, arith, rules}
+use Rattle.scf_compare.proofs.Common.{arith, rules}
+use Rattle.scf_compare.proofs.Branches.{weaken}
 use Rattle.scf_compare.proofs.Weights.{two_walks, weighs_less}
 use Rattle.scf_compare.specs.Splits.{open_bits}
 use Rattle.scf_compare.proofs.settle.restart.Goals as goal
@@ -9,7 +10,7 @@ returns-clause-stage g c = λ before.
     let tree = g.C.Comparison.tree own.comparison.now in
     let effort = (tree own.start).size own.root in
     let counts = g.met.C.Comparison.counts own.comparison.now before c.args.from.node in
-    c.in_ok-half.ensures.goes before c.args.from None (record {
+    weaken (λ words none. absurd none) (c.in_ok-half.ensures.goes before c.args.from (record {
       proper = search rules;
       leads = λ words allowed on.
           let within =
@@ -25,4 +26,4 @@ returns-clause-stage g c = λ before.
             c.requires.less counts,
       );
       plain = λ plain. absurd plain;
-    })
+    }))

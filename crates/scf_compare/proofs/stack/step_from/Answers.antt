@@ -1,6 +1,6 @@
 -- The steps of the filter that is asked are steps of the stack, and at its leaves the next one begins.
 use Rattle.scf_compare.proofs.Common.{[], ◌+◌, ◌*◌, ◌<◌, ◌≤◌, length, drop, arith, take_all, mul-le-mul_left, stack_paths, filter_size, paths_count, filter_at}
-use Rattle.scf_compare.proofs.Stacks.{is_stack_leaf, paths_from, side_leaf}
+use Rattle.scf_compare.proofs.Stacks.{is_stack_leaf, next_tells, paths_from, side_leaf}
 use Rattle.scf_compare.specs.internal.Laws.{scaled_counts}
 use Rattle.scf_compare.proofs.stack.step_from.Goals as goal
 
@@ -16,8 +16,10 @@ returns-then-index-filters g c =
       proper = side_leaf filters c.decided_at-decided.result (c.decided_at-decided.ensures.leaf filters index so_far.node.2
           (is_stack_leaf filters index c.in-Leaf.leaf so_far.node.0 step.proper));
       leads = λ words w r.
-          let decides = c.decided_at-decided.ensures.decides filters index words so_far.node.0 so_far.node.2 in
-          grind (arith, take_all (index + 1) filters past, decides, so_far.reaches words w r, step.leads words w);
+          let before = so_far.reaches words w r in
+          rw (take_all (index + 1) filters past)
+          at (c.decided_at-decided.ensures.decides filters index words so_far.node.0 so_far.node.2 before.0
+          (next_tells filters index c.in-Leaf.leaf words so_far.node.0 step.proper (step.leads words w before.1)));
       costs = omega (
         arith,
         scaled_counts (filter_size (filter_at filters index) c.loop-next.node) (stack_paths (drop (index + 1) filters))
@@ -47,8 +49,12 @@ loop-next-preserved g c =
             (is_stack_leaf filters index c.in-Leaf.leaf so_far.node.0 step.proper),
       );
       reaches = λ words w r.
-          let decides = c.decided_at-decided.ensures.decides filters index words so_far.node.0 so_far.node.2 in
-          grind (arith, decides, begun.reached words, so_far.reaches words w r, step.leads words w);
+          let before = so_far.reaches words w r in
+          (
+            c.decided_at-decided.ensures.decides filters index words so_far.node.0 so_far.node.2 before.0
+                (next_tells filters index c.in-Leaf.leaf words so_far.node.0 step.proper (step.leads words w before.1)),
+            begun.reached words,
+          );
       size = grind (arith, begun.size, paths_from filters (index + 1) inside, most, so_far.size);
       plain = λ plain.
           let before = so_far.plain plain in (

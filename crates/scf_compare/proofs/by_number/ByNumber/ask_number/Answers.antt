@@ -15,7 +15,7 @@ returns-in-Never g c =
     let own = c.index-numbers-from.result in
     let here = read_at _ s.numbers from own c.numbers-numbers.ensures.numbers c.if-from-numbers.false
     c.index-numbers-from.is in
-    rw c.of_no_filter-in-Never.ensures (record {
+    rw c.leaf_by-in-Never.ensures (record {
       proper = (refl, tt);
       leads = λ words given r. rw (c.default_answer-default_answer.ensures, c.profile.ensures)
           (of_no_number s (call_of words) numbered r.0

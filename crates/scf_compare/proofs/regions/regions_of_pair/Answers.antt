@@ -1,0 +1,66 @@
+use Rattle.scf_compare.proofs.Common.{◌≡◌, AreWordsIn, IsWords-words_of, None, arith, call_of-words_of, inl, inr, refl, words_of}
+use Rattle.scf_compare.specs.internal.Frontier.{IsWhole}
+use Rattle.scf_compare.proofs.regions.regions_of_pair.Goals as goal
+
+pub loop-steps-init : goal.loop-steps-init
+loop-steps-init g c = record {
+  frontier = grind (arith, c.requires.scope);
+  node = c.requires.node;
+  words = λ words within. grind (arith, c.requires.scope words, c.requires.reached words within);
+  whole = record {
+    few = tt;
+    asked = λ index branch stands before. absurd (search arith);
+    branches = λ index branch stands before words allowed given. absurd (search arith);
+    answered = λ index branch stands level below within words allowed. absurd (search arith);
+    here = λ is words allowed. grind (arith, c.requires.scope words, c.requires.reached words);
+  };
+  regions = grind arith;
+  size = grind arith;
+  decided = λ exact plain. (refl, grind arith, grind (arith, c.requires.scope, c.requires.reached));
+}
+
+pub returns-in-AllSeen-clause-regions : goal.returns-in-AllSeen-clause-regions
+returns-in-AllSeen-clause-regions g c =
+    let after = c.in_ok-next.ensures in
+    let seen = rw c.in-AllSeen.is at after.stage in
+    let regions = rw c.in-AllSeen.is at after.regions in
+    let counts = g.met.C.Comparison.counts c.args.comparison.now c.loop-steps.known c.loop-steps.node in
+    record {
+      covered = λ call is within.
+          let words = words_of call in
+          let in_scope : AreWordsIn (g.C.Comparison.compared c.args.comparison.now) words =
+          (IsWords-words_of call is, rw (call_of-words_of call is) within) in
+          elim (c.loop-steps.invariant.words words in_scope) [
+            | inl before ↦ after.kept words before
+            | inr ahead ↦ seen words ahead
+          ];
+      each = regions.0;
+      disjoint = regions.1;
+      within_limit = omega arith;
+      within_size = omega (arith, c.loop-steps.invariant.size, counts, c.requires.size);
+    }
+
+pub returns-in-AllSeen-clause-decided : goal.returns-in-AllSeen-clause-decided
+returns-in-AllSeen-clause-decided g c = λ exact plain.
+    let before = c.loop-steps.invariant.decided exact plain in
+    (c.in_ok-next.ensures.decided before.2 before.0).1 before.1
+
+pub loop-steps-preserved : goal.loop-steps-preserved
+loop-steps-preserved g c =
+    let after = c.in_ok-next.ensures in
+    let over = rw c.in-At.is at after.stage in
+    let regions = rw c.in-At.is at after.regions in
+    record {
+      frontier = over.frontier;
+      node = over.node;
+      words = λ words within. elim (c.loop-steps.invariant.words words within) [
+        | inl before ↦ inl (after.kept words before)
+        | inr ahead ↦ over.words words ahead
+      ];
+      whole = regions.1;
+      regions = regions.0;
+      size = omega (arith, c.loop-steps.invariant.size, over.size);
+      decided = λ exact plain.
+          let before = c.loop-steps.invariant.decided exact plain in
+          let now = after.decided before.2 before.0 in (now.0, now.1 before.1, over.exact before.2);
+    }

@@ -1,0 +1,48 @@
+-- From one region to the next.
+use Rattle.std.specs.Prelude.{◌≡◌, ◌≤◌, ◌<◌, ◌⊎◌, ◌++◌, ◌∷◌, ◌↔◌, [], ℕ, List, Option, None, Some, All, AllPairs, Bool, IfSome, IsSome, IsTrue, if◌then◌else◌, length, nat_lt, slice_get, true}
+use Rattle.scf_insn.specs.Words.{IsRecord, words_of}
+use Rattle.scf_facts.specs.declared.atom.Atom.{Atom}
+use Rattle.scf_facts.specs.declared.word_facts.WordFacts.{Ghosts as Store}
+use Rattle.scf_facts.specs.WordSets.{AllowsWords}
+use Rattle.scf_compare.specs.declared.frontier.Frontier.{Frontier}
+use Rattle.scf_compare.specs.declared.frontier.OpenBranch.{OpenBranch}
+use Rattle.scf_compare.specs.declared.frontier.Stage.{Stage}
+use Rattle.scf_compare.specs.declared.frontier.Stage.TheVariants.{At, AllSeen, Found}
+use Rattle.scf_compare.specs.declared.region.Region.{Region}
+use Rattle.scf_compare.specs.declared.side_tree.SideLeaf.{SideLeaf}
+use Rattle.scf_compare.specs.Findings.{Compared}
+use Rattle.scf_compare.specs.Regions.{AreDisjoint, IsRegion}
+use Rattle.scf_compare.specs.internal.Frontier.{IsWhole, IsWhollyAhead}
+use Rattle.scf_compare.specs.internal.Trees.{Tree}
+
+-- the region of a leaf, given the words that come to it and whether all that are allowed do
+pub record IsRegionOf (allowed : List ℕ → Type 0) (leaf : SideLeaf) (is_whole : Bool) (region : Region) : Type 0 where
+  pub words : (words : List ℕ) → AllowsWords region.words words ↔ allowed words
+  pub answer : region.answer ≡ leaf.answer
+  pub origin : region.origin ≡ leaf.origin
+  pub shown : IfSome region.example (λ call. IsRecord call × allowed (words_of call))
+  pub exact : IsTrue region.is_exact → IsTrue is_whole × IsSome region.example
+
+-- the region of a leaf was added to others, unless no words are allowed there
+abbrev pub IsAdded : (List ℕ → Type 0) → SideLeaf → Bool → List Region → List Region → Type 0
+IsAdded allowed leaf is_whole old new =
+    ((new ≡ old) × ((words : List ℕ) → allowed words → ⊥))
+    ⊎ ((region : Region) × IsRegionOf allowed leaf is_whole region × (new ≡ old ++ region ∷ []))
+
+-- Regions so far: each is one, exact ones don't overlap, and what is in these isn't ahead on a decided path.
+pub record AreRegionsSoFar {F K N : Type 0} (store : Store F) (compared : Compared) (tree : K → Tree N)
+    (frontier : Frontier F K N) (first_open : Option ℕ) (regions : List Region) : Type 0 where
+  pub each : All (IsRegion compared.left compared.in_scope) regions
+  pub disjoint : AllPairs AreDisjoint regions
+  pub left : All (λ region. IsTrue region.is_exact → (words : List ℕ) → AllowsWords region.words words
+      → IsWhollyAhead store tree frontier first_open words → ⊥) regions
+
+-- the regions of a stage
+abbrev pub AreRegionsAt : {F K N : Type 0} → Store F → Compared → (K → Tree N) → Frontier F K N → Option ℕ
+    → List Region → Tree N → Stage N → Type 0
+AreRegionsAt store compared tree frontier first_open regions there (At next) =
+    AreRegionsSoFar store compared tree frontier first_open regions
+    × IsWhole store tree frontier first_open (there.reaches next)
+AreRegionsAt store compared tree frontier first_open regions there AllSeen =
+    All (IsRegion compared.left compared.in_scope) regions × AllPairs AreDisjoint regions
+AreRegionsAt store compared tree frontier first_open regions there (Found finding) = ⊥

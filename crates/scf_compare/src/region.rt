@@ -1,0 +1,53 @@
+//! Regions: the records that come to one leaf of a side's tree.
+
+ghost use Rattle.std.specs.Prelude.{◌≡◌, ℕ, List, IfNone, IfOk, IfSome, IsTrue, true};
+ghost use Rattle.scf_compare.specs.internal.Regions.{IsRegionOf};
+
+use crate::origin::Origin;
+use crate::side_tree::SideLeaf;
+use scf_facts::{Snapshot, Snapshots};
+use scf_insn::{Answer, CallRecord, Memory};
+
+/// Records that come to one leaf of a side's tree.
+#[derive(Drop)]
+pub struct Region {
+    /// What is known of their words.
+    pub words: Snapshot,
+    /// One record with such words, if one is found.
+    pub example: Option<CallRecord>,
+    /// Their answer, if it is known.
+    pub answer: Option<Answer>,
+    /// Where the answer comes from; if it isn't known, where runs end.
+    pub origin: Origin,
+    /// Whether every record with such words comes to the leaf, and there is one. Otherwise a test on the path wasn't
+    /// decided: such a record may come to another leaf.
+    pub is_exact: bool,
+}
+
+/// The region of a leaf, for the words that a store allows there: none if the store knows that it allows none.
+/// `is_whole` says that all of these words come to the leaf.
+pub(crate) fn region_of<F: Snapshots>(
+    facts: &F,
+    leaf: SideLeaf,
+    is_whole: bool,
+) -> Result<Option<Region>, Memory>
+    ensures some { IfOk result (λ found. IfSome found (
+        IsRegionOf (F.allows facts.now (F.level facts.now)) leaf is_whole)) }
+    ensures none { IfOk result (λ found. IfNone found (
+        (words : List ℕ) → F.allows facts.now (F.level facts.now) words → ⊥)) }
+    ensures exact { IfOk result (λ found. IfSome found (λ region.
+        IsTrue (F.is_exact facts.now (F.level facts.now)) → IsTrue is_whole → IsTrue region.is_exact)) }
+{
+    let example = match facts.pick() {
+        Some(words) => Some(CallRecord::from_words(&words)),
+        None if facts.is_empty() => return Ok(None),
+        None => None,
+    };
+    Ok(Some(Region {
+        words: facts.snapshot()?,
+        example,
+        answer: leaf.answer,
+        origin: leaf.origin,
+        is_exact: is_whole && example.is_some(),
+    }))
+}

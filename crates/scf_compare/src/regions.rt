@@ -1,0 +1,224 @@
+//! What a side answers to the records of a scope, as regions of records.
+
+ghost use Rattle.std.specs.Prelude.{◌≡◌, ◌<◌, ◌↔◌, ℕ, List, All, AllPairs, None, IsTrue, IfOk, IfSome, IfNone, length};
+ghost use Rattle.std.specs.Prelude.{IsSome, OnOk};
+ghost use Rattle.scf_profile.specs.Scope.{IsInScope};
+ghost use Rattle.scf_compare.specs.Regions.{AreRegions, IsCovered, IsDecidedRegion};
+ghost use Rattle.scf_compare.specs.Sides.{IsPlainSide, behavior_of};
+ghost use Rattle.scf_compare.specs.internal.Leaves.{AreWordsIn};
+ghost use Rattle.scf_compare.specs.internal.Frontier.{IsExact, IsFrontier, IsWhole, first_open_after, first_open_left};
+ghost use Rattle.scf_compare.specs.internal.Regions.{AreRegionsAt, AreRegionsSoFar, IsAdded};
+ghost use Rattle.scf_compare.specs.internal.Stages.{FindsNothing, IsStageAfter};
+
+use crate::by_number::ByNumber;
+use crate::comparison::Comparison;
+use crate::frontier::{Frontier, Stage, ask, take_branch};
+use crate::pair::{Pair, PairKnown, PairNode};
+use crate::region::{Region, region_of};
+use crate::scope::facts_of;
+use crate::side::Side;
+use crate::side_tree::{SideLeaf, SideTree};
+use crate::stack::StackSide;
+use crate::step::Step;
+use scf_facts::{Atom, Snapshots};
+use scf_insn::Memory;
+use scf_profile::{Relation, Scope};
+use std::alloc::Global;
+
+/// Regions, in the order of the walk, and how many steps that took.
+#[derive(Drop)]
+pub struct Regions {
+    pub list: Vec<Region>,
+    pub steps: u64,
+}
+
+/// What a side answers to the records of a scope. Each of them lies in a region, and exact regions don't overlap. None
+/// if that takes more than `limit` steps; a walk takes at most as many as the side's size.
+///
+/// With a store that starts exact, a plain side has exact regions with known answers alone.
+pub fn regions_of<F: Snapshots>(
+    alloc: Global,
+    side: &Side<'_>,
+    scope: Scope,
+    limit: u64,
+) -> Result<Option<Regions>, Memory>
+    ensures regions { IfOk result (λ found. IfSome found
+        (AreRegions (behavior_of side.now) (IsInScope scope) limit)) }
+    ensures unfinished { IfOk result (λ found. IfNone found (limit < (behavior_of side.now).size)) }
+    ensures decided { IsTrue F.starts_exact → IsPlainSide side.now
+        → IfOk result (λ found. IfSome found (λ regions. All IsDecidedRegion regions.list.items)) }
+{
+    match *side {
+        Side::Stack(filters) => {
+            let tree = StackSide { filters };
+            regions_of_tree::<F, StackSide<'_>>(alloc, tree, scope, limit)
+        }
+        Side::Profile(profile) => {
+            let tree = ByNumber::new(profile);
+            regions_of_tree::<F, ByNumber<'_>>(alloc, tree, scope, limit)
+        }
+    }
+}
+
+/// The regions of a side. It is walked beside a stack without filters, whose tree is one leaf.
+fn regions_of_tree<F: Snapshots, L: SideTree + Drop>(
+    alloc: Global,
+    left: L,
+    over: Scope,
+    limit: u64,
+) -> Result<Option<Regions>, Memory>
+    ensures regions { IfOk result (λ found. IfSome found
+        (AreRegions (L.behavior left) (IsInScope over) limit)) }
+    ensures unfinished { IfOk result (λ found. IfNone found (limit < (L.behavior left).size)) }
+    ensures decided { IsTrue F.starts_exact → (L.behavior left).is_plain
+        → IfOk result (λ found. IfSome found (λ regions. All IsDecidedRegion regions.list.items)) }
+{
+    let right = StackSide { filters: &[] };
+    let pair = Pair {
+        left,
+        right,
+        over,
+        by: Relation::Same,
+    };
+    let facts: F = facts_of(alloc, over)?;
+    let (left_known, start) = pair.left.start();
+    let (right_known, _) = pair.right.start();
+    let known = PairKnown {
+        left: left_known,
+        right: right_known,
+    };
+    regions_of_pair(alloc, &pair, facts, known, PairNode::AtLeft(start), limit)
+}
+
+/// The regions of the left side, by a walk of the whole tree from a node.
+fn regions_of_pair<C: Comparison, F: Snapshots>(
+    alloc: Global,
+    comparison: &C,
+    facts: F,
+    start: C::Known,
+    root: C::Node,
+    limit: u64,
+) -> Result<Option<Regions>, Memory>
+    requires node { (C.tree comparison.now start).is_node root }
+    requires unmarked { F.level facts ≡ 0 }
+    requires scope { (words : List ℕ) → F.allows facts 0 words ↔ AreWordsIn (C.compared comparison.now) words }
+    requires reached { (words : List ℕ) → AreWordsIn (C.compared comparison.now) words
+        → (C.tree comparison.now start).reaches root words }
+    requires size { (C.tree comparison.now start).size root ≡ (C.compared comparison.now).left.size }
+    ensures regions { let compared = C.compared comparison.now in IfOk result (λ found. IfSome found
+        (AreRegions compared.left compared.in_scope limit)) }
+    ensures unfinished { IfOk result (λ found. IfNone found (limit < (C.compared comparison.now).left.size)) }
+    ensures decided { IsTrue (F.is_exact facts 0) → (C.tree comparison.now start).is_plain root
+        → IfOk result (λ found. IfSome found (λ regions. All IsDecidedRegion regions.list.items)) }
+{
+    let mut frontier = Frontier::new(alloc, facts);
+    let mut known = start;
+    let mut node = root;
+    let mut first_open = None;
+    let mut list = Vec::new(alloc);
+    for steps in 0..limit {
+        match region_step(
+            comparison,
+            &mut frontier,
+            &mut known,
+            node,
+            &mut first_open,
+            &mut list,
+        )? {
+            Stage::At(next) => node = next,
+            Stage::AllSeen => {
+                return Ok(Some(Regions {
+                    list,
+                    steps: steps + 1,
+                }));
+            }
+            Stage::Found(_) => return Ok(None),
+        }
+    }
+    Ok(None)
+}
+
+/// One step of the walk from a node. At a leaf its region is added, and the newest open branch is taken. `first_open`
+/// is how many branches were open at the first test of the path that nothing decides, if there was one.
+fn region_step<C: Comparison, F: Snapshots>(
+    comparison: &C,
+    frontier: &mut Frontier<F, C::Known, C::Node>,
+    known: &mut C::Known,
+    node: C::Node,
+    first_open: &mut Option<usize>,
+    regions: &mut Vec<Region>,
+) -> Result<Stage<C::Node>, Memory>
+    requires frontier { IsFrontier F.WordFacts (C.tree comparison.now)
+        (AreWordsIn (C.compared comparison.now)) frontier.old }
+    requires node { (C.tree comparison.now known.old).is_node node }
+    requires whole { IsWhole F.WordFacts (C.tree comparison.now) frontier.old first_open.old
+        ((C.tree comparison.now known.old).reaches node) }
+    requires regions { AreRegionsSoFar F.WordFacts (C.compared comparison.now) (C.tree comparison.now)
+        frontier.old first_open.old regions.old.items }
+    ensures stage { IfOk result (
+        IsStageAfter F.WordFacts (C.compared comparison.now) (C.tree comparison.now)
+        frontier.old frontier.new (C.tree comparison.now known.old) node (C.tree comparison.now known.new)
+        (IsCovered (C.compared comparison.now).left regions.new.items)) }
+    ensures kept { OnOk result ((words : List ℕ) → IsCovered (C.compared comparison.now).left regions.old.items words
+        → IsCovered (C.compared comparison.now).left regions.new.items words) }
+    ensures regions { IfOk result (AreRegionsAt F.WordFacts (C.compared comparison.now) (C.tree comparison.now)
+        frontier.new first_open.new regions.new.items (C.tree comparison.now known.new)) }
+    ensures decided { let here = C.tree comparison.now known.old in OnOk result (
+        IsExact F.WordFacts (C.tree comparison.now) frontier.old (here.is_plain node) (here.reaches node)
+        → first_open.old ≡ None → (first_open.new ≡ None)
+        × (All IsDecidedRegion regions.old.items → All IsDecidedRegion regions.new.items)) }
+    ensures nothing { IfOk result FindsNothing }
+{
+    match comparison.step(&frontier.facts, known, &node) {
+        Step::Next(next) => Ok(Stage::At(next)),
+        Step::Branch(atom, if_true, if_false) => {
+            note_branch(first_open, atom, frontier.branches.len());
+            let next = ask(comparison, frontier, known, atom, if_true, if_false)?;
+            Ok(Stage::At(next))
+        }
+        Step::Leaf(leaf) => {
+            add_region(&frontier.facts, leaf.left, first_open.is_none(), regions)?;
+            let stage = take_branch(comparison, frontier, known)?;
+            note_taken(first_open, frontier.branches.len());
+            Ok(stage)
+        }
+    }
+}
+
+/// Notes that a branch is opened, beside so many others.
+fn note_branch(first_open: &mut Option<usize>, atom: Option<Atom>, count: usize)
+    ensures { first_open.new ≡ first_open_after first_open.old atom count }
+{
+    if atom.is_none() {
+        *first_open = first_open.or(Some(count));
+    }
+}
+
+/// Notes that a branch was taken, and so many others are still open.
+fn note_taken(first_open: &mut Option<usize>, count: usize)
+    ensures { first_open.new ≡ first_open_left first_open.old count }
+{
+    if let Some(first) = *first_open {
+        if count < first {
+            *first_open = None;
+        }
+    }
+}
+
+/// Adds the region of a leaf, unless the store knows that it allows no words there.
+fn add_region<F: Snapshots>(
+    facts: &F,
+    leaf: SideLeaf,
+    is_whole: bool,
+    regions: &mut Vec<Region>,
+) -> Result<(), Memory>
+    ensures added { OnOk result (IsAdded (F.allows facts.now (F.level facts.now)) leaf is_whole
+        regions.old.items regions.new.items) }
+    ensures decided { OnOk result (IsTrue (F.is_exact facts.now (F.level facts.now)) → IsTrue is_whole → IsSome leaf.answer
+        → All IsDecidedRegion regions.old.items → All IsDecidedRegion regions.new.items) }
+{
+    if let Some(region) = region_of(facts, leaf, is_whole)? {
+        regions.push(region)?;
+    }
+    Ok(())
+}
