@@ -246,11 +246,10 @@ opened_whole {K = K} {N = N} store compared tree old new known atom if_true if_f
     let cases = λ (index : ℕ) (branch : OpenBranch K N) (stands : slice_get new.branches.items index ≡ Some branch).
     index_cases old.branches.items b index branch (rw h.branches at stands) in
     let comes = λ (is : first ≡ None) (asked : IsSome atom) (words : List ℕ)
-        (allowed : store.allows old.facts (store.level old.facts) words).
+    (allowed : store.allows old.facts (store.level old.facts) words).
     by_asked atom asked words _ _ (step.leads words allowed (whole.here is words allowed)) in
     let was = λ (index : ℕ) (within : index ≤ count) (words : List ℕ) (allowed : store.allows new.facts index words).
-    let lower : index ≤ store.level old.facts = omega (arith, f.marks) in ((h.levels index lower).0 words).0 allowed in
-    (
+    let lower : index ≤ store.level old.facts = omega (arith, f.marks) in ((h.levels index lower).0 words).0 allowed in (
       record {
         few = rw more (few_after first atom count whole.few);
         asked = λ index branch stands before. elim (cases index branch stands) [
@@ -378,8 +377,7 @@ taken_whole {K = K} {N = N} store compared tree old new b f h here from first wh
     × IsBefore first index × store.allows old.facts index words × GivesAnswer branch.asked false words =
     λ words ahead. elim ahead [
       | inl (index, branch, stands, decided, allowed, given) ↦
-          let lower = slice_get_within new.branches.items index branch stands in
-          (
+          let lower = slice_get_within new.branches.items index branch stands in (
             index,
             branch,
             before index branch stands,
@@ -389,8 +387,7 @@ taken_whole {K = K} {N = N} store compared tree old new b f h here from first wh
           )
       | inr now ↦
           let both = known_now words now.1 in (count, b, last, left_decided first count now.0, both.0, both.1)
-    ] in
-    (
+    ] in (
       (
         record {
           few = few_left first count;

@@ -23,8 +23,8 @@ abbrev pub EndsRegion : Behavior → Region → Type 0
 EndsRegion side region =
     let at = origin_index region.origin in side.ends_at at × IfNone region.answer (side.is_open_at at)
 
--- A region has only words of records of the scope, its example is one of these, and runs can end where it says. If it is
--- exact, it has an example, and all words in it are answered as it says.
+-- A region has only words of records of the scope, its example is one of these, and runs can end where it says. If it
+-- is exact, it has an example, and all words in it are answered as it says.
 pub record IsRegion (side : Behavior) (in_scope : CallRecord → Type 0) (region : Region) : Type 0 where
   pub within : (words : List ℕ) → AllowsWords region.words words → IsWords words × in_scope (call_of words)
   pub shown : IfSome region.example (λ call. IsRecord call × AllowsWords region.words (words_of call))

@@ -118,7 +118,7 @@ impl FixedBits {
     }
 
     /// The next bit to split on, if any isn't fixed: of those on which an open test depends, if there is one, then of
-    /// those of refuted masks, whose values a store may leave open, and then of all. Bits that the store knows are fixed
+    /// those of refuted masks, whose values a store may leave open, and then of all. Bits that a store knows are fixed
     /// on the way.
     pub(crate) fn next_bit<F: WordFacts>(
         &mut self,

@@ -257,7 +257,7 @@ fn quotient_bits(first: Bits, second: Bits) -> Bits
 }
 
 /// The known bits modulo 2^32 of a number `least..=greatest` that has the low bits of `least`, from bit 0 up to the
-/// first one that the mask lacks: these, and the leading bits that all such numbers have, unless only some of them wrap.
+/// first one that the mask lacks: these, and the leading bits that all such numbers have, unless only some wrap.
 #[tactic(auto, using(crate::proofs::KnownBits::bit_laws))]
 fn both_ends(mask: u32, least: u64, greatest: u64) -> Bits
     ensures within { bit_and result.value result.mask ≡ result.value }

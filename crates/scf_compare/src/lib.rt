@@ -36,6 +36,10 @@
 //! splits have fixed go along (`fixed_bits`); where all are, there is one record, and both sides answer it. So with
 //! enough splits (`budget`) every comparison ends with `Holds` or `Fails`, else with `Undecided`.
 //!
+//! Everything that one side answers is found by the same steps (`regions`): it is walked beside a stack without
+//! filters, whose tree is one leaf, and at each leaf what the store knows is kept as a region (`region`), with the
+//! answer, its origin (`origin`) and a record.
+//!
 //! A stack of filters is walked oldest first (`stack`). The proofs of the walk speak of trees (`comparison`), and
 //! neither of instructions nor of rules. `Verdict` is the finding on a filter, on the left, and a profile (`comparer`).
 #![tactic(auto)]

@@ -9,7 +9,7 @@ use crate::word_set::WordSet;
 use scf_insn::Memory;
 use std::marker::Model;
 
-/// What a store knew of each of the sixteen words of a call record at a moment, whatever it has learned or undone since.
+/// What a store knew of each of the sixteen words of a call record at a moment, whatever it learned or undid since.
 /// It shares its sets with the store, and copies none.
 #[derive(Drop)]
 pub struct Snapshot {

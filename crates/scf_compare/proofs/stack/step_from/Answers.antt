@@ -49,8 +49,7 @@ loop-next-preserved g c =
             (is_stack_leaf filters index c.in-Leaf.leaf so_far.node.0 step.proper),
       );
       reaches = λ words w r.
-          let before = so_far.reaches words w r in
-          (
+          let before = so_far.reaches words w r in (
             c.decided_at-decided.ensures.decides filters index words so_far.node.0 so_far.node.2 before.0
                 (next_tells filters index c.in-Leaf.leaf words so_far.node.0 step.proper (step.leads words w before.1)),
             begun.reached words,
