@@ -81,6 +81,7 @@ class Faults(Case):
         self.assertEqual(set(enums()) & set(SOURCES), set(SOURCES))
         printed["bundle", "Parts"] = []
         printed["command", "Flags"] = []
+        printed["command", "Range"] = []
         for source in ("compare", "command"):
             printed[source, "Memory"] = []
         for name in {*options("run"), *options("decide"), *options("compare")}:
@@ -176,6 +177,7 @@ class Faults(Case):
             (["run", "--a5", "18446744073709551616"], b"", "fault number a5"),
             (["compare", "--limit", "0x"], b"", "fault number limit"),
             (["compare", "--native", "--calls"], b"", "fault command Flags"),
+            (["compare", "--nr-from", "5", "--nr-to", "4"], b"", "fault command Range"),
         ]
         cases += [(["compare", "--beside"], part("beside", given), line.replace("fault filter", "fault beside", 1))
                   for _, given, line in cases if line.startswith("fault filter")]

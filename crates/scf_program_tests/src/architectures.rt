@@ -174,9 +174,9 @@ const ROWS: &[Row] = &[
             "4",
         ],
         tables: ALL_THREE,
-        begin: "same\n",
-        end: SAME,
-        status: 0,
+        begin: "fault command Range\n",
+        end: "",
+        status: 2,
     },
     // Flags that exclude each other.
     Row {

@@ -64,6 +64,7 @@ const REQUESTS: &[(RequestFault, &str)] = &[
         "the option a5 is no number in its range",
     ),
     (RequestFault::Flags, "two flags exclude each other"),
+    (RequestFault::Range, "no call has a number in the range"),
 ];
 
 #[test]

@@ -4,3 +4,4 @@ pub mod Common
 mod ContentLemmas
 mod HeaderLemmas
 mod OptionLemmas
+mod RecordLemmas

@@ -1,10 +1,18 @@
 -- What the program is asked for by its words.
 use Rattle.std.specs.Prelude.{◌≡◌, ℕ, true, false, List, [], ◌∷◌, ◌++◌, codes, map, Option, Some, None, Result, Ok, Err}
 use Rattle.clap.specs.Words.{Row}
+use Rattle.scf_insn.specs.Words.{IsRecord}
+use Rattle.scf_insn.specs.declared.architecture.Architecture.{Architecture}
+use Rattle.scf_insn.specs.declared.record.CallRecord.{CallRecord}
+use Rattle.scf_profile.specs.Scope.{IsInScope}
+use Rattle.scf_profile.specs.declared.scope.Scope.{Scope}
+use Rattle.scf_profile.specs.declared.scope.Scope.TheVariants as scopes
 use Rattle.scf_request.specs.declared.request_fault.RequestFault.{RequestFault}
-use Rattle.scf_request.specs.declared.request_fault.RequestFault.TheVariants.{Number, NoCommand, Flags}
+use Rattle.scf_request.specs.declared.request_fault.RequestFault.TheVariants.{Number, NoCommand, Flags, Range}
 use Rattle.scf_request.specs.declared.request.Request.{Request}
 use Rattle.scf_request.specs.declared.request.Request.TheVariants as requests
+use Rattle.scf_request.specs.declared.request.Scopes.{Scopes}
+use Rattle.scf_request.specs.declared.request.Scopes.TheVariants.{AtOnce, EachCall}
 use Rattle.scf_request.specs.Options.{AreExclusive, AsksToCompare, NumberOption, architectures_flag, beside_flag, call_options, comparison_options, first_wrong, flag_names, is_given, native_flag, number_in, numbers_of_comparison, numbers_of_record, path_flag, relation_flags, scope_flags}
 
 pub data Command : Type 0 where
@@ -65,19 +73,65 @@ HasFlags rows (requests.Trace call) = is_given rows path_flag ≡ true
 HasFlags rows request = Unit {0}
 
 -- A word and the values of options spell a request: they name its command, spell its numbers and give its flags.
-pub record IsRequest (asked : Option (List ℕ × List Row)) (request : Request) : Type 0 where
+pub record SpellRequest (asked : Option (List ℕ × List Row)) (request : Request) : Type 0 where
   pub rows : List Row
   pub command : asked ≡ Some (command_word (command_and_numbers request).0, rows)
   pub numbers : map Some (command_and_numbers request).1
       ≡ map (number_in rows) (options_of (command_and_numbers request).0)
   pub flags : HasFlags rows request
 
--- What a command's word and the values of its options ask for, or why they don't: the first option of the command
--- whose text is no number in its range; where there is none, flags of a comparison that exclude each other; no command.
+-- Some call record is one of these.
+pub record HasRecord (IsOne : CallRecord → Type 0) : Type 0 where
+  pub call : CallRecord
+  pub is_record : IsRecord call
+  pub is_one : IsOne call
+
+-- a range of numbers has a record; the other scopes that can be asked for always have one
+abbrev pub HasRecordIn : Scope → Type 0
+HasRecordIn (scopes.Numbers first last) = HasRecord (IsInScope (scopes.Numbers first last))
+HasRecordIn scope = Unit {0}
+
+-- a range of each architecture has a record of one of them
+abbrev pub HasRecordOfOne : Scope → Type 0
+HasRecordOfOne (scopes.Numbers first last) =
+    (architecture : Architecture) × HasRecord (IsInScope (scopes.NumbersOf architecture first last))
+HasRecordOfOne scope = Unit {0}
+
+-- of single calls that is for their table to say
+abbrev pub HaveRecord : (Scope → Type 0) → Scopes → Type 0
+HaveRecord HasRecordOf (AtOnce scope) = HasRecordOf scope
+HaveRecord HasRecordOf EachCall = Unit {0}
+
+-- A request for the answers to the records of a scope goes over one at least.
+abbrev pub GoesOverRecord : Request → Type 0
+GoesOverRecord (requests.Compare comparison) = HaveRecord HasRecordIn comparison.scopes
+GoesOverRecord (requests.CompareBeside comparison) = HaveRecord HasRecordIn comparison.scopes
+GoesOverRecord (requests.CompareArchitectures comparison) = HaveRecord HasRecordOfOne comparison.scopes
+GoesOverRecord request = Unit {0}
+
+-- what is asked for by a command's word and the values of its options
+pub record IsRequest (asked : Option (List ℕ × List Row)) (request : Request) : Type 0 where
+  pub spelled : SpellRequest asked request
+  pub has_record : GoesOverRecord request
+
+-- Flags of a command exclude each other.
+abbrev pub HasExclusive : Command → List Row → Type 0
+HasExclusive Compare rows = AreExclusive rows
+HasExclusive command rows = ⊥
+
+-- What a command's word and the values of its options spell, or why they spell nothing: the first option of the command
+-- whose text is no number in its range; where there is none, flags that exclude each other; no command.
+abbrev pub Spell : Option (List ℕ × List Row) → Result Request RequestFault → Type 0
+Spell asked (Ok request) = SpellRequest asked request
+Spell asked (Err (Number fault)) = (command : Command) × (rows : List Row)
+    × (asked ≡ Some (command_word command, rows)) × (first_wrong (options_of command) rows ≡ Some fault.name.now)
+Spell asked (Err Flags) = (command : Command) × (rows : List Row) × (asked ≡ Some (command_word command, rows))
+    × (first_wrong (options_of command) rows ≡ None) × HasExclusive command rows
+Spell asked (Err NoCommand) = (command : Command) (rows : List Row) → asked ≡ Some (command_word command, rows) → ⊥
+Spell asked (Err Range) = ⊥
+
+-- What they ask for, or why for nothing: the request that they spell goes over no record, or they spell none.
 abbrev pub AsksFor : Option (List ℕ × List Row) → Result Request RequestFault → Type 0
 AsksFor asked (Ok request) = IsRequest asked request
-AsksFor asked (Err (Number fault)) = (command : Command) × (rows : List Row)
-    × (asked ≡ Some (command_word command, rows)) × (first_wrong (options_of command) rows ≡ Some fault.name.now)
-AsksFor asked (Err Flags) = (rows : List Row) × (asked ≡ Some (command_word Compare, rows))
-    × (first_wrong (options_of Compare) rows ≡ None) × AreExclusive rows
-AsksFor asked (Err NoCommand) = (command : Command) (rows : List Row) → asked ≡ Some (command_word command, rows) → ⊥
+AsksFor asked (Err Range) = (request : Request) × SpellRequest asked request × (GoesOverRecord request → ⊥)
+AsksFor asked (Err fault) = Spell asked (Err fault)

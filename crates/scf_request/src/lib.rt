@@ -5,6 +5,7 @@ mod bundle;
 mod command_line;
 mod contents;
 mod options;
+mod records;
 mod request;
 mod request_fault;
 

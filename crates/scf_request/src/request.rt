@@ -12,12 +12,13 @@ ghost use Rattle.scf_request.specs.Options.{
   numbers_of_range,
   range_options,
 };
-ghost use Rattle.scf_request.specs.Requests.{AsksFor};
+ghost use Rattle.scf_request.specs.Requests.{AsksFor, GoesOverRecord, Spell};
 
 use crate::options::{
     ARCHITECTURES_FLAG, BESIDE_FLAG, NATIVE_FLAG, PATH_FLAG, RELATION_FLAGS, SCOPE_FLAGS,
     chosen_flag, comparison_numbers, has_range, is_given, record_of,
 };
+use crate::records::goes_over_record;
 use crate::request_fault::RequestFault;
 use clap::ArgMatches;
 use scf_insn::CallRecord;
@@ -103,7 +104,7 @@ fn comparison_of(options: &ArgMatches<'_>) -> Result<Comparison, RequestFault>
         ≡ map (number_in (rows_of (found_of options.now))) comparison_options) }
     ensures flags { IfOk result (AsksToCompare (rows_of (found_of options.now))) }
     ensures fault { IfErr result (λ fault.
-        AsksFor (Some (codes "compare", rows_of (found_of options.now))) (Err fault)) }
+        Spell (Some (codes "compare", rows_of (found_of options.now))) (Err fault)) }
 {
     let numbers = comparison_numbers(options)?;
     let scopes = selected_calls(options, numbers.first, numbers.last)?;
@@ -117,7 +118,7 @@ fn comparison_of(options: &ArgMatches<'_>) -> Result<Comparison, RequestFault>
 
 /// The request of `compare` with these options.
 fn compare_request(options: &ArgMatches<'_>) -> Result<Request, RequestFault>
-    ensures { AsksFor (Some (codes "compare", rows_of (found_of options.now))) result }
+    ensures { Spell (Some (codes "compare", rows_of (found_of options.now))) result }
 {
     let comparison = comparison_of(options)?;
     let has_beside = is_given(options, BESIDE_FLAG);
@@ -136,7 +137,7 @@ fn compare_request(options: &ArgMatches<'_>) -> Result<Request, RequestFault>
 
 /// The request of `ask` with these options.
 fn ask_request(options: &ArgMatches<'_>) -> Result<Request, RequestFault>
-    ensures { AsksFor (Some (codes "ask", rows_of (found_of options.now))) result }
+    ensures { Spell (Some (codes "ask", rows_of (found_of options.now))) result }
 {
     let call = record_of(options)?;
     if is_given(options, ARCHITECTURES_FLAG) {
@@ -148,7 +149,7 @@ fn ask_request(options: &ArgMatches<'_>) -> Result<Request, RequestFault>
 
 /// The request of `compile` with these options.
 fn compile_request(options: &ArgMatches<'_>) -> Request
-    ensures { AsksFor (Some (codes "compile", rows_of (found_of options.now))) (Ok result) }
+    ensures { Spell (Some (codes "compile", rows_of (found_of options.now))) (Ok result) }
 {
     if is_given(options, ARCHITECTURES_FLAG) {
         Request::CompileArchitectures
@@ -159,7 +160,7 @@ fn compile_request(options: &ArgMatches<'_>) -> Request
 
 /// The request of `run` with these options.
 fn run_request(options: &ArgMatches<'_>) -> Result<Request, RequestFault>
-    ensures { AsksFor (Some (codes "run", rows_of (found_of options.now))) result }
+    ensures { Spell (Some (codes "run", rows_of (found_of options.now))) result }
 {
     let call = record_of(options)?;
     if is_given(options, PATH_FLAG) {
@@ -171,7 +172,7 @@ fn run_request(options: &ArgMatches<'_>) -> Result<Request, RequestFault>
 
 /// The request of `decide` with these options.
 fn decide_request(options: &ArgMatches<'_>) -> Result<Request, RequestFault>
-    ensures { AsksFor (Some (codes "decide", rows_of (found_of options.now))) result }
+    ensures { Spell (Some (codes "decide", rows_of (found_of options.now))) result }
 {
     let call = record_of(options)?;
     Ok(Request::Decide(call))
@@ -179,7 +180,7 @@ fn decide_request(options: &ArgMatches<'_>) -> Result<Request, RequestFault>
 
 /// The request of the command with this name and these options.
 fn request_named(name: &str, options: &ArgMatches<'_>) -> Result<Request, RequestFault>
-    ensures { AsksFor (Some (name.now, rows_of (found_of options.now))) result }
+    ensures { Spell (Some (name.now, rows_of (found_of options.now))) result }
 {
     match name {
         "ask" => ask_request(options),
@@ -194,13 +195,32 @@ fn request_named(name: &str, options: &ArgMatches<'_>) -> Result<Request, Reques
     }
 }
 
-/// The request of parsed arguments. The error: no command, the first option whose text isn't a number in its range, or
-/// flags that exclude each other.
+/// The request, if it goes over a record at least, where it goes over records.
+fn over_record(request: Request) -> Result<Request, RequestFault>
+    ensures same { IfOk result (λ same. (same ≡ request) × GoesOverRecord request) }
+    ensures range { IfErr result (λ fault. (fault ≡ RequestFault.Range) × (GoesOverRecord request → ⊥)) }
+{
+    if goes_over_record(&request) {
+        Ok(request)
+    } else {
+        Err(RequestFault::Range)
+    }
+}
+
+/// What is asked for by the command with this name and these options.
+fn request_asked(name: &str, options: &ArgMatches<'_>) -> Result<Request, RequestFault>
+    ensures { AsksFor (Some (name.now, rows_of (found_of options.now))) result }
+{
+    over_record(request_named(name, options)?)
+}
+
+/// The request of parsed arguments. The error: no command, the first option whose text isn't a number in its range,
+/// flags that exclude each other, or a range of numbers that no call has.
 pub fn request_of(matches: &ArgMatches<'_>) -> Result<Request, RequestFault>
     ensures { AsksFor (subcommand_rows_of matches.now) result }
 {
     match matches.subcommand() {
-        Some((name, options)) => request_named(name, options),
+        Some((name, options)) => request_asked(name, options),
         None => Err(RequestFault::NoCommand),
     }
 }

@@ -18,6 +18,9 @@ pub enum RequestFault {
     /// Two given flags exclude each other.
     #[error("two flags exclude each other")]
     Flags,
+    /// No call record has a number in the range.
+    #[error("no call has a number in the range")]
+    Range,
 }
 
 impl From<NumberFault> for RequestFault {

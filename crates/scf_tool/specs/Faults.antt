@@ -139,6 +139,7 @@ abbrev pub request_kind : RequestFault → List ℕ × Kind
 request_kind requests.NoCommand = (codes "command", (CommandLine, codes "NoCommand", []))
 request_kind (requests.Number fault) = (codes "number", (CommandLine, fault.name.now, []))
 request_kind requests.Flags = (codes "command", (CommandLine, codes "Flags", []))
+request_kind requests.Range = (codes "command", (CommandLine, codes "Range", []))
 
 abbrev pub kind_of_fault : Fault → List ℕ × Kind
 kind_of_fault faults.CommandLine = (codes "command", (Failed, codes "Memory", []))

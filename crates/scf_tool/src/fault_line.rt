@@ -254,6 +254,7 @@ fn request_line(fault: RequestFault) -> FaultLine
         RequestFault::NoCommand => line("command", plain(CommandLine, "NoCommand")),
         RequestFault::Number(fault) => line("number", plain(CommandLine, fault.name)),
         RequestFault::Flags => line("command", plain(CommandLine, "Flags")),
+        RequestFault::Range => line("command", plain(CommandLine, "Range")),
     }
 }
 

@@ -1,0 +1,72 @@
+-- Scopes that have records.
+use Rattle.scf_request.proofs.Common.{◌≡◌, ℕ, ◌<◌, ◌≤◌, ◌^◌, true, List, [], ◌∷◌, refl, arith, Architecture, X8664, X86, X32, Aarch64, Arm, row_of}
+use Rattle.std.proofs.Common.{IsTrue, leb, min}
+use Rattle.std.proofs.lemmas.Bool.{leb-true, le-leb}
+use Rattle.scf_insn.proofs.Architectures.{reach}
+use Rattle.scf_insn.proofs.CallWords.{IsRecord-call_of}
+use Rattle.scf_insn.specs.Words.{IsRecord, IsWords, call_of}
+use Rattle.scf_profile.specs.Scope.{IsInScope}
+use Rattle.scf_profile.specs.declared.scope.Scope.TheVariants.{Numbers, NumbersOf}
+use Rattle.scf_request.specs.Requests.{HasRecord}
+
+-- the words of a record with this number and this architecture
+abbrev words_with : ℕ → ℕ → List ℕ
+words_with nr arch = nr ∷ arch ∷ 0 ∷ 0 ∷ 0 ∷ 0 ∷ 0 ∷ 0 ∷ 0 ∷ 0 ∷ 0 ∷ 0 ∷ 0 ∷ 0 ∷ 0 ∷ 0 ∷ []
+
+are_words : (nr arch : ℕ) → nr < 2 ^ 32 → arch < 2 ^ 32 → IsWords (words_with nr arch)
+are_words nr arch small_nr small_arch =
+    let zero_fits : 0 < 2 ^ 32 = omega arith in
+    let z = zero_fits in
+    record {
+      count = refl;
+      each = (small_nr, (small_arch, (z, (z, (z, (z, (z, (z, (z, (z, (z, (z, (z, (z, (z, (z, tt))))))))))))))));
+    }
+
+audit_fits : (a : Architecture) → (row_of a).audit < 2 ^ 32
+audit_fits X8664 = omega arith
+audit_fits X86 = omega arith
+audit_fits X32 = omega arith
+audit_fits Aarch64 = omega arith
+audit_fits Arm = omega arith
+
+-- an architecture's numbers that are in a range have records
+numbered : (a : Architecture) (first last nr : ℕ) → (row_of a).first ≤ nr → nr ≤ (row_of a).last
+    → first ≤ nr → nr ≤ last → HasRecord (IsInScope (NumbersOf a first last))
+numbered a first last nr from to above below =
+    let top = (reach a).small in
+    let small : nr < 2 ^ 32 = omega arith in
+    record {
+      call = call_of (words_with nr (row_of a).audit);
+      is_record = IsRecord-call_of (words_with nr (row_of a).audit)
+          (are_words nr (row_of a).audit small (audit_fits a));
+      is_one = (record { arch = refl; first = from; last = to }, above, below);
+    }
+
+-- a range and x86-64's numbers, which begin at 0, meet
+pub natives : (first last : ℕ)
+    → (IsTrue (leb first (min last (row_of X8664).last)) → HasRecord (IsInScope (Numbers first last)))
+    × (HasRecord (IsInScope (Numbers first last)) → IsTrue (leb first (min last (row_of X8664).last)))
+natives first last = (
+  λ is.
+      let order = leb-true first (min last (row_of X8664).last) is in
+      numbered X8664 first last first (omega arith) (omega arith) (omega arith) (omega arith),
+  λ has.
+      let to = has.is_one.0.last in
+      let above = has.is_one.1 in
+      let below = has.is_one.2 in
+      le-leb first (min last (row_of X8664).last) (omega arith),
+)
+
+-- every number is one of i386's
+pub of_any : (first last : ℕ) → last < 2 ^ 32
+    → (IsTrue (leb first last) → (a : Architecture) × HasRecord (IsInScope (NumbersOf a first last)))
+    × (((a : Architecture) × HasRecord (IsInScope (NumbersOf a first last))) → IsTrue (leb first last))
+of_any first last small = (
+  λ is.
+      let order = leb-true first last is in
+      (X86, numbered X86 first last first (omega arith) (omega arith) (omega arith) (omega arith)),
+  λ has.
+      let above = has.1.is_one.1 in
+      let below = has.1.is_one.2 in
+      le-leb first last (omega arith),
+)

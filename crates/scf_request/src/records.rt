@@ -1,0 +1,84 @@
+//! Whether a range of numbers has call records.
+
+ghost use Rattle.std.specs.Prelude.{◌↔◌, IsTrue};
+ghost use Rattle.scf_insn.specs.declared.architecture.Architecture.{Architecture};
+ghost use Rattle.scf_profile.specs.Scope.{IsInScope};
+ghost use Rattle.scf_request.specs.Requests.{
+  GoesOverRecord,
+  HasRecord,
+  HasRecordIn,
+  HasRecordOfOne,
+  HaveRecord,
+};
+
+use crate::request::{Request, Scopes};
+use scf_insn::Architecture;
+use scf_profile::Scope;
+
+/// Whether some record of x86-64's has a number from `first` to `last`.
+fn has_native(first: u32, last: u32) -> bool
+    ensures { IsTrue result ↔ HasRecord (IsInScope (Scope.Numbers first last)) }
+{
+    first <= last.min(Architecture::X8664.last())
+}
+
+/// Whether some record of an architecture has a number from `first` to `last`: every number is one of i386's.
+fn has_any(first: u32, last: u32) -> bool
+    ensures { IsTrue result ↔ ((architecture : Architecture)
+        × HasRecord (IsInScope (Scope.NumbersOf architecture first last))) }
+{
+    first <= last
+}
+
+/// Whether a scope has a record.
+fn has_record(scope: Scope) -> bool
+    ensures { IsTrue result ↔ HasRecordIn scope }
+{
+    match scope {
+        Scope::Numbers { first, last } => has_native(first, last),
+        _ => true,
+    }
+}
+
+/// Whether a scope has a record of an architecture, if a range is one of each.
+fn has_record_of_one(scope: Scope) -> bool
+    ensures { IsTrue result ↔ HasRecordOfOne scope }
+{
+    match scope {
+        Scope::Numbers { first, last } => has_any(first, last),
+        _ => true,
+    }
+}
+
+/// Whether the records that are compared are some.
+fn have_record(scopes: Scopes) -> bool
+    ensures { IsTrue result ↔ HaveRecord HasRecordIn scopes }
+{
+    match scopes {
+        Scopes::AtOnce(scope) => has_record(scope),
+        Scopes::EachCall => true,
+    }
+}
+
+/// Whether those of an architecture are some, if a range is one of each.
+fn have_record_of_one(scopes: Scopes) -> bool
+    ensures { IsTrue result ↔ HaveRecord HasRecordOfOne scopes }
+{
+    match scopes {
+        Scopes::AtOnce(scope) => has_record_of_one(scope),
+        Scopes::EachCall => true,
+    }
+}
+
+/// Whether a request for the answers to the records of a scope goes over one at least; true of any other request.
+pub(crate) fn goes_over_record(request: &Request) -> bool
+    ensures { IsTrue result ↔ GoesOverRecord request.now }
+{
+    match request {
+        Request::Compare(comparison) | Request::CompareBeside(comparison) => {
+            have_record(comparison.scopes)
+        }
+        Request::CompareArchitectures(comparison) => have_record_of_one(comparison.scopes),
+        _ => true,
+    }
+}
