@@ -82,7 +82,7 @@ class Faults(Case):
         printed["bundle", "Parts"] = []
         printed["command", "Flags"] = []
         printed["command", "Range"] = []
-        for source in ("compare", "command"):
+        for source in ("answers", "compare", "command"):
             printed[source, "Memory"] = []
         for name in {*options("run"), *options("decide"), *options("compare")}:
             printed["number", name] = []

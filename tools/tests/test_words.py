@@ -19,6 +19,7 @@ WORDS = (
      "  compile  Compiles a bundle of a profile and a table\n"
      "  compare  Compares a bundle of filters, a profile and a table\n"
      "  ask      Says what a profile answers to a call, and why, of a bundle with a table\n"
+     "  answers  Lists what filters, or a profile with a table, answer to every call, by regions of calls\n"
      "  help     Print this message or the help of the given subcommand(s)\n"
      "\n"
      "Options:\n"

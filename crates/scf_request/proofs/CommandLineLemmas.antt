@@ -1,5 +1,5 @@
 -- The command line, as its reader sees it.
-use Rattle.scf_request.proofs.Common.{◌≡◌, ◌&&◌, ◌∙◌, Bool, codes, true, false, not, List, [], ◌∷◌, ◌++◌, Option, Some, ◌<◌, append-nil, append_assoc, arith, get_or, length, map, option_map, refl, sym, ap, ap₂, and_parts, not-true, find, fold, is_some, option_map_or, built_fault, check_fault, defaults_fault, entered_fault, level_fault, settle_fault, turn_fault, walk_fault, Kinds, or_else, built, entered, inherited, built_leaf, label_of, marked_built, names_of, rows_at, with_leaf_noted, Rule, Walk, answers_to, finished, idle, nothing_held, settled, stop_after, walk, walk_from, walked, AddsSubcommand, App, Shape, app_of, is_simple_and_free, new_app, with_subcommand, Command, clap_on_literals, Asked, command_word, scf, scf_shape, shape_for, ReadsAsProgram, scf_with}
+use Rattle.scf_request.proofs.Common.{◌≡◌, ◌&&◌, ◌∙◌, Bool, codes, true, false, not, List, [], ◌∷◌, ◌++◌, Option, Some, ◌<◌, Answers, append-nil, append_assoc, arith, get_or, length, map, option_map, refl, sym, ap, ap₂, and_parts, not-true, find, fold, is_some, option_map_or, built_fault, check_fault, defaults_fault, entered_fault, level_fault, settle_fault, turn_fault, walk_fault, Kinds, or_else, built, entered, inherited, built_leaf, label_of, marked_built, names_of, rows_at, with_leaf_noted, Rule, Walk, answers_to, finished, idle, nothing_held, settled, stop_after, walk, walk_from, walked, AddsSubcommand, App, Shape, app_of, is_simple_and_free, new_app, with_subcommand, Command, clap_on_literals, Asked, command_word, scf, scf_shape, shape_for, ReadsAsProgram, scf_with}
 use Rattle.clap.specs.Walk.{Names, Text}
 
 third : (a b g rest : Bool) → (a && (not b && (not g && rest))) ≡ true → g ≡ false
@@ -97,15 +97,18 @@ leaf_of command = built_leaf (inherited (with_leaf_noted (marked_built scf_shape
 
 enters_scf : (command : Asked) → Enters (built scf) (command_word command) (leaf_of command)
 unfolding clap_on_literals
+enters_scf Answers = grind arith
 enters_scf command = grind arith
 
 enters_alone : (command : Asked) → Enters (built (scf_with command)) (command_word command) (leaf_of command)
 unfolding clap_on_literals
+enters_alone Answers = grind arith
 enters_alone command = grind arith
 
 with_is_free : (command : Asked) → is_simple_and_free (scf_with command) ≡ true
 unfolding clap_on_literals
-with_is_free command = grind arith
+with_is_free Answers = refl
+with_is_free command = refl
 
 -- words that begin with a command's come to the same by the definition that has that command alone
 pub reads_with : (command : Asked) (name : Text) (words : List Text)

@@ -31,7 +31,7 @@ pub use Rattle.scf_profile.proofs.Common.{All-contains, All-more, IfOk-weaker, e
 pub use Rattle.scf_request.specs.Bundle.{AreNoParts, HasHeader, IsBundlePart, IsHeader, IsPartFault, SpellsParts, architecture_of, content_of, contents_of, is_of, kind_word, profile_kinds, contents_of_tables}
 pub use Rattle.scf_request.specs.Options.{NumberOption, choice_in, first_wrong, chosen_of, is_given, number_by, number_in, one_of}
 pub use Rattle.scf_request.specs.Requests.{Command as Asked, command_word}
-pub use Rattle.scf_request.specs.Requests.Command.{Ask, Asm, Check, Compare, Compile, Decide, Dis, Run}
+pub use Rattle.scf_request.specs.Requests.Command.{Answers, Ask, Asm, Check, Compare, Compile, Decide, Dis, Run}
 pub use Rattle.scf_request.specs.CommandLine.{option_rule, scf, scf_shape, shape_for, shape_with}
 pub use Rattle.scf_request.specs.declared.bundle.BundleFault.{BundleFault}
 pub use Rattle.scf_request.specs.declared.bundle.BundleFault.TheVariants.{Header, Memory, Short}

@@ -60,7 +60,7 @@ both_absent None (Some b) none = absurd (cc)
 both_absent (Some a) b none = absurd (cc)
 
 -- the ends of all numbers, where none is given
-open_range : (rows : List Row) → has_range rows ≡ false
+pub open_range : (rows : List Row) → has_range rows ≡ false
     → map Some (0 ∷ (2 ^ 32 - 1) ∷ []) ≡ map (number_in rows) range_options
 open_range rows none =
     let both = both_absent (first_of (codes "nr-from") rows) (first_of (codes "nr-to") rows) none in

@@ -4,7 +4,7 @@ use Rattle.clap.specs.declared.builder.action.ArgAction.TheVariants.{SetTrue}
 use Rattle.clap.specs.Words.{App, Rule, Shape, new_app, new_rule}
 use Rattle.scf_request.specs.Options.{NumberOption}
 use Rattle.scf_request.specs.Requests.{Command, command_word, options_of, words_of_command}
-use Rattle.scf_request.specs.Requests.Command.{Ask, Asm, Check, Compare, Compile, Decide, Dis, Run}
+use Rattle.scf_request.specs.Requests.Command.{Answers, Ask, Asm, Check, Compare, Compile, Decide, Dis, Run}
 
 -- an option takes one value, behind its name and two dashes
 abbrev pub option_rule : NumberOption → Rule
@@ -28,4 +28,7 @@ abbrev pub scf_shape : Shape
 scf_shape = record (new_app (codes "scf")).top { is_leaf = false; has_version = true; subcommand_required = true }
 
 abbrev pub scf : App
-scf = record { top = scf_shape; subs = map shape_for (Check ∷ Run ∷ Decide ∷ Dis ∷ Asm ∷ Compile ∷ Compare ∷ Ask ∷ []) }
+scf = record {
+  top = scf_shape;
+  subs = map shape_for (Check ∷ Run ∷ Decide ∷ Dis ∷ Asm ∷ Compile ∷ Compare ∷ Ask ∷ Answers ∷ []);
+}

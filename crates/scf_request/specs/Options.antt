@@ -10,6 +10,7 @@ use Rattle.scf_profile.specs.declared.relation.Relation.{Relation}
 use Rattle.scf_profile.specs.declared.relation.Relation.TheVariants.{Same, NoMore, NoLess, SameDisposition}
 use Rattle.scf_request.specs.declared.options.NumberFault.{NumberFault}
 use Rattle.scf_request.specs.declared.request.Comparison.{Comparison}
+use Rattle.scf_request.specs.declared.request.Exploration.{Exploration}
 use Rattle.scf_request.specs.declared.request.Limits.{Limits}
 use Rattle.scf_request.specs.declared.request.Scopes.{Scopes}
 use Rattle.scf_profile.specs.declared.scope.Scope.{Scope}
@@ -84,6 +85,13 @@ numbers_of_range over = 0 ∷ (2 ^ 32 - 1) ∷ []
 abbrev pub numbers_of_comparison : Comparison → List ℕ
 numbers_of_comparison comparison = numbers_of_limits comparison.limits ++ numbers_of_range comparison.scopes
 
+-- the options of a walk over the records of a scope: its most steps, and the ends of a range
+abbrev pub exploration_options : List NumberOption
+exploration_options = long_option (codes "limit") 1000000 ∷ range_options
+
+abbrev pub numbers_of_exploration : Exploration → List ℕ
+numbers_of_exploration exploration = exploration.limit ∷ numbers_of_range (AtOnce exploration.scope)
+
 -- A flag is given where its name has the text `true`.
 abbrev pub is_given : List Row → List ℕ → Bool
 is_given rows name = option_map_or (λ text. bytes_eq text (codes "true")) (first_of name rows) false
@@ -152,6 +160,23 @@ AreExclusive rows =
     ⊎ ((has_range rows ≡ true) × (choice_in rows scope_flags ≡ Some EachCall))
     ⊎ ((is_given rows architectures_flag ≡ true)
     × ((is_given rows native_flag ≡ true) ⊎ (is_given rows beside_flag ≡ true)))
+
+-- A walk goes over these records: those of a range that is given, which stands with or without the flag of native
+-- calls, and without one those of that flag, or all.
+abbrev pub SelectsScope : List Row → Scope → Type 0
+SelectsScope rows (scopes.Numbers first last) = has_range rows ≡ true
+SelectsScope rows scopes.Native = (has_range rows ≡ false) × (is_given rows native_flag ≡ true)
+SelectsScope rows scopes.All = (has_range rows ≡ false) × (is_given rows native_flag ≡ false)
+SelectsScope rows scope = ⊥
+
+-- the flag by which a record of each region is shown
+abbrev pub examples_flag : List ℕ
+examples_flag = codes "examples"
+
+-- The options and flags ask for a walk over these records, with or without a record of each region.
+pub record AsksToExplore (rows : List Row) (exploration : Exploration) : Type 0 where
+  pub scope : SelectsScope rows exploration.scope
+  pub examples : is_given rows examples_flag ≡ exploration.has_examples
 
 -- the flag that has the path of a run shown
 abbrev pub path_flag : List ℕ

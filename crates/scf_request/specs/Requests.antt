@@ -13,13 +13,15 @@ use Rattle.scf_request.specs.declared.request.Request.{Request}
 use Rattle.scf_request.specs.declared.request.Request.TheVariants as requests
 use Rattle.scf_request.specs.declared.request.Scopes.{Scopes}
 use Rattle.scf_request.specs.declared.request.Scopes.TheVariants.{AtOnce, EachCall}
-use Rattle.scf_request.specs.Options.{AreExclusive, AsksToCompare, NumberOption, architectures_flag, beside_flag, call_options, comparison_options, first_wrong, flag_names, is_given, native_flag, number_in, numbers_of_comparison, numbers_of_record, path_flag, relation_flags, scope_flags}
+use Rattle.scf_request.specs.Options.{AreExclusive, AsksToCompare, AsksToExplore, NumberOption, architectures_flag, beside_flag, call_options, comparison_options, examples_flag, exploration_options, first_wrong, flag_names, is_given, native_flag, number_in, numbers_of_comparison, numbers_of_exploration, numbers_of_record, path_flag, relation_flags, scope_flags}
 
 pub data Command : Type 0 where
-  Ask Asm Check Compare Compile Decide Dis Run : Command
+  Answers Ask Asm Check Compare Compile Decide Dis Run : Command
 
 -- the words of each command: its own, those of its options, each with a number, and those of its flags
 abbrev pub words_of_command : Command → List ℕ × List NumberOption × List (List ℕ)
+words_of_command Answers =
+    (codes "answers", exploration_options, native_flag ∷ architectures_flag ∷ examples_flag ∷ [])
 words_of_command Ask = (codes "ask", call_options, architectures_flag ∷ [])
 words_of_command Asm = (codes "asm", [], [])
 words_of_command Check = (codes "check", [], [])
@@ -41,6 +43,8 @@ options_of command = (words_of_command command).1
 
 -- the command of a request, and the numbers of its options
 abbrev pub command_and_numbers : Request → Command × List ℕ
+command_and_numbers (requests.Answers exploration) = (Answers, numbers_of_exploration exploration)
+command_and_numbers (requests.AnswersOfArchitectures exploration) = (Answers, numbers_of_exploration exploration)
 command_and_numbers (requests.Ask call) = (Ask, numbers_of_record call)
 command_and_numbers (requests.AskArchitectures call) = (Ask, numbers_of_record call)
 command_and_numbers requests.Assemble = (Asm, [])
@@ -57,6 +61,10 @@ command_and_numbers (requests.Trace call) = (Run, numbers_of_record call)
 
 -- the flags of a request are given, and no other
 abbrev pub HasFlags : List Row → Request → Type 0
+HasFlags rows (requests.Answers exploration) =
+    AsksToExplore rows exploration × (is_given rows architectures_flag ≡ false)
+HasFlags rows (requests.AnswersOfArchitectures exploration) = AsksToExplore rows exploration
+    × (is_given rows native_flag ≡ false) × (is_given rows architectures_flag ≡ true)
 HasFlags rows (requests.Ask call) = is_given rows architectures_flag ≡ false
 HasFlags rows (requests.AskArchitectures call) = is_given rows architectures_flag ≡ true
 HasFlags rows (requests.Compare comparison) = AsksToCompare rows comparison × (is_given rows beside_flag ≡ false)
@@ -104,6 +112,8 @@ HaveRecord HasRecordOf EachCall = Unit {0}
 
 -- A request for the answers to the records of a scope goes over one at least.
 abbrev pub GoesOverRecord : Request → Type 0
+GoesOverRecord (requests.Answers exploration) = HasRecordIn exploration.scope
+GoesOverRecord (requests.AnswersOfArchitectures exploration) = HasRecordOfOne exploration.scope
 GoesOverRecord (requests.Compare comparison) = HaveRecord HasRecordIn comparison.scopes
 GoesOverRecord (requests.CompareBeside comparison) = HaveRecord HasRecordIn comparison.scopes
 GoesOverRecord (requests.CompareArchitectures comparison) = HaveRecord HasRecordOfOne comparison.scopes
@@ -114,8 +124,9 @@ pub record IsRequest (asked : Option (List ℕ × List Row)) (request : Request)
   pub spelled : SpellRequest asked request
   pub has_record : GoesOverRecord request
 
--- Flags of a command exclude each other.
+-- Flags of a command exclude each other: of a walk, that of native calls and that of architectures.
 abbrev pub HasExclusive : Command → List Row → Type 0
+HasExclusive Answers rows = (is_given rows native_flag ≡ true) × (is_given rows architectures_flag ≡ true)
 HasExclusive Compare rows = AreExclusive rows
 HasExclusive command rows = ⊥
 

@@ -3,12 +3,13 @@
 ghost use Rattle.std.specs.Prelude.{◌≡◌, [], codes, false, true, map, IfOk, IfSome};
 ghost use Rattle.clap.specs.Words.{App, FailsBy, Shape, app_of, fault_of, new_app, rule_of, subcommand_of, subcommand_rows_of, with_subcommand};
 ghost use Rattle.scf_request.specs.CommandLine.{flag_rule, option_rule, scf, shape_with};
-ghost use Rattle.scf_request.specs.Requests.Command.{Ask, Asm, Check, Compare, Compile, Decide, Dis, Run};
+ghost use Rattle.scf_request.specs.Requests.Command.{Answers, Ask, Asm, Check, Compare, Compile, Decide, Dis, Run};
 ghost use Rattle.scf_request.specs.internal.Parsing.{MakesNamed, ReadsAsProgram, definition_of, option_of, options_kept};
 
 use crate::options::{
-    ARCHITECTURES_FLAG, BESIDE_FLAG, CALLS_FLAG, DISPOSITION_FLAG, NATIVE_FLAG, NO_LESS_FLAG,
-    NO_MORE_FLAG, NumberOption, PATH_FLAG, call_options, comparison_options,
+    ARCHITECTURES_FLAG, BESIDE_FLAG, CALLS_FLAG, DISPOSITION_FLAG, EXAMPLES_FLAG, NATIVE_FLAG,
+    NO_LESS_FLAG, NO_MORE_FLAG, NumberOption, PATH_FLAG, call_options, comparison_options,
+    exploration_options,
 };
 use clap::{Arg, ArgAction, ArgMatches, Command, Error};
 use std::alloc::{AllocError, Global};
@@ -20,6 +21,9 @@ const VERSION: &str = "0.1.0";
 /// What the help says about the program.
 const ABOUT: &str =
     "Checks, runs, lists, assembles, compiles and compares seccomp filters for x86-64. Input comes on standard input.";
+
+/// The help of `--native`.
+const NATIVE_HELP: &str = "Only calls of x86-64 with numbers below 0x40000000";
 
 /// The help of `--architectures` beside a profile alone.
 const TABLES_HELP: &str =
@@ -120,7 +124,6 @@ fn define_compare<'a>(alloc: Global) -> Result<Command<'a>, AllocError>
     ensures { IfOk result (λ command. app_of command ≡ definition_of Compare) }
 {
     let about = "Compares a bundle of filters, a profile and a table";
-    let native = "Only calls of x86-64 with numbers below 0x40000000";
     let calls =
         "Each named call by itself, and a line for each that isn't the same; not with --native";
     let no_more = "Whether the filters are nowhere more permissive than the profile";
@@ -131,7 +134,7 @@ fn define_compare<'a>(alloc: Global) -> Result<Command<'a>, AllocError>
     let each =
         "Only calls of architectures with a table: parts `table`, `table-x86` ..; not with --native or --beside";
     command_with(alloc, "compare", about, &comparison_options())?
-        .arg(flag_argument(alloc, NATIVE_FLAG, native))?
+        .arg(flag_argument(alloc, NATIVE_FLAG, NATIVE_HELP))?
         .arg(flag_argument(alloc, CALLS_FLAG, calls))?
         .arg(flag_argument(alloc, NO_MORE_FLAG, no_more))?
         .arg(flag_argument(alloc, NO_LESS_FLAG, no_less))?
@@ -150,6 +153,21 @@ fn define_ask<'a>(alloc: Global) -> Result<Command<'a>, AllocError>
         ARCHITECTURES_FLAG,
         TABLES_HELP,
     ))
+}
+
+/// The command `answers`.
+fn define_answers<'a>(alloc: Global) -> Result<Command<'a>, AllocError>
+    ensures { IfOk result (λ command. app_of command ≡ definition_of Answers) }
+{
+    let about =
+        "Lists what filters, or a profile with a table, answer to every call, by regions of calls";
+    let each =
+        "Only calls of architectures with a table, of a profile: parts `table`, `table-x86` ..; not with --native";
+    let examples = "Also a call of each region";
+    command_with(alloc, "answers", about, &exploration_options())?
+        .arg(flag_argument(alloc, NATIVE_FLAG, NATIVE_HELP))?
+        .arg(flag_argument(alloc, ARCHITECTURES_FLAG, each))?
+        .arg(flag_argument(alloc, EXAMPLES_FLAG, examples))
 }
 
 /// The program without commands.
@@ -188,7 +206,8 @@ fn program<'a>(alloc: Global) -> Result<Command<'a>, AllocError>
     let program = with(program, define_asm(alloc));
     let program = with(program, define_compile(alloc));
     let program = with(program, define_compare(alloc));
-    with(program, define_ask(alloc))
+    let program = with(program, define_ask(alloc));
+    with(program, define_answers(alloc))
 }
 
 /// The command with this name.
@@ -196,6 +215,7 @@ fn command_named<'a>(alloc: Global, word: &str) -> Option<Result<Command<'a>, Al
     ensures { IfSome result (MakesNamed word.now) }
 {
     Some(match word {
+        "answers" => define_answers(alloc),
         "ask" => define_ask(alloc),
         "asm" => define_asm(alloc),
         "check" => define_check(alloc),

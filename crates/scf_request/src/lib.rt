@@ -13,5 +13,5 @@ pub use bundle::{BundleFault, Part, PartKind, split};
 pub use command_line::parse;
 pub use contents::{Contents, PartReader, TableReader};
 pub use options::{NumberFault, record_of};
-pub use request::{Comparison, Limits, Request, Scopes, request_of};
+pub use request::{Comparison, Exploration, Limits, Request, Scopes, request_of};
 pub use request_fault::RequestFault;

@@ -108,7 +108,22 @@ pub(crate) fn comparison_options() -> [NumberOption; 5]
     ]
 }
 
-/// The flag that limits a comparison to x86-64's own syscalls.
+/// The options of a walk over the records of a scope: its most steps, and the ends of a range of numbers.
+pub(crate) fn exploration_options() -> [NumberOption; 3]
+    ensures kept { options_kept result ≡ table.exploration_options }
+    ensures fair { AllByRecursion (λ o. o.default ≤ o.most) result }
+{
+    let limit = "The most steps [default: 1000000]";
+    let first = "Only calls of x86-64, or of each of --architectures, with at least this number";
+    let last = "Only calls of x86-64, or of each of --architectures, with at most this number";
+    [
+        long("limit", 1_000_000, limit),
+        word(FIRST_NUMBER, 0, first),
+        word(LAST_NUMBER, MAX_WORD, last),
+    ]
+}
+
+/// The flag that leaves out all but x86-64's own syscalls.
 pub(crate) const NATIVE_FLAG: &str = "native";
 
 /// The flag that compares each syscall of the table by itself.
@@ -128,6 +143,9 @@ pub(crate) const BESIDE_FLAG: &str = "beside";
 
 /// The flag by which a profile is taken for each architecture that has a table.
 pub(crate) const ARCHITECTURES_FLAG: &str = "architectures";
+
+/// The flag that shows a record of each region.
+pub(crate) const EXAMPLES_FLAG: &str = "examples";
 
 /// The flag that prints the path of a run.
 pub(crate) const PATH_FLAG: &str = "path";
@@ -271,6 +289,20 @@ pub(crate) fn comparison_numbers(matches: &ArgMatches<'_>) -> Result<ComparisonN
         first: first as u32,
         last: last as u32,
     })
+}
+
+/// The numbers of the options `limit`, `nr-from` and `nr-to`: a limit in steps, and the ends of a range, as
+/// `comparison_numbers` takes them.
+pub(crate) fn exploration_numbers(matches: &ArgMatches<'_>) -> Result<(u64, u32, u32), NumberFault>
+    ensures ok { IfOk result (λ n. map Some (n.0 ∷ n.1 ∷ n.2 ∷ [])
+        ≡ map (table.number_in (rows_of (found_of matches.now))) table.exploration_options) }
+    ensures err { IfErr result (λ fault.
+        table.first_wrong table.exploration_options (rows_of (found_of matches.now)) ≡ Some fault.name.now) }
+{
+    let mut numbers = [0; 3];
+    numbers_in(matches, &exploration_options(), &mut numbers)?;
+    let [limit, first, last] = numbers;
+    Ok((limit, first as u32, last as u32))
 }
 
 /// Whether an option has a text.

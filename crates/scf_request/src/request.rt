@@ -5,18 +5,24 @@ ghost use Rattle.clap.specs.Words.{found_of, rows_of, subcommand_rows_of};
 ghost use Rattle.scf_request.specs.Options.{
   AreExclusive,
   AsksToCompare,
+  AsksToExplore,
   SelectsCalls,
+  SelectsScope,
   comparison_options,
+  exploration_options,
+  first_wrong,
   number_in,
   numbers_of_comparison,
+  numbers_of_exploration,
   numbers_of_range,
   range_options,
 };
 ghost use Rattle.scf_request.specs.Requests.{AsksFor, GoesOverRecord, Spell};
 
 use crate::options::{
-    ARCHITECTURES_FLAG, BESIDE_FLAG, NATIVE_FLAG, PATH_FLAG, RELATION_FLAGS, SCOPE_FLAGS,
-    chosen_flag, comparison_numbers, has_range, is_given, record_of,
+    ARCHITECTURES_FLAG, BESIDE_FLAG, EXAMPLES_FLAG, NATIVE_FLAG, NumberFault, PATH_FLAG,
+    RELATION_FLAGS, SCOPE_FLAGS, chosen_flag, comparison_numbers, exploration_numbers, has_range,
+    is_given, record_of,
 };
 use crate::records::goes_over_record;
 use crate::request_fault::RequestFault;
@@ -52,9 +58,24 @@ pub struct Comparison {
     pub relation: Relation,
 }
 
+/// What a walk over the records of a scope is asked for.
+#[derive(Clone, Copy)]
+pub struct Exploration {
+    /// The most steps.
+    pub limit: u64,
+    pub scope: Scope,
+    /// Whether a record of each region is shown.
+    pub has_examples: bool,
+}
+
 /// A command with the values of its options.
 #[derive(Clone, Copy)]
 pub enum Request {
+    /// `answers`: list what filters or a profile answer to the records of a scope.
+    Answers(Exploration),
+    /// `answers --architectures`: list what a profile answers to the records of each architecture that has a table.
+    /// Never over `Native`; a range of numbers is one of each of them.
+    AnswersOfArchitectures(Exploration),
     Ask(CallRecord),
     /// `ask --architectures`: ask the profile of the call's architecture.
     AskArchitectures(CallRecord),
@@ -135,6 +156,56 @@ fn compare_request(options: &ArgMatches<'_>) -> Result<Request, RequestFault>
     }
 }
 
+/// The records that a walk goes over. If a range is given, its ends are these numbers.
+#[tactic(auto, using(std::proofs::lemmas::Grind::common_steps, crate::proofs::OptionLemmas::open_range))]
+fn selected_scope(options: &ArgMatches<'_>, first: u32, last: u32) -> Scope
+    ensures given { SelectsScope (rows_of (found_of options.now)) result }
+    ensures range { map Some (first ∷ last ∷ []) ≡ map (number_in (rows_of (found_of options.now))) range_options
+        → map Some (numbers_of_range (Scopes.AtOnce result))
+        ≡ map (number_in (rows_of (found_of options.now))) range_options }
+{
+    if has_range(options) {
+        return Scope::Numbers { first, last };
+    }
+    if is_given(options, NATIVE_FLAG) {
+        Scope::Native
+    } else {
+        Scope::All
+    }
+}
+
+/// The walk that these options ask for.
+fn exploration_of(options: &ArgMatches<'_>) -> Result<Exploration, NumberFault>
+    ensures numbers { IfOk result (λ asked. map Some (numbers_of_exploration asked)
+        ≡ map (number_in (rows_of (found_of options.now))) exploration_options) }
+    ensures flags { IfOk result (AsksToExplore (rows_of (found_of options.now))) }
+    ensures fault { IfErr result (λ fault.
+        first_wrong exploration_options (rows_of (found_of options.now)) ≡ Some fault.name.now) }
+{
+    let (limit, first, last) = exploration_numbers(options)?;
+    let scope = selected_scope(options, first, last);
+    let has_examples = is_given(options, EXAMPLES_FLAG);
+    Ok(Exploration {
+        limit,
+        scope,
+        has_examples,
+    })
+}
+
+/// The request of `answers` with these options.
+fn answers_request(options: &ArgMatches<'_>) -> Result<Request, RequestFault>
+    ensures { Spell (Some (codes "answers", rows_of (found_of options.now))) result }
+{
+    let exploration = exploration_of(options)?;
+    if !is_given(options, ARCHITECTURES_FLAG) {
+        return Ok(Request::Answers(exploration));
+    }
+    if is_given(options, NATIVE_FLAG) {
+        return Err(RequestFault::Flags);
+    }
+    Ok(Request::AnswersOfArchitectures(exploration))
+}
+
 /// The request of `ask` with these options.
 fn ask_request(options: &ArgMatches<'_>) -> Result<Request, RequestFault>
     ensures { Spell (Some (codes "ask", rows_of (found_of options.now))) result }
@@ -183,6 +254,7 @@ fn request_named(name: &str, options: &ArgMatches<'_>) -> Result<Request, Reques
     ensures { Spell (Some (name.now, rows_of (found_of options.now))) result }
 {
     match name {
+        "answers" => answers_request(options),
         "ask" => ask_request(options),
         "asm" => Ok(Request::Assemble),
         "check" => Ok(Request::Check),

@@ -2,6 +2,7 @@ mod ArchitectureLemmas
 mod BesideLemmas
 mod CallLemmas
 pub mod Common
+mod ExplorationLemmas
 mod FaultLemmas
 mod OneArchitecture
 mod InputLemmas

@@ -1,6 +1,6 @@
 -- What is true of standard input where a command ends with a reply or a fault. The bytes of the input count where its
 -- reader tells them.
-use Rattle.std.specs.Prelude.{◌≡◌, ◌≢◌, ◌<◌, ◌≤◌, ◌++◌, ℕ, Bool, true, false, List, [], ◌∷◌, length, map, All, Option, Some, Result, Ok, Err}
+use Rattle.std.specs.Prelude.{◌≡◌, ◌≢◌, ◌⊎◌, ◌<◌, ◌≤◌, ◌++◌, ℕ, Bool, true, false, List, [], ◌∷◌, length, map, All, Option, Some, Result, Ok, Err}
 use Rattle.std.specs.List.{AllZip}
 use Rattle.scf_insn.specs.declared.encoding.ReadFault.TheVariants as reads
 use Rattle.scf_insn.specs.declared.input.InputFault.{InputFault}
@@ -36,6 +36,10 @@ use Rattle.scf_profile.specs.declared.relation.Relation.{Relation}
 use Rattle.scf_tool.specs.declared.reply.Reply.{Reply}
 use Rattle.scf_tool.specs.declared.reply.Reply.TheVariants.{Accepted, Ran, Decided, Asked, Bytes, Compared}
 use Rattle.scf_request.specs.declared.request.Comparison.{Comparison}
+use Rattle.scf_request.specs.declared.request.Exploration.{Exploration}
+use Rattle.scf_compare.specs.Sides.{profile_behavior, stack_behavior}
+use Rattle.scf_tool.specs.ArchitectureScopes.{scope_of}
+use Rattle.scf_tool.specs.Explorations.{ExploresEach, ExploresSide, ListsWalks}
 use Rattle.scf_tool.specs.declared.findings.ComparisonOutcome.{ComparisonOutcome}
 use Rattle.scf_request.specs.declared.request.Request.{Request}
 use Rattle.scf_request.specs.declared.request.Request.TheVariants as requests
@@ -348,10 +352,51 @@ GivesReasonAmong call profile texts (Ok (Asked answer reason)) = (loaded : Loade
 GivesReasonAmong call profile texts (Err (faults.Verify fault)) = CantLoadEach profile texts fault
 GivesReasonAmong call profile texts ending = ⊥
 
+-- ---- answers by regions
+
+-- What filters come to: why they are no stack, or what that answers to the records of the scope. Memory may be wanting.
+abbrev pub ListsStack : Exploration → List (List ℕ) → Result Reply Fault → Type 0
+ListsStack exploration filters (Ok reply) = (stack : List (List Insn)) × HasStack (map Some filters) stack
+    × ListsWalks exploration (ExploresSide (stack_behavior stack) exploration.scope exploration.limit) reply
+ListsStack exploration filters (Err (faults.Verify fault)) = NoReadFailed fault × HasNoStack (map Some filters) fault
+ListsStack exploration filters (Err faults.Answers) = Unit {0}
+ListsStack exploration filters ending = ⊥
+
+-- what a profile and a table come to
+abbrev pub ListsProfile : Exploration → List ℕ → List ℕ → Result Reply Fault → Type 0
+ListsProfile exploration profile table (Ok reply) = (loaded : Loaded) × IsStated profile table loaded
+    × ListsWalks exploration (ExploresSide (profile_behavior loaded.profile) exploration.scope exploration.limit) reply
+ListsProfile exploration profile table (Err (faults.Verify fault)) = CantLoad profile table fault
+ListsProfile exploration profile table (Err faults.Answers) = Unit {0}
+ListsProfile exploration profile table ending = ⊥
+
+-- what a profile and the tables of several architectures come to
+abbrev pub ListsProfiles : Exploration → List ℕ → List (Architecture × List ℕ) → Result Reply Fault → Type 0
+ListsProfiles exploration profile texts (Ok reply) = (loaded : LoadedProfiles) × AreStated profile texts loaded
+    × ListsWalks exploration (ExploresEach (scope_of exploration.scope) loaded.profiles exploration.limit) reply
+ListsProfiles exploration profile texts (Err (faults.Verify fault)) = CantLoadEach profile texts fault
+ListsProfiles exploration profile texts (Err faults.Answers) = Unit {0}
+ListsProfiles exploration profile texts ending = ⊥
+
+-- filters alone, which may be none, or a profile and a table
+abbrev pub AreListedParts : ℕ → ℕ → ℕ → Type 0
+AreListedParts filters profiles tables =
+    ((profiles ≡ 0) × (tables ≡ 0)) ⊎ ((filters ≡ 0) × (profiles ≡ 1) × (tables ≡ 1))
+
+-- `answers`: what these, which are all that the bundle holds, answer to the records of the scope
+abbrev pub ListsAnswers : Exploration → Option (List ℕ) → Result Reply Fault → Type 0
+ListsAnswers exploration input = EndsOnBundle input AreListedParts (λ ending.
+    ((filters : List (List ℕ)) × HoldsBundle input filters [] [] × ListsStack exploration filters ending)
+    ⊎ ((profile table : List ℕ) × HoldsBundle input [] (profile ∷ []) (table ∷ [])
+    × ListsProfile exploration profile table ending))
+
 -- ---- all commands
 
 -- what a request ends with is true of the input
 abbrev pub IsTrueReply : Request → Option (List ℕ) → Result Reply Fault → Type 0
+IsTrueReply (requests.Answers exploration) input = ListsAnswers exploration input
+IsTrueReply (requests.AnswersOfArchitectures exploration) input =
+    EndsOnArchitectures false false input (λ filters. ListsProfiles exploration)
 IsTrueReply (requests.Ask call) input = EndsOnProfile input (GivesReason call)
 IsTrueReply (requests.AskArchitectures call) input =
     EndsOnArchitectures false false input (λ filters. GivesReasonAmong call)

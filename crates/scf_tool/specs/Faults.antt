@@ -151,6 +151,7 @@ kind_of_fault (faults.Text fault) = (codes "text", text_kind fault)
 kind_of_fault (faults.Compile fault) = (codes "compile", compile_kind fault)
 kind_of_fault (faults.Verify fault) = verify_kind fault
 kind_of_fault (faults.Stacks fault) = beside_kind fault
+kind_of_fault faults.Answers = (codes "answers", (Failed, codes "Memory", []))
 
 -- a number behind its name
 abbrev pub number_words : List ℕ × ℕ → List ℕ

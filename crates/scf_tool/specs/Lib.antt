@@ -2,11 +2,13 @@ pub mod ArchitectureScopes
 pub mod Commands
 pub mod Comparisons
 pub mod CompiledFilters
+pub mod Explorations
 pub mod Faults
 pub mod FilterStacks
 pub mod JointFindings
 pub mod Lines
 pub mod Numerals
+pub mod RegionLines
 pub mod Replies
 pub mod Reports
 pub mod Runs

@@ -42,8 +42,12 @@ path_text indices = codes "path" ++ (flat_map (λ index. codes " " ++ decimal in
 abbrev pub traced_text : ℕ → List ℕ → List ℕ
 traced_text answer indices = answer_text answer ++ (steps_text (length indices) ++ path_text indices)
 
--- why a profile answers so, behind the answer, and the end of its line
+-- why a profile answers so, behind the answer
+abbrev pub reason_words : Reason → List ℕ
+reason_words Foreign = codes " foreign"
+reason_words (Entry index) = codes " entry " ++ decimal index
+reason_words Default = codes " default"
+
+-- the same at the end of a line
 abbrev pub reason_text : Reason → List ℕ
-reason_text Foreign = codes " foreign\n"
-reason_text (Entry index) = codes " entry " ++ decimal index ++ codes "\n"
-reason_text Default = codes " default\n"
+reason_text reason = reason_words reason ++ codes "\n"

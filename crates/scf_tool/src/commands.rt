@@ -6,6 +6,7 @@ ghost use Rattle.scf_tool.specs.Runs.{Ends, IsRunOfProgram};
 ghost use Rattle.scf_tool.specs.Statuses.{LeavesInput};
 ghost use Rattle.scf_tool.specs.Verifying.{HasEnded, HasFailedWhere};
 
+mod answers;
 mod architectures;
 mod beside;
 mod compare;
@@ -19,6 +20,7 @@ use crate::command_line::{explain, refuse_memory};
 use crate::fault::Fault;
 use crate::reply::{LINE_ROOM, Reply, print_ending, status_of};
 use crate::status::Status;
+use answers::{list_answers, list_architectures};
 use architectures::{ask_architectures, compare_architectures, compile_architectures};
 use beside::compare_beside;
 use compare::compare_bundle;
@@ -62,6 +64,12 @@ fn answer<R: Source>(alloc: Global, request: &Request, input: &mut R) -> Result<
     ensures left { LeavesInput request.now R.remaining R.failures input.old result input.new }
 {
     match request {
+        Request::Answers(exploration) => list_answers(alloc, *exploration, input),
+        Request::AnswersOfArchitectures(exploration) => list_architectures(
+            alloc,
+            *exploration,
+            input,
+        ),
         Request::Ask(call) => ask_profile(alloc, call, input),
         Request::AskArchitectures(call) => ask_architectures(alloc, call, input),
         Request::Assemble => assemble_text(alloc, input),
@@ -95,7 +103,8 @@ fn ending_of<T: AsStr, R: Source>(alloc: Global, words: &[T], input: &mut R) -> 
 /// One run of the program on its words, of which the first is its name. The answer is the exit status: 0 where all is
 /// well, 1 where a filter, a text, a table, a profile or a stack is refused, the compiled filter would be too large or
 /// a filter answers otherwise than a profile, 2 where the words are refused, 3 where the input can't be read, the
-/// output can't be written or memory is refused, 4 where a comparison leaves open whether the answers differ.
+/// output can't be written or memory is refused, 4 where a comparison leaves open whether the answers differ, or a walk
+/// over all answers is unfinished.
 ///
 /// Where the output fails, a beginning of the text was written, and nothing more is.
 pub fn run_command<T: AsStr, R: Source, W: Sink>(

@@ -27,6 +27,8 @@ pub(crate) enum Fault {
     Verify(VerifyFault),
     /// Two stacks weren't compared.
     Stacks(BesideFault),
+    /// Out of memory while answers were listed.
+    Answers,
 }
 
 impl From<RequestFault> for Fault {

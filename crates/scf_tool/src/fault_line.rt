@@ -273,6 +273,7 @@ impl Fault {
             Fault::Compile(fault) => line("compile", compile_kind(fault)),
             Fault::Verify(fault) => verify_line(fault),
             Fault::Stacks(fault) => beside_line(fault),
+            Fault::Answers => line("answers", plain(Failed, "Memory")),
         }
     }
 

@@ -6,7 +6,7 @@ ghost use Rattle.std.specs.Fmt.{decimal};
 ghost use Rattle.std.specs.List.{flat_map};
 ghost use Rattle.scf_insn.specs.Answers.{data_half};
 ghost use Rattle.scf_insn.specs.Streams.{Writes};
-ghost use Rattle.scf_tool.specs.Lines.{answer_text, reason_text, steps_text, text_by, traced_text};
+ghost use Rattle.scf_tool.specs.Lines.{answer_text, reason_text, reason_words, steps_text, text_by, traced_text};
 ghost use Rattle.scf_tool.specs.Numerals.{eight_digits};
 ghost use Rattle.scf_tool.specs.internal.Gathering.{Adds};
 
@@ -101,16 +101,33 @@ pub(crate) fn add_trace(text: &mut Buffer, trace: &Trace) -> Result<(), Memory>
     Ok(())
 }
 
-/// Writes the reason of a profile's answer, and a line end.
+/// Writes the reason of a profile's answer.
 pub(crate) fn write_reason<S: Sink>(sink: &mut S, reason: Reason) -> Result<(), WriteFault>
-    ensures { Writes S.contents S.failures sink.old (reason_text reason) result sink.new }
+    ensures { Writes S.contents S.failures sink.old (reason_words reason) result sink.new }
 {
     match reason {
-        Reason::Foreign => write_whole(sink, b" foreign\n"),
+        Reason::Foreign => write_whole(sink, b" foreign"),
         Reason::Entry(index) => {
-            let line = [Text(" entry "), Decimal(u64::from(index)), Text("\n")];
-            write_fragments(sink, &line)
+            write_fragments(sink, &[Text(" entry "), Decimal(u64::from(index))])
         }
-        Reason::Default => write_whole(sink, b" default\n"),
+        Reason::Default => write_whole(sink, b" default"),
+    }
+}
+
+/// Writes the reason of a profile's answer, and a line end.
+pub(crate) fn write_last_reason<S: Sink>(sink: &mut S, reason: Reason) -> Result<(), WriteFault>
+    ensures { Writes S.contents S.failures sink.old (reason_text reason) result sink.new }
+{
+    write_reason(sink, reason)?;
+    write_whole(sink, b"\n")
+}
+
+/// Adds the reason of a profile's answer to a text.
+pub(crate) fn add_reason(text: &mut Buffer, reason: Reason) -> Result<(), Memory>
+    ensures { Adds text.old (reason_words reason) result text.new }
+{
+    match write_reason(text, reason) {
+        Ok(()) => Ok(()),
+        Err(_) => Err(Memory),
     }
 }

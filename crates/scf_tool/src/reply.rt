@@ -12,7 +12,7 @@ use crate::fault::Fault;
 use crate::fault_line::write_fault;
 use crate::fragments::Fragment::{Decimal, Text};
 use crate::fragments::write_fragments;
-use crate::lines::{write_answer, write_last_answer, write_reason, write_steps};
+use crate::lines::{write_answer, write_last_answer, write_last_reason, write_steps};
 use crate::status::Status;
 use scf_insn::{Answer, Sink, WriteFault, write_whole};
 use scf_machine::Ran;
@@ -33,7 +33,7 @@ pub(crate) enum Reply {
     Asked { answer: Answer, reason: Reason },
     /// These bytes.
     Bytes(Vec<u8>),
-    /// The report of a comparison.
+    /// The report of a comparison, or the list of a walk.
     Compared { text: Vec<u8>, status: Status },
 }
 
@@ -62,7 +62,7 @@ fn write_asked<S: Sink>(sink: &mut S, answer: Answer, reason: Reason) -> Result<
     ensures { Writes S.contents S.failures sink.old (answer_text answer.0 ++ reason_text reason) result sink.new }
 {
     write_answer(sink, answer)?;
-    write_reason(sink, reason)
+    write_last_reason(sink, reason)
 }
 
 /// Writes a result or a fault, fragment by fragment.

@@ -59,7 +59,7 @@ fn add_call_front(text: &mut Buffer, call: &CallRecord) -> Result<(), Memory>
     text.add(&front)
 }
 
-fn add_call(text: &mut Buffer, call: &CallRecord) -> Result<(), Memory>
+pub(crate) fn add_call(text: &mut Buffer, call: &CallRecord) -> Result<(), Memory>
     ensures { Adds text.old (call_line call.now) result text.new }
 {
     add_call_front(text, call)?;

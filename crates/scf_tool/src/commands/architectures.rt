@@ -38,11 +38,11 @@ use std::alloc::Global;
 
 /// The parts of a bundle for several architectures.
 #[derive(Drop)]
-struct ArchitectureParts<'a> {
+pub(super) struct ArchitectureParts<'a> {
     /// Readers of the filters, the oldest first.
-    filters: Vec<PartReader<'a>>,
-    profile: PartReader<'a>,
-    tables: Vec<TableReader<PartReader<'a>>>,
+    pub filters: Vec<PartReader<'a>>,
+    pub profile: PartReader<'a>,
+    pub tables: Vec<TableReader<PartReader<'a>>>,
 }
 
 /// Whether a table is of an architecture.
@@ -98,7 +98,7 @@ fn are_taken(contents: &Contents<'_>, has_filters: bool, only_one: bool) -> bool
 }
 
 /// The parts of a bundle, where they are what a command takes.
-fn parts_of<'a>(
+pub(super) fn parts_of<'a>(
     alloc: Global,
     bytes: &'a [u8],
     has_filters: bool,
@@ -130,7 +130,7 @@ fn parts_of<'a>(
 }
 
 /// What a profile and the tables of a bundle state.
-fn loaded(
+pub(super) fn loaded(
     alloc: Global,
     profile: &[u8],
     tables: &[TableReader<PartReader<'_>>],

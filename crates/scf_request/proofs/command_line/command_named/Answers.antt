@@ -1,9 +1,10 @@
-use Rattle.scf_request.proofs.Common.{Ask, Asm, Check, Compare, Compile, Decide, Dis, Run}
+use Rattle.scf_request.proofs.Common.{Answers, Ask, Asm, Check, Compare, Compile, Decide, Dis, Run}
 use Rattle.scf_request.proofs.command_line.command_named.Goals as goal
-use Rattle.scf_request.proofs.command_line.command_named.Goals.{in-ask, in-asm, in-check, in-compare, in-compile, in-decide, in-dis, in-run}
+use Rattle.scf_request.proofs.command_line.command_named.Goals.{in-answers, in-ask, in-asm, in-check, in-compare, in-compile, in-decide, in-dis, in-run}
 
 pub returns : goal.returns
 returns c = elim c.match-word.branch [
+  | in-answers w ↦ (Answers, w.in-answers.is, rw w.result-is w.define_answers.ensures)
   | in-ask w ↦ (Ask, w.in-ask.is, rw w.result-is w.define_ask.ensures)
   | in-asm w ↦ (Asm, w.in-asm.is, rw w.result-is w.define_asm.ensures)
   | in-check w ↦ (Check, w.in-check.is, rw w.result-is w.define_check.ensures)

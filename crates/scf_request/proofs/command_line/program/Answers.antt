@@ -1,4 +1,4 @@
-use Rattle.scf_request.proofs.Common.{refl, Ask, Asm, Check, Compare, Compile, Decide, Dis, Run, shape_for}
+use Rattle.scf_request.proofs.Common.{refl, Answers, Ask, Asm, Check, Compare, Compile, Decide, Dis, Run, shape_for}
 use Rattle.scf_request.proofs.CommandLineLemmas.{bare}
 use Rattle.scf_request.proofs.command_line.program.Goals as goal
 
@@ -11,4 +11,5 @@ returns c =
     let fifth = c.with-program-5.ensures _ (shape_for Asm) fourth c.define_asm.ensures refl in
     let sixth = c.with-program-6.ensures _ (shape_for Compile) fifth c.define_compile.ensures refl in
     let seventh = c.with-program-7.ensures _ (shape_for Compare) sixth c.define_compare.ensures refl in
-    c.with.ensures _ (shape_for Ask) seventh c.define_ask.ensures refl
+    let eighth = c.with-program-8.ensures _ (shape_for Ask) seventh c.define_ask.ensures refl in
+    c.with.ensures _ (shape_for Answers) eighth c.define_answers.ensures refl

@@ -1,0 +1,22 @@
+-- Regions within a limit are regions within a greater one.
+use Rattle.scf_compare.specs.Sides.{Behavior}
+use Rattle.scf_compare.specs.declared.regions.Regions.{Regions}
+use Rattle.scf_profile.specs.declared.scope.Scope.{Scope}
+use Rattle.scf_tool.proofs.Common.{◌≤◌, ℕ, arith}
+use Rattle.scf_tool.specs.Explorations.{AreListed}
+
+pub widened : (side : Behavior) (scope : Scope) (limit most : ℕ) (regions : Regions)
+    → AreListed side scope limit regions → limit ≤ most → AreListed side scope most regions
+widened side scope limit most regions listed below =
+    let are = listed.are_regions in
+    let within = are.within_limit in
+    record {
+      are_regions = record {
+            covered = are.covered;
+            each = are.each;
+            disjoint = are.disjoint;
+            within_limit = omega arith;
+            within_size = are.within_size;
+          };
+      decided = listed.decided;
+    }
