@@ -10,7 +10,7 @@ ghost use Rattle.std.specs.Prelude.{◌≡◌};
 use crate::lines::{Lines, tell_twice, twice};
 use crate::{facts, rows};
 use scf_compare::{
-    Limit, Relation, Scope, Side, Verdict, compare, compare_sides_within, compare_stack,
+    Limit, Relation, Scope, Side, Verdict, compare, compare_sides_within, compare_stack, regions_of,
 };
 use scf_compile::{compile, compile_profiles};
 use scf_facts::WordSets;
@@ -185,6 +185,11 @@ fn compare_filters<R: Print>(lines: &mut Lines<R>, alloc: Global, profile: &Prof
                 &mut left,
                 &mut left_below,
             )
+        );
+        tell_twice!(
+            lines,
+            "regions_of",
+            regions_of::<WordSets>(alloc, &Side::Stack(stack.filters()), Scope::All, LIMIT)
         );
     }
 }
