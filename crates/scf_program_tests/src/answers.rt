@@ -69,7 +69,15 @@ const ROWS: &[Row] = &[
         status: 0,
     },
     Row {
-        words: &["scf", "answers", "--nr-from", "57", "--nr-to", "0x3a", "--examples"],
+        words: &[
+            "scf",
+            "answers",
+            "--nr-from",
+            "57",
+            "--nr-to",
+            "0x3a",
+            "--examples",
+        ],
         parts: &[CLONE_FLAGS],
         text: "ERRNO 1 at 0:5 w0 0x39-0x3a w1 0xc000003e\n\
                call nr 57 arch 0xc000003e ip 0x0 args 0x0 0x0 0x0 0x0 0x0 0x0\n\
@@ -141,6 +149,27 @@ const ROWS: &[Row] = &[
         text: "ALLOW 0 entry 0 w0 0x0 w1 0xc000003e\nregions 1 steps 4\n",
         status: 0,
     },
+    // Each record lies in one region; the order is the walk's.
+    Row {
+        words: &["scf", "answers"],
+        parts: &[PROFILE, TABLE],
+        text: "KILL_PROCESS 0 foreign w0 0x40000000-0xffffffff w1 0xc000003e\n\
+            ALLOW 0 entry 0 w0 0x0 w1 0xc000003e\n\
+            ERRNO 1 default w0 0x1-0x3fffffff w1 0xc000003e\n\
+            KILL_PROCESS 0 foreign w1 0x0-0xc000003d,0xc000003f-0xffffffff\n\
+            regions 4 steps 7\n",
+        status: 0,
+    },
+    Row {
+        words: &["scf", "answers", "--architectures"],
+        parts: &[EACH, TABLE, Part::TableX86("read 3\n")],
+        text: "ALLOW 0 entry 0 w0 0x0 w1 0xc000003e\n\
+            ERRNO 1 default w0 0x1-0x3fffffff w1 0xc000003e\n\
+            ALLOW 0 entry 0 w0 0x3 w1 0x40000003\n\
+            ERRNO 1 default w0 0x0-0x2,0x4-0xffffffff w1 0x40000003\n\
+            regions 4 steps 9\n",
+        status: 0,
+    },
     // Other parts.
     Row {
         words: &["scf", "answers"],
@@ -198,7 +227,15 @@ const ROWS: &[Row] = &[
         status: 0,
     },
     Row {
-        words: &["scf", "answers", "--architectures", "--nr-from", "2", "--nr-to", "1"],
+        words: &[
+            "scf",
+            "answers",
+            "--architectures",
+            "--nr-from",
+            "2",
+            "--nr-to",
+            "1",
+        ],
         parts: &[],
         text: "fault command Range\n",
         status: 2,
@@ -210,7 +247,15 @@ const ROWS: &[Row] = &[
         status: 2,
     },
     Row {
-        words: &["scf", "compare", "--beside", "--nr-from", "1", "--nr-to", "0"],
+        words: &[
+            "scf",
+            "compare",
+            "--beside",
+            "--nr-from",
+            "1",
+            "--nr-to",
+            "0",
+        ],
         parts: &[],
         text: "fault command Range\n",
         status: 2,
@@ -233,42 +278,4 @@ fn answers_of_regions(rt: HostRuntime) {
     for row in rows() {
         prints_row(&rt, rt.alloc(), row);
     }
-}
-
-/// Whether a text has these lines and no other, in any order, before the last.
-fn has_lines(text: &[u8], lines: &[&str]) -> bool {
-    let mut length = 0;
-    for line in lines {
-        if !text.windows(line.len()).any(|window| window == line.as_bytes()) {
-            return false;
-        }
-        length += line.len();
-    }
-    length == text.len()
-}
-
-/// Each record lies in one region, whose order is the walk's.
-#[test]
-fn answers_of_profiles(rt: HostRuntime) {
-    let alloc = rt.alloc();
-    let ended = run(alloc, &["scf", "answers"], &bundle(&rt, alloc, &[PROFILE, TABLE]), usize::MAX);
-    let lines = [
-        "ALLOW 0 entry 0 w0 0x0 w1 0xc000003e\n",
-        "ERRNO 1 default w0 0x1-0x3fffffff w1 0xc000003e\n",
-        "KILL_PROCESS 0 foreign w0 0x40000000-0xffffffff w1 0xc000003e\n",
-        "KILL_PROCESS 0 foreign w1 0x0-0xc000003d,0xc000003f-0xffffffff\n",
-        "regions 4 steps 7\n",
-    ];
-    assert!(rt; has_lines(ended.text(), &lines), "{ended:?}");
-    let parts = [EACH, TABLE, Part::TableX86("read 3\n")];
-    let words = ["scf", "answers", "--architectures"];
-    let ended = run(alloc, &words, &bundle(&rt, alloc, &parts), usize::MAX);
-    let lines = [
-        "ALLOW 0 entry 0 w0 0x0 w1 0xc000003e\n",
-        "ERRNO 1 default w0 0x1-0x3fffffff w1 0xc000003e\n",
-        "ALLOW 0 entry 0 w0 0x3 w1 0x40000003\n",
-        "ERRNO 1 default w0 0x0-0x2,0x4-0xffffffff w1 0x40000003\n",
-        "regions 4 steps 9\n",
-    ];
-    assert!(rt; has_lines(ended.text(), &lines), "{ended:?}");
 }

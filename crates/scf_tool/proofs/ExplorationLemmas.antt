@@ -12,11 +12,11 @@ widened side scope limit most regions listed below =
     let within = are.within_limit in
     record {
       are_regions = record {
-            covered = are.covered;
-            each = are.each;
-            disjoint = are.disjoint;
-            within_limit = omega arith;
-            within_size = are.within_size;
-          };
+        covered = are.covered;
+        each = are.each;
+        disjoint = are.disjoint;
+        within_limit = omega arith;
+        within_size = are.within_size;
+      };
       decided = listed.decided;
     }
