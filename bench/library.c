@@ -43,7 +43,7 @@ static uint32_t checks(void) {
 }
 
 static uint32_t runs(void) {
-    const struct scf_call call = {.nr = 41, .arch = SCF_ARCH_X86_64, .args = {16}};
+    const struct scf_call call = {.nr = 41, .arch = SCF_AUDIT_X86_64, .args = {16}};
     uint32_t answer, steps;
     return scf_run(filter.at, filter.len, &call, &answer, &steps, &fault);
 }

@@ -15,8 +15,8 @@
  * written, and *needed is the whole length; if that is more than `room`, repeat the call with more. No 0 is appended.
  *
  * Threads, signals, fork. Calls may run side by side in any number of threads, also on the same inputs. As for malloc,
- * none may be made in a signal handler, or in the child of a fork of a process with threads before it runs another
- * program. A call takes less than 256 KiB of stack.
+ * none may be made in a signal handler, or in the child of a fork of a process with threads before it runs
+ * another program. A call takes less than 256 KiB of stack.
  *
  * Limits. A filter has at most 4096 instructions, a profile 4194304 bytes and 4096 rules of an architecture, a stack
  * of filters 32768 instructions, where each older filter counts 4 more.
@@ -131,12 +131,19 @@ struct scf_bytes {
 /* What a filter sees of a syscall: struct seccomp_data of linux/seccomp.h. */
 struct scf_call {
     uint32_t nr;
-    uint32_t arch; /* AUDIT_ARCH_.. of linux/audit.h: SCF_ARCH_X86_64 for a syscall of x86-64 or x32 */
+    uint32_t arch; /* SCF_AUDIT_.., below */
     uint64_t ip;
     uint64_t args[6];
 };
 
-#define SCF_ARCH_X86_64 0xc000003eu
+/* The architectures of calls: AUDIT_ARCH_.. of linux/audit.h. A call of x32 has that of x86-64, and SCF_X32_BIT in its
+ * number. */
+#define SCF_AUDIT_X86_64 0xc000003eu
+#define SCF_AUDIT_X86 0x40000003u
+#define SCF_AUDIT_X32 SCF_AUDIT_X86_64
+#define SCF_AUDIT_AARCH64 0xc00000b7u
+#define SCF_AUDIT_ARM 0x40000028u
+#define SCF_X32_BIT 0x40000000u
 
 /* ---- one filter: its bytes are the kernel's struct sock_filter, 8 to an instruction, little-endian */
 
@@ -269,14 +276,14 @@ uint32_t scf_compare_calls(const struct scf_bytes *filters, size_t filters_len, 
  * each. Calls of others that it lists count as foreign: KILL_PROCESS answers them, and they aren't compared. */
 
 enum scf_architecture {
-    SCF_X86_64 = 1,
-    SCF_X86 = 2, /* i386 */
-    SCF_X32 = 3,
-    SCF_AARCH64 = 4,
-    SCF_ARM = 5
+    SCF_TABLE_X86_64 = 1,
+    SCF_TABLE_X86 = 2, /* i386 */
+    SCF_TABLE_X32 = 3,
+    SCF_TABLE_AARCH64 = 4,
+    SCF_TABLE_ARM = 5
 };
 
-/* A syscall table, and the architecture whose syscalls it numbers; x32's has its numbers without the bit 0x40000000. */
+/* A syscall table, and the architecture whose syscalls it numbers; x32's has its numbers without SCF_X32_BIT. */
 struct scf_table {
     uint32_t architecture; /* enum scf_architecture */
     uint32_t reserved;     /* 0 */

@@ -41,9 +41,9 @@ static struct scf_bytes bytes_of(const char *text) {
 static int prove(const uint8_t *filter, size_t len) {
     const struct scf_bytes stack = {filter, len}, own = bytes_of(profile);
     const struct scf_table tables[] = {
-        {SCF_X86_64, 0, bytes_of(x86_64)},
-        {SCF_X86, 0, bytes_of(i386)},
-        {SCF_X32, 0, bytes_of(x86_64)}, /* these syscalls have the same numbers, but for a bit */
+        {SCF_TABLE_X86_64, 0, bytes_of(x86_64)},
+        {SCF_TABLE_X86, 0, bytes_of(i386)},
+        {SCF_TABLE_X32, 0, bytes_of(x86_64)}, /* these syscalls have the same numbers, but for a bit */
     };
     struct scf_comparison comparison;
     struct scf_fault fault;

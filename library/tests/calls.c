@@ -158,7 +158,7 @@ static void comparisons(void) {
     unset();
     IS(scf_compare(&other, 1, &right, &question, &found, text, sizeof text, &needed, &fault) == SCF_OK);
     IS(found.verdict == SCF_FAILS && found.left == RET_ALLOW && found.right == RET_EPERM && found.side == 0);
-    IS(found.at == 0 && found.call.nr == 0 && found.call.arch == SCF_ARCH_X86_64);
+    IS(found.at == 0 && found.call.nr == 0 && found.call.arch == SCF_AUDIT_X86_64);
     IS(memcmp(text, "more\ncall nr 0 arch 0xc000003e ", 31) == 0);
     question.first = 1;
     IS(scf_compare(&other, 1, &right, &question, &found, text, sizeof text, &needed, &fault) == SCF_OK);
@@ -245,7 +245,7 @@ static struct scf_table tables[4];
 
 /* The three tables, and one that the profile doesn't list. */
 static void set_tables(void) {
-    static const uint32_t architectures[4] = {SCF_X86_64, SCF_X86, SCF_X32, SCF_ARM};
+    static const uint32_t architectures[4] = {SCF_TABLE_X86_64, SCF_TABLE_X86, SCF_TABLE_X32, SCF_TABLE_ARM};
     size_t i;
     memset(tables, 0, sizeof tables);
     for (i = 0; i < 4; i++) {
@@ -269,8 +269,8 @@ static void asks_of_each(void) {
     static const struct {
         uint32_t nr, arch, answer, kind;
     } rows[] = {
-        {0, SCF_ARCH_X86_64, RET_ALLOW, SCF_BY_ENTRY}, {X32_BIT, SCF_ARCH_X86_64, RET_ALLOW, SCF_BY_ENTRY},
-        {3, I386, RET_ALLOW, SCF_BY_ENTRY},            {3, SCF_ARCH_X86_64, RET_EPERM, SCF_BY_DEFAULT},
+        {0, SCF_AUDIT_X86_64, RET_ALLOW, SCF_BY_ENTRY}, {X32_BIT, SCF_AUDIT_X86_64, RET_ALLOW, SCF_BY_ENTRY},
+        {3, I386, RET_ALLOW, SCF_BY_ENTRY},            {3, SCF_AUDIT_X86_64, RET_EPERM, SCF_BY_DEFAULT},
         {0, I386, RET_EPERM, SCF_BY_DEFAULT},          {0, 0xc00000b7, RET_KILL_PROCESS, SCF_FOREIGN},
     };
     struct scf_bytes own = text_of(several);
@@ -289,7 +289,7 @@ static void asks_of_each(void) {
     call.nr = 136, call.arch = I386, call.args[0] = 0x100000008;
     IS(scf_ask_architectures(own.at, own.len, tables, 3, &call, &answer, &reason, &fault) == SCF_OK);
     IS(answer == RET_ALLOW && reason.kind == SCF_BY_ENTRY && reason.entry == 1);
-    call.nr = 135, call.arch = SCF_ARCH_X86_64;
+    call.nr = 135, call.arch = SCF_AUDIT_X86_64;
     IS(scf_ask_architectures(own.at, own.len, tables, 3, &call, &answer, &reason, &fault) == SCF_OK);
     IS(answer == RET_EPERM);
     unset();
@@ -317,7 +317,7 @@ static void compares_each(void) {
     IS(compare_each(&filter, 2, SCF_SAME, SCF_LIMIT) == SCF_OK && found.verdict == SCF_HOLDS);
     unset();
     IS(compare_each(&filter, 3, SCF_SAME, SCF_LIMIT) == SCF_OK && found.verdict == SCF_FAILS);
-    IS(found.call.arch == SCF_ARCH_X86_64 && (found.call.nr & X32_BIT) != 0 && found.left == RET_KILL_PROCESS);
+    IS(found.call.arch == SCF_AUDIT_X86_64 && (found.call.nr & X32_BIT) != 0 && found.left == RET_KILL_PROCESS);
     IS(memcmp(text, "differs\ncall nr ", 16) == 0);
     IS(compare_each(&filter, 3, SCF_NO_MORE, SCF_LIMIT) == SCF_OK && found.verdict == SCF_HOLDS);
     IS(compare_each(&other, 3, SCF_NO_MORE, SCF_LIMIT) == SCF_OK && found.verdict == SCF_FAILS);
@@ -344,8 +344,8 @@ static void wrong_tables(void) {
         uint32_t relation = i == 6 ? 4 : SCF_SAME;
         set_tables();
         count = i == 0 ? 0 : 3;
-        if (i == 1) tables[2].architecture = SCF_X86_64;
-        if (i == 2) tables[1].architecture = SCF_X32;
+        if (i == 1) tables[2].architecture = SCF_TABLE_X86_64;
+        if (i == 2) tables[1].architecture = SCF_TABLE_X32;
         if (i == 3) tables[0].architecture = 0;
         if (i == 4) tables[2].architecture = 6;
         if (i == 5) tables[1].reserved = 1;

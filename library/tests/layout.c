@@ -1,5 +1,6 @@
 /* Prints the layouts of scf.h, a line `STRUCT SIZE FIELD OFFSET ..` for each struct, and compares struct scf_call with
- * the kernel's struct seccomp_data. */
+ * the kernel's struct seccomp_data, and the architectures with the kernel's. */
+#include <linux/audit.h>
 #include <linux/seccomp.h>
 #include <scf.h>
 #include <stddef.h>
@@ -20,6 +21,9 @@ int main(void) {
     SAME(ip, instruction_pointer);
     SAME(args, args);
     if (sizeof(struct scf_call) != sizeof(struct seccomp_data)) return 1;
+    if (SCF_AUDIT_X86_64 != AUDIT_ARCH_X86_64 || SCF_AUDIT_X86 != AUDIT_ARCH_I386 || SCF_AUDIT_X32 != AUDIT_ARCH_X86_64
+        || SCF_AUDIT_AARCH64 != AUDIT_ARCH_AARCH64 || SCF_AUDIT_ARM != AUDIT_ARCH_ARM)
+        return 1;
     STRUCT(bytes), FIELD(bytes, at), FIELD(bytes, len);
     STRUCT(call), FIELD(call, nr), FIELD(call, arch), FIELD(call, ip), FIELD(call, args);
     STRUCT(fault), FIELD(fault, source), FIELD(fault, kind), FIELD(fault, numbers);

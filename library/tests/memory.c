@@ -128,7 +128,7 @@ static void compares_calls_beside(struct result *r) {
 /* The profile lists both, and the one table serves for both. */
 static void set_tables(struct scf_table *tables) {
     memset(tables, 0, 2 * sizeof *tables);
-    tables[0].architecture = SCF_X86_64, tables[1].architecture = SCF_X86;
+    tables[0].architecture = SCF_TABLE_X86_64, tables[1].architecture = SCF_TABLE_X86;
     tables[0].bytes = tables[1].bytes = own_table;
 }
 

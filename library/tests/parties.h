@@ -51,7 +51,7 @@ static struct scf_call call_of(uint32_t nr) {
     struct scf_call call;
     memset(&call, 0, sizeof call);
     call.nr = nr;
-    call.arch = SCF_ARCH_X86_64;
+    call.arch = SCF_AUDIT_X86_64;
     return call;
 }
 
