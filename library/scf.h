@@ -34,6 +34,23 @@
 extern "C" {
 #endif
 
+/* Marks for compilers that have them: a result that must be looked at, pointers that must not be NULL, and the sizes of
+ * what is read and written. */
+#if defined(__GNUC__)
+#define SCF_RESULT __attribute__((warn_unused_result))
+#define SCF_NONNULL(...) __attribute__((nonnull(__VA_ARGS__)))
+#else
+#define SCF_RESULT
+#define SCF_NONNULL(...)
+#endif
+#if defined(__GNUC__) && !defined(__clang__) && __GNUC__ >= 10
+#define SCF_READS(pointer, size) __attribute__((access(read_only, pointer, size)))
+#define SCF_WRITES(pointer, size) __attribute__((access(write_only, pointer, size)))
+#else
+#define SCF_READS(pointer, size)
+#define SCF_WRITES(pointer, size)
+#endif
+
 /* The version of this header. Before 1.0.0 a library fits if its first two numbers are the same. */
 #define SCF_VERSION_MAJOR 0
 #define SCF_VERSION_MINOR 1
@@ -148,32 +165,39 @@ struct scf_call {
 /* ---- one filter: its bytes are the kernel's struct sock_filter, 8 to an instruction, little-endian */
 
 /* Checks that the kernel accepts the filter; *count is its number of instructions. */
+SCF_RESULT SCF_NONNULL(3, 4) SCF_READS(1, 2)
 uint32_t scf_check(const uint8_t *filter, size_t filter_len, size_t *count, struct scf_fault *fault);
 
 /* Runs the filter on a call: its answer (SECCOMP_RET_..), and how many instructions it executed. */
+SCF_RESULT SCF_NONNULL(3, 4, 5, 6) SCF_READS(1, 2)
 uint32_t scf_run(const uint8_t *filter, size_t filter_len, const struct scf_call *call, uint32_t *answer,
                  uint32_t *steps, struct scf_fault *fault);
 
 /* Runs the filter on a call, and hands out the indices of the instructions that it executed. */
+SCF_RESULT SCF_NONNULL(3, 4, 7, 8) SCF_READS(1, 2) SCF_WRITES(5, 6)
 uint32_t scf_trace(const uint8_t *filter, size_t filter_len, const struct scf_call *call, uint32_t *answer,
                    size_t *path, size_t room, size_t *needed, struct scf_fault *fault);
 
 /* Hands out the listing of the filter, as `scf dis` prints it. The filter isn't checked. */
+SCF_RESULT SCF_NONNULL(5, 6) SCF_READS(1, 2) SCF_WRITES(3, 4)
 uint32_t scf_list(const uint8_t *filter, size_t filter_len, uint8_t *text, size_t room, size_t *needed,
                   struct scf_fault *fault);
 
 /* Hands out the filter that a text spells, in the language of `scf asm`. The filter isn't checked. */
+SCF_RESULT SCF_NONNULL(5, 6) SCF_READS(1, 2) SCF_WRITES(3, 4)
 uint32_t scf_assemble(const uint8_t *text, size_t text_len, uint8_t *filter, size_t room, size_t *needed,
                       struct scf_fault *fault);
 
 /* The answer of a stack of filters to a call: all run, and the one that takes precedence answers (seccomp(2)). The
  * oldest filter comes first. */
+SCF_RESULT SCF_NONNULL(3, 4, 5) SCF_READS(1, 2)
 uint32_t scf_decide(const struct scf_bytes *filters, size_t filters_len, const struct scf_call *call,
                     uint32_t *answer, struct scf_fault *fault);
 
 /* ---- a profile: OCI's seccomp object in JSON, or a config with one; the table gives its names their numbers */
 
 /* Hands out a filter that answers every call as the profile does. */
+SCF_RESULT SCF_NONNULL(7, 8) SCF_READS(1, 2) SCF_READS(3, 4) SCF_WRITES(5, 6)
 uint32_t scf_compile(const uint8_t *profile, size_t profile_len, const uint8_t *table, size_t table_len,
                      uint8_t *filter, size_t room, size_t *needed, struct scf_fault *fault);
 
@@ -190,6 +214,7 @@ enum scf_reason_kind {
 };
 
 /* The profile's answer to a call, and why. */
+SCF_RESULT SCF_NONNULL(5, 6, 7, 8) SCF_READS(1, 2) SCF_READS(3, 4)
 uint32_t scf_ask(const uint8_t *profile, size_t profile_len, const uint8_t *table, size_t table_len,
                  const struct scf_call *call, uint32_t *answer, struct scf_reason *reason, struct scf_fault *fault);
 
@@ -254,6 +279,7 @@ struct scf_comparison {
 };
 
 /* Compares a stack of filters, the oldest first, with the right side. The text is what `scf compare` prints. */
+SCF_RESULT SCF_NONNULL(3, 4, 5, 8, 9) SCF_READS(1, 2) SCF_WRITES(6, 7)
 uint32_t scf_compare(const struct scf_bytes *filters, size_t filters_len, const struct scf_right_side *right,
                      const struct scf_question *question, struct scf_comparison *comparison, uint8_t *text, size_t room,
                      size_t *needed, struct scf_fault *fault);
@@ -266,6 +292,7 @@ struct scf_call_comparison {
 
 /* Compares call by call of the table, in the order of their numbers, each by itself. The scope is SCF_NATIVE_CALLS. The
  * text is what `scf compare --calls` prints. */
+SCF_RESULT SCF_NONNULL(3, 4, 7, 10, 11) SCF_READS(1, 2) SCF_WRITES(5, 6) SCF_WRITES(8, 9)
 uint32_t scf_compare_calls(const struct scf_bytes *filters, size_t filters_len, const struct scf_right_side *right,
                            const struct scf_question *question, struct scf_call_comparison *calls, size_t calls_room,
                            size_t *calls_needed, uint8_t *text, size_t room, size_t *needed, struct scf_fault *fault);
@@ -292,11 +319,13 @@ struct scf_table {
 
 /* Hands out a filter that answers every call of these architectures as the profile does, and every other one by
  * KILL_PROCESS: also one of an architecture that the profile lists without a table here. */
+SCF_RESULT SCF_NONNULL(7, 8) SCF_READS(1, 2) SCF_READS(3, 4) SCF_WRITES(5, 6)
 uint32_t scf_compile_architectures(const uint8_t *profile, size_t profile_len, const struct scf_table *tables,
                                    size_t tables_len, uint8_t *filter, size_t room, size_t *needed,
                                    struct scf_fault *fault);
 
 /* The profile's answer to a call, and why: SCF_FOREIGN for a call of no architecture that has a table. */
+SCF_RESULT SCF_NONNULL(5, 6, 7, 8) SCF_READS(1, 2) SCF_READS(3, 4)
 uint32_t scf_ask_architectures(const uint8_t *profile, size_t profile_len, const struct scf_table *tables,
                                size_t tables_len, const struct scf_call *call, uint32_t *answer,
                                struct scf_reason *reason, struct scf_fault *fault);
@@ -304,10 +333,16 @@ uint32_t scf_ask_architectures(const uint8_t *profile, size_t profile_len, const
 /* Compares a stack of filters, the oldest first, with the profile over the calls of all these architectures. `relation`
  * is an enum scf_relation, `limit` the most steps for each architecture. The text is what `scf compare --architectures`
  * prints. */
+SCF_RESULT SCF_NONNULL(9, 12, 13) SCF_READS(1, 2) SCF_READS(3, 4) SCF_READS(5, 6) SCF_WRITES(10, 11)
 uint32_t scf_compare_architectures(const struct scf_bytes *filters, size_t filters_len, const uint8_t *profile,
                                    size_t profile_len, const struct scf_table *tables, size_t tables_len,
                                    uint32_t relation, uint64_t limit, struct scf_comparison *comparison, uint8_t *text,
                                    size_t room, size_t *needed, struct scf_fault *fault);
+
+#undef SCF_RESULT
+#undef SCF_NONNULL
+#undef SCF_READS
+#undef SCF_WRITES
 
 #ifdef __cplusplus
 }
