@@ -30,7 +30,7 @@ FISH = $(TO)/share/fish/vendor_completions.d
 LIBSCF = library/out/libscf.so.0
 LIBDIR = $(PREFIX)/lib
 PYTHON_DIR = $(PREFIX)/lib/python3/dist-packages
-VERSION = $(shell awk '/define SCF_VERSION_[MP]/ { printf "%s%s", dot, $$3; dot = "." }' library/scf.h)
+VERSION := $(shell cat VERSION)
 
 .PHONY: all check install uninstall lib install-lib uninstall-lib deb dist
 

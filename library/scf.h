@@ -51,7 +51,9 @@ extern "C" {
 #define SCF_WRITES(pointer, size)
 #endif
 
-/* The version of this header. Before 1.0.0 a library fits if its first two numbers are the same. */
+/* The version of this header. A library fits if its first number is the same and it is no older: if scf_version() is at
+ * least SCF_VERSION. The dynamic linker heeds this: libscf.so.0 has the first number, and each symbol the version that
+ * brought it. */
 #define SCF_VERSION_MAJOR 0
 #define SCF_VERSION_MINOR 1
 #define SCF_VERSION_PATCH 0
