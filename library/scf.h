@@ -1,10 +1,10 @@
 /* libscf: checks, runs, lists, compiles and compares seccomp filters, in memory. Profiles are those of x86-64, or of
- * several architectures.
+ * several architectures. Its answers are proved, but for the two calls at the end of this header.
  *
  *     cc program.c $(pkg-config --cflags --libs scf)
  *
  * Each call is a function of its arguments. The library keeps nothing between calls, opens no file, makes no system
- * call but those of malloc, and never ends the process.
+ * call but those of malloc and scf_load, and never ends the process.
  *
  * Memory. The caller owns every byte, before and after a call. The library reads what a pointer to const leads to and
  * writes what another one leads to, during the call alone. A pointer may be NULL only if it is that of a list and the
@@ -15,7 +15,7 @@
  * written, and *needed is the whole length; if that is more than `room`, repeat the call with more. No 0 is appended.
  *
  * Threads, signals, fork. Calls may run side by side in any number of threads, also on the same inputs. As for malloc,
- * none may be made in a signal handler, or in the child of a fork of a process with threads before it runs
+ * none but scf_load may be made in a signal handler, or in the child of a fork of a process with threads before it runs
  * another program. A call takes less than 256 KiB of stack.
  *
  * Limits. A filter has at most 4096 instructions, a profile 4194304 bytes and 4096 rules of an architecture, a stack
@@ -340,6 +340,26 @@ uint32_t scf_compare_architectures(const struct scf_bytes *filters, size_t filte
                                    size_t profile_len, const struct scf_table *tables, size_t tables_len,
                                    uint32_t relation, uint64_t limit, struct scf_comparison *comparison, uint8_t *text,
                                    size_t room, size_t *needed, struct scf_fault *fault);
+
+/* ---- beside the proved calls: these two are written in C, and tested */
+
+/* The syscall table that scf has of an architecture (enum scf_architecture): *size bytes, which stay as they are. Their
+ * first line says of which kernel they are. NULL and 0 for a number that has no meaning. */
+SCF_RESULT SCF_NONNULL(2)
+const uint8_t *scf_table(uint32_t architecture, size_t *size);
+
+/* Loads a filter for the calling thread, by seccomp(2); the kernel checks it. `flags` are SECCOMP_FILTER_FLAG_.. of
+ * linux/seccomp.h. no_new_privs is set before, and stays set if the filter isn't loaded; with SCF_KEEP_PRIVILEGES it is
+ * left as it is, and the kernel asks for it or for CAP_SYS_ADMIN.
+ *
+ * Returns 0, or with SECCOMP_FILTER_FLAG_NEW_LISTENER the listener's descriptor. If SECCOMP_FILTER_FLAG_TSYNC can't
+ * reach a thread, no thread gets the filter, and the result is that thread's id, above 0. A negative result is an
+ * error of errno.h, and nothing is loaded: -EINVAL for a length that isn't that of 1 to 4096 instructions, and what
+ * the kernel says. */
+SCF_RESULT SCF_READS(1, 2)
+int scf_load(const uint8_t *filter, size_t filter_len, uint32_t flags);
+
+#define SCF_KEEP_PRIVILEGES 0x80000000u
 
 #undef SCF_RESULT
 #undef SCF_NONNULL
