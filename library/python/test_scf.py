@@ -1,5 +1,8 @@
 """Tests of the module scf: each call, and what it raises. The answers are those of linux/seccomp.h and of the OCI
 specification. Run by `python3 -m unittest` in this folder; LIBSCF may name the library."""
+import mmap
+import subprocess
+import sys
 import threading
 import unittest
 
@@ -10,7 +13,7 @@ RET_ALLOW, RET_EPERM, RET_KILL_PROCESS = 0x7FFF0000, 0x00050001, 0x80000000
 PROFILE = scf.Profile(b'{"defaultAction": "SCMP_ACT_ERRNO", "syscalls": [{"names": ["read", "absent"], "action": '
                       b'"SCMP_ACT_ALLOW"}]}', b"read 0\nwrite 1\n")
 READ, WRITE = scf.Call(0), scf.Call(1)
-I386 = 0x40000003
+I386 = scf.Architecture.X86.audit
 BOTH = scf.Profiles(b'{"defaultAction": "SCMP_ACT_ERRNO", "architectures": ["SCMP_ARCH_X86_64", "SCMP_ARCH_X86"], '
                     b'"syscalls": [{"names": ["read"], "action": "SCMP_ACT_ALLOW"}]}',
                     {scf.Architecture.X86_64: b"read 0\n", scf.Architecture.X86: b"read 3\n"})
@@ -31,6 +34,9 @@ class Calls(unittest.TestCase):
                          "filter is refused: truncated (8, 0, 0)")
         self.assertEqual(scf.run(ALLOW, READ), (RET_ALLOW, 1))
         self.assertEqual(scf.trace(DENY, READ), (RET_EPERM, [0]))
+        answer = scf.run(DENY, READ).answer
+        self.assertEqual((answer.action, answer.data, str(answer)), (scf.Action.ERRNO, 1, "ERRNO 1"))
+        self.assertEqual(str(scf.Answer(0x7FFE0001)), "UNNAMED 0x7ffe0001")
         self.assertEqual(scf.decide([DENY, ALLOW], READ), RET_EPERM)
         self.assertEqual(scf.decide([], READ), RET_ALLOW)
 
@@ -89,8 +95,6 @@ class Calls(unittest.TestCase):
 
     def test_numbers_that_have_no_meaning(self):
         for wrong in (lambda: scf.compare_architectures([], scf.Profiles(BOTH.text, {})),
-                      lambda: scf.compile_architectures(scf.Profiles(BOTH.text, {6: b""})),
-                      lambda: scf.ask_architectures(scf.Profiles(BOTH.text, {1 << 32 | 1: b""}), READ),
                       lambda: scf.Call(1 << 32), lambda: scf.Call(0, (1 << 64,)), lambda: scf.Call(-1),
                       lambda: scf.Call(0, (0,) * 7), lambda: scf.compare([], PROFILE, scf.Scope(9)),
                       lambda: scf.compare([], PROFILE, limit=1 << 64),
@@ -98,6 +102,70 @@ class Calls(unittest.TestCase):
             with self.assertRaises(ValueError) as raised:
                 wrong()
             self.assertNotIsInstance(raised.exception, scf.Refused)
+
+    def test_wrong_types_are_named(self):
+        for name, wrong in (
+                ("filter", lambda: scf.check("text")), ("filter", lambda: scf.run(None, READ)),
+                ("call", lambda: scf.run(ALLOW, None)), ("call", lambda: scf.decide([], 0)),
+                ("filters", lambda: scf.decide(None, READ)), ("filters[1]", lambda: scf.decide([ALLOW, 6], READ)),
+                ("filters[0]", lambda: scf.compare(ALLOW, PROFILE)), ("text", lambda: scf.assemble("ret #0")),
+                ("nr", lambda: scf.Call("0")), ("args", lambda: scf.Call(0, 2)),
+                ("args[0]", lambda: scf.Call(0, (b"",))),
+                ("profile", lambda: scf.compile(b"{}")), ("profile.text", lambda: scf.compile(scf.Profile("{}", b""))),
+                ("profile.table", lambda: scf.ask(scf.Profile(b"{}", None), READ)),
+                ("profiles", lambda: scf.compile_architectures(PROFILE)),
+                ("profiles.tables", lambda: scf.compile_architectures(scf.Profiles(b"{}", [b""]))),
+                ("profiles.tables' key 6", lambda: scf.compile_architectures(scf.Profiles(b"{}", {6: b""}))),
+                ("right", lambda: scf.compare([], b"{}")), ("right.filters", lambda: scf.compare([], scf.Filters(1))),
+                ("scope", lambda: scf.compare([], PROFILE, 1)),
+                ("relation", lambda: scf.compare([], PROFILE, relation=1 << 32)),
+                ("relation", lambda: scf.compare_calls([], PROFILE, "same")),
+                ("relation", lambda: scf.compare_architectures([], BOTH, 1 << 32)),
+                ("limit", lambda: scf.compare([], PROFILE, limit=1.5)), ("architecture", lambda: scf.table("x86_64"))):
+            with self.assertRaises(TypeError) as raised:
+                wrong()
+            self.assertTrue(str(raised.exception).startswith(f"{name} must be "), raised.exception)
+
+    def test_any_buffer_is_taken(self):
+        with mmap.mmap(-1, mmap.PAGESIZE) as area:
+            area[:] = ALLOW * (mmap.PAGESIZE // 8)
+            for buffer, count in ((bytearray(ALLOW), 1), (memoryview(ALLOW), 1), (memoryview(ALLOW * 2)[8:], 1),
+                                  (area, mmap.PAGESIZE // 8)):
+                self.assertEqual(scf.check(buffer), count)
+                self.assertEqual(scf.decide([DENY, buffer], READ), RET_EPERM)
+        profile = scf.Profile(bytearray(PROFILE.text), memoryview(PROFILE.table))
+        self.assertEqual(scf.compile(profile), scf.compile(PROFILE))
+        self.assertEqual(scf.check(ALLOW + bytes(0)), 1)
+
+    def test_numbers_of_a_later_library(self):
+        """They stay numbers."""
+        self.assertEqual(scf._compared(scf._Comparison(verdict=9)).verdict, 9)
+        self.assertEqual(str(scf.Refused(9, 99, (1, 2, 3))), "9 is refused: 99 (1, 2, 3)")
+
+    def test_tables(self):
+        for architecture, about, line in ((scf.Architecture.X86_64, b"x86-64", b"read 0"),
+                                          (scf.Architecture.ARM, b"arm/asm/unistd-eabi.h", b"read 3")):
+            first, *lines = scf.table(architecture).split(b"\n")
+            self.assertIn(about, first)
+            self.assertIn(line, lines)
+
+    def run_python(self, text):
+        return subprocess.run([sys.executable, "-B", "-c", text], stdout=subprocess.PIPE, check=False).stdout
+
+    def test_a_loaded_filter(self):
+        """In a process of its own: 110 is getppid, and the answer ERRNO 1."""
+        text = ("import os, scf\n"
+                "scf.load(scf.assemble(b'ld [0]\\njeq #110, 0, 1\\nret #0x50001\\nret #0x7fff0000\\n'))\n"
+                "print(os.getppid(), open('/proc/self/status').read().split('NoNewPrivs:')[1].split()[0])\n"
+                "try: scf.load(b'12345678')\n"
+                "except OSError as error: print(error.errno)\n")
+        self.assertEqual(self.run_python(text), b"-1 1\n22\n")
+
+    def test_it_is_imported_without_what_takes_long(self):
+        """dataclasses takes longer than all else: it imports inspect, which imports ast, dis and tokenize."""
+        self.assertEqual(self.run_python("import sys; old = {*sys.modules}; import scf\n"
+                                         "print({'dataclasses', 'inspect', 'ast', 're'} & ({*sys.modules} - old))"),
+                         b"set()\n")
 
     def test_threads(self):
         compiled = scf.compile(PROFILE)

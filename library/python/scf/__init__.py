@@ -1,13 +1,14 @@
 """Checks, runs, compiles and compares seccomp filters in this process, by libscf.
 
     >>> import scf
-    >>> profile = scf.Profile(open("profile.json", "rb").read(), open("x86_64.table", "rb").read())
+    >>> profile = scf.Profile(open("profile.json", "rb").read(), scf.table(scf.Architecture.X86_64))
     >>> compared = scf.compare([open("filter.bpf", "rb").read()], profile, scf.NATIVE)
     >>> compared.verdict, compared.call, compared.report
 
-Each function raises Refused, which is a ValueError, if an input isn't accepted, and MemoryError without memory. They
-may be called in any number of threads: none holds Python's lock while the library works. Needs libscf.so.0 and nothing
-else; the environment's LIBSCF may name the file.
+Filters, profiles and tables are bytes, or any other buffer: bytearray, memoryview, mmap. Each function raises Refused,
+which is a ValueError, if an input isn't accepted, TypeError if an argument has another type, ValueError if a number is
+out of range, and MemoryError if memory runs out. All may be called in any number of threads: none holds Python's lock
+while the library works. Needs libscf.so.0; the environment's LIBSCF may name the file.
 """
 from __future__ import annotations
 
@@ -15,20 +16,24 @@ import ctypes
 import enum
 import os
 from collections.abc import Callable, Mapping, Sequence
-from dataclasses import dataclass
-from typing import Union
+from typing import TYPE_CHECKING, NamedTuple, Union
 
-__all__ = ["ALL", "Architecture", "Call", "CallComparison", "CallsComparison", "Comparison", "Filters", "Kind",
-           "NATIVE", "Profile", "Profiles", "Reason", "Refused", "Relation", "Scope", "Source", "Verdict", "ask",
-           "ask_architectures", "assemble", "check", "compare", "compare_architectures", "compare_calls", "compile",
-           "compile_architectures", "decide", "listing", "run", "trace", "version"]
+if TYPE_CHECKING:
+    from mmap import mmap
 
-X86_64 = 0xC000003E
-LIMIT = 1_000_000
+__all__ = ["ALL", "Action", "Answer", "Architecture", "Buffer", "Call", "CallComparison", "CallsComparison",
+           "Comparison", "Filters", "Kind", "NATIVE", "Profile", "ProfileAnswer", "Profiles", "Reason", "Refused",
+           "Relation", "RightSide", "Run", "Scope", "Source", "Trace", "Verdict", "ask", "ask_architectures",
+           "assemble", "check", "compare", "compare_architectures", "compare_calls", "compile",
+           "compile_architectures", "decide", "listing", "load", "run", "table", "trace", "version"]
+
+Buffer = Union[bytes, bytearray, memoryview, "mmap"]
+LIMIT = 1_000_000  # the most steps of a comparison that scf takes without --limit
+KEEP_PRIVILEGES = 0x80000000
 
 
 class Relation(enum.IntEnum):
-    """What is to hold of the answers of the filters and of the right side."""
+    """What is to hold of the answers of the filters and of the right side. Denied < delegated < allowed."""
 
     SAME, NO_MORE, NO_LESS, SAME_DISPOSITION = range(4)
 
@@ -50,6 +55,18 @@ class Architecture(enum.IntEnum):
 
     X86_64, X86, X32, AARCH64, ARM = range(1, 6)
 
+    @property
+    def audit(self) -> int:
+        """The `arch` of its calls: AUDIT_ARCH_.. of linux/audit.h."""
+        return (0xC000003E, 0x40000003, 0xC000003E, 0xC00000B7, 0x40000028)[self - 1]
+
+
+class Action(enum.IntEnum):
+    """What an answer does: SECCOMP_RET_.. of linux/seccomp.h."""
+
+    KILL_PROCESS, KILL_THREAD, TRAP, ERRNO = 0x80000000, 0, 0x00030000, 0x00050000
+    USER_NOTIF, TRACE, LOG, ALLOW = 0x7FC00000, 0x7FF00000, 0x7FFC0000, 0x7FFF0000
+
 
 class Source(enum.IntEnum):
     """What is refused."""
@@ -67,9 +84,9 @@ Kind = enum.IntEnum("Kind", [
 NO_ENTRY = 2 ** 64 - 1
 
 
-# ---- the structs of scf.h
+# ---- the structs and calls of scf.h
 
-_U8, _U32, _U64, _SIZE = ctypes.c_uint8, ctypes.c_uint32, ctypes.c_uint64, ctypes.c_size_t
+_U32, _U64, _SIZE = ctypes.c_uint32, ctypes.c_uint64, ctypes.c_size_t
 
 
 class _Bytes(ctypes.Structure):
@@ -111,23 +128,24 @@ class _Table(ctypes.Structure):
 
 
 _lib = ctypes.CDLL(os.environ.get("LIBSCF", "libscf.so.0"))
-_IN, _FILTERS, _OUT = [ctypes.c_char_p, _SIZE], [ctypes.POINTER(_Bytes), _SIZE], [ctypes.c_void_p, _SIZE]
-_TABLES = [ctypes.POINTER(_Table), _SIZE]
 _NUMBER, _NEEDED, _CALL = ctypes.POINTER(_U32), ctypes.POINTER(_SIZE), ctypes.POINTER(_Call)
+_IN, _FILTERS, _TABLES = [ctypes.c_char_p, _SIZE], [ctypes.POINTER(_Bytes), _SIZE], [ctypes.POINTER(_Table), _SIZE]
+_OUT, _COMPARISON = [ctypes.c_void_p, _SIZE, _NEEDED], ctypes.POINTER(_Comparison)
+_SIDES = [*_FILTERS, ctypes.POINTER(_RightSide), ctypes.POINTER(_Question)]
 for _name, _types in {
-    "version": [], "check": [*_IN, _NEEDED], "run": [*_IN, _CALL, _NUMBER, _NUMBER],
-    "trace": [*_IN, _CALL, _NUMBER, *_OUT, _NEEDED], "list": [*_IN, *_OUT, _NEEDED], "assemble": [*_IN, *_OUT, _NEEDED],
-    "decide": [*_FILTERS, _CALL, _NUMBER], "compile": [*_IN, *_IN, *_OUT, _NEEDED],
-    "ask": [*_IN, *_IN, _CALL, _NUMBER, ctypes.POINTER(_Reason)],
-    "compare": [*_FILTERS, ctypes.POINTER(_RightSide), ctypes.POINTER(_Question), ctypes.POINTER(_Comparison), *_OUT,
-                _NEEDED],
-    "compare_calls": [*_FILTERS, ctypes.POINTER(_RightSide), ctypes.POINTER(_Question), *_OUT, _NEEDED, *_OUT, _NEEDED],
-    "compile_architectures": [*_IN, *_TABLES, *_OUT, _NEEDED],
+    "check": [*_IN, _NEEDED], "run": [*_IN, _CALL, _NUMBER, _NUMBER], "trace": [*_IN, _CALL, _NUMBER, *_OUT],
+    "list": [*_IN, *_OUT], "assemble": [*_IN, *_OUT], "decide": [*_FILTERS, _CALL, _NUMBER],
+    "compile": [*_IN, *_IN, *_OUT], "ask": [*_IN, *_IN, _CALL, _NUMBER, ctypes.POINTER(_Reason)],
+    "compare": [*_SIDES, _COMPARISON, *_OUT], "compare_calls": [*_SIDES, *_OUT, *_OUT],
+    "compile_architectures": [*_IN, *_TABLES, *_OUT],
     "ask_architectures": [*_IN, *_TABLES, _CALL, _NUMBER, ctypes.POINTER(_Reason)],
-    "compare_architectures": [*_FILTERS, *_IN, *_TABLES, _U32, _U64, ctypes.POINTER(_Comparison), *_OUT, _NEEDED],
+    "compare_architectures": [*_FILTERS, *_IN, *_TABLES, _U32, _U64, _COMPARISON, *_OUT],
 }.items():
     _function = getattr(_lib, f"scf_{_name}")
-    _function.restype, _function.argtypes = _U32, [*_types, *([ctypes.POINTER(_Fault)] if _types else [])]
+    _function.restype, _function.argtypes = _U32, [*_types, ctypes.POINTER(_Fault)]
+_lib.scf_version.restype = _U32
+_lib.scf_table.restype, _lib.scf_table.argtypes = ctypes.c_void_p, [_U32, _NEEDED]
+_lib.scf_load.restype, _lib.scf_load.argtypes = ctypes.c_int, [*_IN, _U32]
 
 
 def _named(names: type[enum.IntEnum], number: int) -> int:
@@ -144,7 +162,7 @@ class Refused(ValueError):
 
     def __init__(self, source: int, kind: int, numbers: Sequence[int]):
         self.source, self.kind, self.numbers = _named(Source, source), _named(Kind, kind), tuple(numbers)
-        where = "" if self.numbers[0] == NO_ENTRY else " (%d, %d, %d)" % self.numbers
+        where = "" if self.numbers[0] == NO_ENTRY else f" {self.numbers}"
         super().__init__(f"{_shown(self.source)} is refused: {_shown(self.kind)}{where}")
 
 
@@ -160,79 +178,100 @@ def _call(function: Callable[..., int], *given: object) -> None:
         raise Refused(fault.source, fault.kind, fault.numbers)
 
 
-def _handed_out(kind: type, room: int, call: Callable[..., None]) -> ctypes.Array:
-    """What a call hands out into an array that it is given with its length and the place of the length needed."""
+def _handed_out(room: int, function: Callable[..., int], *given: object) -> bytes:
+    """The bytes that a call hands out."""
     while True:
-        items, needed = (kind * room)(), _SIZE()
-        call(items, room, needed)
+        text, needed = ctypes.create_string_buffer(room), _SIZE()
+        _call(function, *given, text, room, needed)
         if needed.value <= room:
-            return (kind * needed.value).from_buffer(items)
+            return text.raw[:needed.value]
         room = needed.value
 
 
-def _several(filters: Sequence[bytes]) -> ctypes.Array:
-    return (_Bytes * len(filters))(*((it, len(it)) for it in filters))
+# ---- arguments: one that isn't as it must be is an error that names it
+
+def _is(kind: type, **arguments: object) -> None:
+    for name, value in arguments.items():
+        if not isinstance(value, kind):
+            raise TypeError(f"{name} must be {kind.__name__}, not {type(value).__name__}")
 
 
 def _within(bits: int, **numbers: int) -> None:
+    _is(int, **numbers)
     for name, number in numbers.items():
         if not 0 <= number < 1 << bits:
             raise ValueError(f"{name} isn't a number of {bits} bits: {number}")
 
 
-# ---- inputs
+def _bytes(name: str, data: Buffer) -> _Bytes:
+    try:
+        whole = data if isinstance(data, bytes) else bytes(memoryview(data))
+    except TypeError:
+        raise TypeError(f"{name} must be bytes or another buffer, not {type(data).__name__}") from None
+    return _Bytes(whole, len(whole))
 
-@dataclass(frozen=True)
-class Call:
+
+def _in(name: str, data: Buffer) -> tuple[bytes, int]:
+    whole = _bytes(name, data)
+    return whole.at or b"", whole.len
+
+
+def _stack(name: str, filters: Sequence[Buffer]) -> tuple[ctypes.Array[_Bytes], int]:
+    _is(Sequence, **{name: filters})
+    return (_Bytes * len(filters))(*(_bytes(f"{name}[{place}]", it) for place, it in enumerate(filters))), len(filters)
+
+
+class _CallFields(NamedTuple):
+    nr: int
+    args: tuple[int, ...]
+    arch: int
+    ip: int
+
+
+class Call(_CallFields):
     """What a filter sees of a syscall: the kernel's struct seccomp_data."""
 
-    nr: int
-    args: tuple[int, ...] = ()
-    arch: int = X86_64
-    ip: int = 0
+    __slots__ = ()
 
-    def __post_init__(self) -> None:
-        _within(32, nr=self.nr, arch=self.arch)
-        _within(64, ip=self.ip, **{f"args[{place}]": it for place, it in enumerate(self.args)})
-        if len(self.args) > 6:
+    def __new__(cls, nr: int, args: Sequence[int] = (), arch: int = Architecture.X86_64.audit, ip: int = 0) -> Call:
+        _is(Sequence, args=args)
+        _within(32, nr=nr, arch=arch)
+        _within(64, ip=ip, **{f"args[{place}]": it for place, it in enumerate(args)})
+        if len(args) > 6:
             raise ValueError("a syscall has six arguments")
-        object.__setattr__(self, "args", (*self.args, *(0,) * (6 - len(self.args))))
-
-    def _record(self) -> _Call:
-        return _Call(self.nr, self.arch, self.ip, self.args)
+        return super().__new__(cls, nr, (*args, *(0,) * (6 - len(args))), arch, ip)
 
 
-@dataclass(frozen=True)
-class Profile:
+def _record(call: Call) -> _Call:
+    _is(Call, call=call)
+    return _Call(call.nr, call.arch, call.ip, call.args)
+
+
+class Profile(NamedTuple):
     """An OCI profile, JSON, and the table that gives its names their numbers."""
 
-    text: bytes
-    table: bytes
+    text: Buffer
+    table: Buffer
 
 
-@dataclass(frozen=True)
-class Profiles:
+class Profiles(NamedTuple):
     """An OCI profile, JSON, and the table of each architecture that it is to speak for."""
 
-    text: bytes
-    tables: Mapping[Architecture, bytes]
-
-    def _given(self) -> tuple[object, ...]:
-        _within(32, **{f"tables[{it!r}]": it for it in self.tables})
-        tables = [_Table(architecture, 0, _Bytes(table, len(table))) for architecture, table in self.tables.items()]
-        return self.text, len(self.text), (_Table * len(tables))(*tables), len(tables)
+    text: Buffer
+    tables: Mapping[Architecture, Buffer]
 
 
-@dataclass(frozen=True)
-class Filters:
+class Filters(NamedTuple):
     """Other filters, the oldest first; for compare_calls also the table of the calls."""
 
-    filters: Sequence[bytes]
-    table: bytes = b""
+    filters: Sequence[Buffer]
+    table: Buffer = b""
 
 
-@dataclass(frozen=True)
-class Scope:
+RightSide = Union[Profile, Filters]
+
+
+class Scope(NamedTuple):
     """The calls that are compared: ALL, NATIVE, or those that a class method makes."""
 
     kind: int
@@ -251,35 +290,98 @@ class Scope:
 
 
 ALL, NATIVE = Scope(0), Scope(1)
-RightSide = Union[Profile, Filters]
+
+
+def _of_profile(profile: Profile) -> tuple[object, ...]:
+    _is(Profile, profile=profile)
+    return *_in("profile.text", profile.text), *_in("profile.table", profile.table)
+
+
+def _of_profiles(profiles: Profiles) -> tuple[object, ...]:
+    _is(Profiles, profiles=profiles)
+    _is(Mapping, **{"profiles.tables": profiles.tables})
+    for architecture in profiles.tables:
+        _is(Architecture, **{f"profiles.tables' key {architecture!r}": architecture})
+    tables = [_Table(it, 0, _bytes(f"profiles.tables[{it!r}]", table)) for it, table in profiles.tables.items()]
+    return *_in("profiles.text", profiles.text), (_Table * len(tables))(*tables), len(tables)
+
+
+def _sides(filters: Sequence[Buffer], right: RightSide, question: _Question) -> tuple[object, ...]:
+    if isinstance(right, Profile):
+        side = _RightSide(1, 0, None, 0, _bytes("right.text", right.text), _bytes("right.table", right.table))
+    elif isinstance(right, Filters):
+        side = _RightSide(2, 0, *_stack("right.filters", right.filters), _Bytes(), _bytes("right.table", right.table))
+    else:
+        raise TypeError(f"right must be Profile or Filters, not {type(right).__name__}")
+    return *_stack("filters", filters), side, question
 
 
 # ---- results
 
-@dataclass(frozen=True)
-class Comparison:
-    """What a comparison comes to. Where it FAILS, a call and both answers; where it is UNDECIDED, `at` is the index of
-    an instruction of a filter of the side, 1 or 2."""
+class Answer(int):
+    """What a filter answers: an action and 16 bits of data. A text of it is as scf prints it: `ERRNO 1`."""
 
-    verdict: Verdict
-    call: Call | None = None
-    left: int | None = None
-    right: int | None = None
-    side: int | None = None
-    at: int | None = None
-    report: str = ""
+    @property
+    def action(self) -> int:
+        """The action; the number, if the kernel has no such one."""
+        return _named(Action, self & 0xFFFF0000)
+
+    @property
+    def data(self) -> int:
+        """The error number of ERRNO, the message of TRACE, and so on."""
+        return self & 0xFFFF
+
+    def __str__(self) -> str:
+        action = self.action
+        return f"{action.name} {self.data}" if isinstance(action, Action) else f"UNNAMED 0x{int(self):08x}"
+
+    def __repr__(self) -> str:
+        return f"<Answer {self}>"
 
 
-@dataclass(frozen=True)
-class CallComparison:
+class Run(NamedTuple):
+    """A filter's answer to a call, and how many instructions it executed."""
+
+    answer: Answer
+    steps: int
+
+
+class Trace(NamedTuple):
+    """A filter's answer to a call, and the indices of the instructions that it executed."""
+
+    answer: Answer
+    path: list[int]
+
+
+class ProfileAnswer(NamedTuple):
+    """A profile's answer to a call, why it is this, and with ENTRY the index of the entry in `syscalls`."""
+
+    answer: Answer
+    reason: int
+    entry: int | None
+
+
+class Comparison(NamedTuple):
+    """What a comparison comes to, and what `scf compare` prints of it. Where it FAILS, a call and both answers; where
+    it is UNDECIDED, `at` is the index of an instruction of a filter of the side, 1 or 2."""
+
+    verdict: int
+    call: Call | None
+    left: Answer | None
+    right: Answer | None
+    side: int | None
+    at: int | None
+    report: str
+
+
+class CallComparison(NamedTuple):
     """What the comparison of one call comes to."""
 
     nr: int
     comparison: Comparison
 
 
-@dataclass(frozen=True)
-class CallsComparison:
+class CallsComparison(NamedTuple):
     """What a comparison call by call comes to, and what `scf compare --calls` prints of it."""
 
     calls: list[CallComparison]
@@ -287,136 +389,145 @@ class CallsComparison:
 
 
 def _compared(found: _Comparison, report: str = "") -> Comparison:
-    verdict = Verdict(found.verdict)
+    verdict, it = _named(Verdict, found.verdict), found.call
     if verdict == Verdict.FAILS:
-        call = Call(found.call.nr, tuple(found.call.args), found.call.arch, found.call.ip)
-        return Comparison(verdict, call, found.left, found.right, report=report)
-    if verdict == Verdict.UNDECIDED:
-        return Comparison(verdict, side=found.side, at=found.at, report=report)
-    return Comparison(verdict, report=report)
+        return Comparison(verdict, Call(it.nr, tuple(it.args), it.arch, it.ip), Answer(found.left), Answer(found.right),
+                          None, None, report)
+    place = (found.side, found.at) if verdict == Verdict.UNDECIDED else (None, None)
+    return Comparison(verdict, None, None, None, *place, report)
 
 
-def _text(handed: ctypes.Array) -> str:
-    return bytes(handed).decode("utf-8", "surrogateescape")
+def _text(handed: bytes) -> str:
+    return handed.decode("utf-8", "surrogateescape")
 
 
 # ---- calls
 
 def version() -> tuple[int, int, int]:
     """The version of the library."""
-    number = _lib.scf_version()
+    number: int = _lib.scf_version()
     return number >> 16, number >> 8 & 0xFF, number & 0xFF
 
 
-def check(filter: bytes) -> int:
+def check(filter: Buffer) -> int:
     """The number of instructions of a filter that the kernel accepts."""
     count = _SIZE()
-    _call(_lib.scf_check, filter, len(filter), count)
+    _call(_lib.scf_check, *_in("filter", filter), count)
     return count.value
 
 
-def run(filter: bytes, call: Call) -> tuple[int, int]:
+def run(filter: Buffer, call: Call) -> Run:
     """A filter's answer to a call, and how many instructions it executed."""
     answer, steps = _U32(), _U32()
-    _call(_lib.scf_run, filter, len(filter), call._record(), answer, steps)
-    return answer.value, steps.value
+    _call(_lib.scf_run, *_in("filter", filter), _record(call), answer, steps)
+    return Run(Answer(answer.value), steps.value)
 
 
-def trace(filter: bytes, call: Call) -> tuple[int, list[int]]:
+def trace(filter: Buffer, call: Call) -> Trace:
     """A filter's answer to a call, and the indices of the instructions that it executed."""
-    answer = _U32()
-    given = filter, len(filter), call._record(), answer
-    path = _handed_out(_SIZE, 4096, lambda *out: _call(_lib.scf_trace, *given, *out))
-    return answer.value, list(path)
+    answer, path, needed = _U32(), (_SIZE * 4096)(), _SIZE()
+    _call(_lib.scf_trace, *_in("filter", filter), _record(call), answer, path, len(path), needed)
+    return Trace(Answer(answer.value), path[:needed.value])
 
 
-def listing(filter: bytes) -> str:
+def listing(filter: Buffer) -> str:
     """The listing of a filter, which isn't checked."""
-    return _text(_handed_out(_U8, 1 << 16, lambda *out: _call(_lib.scf_list, filter, len(filter), *out)))
+    return _text(_handed_out(1 << 16, _lib.scf_list, *_in("filter", filter)))
 
 
-def assemble(text: bytes) -> bytes:
+def assemble(text: Buffer) -> bytes:
     """The filter that a text spells. It isn't checked."""
-    return bytes(_handed_out(_U8, 1 << 15, lambda *out: _call(_lib.scf_assemble, text, len(text), *out)))
+    return _handed_out(1 << 15, _lib.scf_assemble, *_in("text", text))
 
 
-def decide(filters: Sequence[bytes], call: Call) -> int:
+def decide(filters: Sequence[Buffer], call: Call) -> Answer:
     """The answer of a stack of filters, the oldest first, to a call."""
     answer = _U32()
-    _call(_lib.scf_decide, _several(filters), len(filters), call._record(), answer)
-    return answer.value
+    _call(_lib.scf_decide, *_stack("filters", filters), _record(call), answer)
+    return Answer(answer.value)
 
 
 def compile(profile: Profile) -> bytes:
     """A filter that answers every call as the profile does."""
-    given = profile.text, len(profile.text), profile.table, len(profile.table)
-    return bytes(_handed_out(_U8, 1 << 15, lambda *out: _call(_lib.scf_compile, *given, *out)))
+    return _handed_out(1 << 15, _lib.scf_compile, *_of_profile(profile))
 
 
 def compile_architectures(profiles: Profiles) -> bytes:
     """A filter that answers every call as the profile of its architecture does."""
-    given = profiles._given()
-    return bytes(_handed_out(_U8, 1 << 15, lambda *out: _call(_lib.scf_compile_architectures, *given, *out)))
+    return _handed_out(1 << 15, _lib.scf_compile_architectures, *_of_profiles(profiles))
 
 
-def _asked(function: Callable[..., int], given: tuple[object, ...], call: Call) -> tuple[int, Reason, int | None]:
+def _asked(function: Callable[..., int], profile: tuple[object, ...], call: Call) -> ProfileAnswer:
     answer, reason = _U32(), _Reason()
-    _call(function, *given, call._record(), answer, reason)
-    why = Reason(reason.kind)
-    return answer.value, why, reason.entry if why == Reason.ENTRY else None
+    _call(function, *profile, _record(call), answer, reason)
+    entry = reason.entry if reason.kind == Reason.ENTRY else None
+    return ProfileAnswer(Answer(answer.value), _named(Reason, reason.kind), entry)
 
 
-def ask(profile: Profile, call: Call) -> tuple[int, Reason, int | None]:
-    """A profile's answer to a call, why it is this, and the index of the entry that gives it."""
-    return _asked(_lib.scf_ask, (profile.text, len(profile.text), profile.table, len(profile.table)), call)
+def ask(profile: Profile, call: Call) -> ProfileAnswer:
+    """A profile's answer to a call."""
+    return _asked(_lib.scf_ask, _of_profile(profile), call)
 
 
-def ask_architectures(profiles: Profiles, call: Call) -> tuple[int, Reason, int | None]:
-    """The same of the profile of the call's architecture; it is FOREIGN where that has no table."""
-    return _asked(_lib.scf_ask_architectures, profiles._given(), call)
+def ask_architectures(profiles: Profiles, call: Call) -> ProfileAnswer:
+    """The same of the profile of the call's architecture; its reason is FOREIGN where that has no table."""
+    return _asked(_lib.scf_ask_architectures, _of_profiles(profiles), call)
 
 
-def _parties(filters: Sequence[bytes], right: RightSide, question: _Question) -> tuple[object, ...]:
-    if isinstance(right, Profile):
-        side = _RightSide(1, 0, None, 0, _Bytes(right.text, len(right.text)), _Bytes(right.table, len(right.table)))
-    else:
-        side = _RightSide(2, 0, _several(right.filters), len(right.filters), _Bytes(None, 0),
-                          _Bytes(right.table, len(right.table)))
-    return _several(filters), len(filters), side, question
-
-
-def compare(filters: Sequence[bytes], right: RightSide, scope: Scope = ALL, relation: Relation = Relation.SAME,
+def compare(filters: Sequence[Buffer], right: RightSide, scope: Scope = ALL, relation: Relation = Relation.SAME,
             limit: int = LIMIT) -> Comparison:
     """Compares a stack of filters, the oldest first, with a profile or with other filters."""
-    _within(32, first=scope.first, last=scope.last)
+    _is(Scope, scope=scope)
+    _is(Relation, relation=relation)
+    _within(32, **{f"scope.{name}": it for name, it in scope._asdict().items()})
     _within(64, limit=limit)
-    parties = _parties(filters, right, _Question(scope.kind, relation, scope.first, scope.last, limit))
+    sides = _sides(filters, right, _Question(scope.kind, relation, scope.first, scope.last, limit))
     found = _Comparison()
-    report = _handed_out(_U8, 1 << 13, lambda *out: _call(_lib.scf_compare, *parties, found, *out))
+    report = _handed_out(1 << 13, _lib.scf_compare, *sides, found)
     return _compared(found, _text(report))
 
 
-def compare_architectures(filters: Sequence[bytes], profiles: Profiles, relation: Relation = Relation.SAME,
+def compare_architectures(filters: Sequence[Buffer], profiles: Profiles, relation: Relation = Relation.SAME,
                           limit: int = LIMIT) -> Comparison:
     """Compares a stack of filters, the oldest first, with a profile over the calls of all architectures that have a
     table, each in at most `limit` steps."""
+    _is(Relation, relation=relation)
     _within(64, limit=limit)
-    given, found = (_several(filters), len(filters), *profiles._given(), relation, limit), _Comparison()
-    report = _handed_out(_U8, 1 << 13, lambda *out: _call(_lib.scf_compare_architectures, *given, found, *out))
+    given, found = (*_stack("filters", filters), *_of_profiles(profiles), relation, limit), _Comparison()
+    report = _handed_out(1 << 13, _lib.scf_compare_architectures, *given, found)
     return _compared(found, _text(report))
 
 
-def compare_calls(filters: Sequence[bytes], right: RightSide, relation: Relation = Relation.SAME, limit: int = LIMIT,
+def compare_calls(filters: Sequence[Buffer], right: RightSide, relation: Relation = Relation.SAME, limit: int = LIMIT,
                   total_limit: int = 2 ** 64 - 1) -> CallsComparison:
-    """Compares call by call of the table, each by itself."""
+    """Compares call by call of the table, each by itself in at most `limit` steps, and all together in at most
+    `total_limit`."""
+    _is(Relation, relation=relation)
     _within(64, limit=limit, total_limit=total_limit)
-    parties = _parties(filters, right, _Question(NATIVE.kind, relation, 0, 0, limit, total_limit))
-    room, text_room, needed, text_needed = 512, 1 << 15, _SIZE(), _SIZE()
-    while True:
-        calls, text = (_CallComparison * room)(), (_U8 * text_room)()
-        _call(_lib.scf_compare_calls, *parties, calls, room, needed, text, text_room, text_needed)
-        if needed.value <= room and text_needed.value <= text_room:
-            break
-        room, text_room = max(room, needed.value), max(text_room, text_needed.value)
-    found = [CallComparison(it.nr, _compared(it.comparison)) for it in calls[:needed.value]]
-    return CallsComparison(found, _text(text[:text_needed.value]))
+    sides = _sides(filters, right, _Question(NATIVE.kind, relation, 0, 0, limit, total_limit))
+    room, calls, count = 0, (_CallComparison * 512)(), _SIZE(512)
+    while room < count.value:
+        room = count.value
+        calls = (_CallComparison * room)()
+        report = _handed_out(1 << 15, _lib.scf_compare_calls, *sides, calls, room, count)
+    found = [CallComparison(it.nr, _compared(it.comparison)) for it in calls[:count.value]]
+    return CallsComparison(found, _text(report))
+
+
+def table(architecture: Architecture) -> bytes:
+    """The syscall table that scf has of an architecture. Its first line says of which kernel it is."""
+    _is(Architecture, architecture=architecture)
+    size = _SIZE()
+    at = _lib.scf_table(architecture, size)
+    return ctypes.string_at(at, size.value) if at is not None else b""
+
+
+def load(filter: Buffer, flags: int = 0) -> int:
+    """Loads a filter for this thread by seccomp(2), with SECCOMP_FILTER_FLAG_.. of linux/seccomp.h, and sets
+    no_new_privs unless the flags have KEEP_PRIVILEGES. Returns 0, the listener's descriptor, or with TSYNC the id of a
+    thread that can't be reached: then no thread gets the filter. An error of the kernel is an OSError."""
+    _within(32, flags=flags)
+    result: int = _lib.scf_load(*_in("filter", filter), flags)
+    if result < 0:
+        raise OSError(-result, os.strerror(-result))
+    return result
