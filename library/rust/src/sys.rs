@@ -75,9 +75,16 @@ pub struct Table {
     pub bytes: Bytes,
 }
 
+pub fn tables_of(tables: &[(crate::Architecture, &[u8])]) -> Vec<Table> {
+    let table = |&(it, text)| Table { architecture: it as u32, reserved: 0, bytes: Bytes::of(text) };
+    tables.iter().map(table).collect()
+}
+
 #[rustfmt::skip]
 extern "C" {
     pub fn scf_version() -> u32;
+    pub fn scf_table(architecture: u32, size: &mut usize) -> *const u8;
+    pub fn scf_load(filter: *const u8, len: usize, flags: u32) -> i32;
     pub fn scf_check(filter: *const u8, len: usize, count: &mut usize, fault: &mut Fault) -> u32;
     pub fn scf_run(filter: *const u8, len: usize, call: &crate::Call, answer: &mut u32, steps: &mut u32,
                    fault: &mut Fault) -> u32;

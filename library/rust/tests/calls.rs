@@ -1,15 +1,16 @@
 //! Each call once, and what refuses it. The answers are those of linux/seccomp.h and of the OCI specification.
 
 use scf::{
-    ask, ask_architectures, assemble, check, compare, compare_architectures, compare_calls, compile,
-    compile_architectures, decide, list, run, trace, version, Architecture, Call, Error, Fault, Kind, Profile,
-    Profiles, Reason, Relation, RightSide, Scope, Source, Verdict, LIMIT, NO_ENTRY, X86_64,
+    ask, ask_architectures, assemble, check, compile, compile_architectures, decide, list, load, run, table, trace,
+    version, Action, Answer, Architecture, Call, Compare, Error, Fault, Kind, Profile, Profiles, Reason, Relation,
+    RightSide, Scope, Source, Verdict, NO_ENTRY,
 };
 
 const ALLOW: [u8; 8] = [6, 0, 0, 0, 0, 0, 0xff, 0x7f];
 const DENY: [u8; 8] = [6, 0, 0, 0, 1, 0, 5, 0];
-const RET_ALLOW: u32 = 0x7fff_0000;
-const RET_EPERM: u32 = 0x0005_0001;
+const RET_ALLOW: Answer = Answer(0x7fff_0000);
+const RET_EPERM: Answer = Answer(0x0005_0001);
+const X86_64: u32 = 0xc000_003e;
 const PROFILE: Profile = Profile {
     text: br#"{"defaultAction": "SCMP_ACT_ERRNO", "syscalls": [{"names": ["read"], "action": "SCMP_ACT_ALLOW"}]}"#,
     table: b"read 0\nwrite 1\n",
@@ -46,40 +47,44 @@ fn texts() {
 fn profiles() {
     assert_eq!(ask(&PROFILE, &call(0)), Ok((RET_ALLOW, Reason::Entry(0))));
     assert_eq!(ask(&PROFILE, &call(1)), Ok((RET_EPERM, Reason::Default)));
-    assert_eq!(ask(&PROFILE, &Call::default()), Ok((0x8000_0000, Reason::Foreign)));
+    assert_eq!(ask(&PROFILE, &Call::default()), Ok((Answer(0x8000_0000), Reason::Foreign)));
     let empty = Profile { text: b"{}", table: b"" };
     assert_eq!(compile(&empty), refused(Source::Profile, Kind::Missing, [NO_ENTRY, 0, 0]));
     let filter = compile(&PROFILE).unwrap();
-    let compared = compare(&[&filter], PROFILE.into(), Scope::All, Relation::Same, LIMIT).unwrap();
+    let compared = Compare::new(&[&filter], PROFILE).run().unwrap();
     assert_eq!((compared.verdict, compared.report.as_slice()), (Verdict::Holds, b"same\n".as_slice()));
 }
 
 #[test]
 fn comparisons() {
-    let right: RightSide = PROFILE.into();
-    let verdict = |scope, relation, limit| compare(&[&ALLOW], right, scope, relation, limit).map(|it| it.verdict);
-    assert_eq!(verdict(Scope::OneCall(0), Relation::Same, LIMIT), Ok(Verdict::Holds));
-    assert_eq!(verdict(Scope::Native, Relation::NoLess, LIMIT), Ok(Verdict::Holds));
-    let Ok(Verdict::Fails { call, left, right: answer }) = verdict(Scope::Numbers(1, 1), Relation::NoMore, LIMIT)
-    else {
-        panic!("it allows write");
-    };
-    assert_eq!((call.nr, call.arch, left, answer), (1, X86_64, RET_ALLOW, RET_EPERM));
-    assert_eq!(verdict(Scope::All, Relation::Same, 0), Ok(Verdict::Unfinished));
+    let filters: &[&[u8]] = &[&ALLOW];
+    let allow = Compare::new(filters, PROFILE);
+    let verdict = |compare: Compare| compare.run().map(|it| it.verdict);
+    assert_eq!(verdict(allow.scope(Scope::OneCall(0))), Ok(Verdict::Holds));
+    assert_eq!(verdict(allow.scope(Scope::Native).relation(Relation::NoLess)), Ok(Verdict::Holds));
+    match verdict(allow.scope(Scope::Numbers(1, 1)).relation(Relation::NoMore)) {
+        Ok(Verdict::Fails { call, left, right }) => {
+            assert_eq!((call.nr, call.arch, left, right), (1, X86_64, RET_ALLOW, RET_EPERM))
+        }
+        other => panic!("{other:?}"),
+    }
+    assert_eq!(verdict(allow.limit(0)), Ok(Verdict::Unfinished));
     let both = RightSide::Filters { filters: &[&ALLOW, &DENY], table: PROFILE.table };
-    let compared = compare(&[&DENY], both, Scope::All, Relation::SameDisposition, LIMIT).unwrap();
-    assert_eq!(compared.verdict, Verdict::Holds);
-    let compared = compare_calls(&[&ALLOW], right, Relation::Same, LIMIT, u64::MAX).unwrap();
+    let deny = Compare::new(&[&DENY], both);
+    assert_eq!(verdict(deny.relation(Relation::SameDisposition)), Ok(Verdict::Holds));
+    let compared = allow.run_calls().unwrap();
     assert!(matches!(compared.calls[..], [(0, Verdict::Holds), (1, Verdict::Fails { .. })]));
     assert!(compared.report.starts_with(b"differs\n1 write differs "));
-    assert_eq!(compare_calls(&[&DENY], both, Relation::Same, LIMIT, LIMIT).unwrap().report, b"same\n");
+    assert_eq!(deny.run_calls().unwrap().report, b"same\n");
+    let none = allow.total_limit(0).run_calls().unwrap();
+    assert!(none.calls.iter().all(|&(_, verdict)| verdict == Verdict::Unfinished));
     let cut = RightSide::Filters { filters: &[&[6]], table: b"" };
-    assert_eq!(compare(&[], cut, Scope::All, Relation::Same, 1), refused(Source::Beside, Kind::Truncated, [0; 3]));
+    assert_eq!(Compare::new(&[], cut).run(), refused(Source::Beside, Kind::Truncated, [0; 3]));
 }
 
 #[test]
 fn architectures() {
-    const I386: u32 = 0x4000_0003;
+    const I386: u32 = Architecture::X86.audit();
     let text = br#"{"defaultAction": "SCMP_ACT_ERRNO", "architectures": ["SCMP_ARCH_X86_64", "SCMP_ARCH_X86"],
         "syscalls": [{"names": ["read"], "action": "SCMP_ACT_ALLOW"}]}"#;
     let native = (Architecture::X86_64, &b"read 0\n"[..]);
@@ -88,12 +93,14 @@ fn architectures() {
     assert_eq!(asked(0, X86_64), Ok((RET_ALLOW, Reason::Entry(0))));
     assert_eq!(asked(3, I386), Ok((RET_ALLOW, Reason::Entry(0))));
     assert_eq!(asked(0, I386), Ok((RET_EPERM, Reason::Default)));
-    assert_eq!(asked(1 << 30, X86_64), Ok((0x8000_0000, Reason::Foreign)));
-    let compared = |filter: &[u8]| compare_architectures(&[filter], &both, Relation::Same, LIMIT).unwrap();
+    assert_eq!(asked(1 << 30, X86_64), Ok((Answer(0x8000_0000), Reason::Foreign)));
+    let compared = |filter: &[u8]| Compare::new(&[filter], both).run().unwrap();
     let found = compared(&compile_architectures(&both).unwrap());
     assert_eq!((found.verdict, found.report.as_slice()), (Verdict::Holds, b"same\n".as_slice()));
     let one = compile_architectures(&Profiles { text, tables: &[native] }).unwrap();
     assert!(matches!(compared(&one).verdict, Verdict::Fails { call: Call { arch: I386, .. }, .. }));
+    assert_eq!(Compare::new(&[&one], both).scope(Scope::Native).run(), Err(Error::WrongArgument));
+    assert_eq!(Compare::new(&[&one], both).run_calls(), Err(Error::WrongArgument));
     let compiled = |tables: &[_]| compile_architectures(&Profiles { text, tables });
     assert_eq!(compiled(&[native, (Architecture::Arm, b"")]), refused(Source::Profile, Kind::NotListed, [1, 0, 0]));
     assert_eq!(compiled(&[native, native]), Err(Error::WrongArgument));
@@ -101,10 +108,39 @@ fn architectures() {
 }
 
 #[test]
+fn answers() {
+    assert_eq!((RET_EPERM.action(), RET_EPERM.data(), RET_EPERM.to_string()), (Action::Errno, 1, "ERRNO 1".into()));
+    assert_eq!(
+        (RET_ALLOW.to_string(), Answer(0x7ffe_0001).to_string()),
+        ("ALLOW 0".into(), "UNNAMED 0x7ffe0001".into())
+    );
+}
+
+#[test]
+fn tables() {
+    for (architecture, line) in [(Architecture::X86_64, "\nread 0\n"), (Architecture::Arm, "\nread 3\n")] {
+        let text = std::str::from_utf8(table(architecture)).unwrap();
+        assert!(text.starts_with("# ") && text.contains(line));
+    }
+}
+
+/// Of a thread: `getpriority` (140) answers ERRNO 1 once the filter is loaded.
+#[test]
+fn a_loaded_filter() {
+    extern "C" {
+        fn getpriority(which: i32, who: u32) -> i32;
+    }
+    assert_eq!(load(&[6], 0).unwrap_err().raw_os_error(), Some(22));
+    let filter = assemble(b"ld [0]\njeq #140, 0, 1\nret #0x50001\nret #0x7fff0000\n").unwrap();
+    let denied = std::thread::spawn(move || (load(&filter, 0).unwrap(), unsafe { getpriority(0, 0) }));
+    assert_eq!(denied.join().unwrap(), (0, -1));
+}
+
+#[test]
 fn threads() {
     std::thread::scope(|scope| {
         for _ in 0..16 {
-            scope.spawn(|| assert_eq!(check(&compile(&PROFILE).unwrap()).is_ok(), true));
+            scope.spawn(|| assert!(check(&compile(&PROFILE).unwrap()).is_ok()));
         }
     });
 }
