@@ -1,10 +1,14 @@
+//go:build cgo
+
 package scf
 
 import (
-	"bytes"
 	"errors"
 	"reflect"
+	"runtime"
+	"strings"
 	"sync"
+	"syscall"
 	"testing"
 )
 
@@ -20,7 +24,8 @@ var (
 	deny    = []byte{6, 0, 0, 0, 1, 0, 5, 0}
 	profile = Profile{[]byte(`{"defaultAction": "SCMP_ACT_ERRNO",
 		"syscalls": [{"names": ["read"], "action": "SCMP_ACT_ALLOW"}]}`), []byte("read 0\nwrite 1\n")}
-	read, write = Call{Nr: 0, Arch: X86_64}, Call{Nr: 1, Arch: X86_64}
+	x86_64      = X86_64.Audit()
+	read, write = Call{Nr: 0, Arch: x86_64}, Call{Nr: 1, Arch: x86_64}
 )
 
 func is(t *testing.T, found, wanted any) {
@@ -30,10 +35,10 @@ func is(t *testing.T, found, wanted any) {
 	}
 }
 
-func refused(t *testing.T, err error, source, kind uint32, first uint64) {
+func refused(t *testing.T, err error, source Source, kind Kind, first uint64) {
 	t.Helper()
 	var fault *Fault
-	if !errors.As(err, &fault) || *fault != (Fault{source, kind, [3]uint64{first, 0, 0}}) {
+	if !errors.As(err, &fault) || *fault != (Fault{source, kind, [3]uint64{first, 0, 0}}) || !errors.Is(err, kind) {
 		t.Error(err)
 	}
 }
@@ -44,18 +49,18 @@ func TestFilters(t *testing.T) {
 	count, err := Check(allow)
 	is(t, []any{count, err}, []any{1, nil})
 	_, err = Check(nil)
-	refused(t, err, 1, 5, 0)
+	refused(t, err, SourceFilter, KindEmpty, 0)
 	_, err = Check(append(allow[:8:8], 6))
-	refused(t, err, 1, 3, 8)
-	answer, steps, err := Run(allow, &read)
-	is(t, []any{answer, steps, err}, []any{uint32(retAllow), uint32(1), nil})
-	answer, path, err := Trace(deny, &read)
-	is(t, []any{answer, path, err}, []any{uint32(retEperm), []uint{0}, nil})
+	refused(t, err, SourceFilter, KindTruncated, 8)
+	answer, steps, err := Run(allow, read)
+	is(t, []any{answer, steps, err}, []any{Answer(retAllow), 1, nil})
+	answer, path, err := Trace(deny, read)
+	is(t, []any{answer, path, err}, []any{Answer(retEperm), []int{0}, nil})
 	for _, row := range []struct {
 		filters [][]byte
-		answer  uint32
+		answer  Answer
 	}{{[][]byte{deny, allow}, retEperm}, {nil, retAllow}} {
-		answer, err := Decide(row.filters, &read)
+		answer, err := Decide(row.filters, read)
 		is(t, []any{answer, err}, []any{row.answer, nil})
 	}
 }
@@ -64,7 +69,7 @@ func TestTexts(t *testing.T) {
 	filter, err := Assemble("ret #0x7fff0000\n")
 	is(t, []any{filter, err}, []any{allow, nil})
 	_, err = Assemble("\nrat\n")
-	refused(t, err, 3, 15, 2)
+	refused(t, err, SourceText, KindMnemonic, 2)
 	text, _ := List(deny)
 	filter, err = Assemble(text)
 	is(t, []any{filter, err}, []any{deny, nil})
@@ -73,17 +78,17 @@ func TestTexts(t *testing.T) {
 func TestProfiles(t *testing.T) {
 	for _, row := range []struct {
 		call   Call
-		answer uint32
-		why    ReasonKind
+		answer Answer
+		why    Reason
 	}{{read, retAllow, ByEntry}, {write, retEperm, ByDefault}, {Call{}, retKillProcess, Foreign}} {
-		answer, why, entry, err := profile.Ask(&row.call)
-		is(t, []any{answer, why, entry, err}, []any{row.answer, row.why, uint32(0), nil})
+		answer, why, entry, err := profile.Ask(row.call)
+		is(t, []any{answer, why, entry, err}, []any{row.answer, row.why, 0, nil})
 	}
 	_, err := Profile{[]byte("{}"), nil}.Compile()
-	refused(t, err, 5, 25, NoEntry)
+	refused(t, err, SourceProfile, KindMissing, NoEntry)
 	filter, _ := profile.Compile()
 	found, err := Compare([][]byte{filter}, profile, All, Same, Limit)
-	if err != nil || found.Verdict != Holds || string(found.Report) != "same\n" {
+	if err != nil || found.Verdict != Holds || found.Report != "same\n" {
 		t.Error(found, err)
 	}
 }
@@ -91,20 +96,20 @@ func TestProfiles(t *testing.T) {
 func TestArchitectures(t *testing.T) {
 	p := Profiles{[]byte(`{"defaultAction": "SCMP_ACT_ERRNO", "architectures": ["SCMP_ARCH_X86_64", "SCMP_ARCH_X86"],
 		"syscalls": [{"names": ["read"], "action": "SCMP_ACT_ALLOW"}]}`),
-		[]Table{{OnX86_64, []byte("read 0\n")}, {OnX86, []byte("read 3\n")}}}
+		[]Table{{X86_64, []byte("read 0\n")}, {X86, []byte("read 3\n")}}}
 	const i386 = 0x40000003
 	for _, row := range []struct {
 		call   Call
-		answer uint32
-		why    ReasonKind
+		answer Answer
+		why    Reason
 	}{{read, retAllow, ByEntry}, {Call{Nr: 3, Arch: i386}, retAllow, ByEntry}, {Call{Nr: 0, Arch: i386}, retEperm, ByDefault},
-		{Call{Nr: 1 << 30, Arch: X86_64}, retKillProcess, Foreign}} {
-		answer, why, entry, err := p.Ask(&row.call)
-		is(t, []any{answer, why, entry, err}, []any{row.answer, row.why, uint32(0), nil})
+		{Call{Nr: 1 << 30, Arch: x86_64}, retKillProcess, Foreign}} {
+		answer, why, entry, err := p.Ask(row.call)
+		is(t, []any{answer, why, entry, err}, []any{row.answer, row.why, 0, nil})
 	}
 	filter, _ := p.Compile()
 	found, err := CompareArchitectures([][]byte{filter}, p, Same, Limit)
-	if err != nil || found.Verdict != Holds || string(found.Report) != "same\n" {
+	if err != nil || found.Verdict != Holds || found.Report != "same\n" {
 		t.Error(found, err)
 	}
 	filter, _ = Profiles{p.Text, p.Tables[:1]}.Compile()
@@ -112,8 +117,8 @@ func TestArchitectures(t *testing.T) {
 	if err != nil || found.Verdict != Fails || found.Call.Arch != i386 {
 		t.Error(found, err)
 	}
-	_, err = CompareArchitectures(nil, Profiles{p.Text, []Table{p.Tables[0], {OnArm, nil}}}, Same, Limit)
-	refused(t, err, 5, 39, 1)
+	_, err = CompareArchitectures(nil, Profiles{p.Text, []Table{p.Tables[0], {Arm, nil}}}, Same, Limit)
+	refused(t, err, SourceProfile, KindNotListed, 1)
 	_, err = CompareArchitectures(nil, Profiles{p.Text, append(p.Tables, p.Tables[0])}, Same, Limit)
 	is(t, err, ErrWrongArgument)
 	_, err = Profiles{p.Text, nil}.Compile()
@@ -138,20 +143,65 @@ func TestComparisons(t *testing.T) {
 		if err != nil || found.Verdict != row.verdict {
 			t.Error(row, found, err)
 		} else if row.verdict == Fails {
-			is(t, []any{found.Call.Nr, found.Left, found.Right}, []any{uint32(1), uint32(retAllow), uint32(retEperm)})
+			is(t, []any{found.Call.Nr, found.Left, found.Right}, []any{uint32(1), Answer(retAllow), Answer(retEperm)})
 		}
 	}
 	calls, report, err := CompareCalls([][]byte{allow}, profile, Same, Limit, NoEntry)
 	if err != nil || len(calls) != 2 || calls[0].Verdict != Holds || calls[1].Verdict != Fails ||
-		!bytes.HasPrefix(report, []byte("differs\n1 write differs ")) {
-		t.Error(calls, string(report), err)
+		!strings.HasPrefix(report, "differs\n1 write differs ") {
+		t.Error(calls, report, err)
 	}
 	_, report, err = CompareCalls([][]byte{deny}, both, Same, Limit, Limit)
-	is(t, []any{string(report), err}, []any{"same\n", nil})
+	is(t, []any{report, err}, []any{"same\n", nil})
 	_, err = Compare(nil, Filters{[][]byte{{6}}, nil}, All, Same, 1)
-	refused(t, err, 2, 3, 0)
-	_, err = Compare(nil, profile, All, 9, 1)
-	is(t, err, ErrWrongArgument)
+	refused(t, err, SourceBeside, KindTruncated, 0)
+	for _, right := range []RightSide{profile, nil} {
+		_, err = Compare(nil, right, All, 9, 1)
+		is(t, err, ErrWrongArgument)
+	}
+}
+
+func TestNames(t *testing.T) {
+	for _, row := range []struct {
+		name   string
+		number interface{ String() string }
+	}{
+		{"ERRNO 1", Answer(retEperm)}, {"UNNAMED 0x7ffe0001", Answer(0x7ffe0001)}, {"ALLOW", Answer(retAllow).Action()},
+		{"fails", Fails}, {"Verdict(0)", Verdict(0)}, {"Verdict(9)", Verdict(9)}, {"same", Same}, {"no less", NoLess},
+		{"entry", ByEntry}, {"arm", Arm}, {"NotListed", KindNotListed}, {"Kind(99)", Kind(99)}, {"compare", SourceCompare},
+	} {
+		is(t, row.number.String(), row.name)
+	}
+	is(t, (&Fault{SourceProfile, KindConflict, [3]uint64{1, 0, 3}}).Error(), "scf: profile is refused: Conflict [1 0 3]")
+	is(t, []uint32{X32.Audit(), Arm.Audit(), Architecture(9).Audit()}, []uint32{0xc000003e, 0x40000028, 0})
+}
+
+func TestTables(t *testing.T) {
+	for architecture, line := range map[Architecture]string{X86_64: "read 0", X86: "read 3", X32: "read 0",
+		Aarch64: "read 63", Arm: "read 3"} {
+		text := string(SyscallTable(architecture))
+		if !strings.HasPrefix(text, "# ") || !strings.Contains(text, "\n"+line+"\n") {
+			t.Error(architecture, text)
+		}
+	}
+	is(t, SyscallTable(9), []byte(nil))
+}
+
+// The thread that has the filter ends with the goroutine that is locked to it.
+func TestLoad(t *testing.T) {
+	_, err := Load([]byte{6}, 0)
+	is(t, err, syscall.EINVAL)
+	filter, _ := Assemble("ld [0]\njeq #110, 0, 1\nret #0x50001\nret #0x7fff0000\n") // getppid
+	done := make(chan error)
+	go func() {
+		runtime.LockOSThread()
+		_, err := Load(filter, 0)
+		if parent, _, _ := syscall.RawSyscall(syscall.SYS_GETPPID, 0, 0, 0); err == nil && parent != ^uintptr(0) {
+			err = errors.New("the filter wasn't loaded")
+		}
+		done <- err
+	}()
+	is(t, <-done, error(nil))
 }
 
 func TestGoroutines(t *testing.T) {
