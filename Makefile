@@ -3,8 +3,9 @@
 #                                   that folder
 # make uninstall                    takes them away
 # make lib                          builds libscf, the library for C, C++, Python, Rust and Go, in library/out
-# make install-lib, uninstall-lib   puts its header, archive, shared object, file for pkg-config and Python module below
-#                                   PREFIX; LIBDIR and PYTHON_DIR say where, if not in lib and lib/python3/dist-packages
+# make install-lib, uninstall-lib   puts its headers, archive, shared object, file for pkg-config, manual pages and
+#                                   Python package below PREFIX; LIBDIR and PYTHON_DIR say where, if not in lib and
+#                                   lib/python3/dist-packages
 # make deb, make dist               makes Debian packages, or an archive, of both, in dist/
 # make check                        runs the whole gate
 
@@ -18,10 +19,13 @@ BIN = $(TO)/bin
 LIB = $(TO)/lib/scf
 MAN = $(TO)/share/man/man1
 DOC = $(TO)/share/doc/scf
+PAGES = TUTORIAL RECIPES OPERATIONS JSON LICENCES
 # (units, which systemd finds there, a hook for podman and alerts for Prometheus; none of them is enabled by this)
 UNITS = $(TO)/lib/systemd/system
 SHARE = $(TO)/share/scf
-HERE = sed 's|/usr/local/bin/scf-|$(PREFIX)/bin/scf-|'
+HERE = sed 's|/usr/local/bin/scf-|$(call FOR_SED,$(PREFIX))/bin/scf-|'
+# (a path as the replacement of sed's s|..|..|)
+FOR_SED = $(subst |,\|,$(subst &,\&,$(1)))
 # (where Debian's shells look below /usr, and below /usr/local)
 BASH = $(TO)/share/bash-completion/completions
 ZSH = $(TO)/share/zsh/$(if $(filter /usr,$(PREFIX)),vendor-completions,site-functions)
@@ -30,6 +34,11 @@ FISH = $(TO)/share/fish/vendor_completions.d
 LIBSCF = library/out/libscf.so.0
 LIBDIR = $(PREFIX)/lib
 PYTHON_DIR = $(PREFIX)/lib/python3/dist-packages
+MAN3 = $(TO)/share/man/man3
+DOC_OF_LIB = $(TO)/share/doc/libscf
+CALLS := libscf $(shell sed -n 's/^ *\(scf_[a-z_]*\);/\1/p' library/scf.map)
+# (a folder below PREFIX is named by it, so that a packager can move both)
+PC_LIBDIR = $(patsubst $(PREFIX)/%,$${prefix}/%,$(LIBDIR))
 VERSION := $(shell cat VERSION)
 
 .PHONY: all check install uninstall lib install-lib uninstall-lib deb dist
@@ -53,7 +62,7 @@ install: $(PROGRAM) uninstall
 	install -m 644 docs/FAULTS.md "$(LIB)/docs"
 	install -m 644 docs/scf.1 "$(MAN)"
 	umask 022; dev/manual "$(MAN)" && dev/completion "$(BASH)/scf" "$(ZSH)/_scf" "$(FISH)/scf.fish"
-	install -m 644 LICENSE "$(DOC)"
+	install -m 644 LICENSE README.md $(PAGES:%=docs/%.md) "$(DOC)"
 	install -m 644 contrib/systemd/scf-audit.timer "$(UNITS)"
 	install -m 644 contrib/prometheus/scf.rules.yml "$(SHARE)/prometheus"
 	umask 022; $(HERE) contrib/systemd/scf-audit.service >"$(UNITS)/scf-audit.service" && \
@@ -78,17 +87,20 @@ $(LIBSCF):
 	library/build
 
 install-lib: $(LIBSCF) uninstall-lib
-	install -d "$(TO)/include" "$(DESTDIR)$(LIBDIR)/pkgconfig" "$(DESTDIR)$(PYTHON_DIR)"
-	install -m 644 library/scf.h "$(TO)/include"
+	install -d "$(TO)/include" "$(DESTDIR)$(LIBDIR)/pkgconfig" "$(DESTDIR)$(PYTHON_DIR)/scf" "$(MAN3)" "$(DOC_OF_LIB)"
+	install -m 644 library/scf.h library/scf.hpp "$(TO)/include"
 	install -m 644 library/out/libscf.a $(LIBSCF) "$(DESTDIR)$(LIBDIR)"
 	ln -sf libscf.so.0 "$(DESTDIR)$(LIBDIR)/libscf.so"
-	umask 022; sed 's|@PREFIX@|$(PREFIX)|; s|@LIBDIR@|$(LIBDIR)|; s|@VERSION@|$(VERSION)|' library/scf.pc.in \
-	    >"$(DESTDIR)$(LIBDIR)/pkgconfig/scf.pc"
-	install -m 644 library/python/scf.py "$(DESTDIR)$(PYTHON_DIR)"
+	umask 022; library/manual "$(MAN3)"
+	umask 022; sed -e 's|@PREFIX@|$(call FOR_SED,$(PREFIX))|' -e 's|@LIBDIR@|$(call FOR_SED,$(PC_LIBDIR))|' \
+	    -e 's|@VERSION@|$(VERSION)|' library/scf.pc.in >"$(DESTDIR)$(LIBDIR)/pkgconfig/scf.pc"
+	install -m 644 library/python/scf/__init__.py library/python/scf/py.typed "$(DESTDIR)$(PYTHON_DIR)/scf"
+	install -m 644 LICENSE docs/LIBRARY.md docs/FAULTS.md library/example/engine.c "$(DOC_OF_LIB)"
 
 uninstall-lib:
-	rm -f "$(TO)/include/scf.h" "$(DESTDIR)$(LIBDIR)/libscf.a" "$(DESTDIR)$(LIBDIR)/libscf.so" \
-	    "$(DESTDIR)$(LIBDIR)/libscf.so.0" "$(DESTDIR)$(LIBDIR)/pkgconfig/scf.pc" "$(DESTDIR)$(PYTHON_DIR)/scf.py"
+	rm -f "$(TO)/include/scf.h" "$(TO)/include/scf.hpp" "$(DESTDIR)$(LIBDIR)/libscf.a" "$(DESTDIR)$(LIBDIR)/libscf.so" \
+	    "$(DESTDIR)$(LIBDIR)/libscf.so.0" "$(DESTDIR)$(LIBDIR)/pkgconfig/scf.pc" $(CALLS:%="$(MAN3)/%.3")
+	rm -rf "$(DESTDIR)$(PYTHON_DIR)/scf" "$(DOC_OF_LIB)"
 
 deb dist: $(PROGRAM) $(LIBSCF)
 	dev/package $@ dist

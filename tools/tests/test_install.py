@@ -15,6 +15,7 @@ TOOLS = sorted(name for name in os.listdir(os.path.join(TOP, "tools"))
 OF_PROGRAM = ("asm", "dis")
 MODULES = sorted(name for name in os.listdir(os.path.join(TOP, "tools", "scftools")) if name.endswith(".py"))
 TABLES = os.listdir(os.path.join(TOP, "tables"))
+DOCUMENTS = ["LICENSE", "README.md", *(f"{it}.md" for it in ("TUTORIAL", "RECIPES", "OPERATIONS", "JSON", "LICENCES"))]
 
 
 class Install(Case):
@@ -39,8 +40,8 @@ class Install(Case):
                        *(f"lib/scf/tools/{name}" for name in TOOLS),
                        *(f"lib/scf/tools/scftools/{name}" for name in MODULES),
                        *(f"lib/scf/tables/{name}" for name in TABLES), "lib/scf/docs/FAULTS.md",
-                       "share/doc/scf/LICENSE", "share/man/man1/scf.1", "share/scf/hooks.d/scf.json",
-                       "share/scf/prometheus/scf.rules.yml",
+                       *(f"share/doc/scf/{it}" for it in DOCUMENTS), "share/man/man1/scf.1",
+                       "share/scf/hooks.d/scf.json", "share/scf/prometheus/scf.rules.yml",
                        *(f"lib/systemd/system/scf-audit.{it}" for it in ("service", "timer")),
                        *(f"share/man/man1/scf-{name}.1" for name in (*TOOLS, *OF_PROGRAM))])
 
@@ -95,7 +96,7 @@ class Install(Case):
         self.assertEqual((status, out), (125, ""), err)
 
     def test_the_unit_and_the_hook_name_what_is_installed(self):
-        for prefix in ("/usr", "/usr/local", "/opt/it"):
+        for prefix in ("/usr", "/usr/local", "/opt/a&b|c"):
             stage = os.path.join(self.folder, prefix.replace("/", "_"))
             self.make("install", f"PREFIX={prefix}", f"DESTDIR={stage}")
             with open(f"{stage}{prefix}/lib/systemd/system/scf-audit.service", encoding="ascii") as file:
