@@ -1,4 +1,4 @@
-"""dev/package: the Debian packages and the archive, which run where they are unpacked."""
+"""dev/package: the Debian packages and the archive, which run where they are unpacked; RPM packages, and an image."""
 import filecmp
 import os
 import re
@@ -9,17 +9,34 @@ import tarfile
 import unittest
 
 from support.common import ALLOW, TOP, Case, for_developers, profile_of, ret
+from test_library import CALLS
 
 HAS_OBJECT = os.path.exists(os.path.join(TOP, "crates", "scf", "out", "scf.o"))
+with open(os.path.join(TOP, "VERSION"), encoding="ascii") as version_file:
+    VERSION = version_file.read().strip()
+PAGES = {f"{name}.3" for name in ("libscf", *sorted(CALLS))}
 
 
 class Package(Case):
-    def made(self, what, folder="made"):
+    def made(self, what, folder="made", top=TOP):
         """The files that dev/package writes."""
         env = {**os.environ, "SOURCE_DATE_EPOCH": "1700000000"}
-        status, out, err = self.run_words([for_developers("package"), what, folder], env=env)
+        status, out, err = self.run_words([os.path.join(top, "dev", "package"), what, folder], env=env)
         self.assertEqual((status, err), (0, ""))
         return out.splitlines()
+
+    def copy_of_tree(self):
+        """The tree as it is built, in another folder."""
+        folder = os.path.join(self.folder, "another", "folder")
+        outs = [os.path.join(*it) for it in (("crates", "scf", "out"), ("library", "out"))]
+
+        def left_out(at, names):
+            inside = os.path.relpath(at, TOP)
+            return {it for it in names if it in (".git", "__pycache__", "dist", "rattle") or it.endswith(".lock")
+                    or it == "out" and os.path.join(inside, it) not in outs
+                    or inside == outs[0] and it not in ("scf", "scf.o")}
+        shutil.copytree(TOP, folder, symlinks=True, ignore=left_out)
+        return folder
 
     def example(self, folder):
         """A profile is compiled and compared, and one filter more is told from it, by what is unpacked in a folder."""
@@ -40,18 +57,22 @@ class Package(Case):
     @unittest.skipUnless(shutil.which("dpkg-deb"), "there is no dpkg-deb here")
     def test_the_debian_package(self):
         made, *library = self.made("deb")
-        for one, again in zip((made, *library), self.made("deb", "again")):
-            self.assertTrue(filecmp.cmp(one, again, shallow=False), one)
+        again = self.made("deb", "again", self.copy_of_tree())
+        names = [os.path.basename(it) for it in again]
+        self.assertEqual(filecmp.cmpfiles(os.path.dirname(made), os.path.dirname(again[0]), names, shallow=False),
+                         (names, [], []))
         self.packages_of_the_library(library)
         fields = dict(line.split(": ", 1) for line in self.run_words(["dpkg-deb", "-f", made])[1].splitlines()
                       if re.match(r"\w", line))
         self.assertEqual((fields["Package"], fields["Architecture"]), ("scf", "amd64"))
-        self.assertIn("python3 (>= 3.9)", fields["Depends"])
+        self.assertRegex(fields["Depends"], r"^libc6 \(>= 2\.\d+\), python3 \(>= 3\.9\)$")
         root = os.path.join(self.folder, "root")
         self.assertEqual(self.run_words(["dpkg-deb", "-R", made, root])[0], 0)
         self.assertEqual(self.run_words(["md5sum", "--quiet", "-c", "DEBIAN/md5sums"], cwd=root), (0, "", ""))
-        for name in ("copyright", "changelog.Debian.gz", "LICENCES.md"):
+        for name in ("copyright", "changelog.Debian.gz", "LICENCES.md", "README.md", "TUTORIAL.md", "RECIPES.md",
+                     "OPERATIONS.md", "JSON.md"):
             self.assertTrue(os.path.isfile(os.path.join(root, "usr", "share", "doc", "scf", name)), name)
+        self.licences(os.path.join(root, "usr", "share", "doc", "scf"), {"clap", "strsim", "json", "core"})
         self.assertTrue(os.path.isfile(os.path.join(root, "usr", "share", "man", "man1", "scf-compare.1.gz")))
         with open(os.path.join(root, "usr", "lib", "scf", "tools", "compare"), "rb") as tool:
             self.assertEqual(tool.readline(), b"#!/usr/bin/python3 -IS\n")
@@ -59,6 +80,56 @@ class Package(Case):
             self.assertEqual(set(re.findall(r"(\S+) -IS", command.read())), {"/usr/bin/python3"})
         self.places(os.path.join(root, "usr"), "/usr")
         self.example(os.path.join(root, "usr"))
+
+    def licences(self, folder, parts):
+        """The copyright file names these parts of the kit, if any, and says that the kit states no licence for some."""
+        with open(os.path.join(folder, "copyright"), encoding="utf-8") as file:
+            text = file.read()
+        for part in ("clap", "strsim", "json", "core"):
+            self.assertEqual(bool(re.search(rf"(?m)^ {part}\b.*; licence: ", text)), part in parts, part)
+        self.assertEqual("none stated" in text, bool(parts))
+
+    @unittest.skipUnless(shutil.which("lintian"), "there is no lintian here")
+    def test_lintian_finds_nothing(self):
+        """No error and no warning; the maintainer's address is a placeholder, but well formed."""
+        made = self.made("deb")
+        done = self.run_words(["lintian", "--allow-root", "--fail-on", "error,warning", *made])
+        self.assertEqual(done[:2], (0, ""), done)
+
+    @unittest.skipUnless(shutil.which("rpmbuild"), "there is no rpmbuild here")
+    def test_the_rpm_packages(self):
+        top, tree = os.path.join(self.folder, "rpm"), self.copy_of_tree()
+        status, out, err = self.run_words(["rpmbuild", "-bb", "--quiet", "--build-in-place", f"-D_topdir {top}",
+                                           "contrib/scf.spec"], cwd=tree)
+        self.assertEqual(status, 0, (out, err))
+        made = {os.path.basename(path): self.run_words(["rpm", "-qlp", path])[1].split() for path in (
+            os.path.join(at, name) for at, _, names in os.walk(os.path.join(top, "RPMS")) for name in names)}
+        end = f"-{VERSION}-1.x86_64.rpm"
+        self.assertEqual(set(made), {f"{it}{end}" for it in ("scf", "libscf", "libscf-devel")}
+                         | {f"python3-scf-{VERSION}-1.noarch.rpm"})
+        self.assertIn("/usr/bin/scf-compare", made[f"scf{end}"])
+        self.assertEqual(made[f"libscf{end}"], ["/usr/lib64/libscf.so.0"])
+        self.assertLessEqual({"/usr/include/scf.h", "/usr/share/man/man3/scf_check.3.gz"}, {
+            f"{it}.gz" if it.endswith(".3") else it for it in made[f"libscf-devel{end}"]})
+
+    @unittest.skipUnless(shutil.which("podman") and os.geteuid() == 0, "there is no podman here, or no root")
+    def test_an_image_of_the_program(self):
+        """Of a stand-in for the program, that is linked statically as well."""
+        name = f"scf-{VERSION}-x86_64"
+        program = self.file(f"{name}/lib/scf/program/scf.c", '#include <stdio.h>\nint main() { puts("stands in"); }\n')
+        self.assertEqual(self.run_words(["cc", "-static", "-o", program[:-2], program])[0], 0)
+        os.mkdir(os.path.join(self.folder, "dist"))
+        self.assertEqual(self.run_words(["tar", "cJf", f"dist/{name}.tar.xz", name])[0], 0)
+        for file in (".containerignore", "contrib/Containerfile"):
+            shutil.copy(os.path.join(TOP, file), self.folder)
+        image = f"localhost/scf-test-{os.getpid()}"
+        build = ["podman", "build", "--quiet", "--no-cache", "--target", "program", "--build-arg", f"VERSION={VERSION}",
+                 "--tag", image, "--file", "Containerfile", "."]
+        status, out, err = self.run_words(build)
+        self.assertEqual(status, 0, (out, err))
+        self.addCleanup(self.run_words, ["podman", "rmi", "--force", image])
+        layers = f"podman save {image} | tar xO --wildcards '*.tar' | tar t --ignore-zeros"
+        self.assertEqual(self.run_bytes(["sh", "-c", layers])[1].split(), [b"scf"])
 
     def places(self, root, prefix):
         """The unit and the hook below a folder name the programs below this prefix."""
@@ -70,17 +141,23 @@ class Package(Case):
     def packages_of_the_library(self, made):
         """The packages of libscf have these files, and a program is compiled and run with what they unpack."""
         lib, root = "usr/lib/x86_64-linux-gnu", os.path.join(self.folder, "library")
+        pages = {f"usr/share/man/man3/{it}.gz" for it in PAGES}
+        documents = {f"usr/share/doc/libscf-dev/{it}" for it in ("LIBRARY.md", "FAULTS.md", "engine.c")}
         for package, needs, wanted in (
                 ("libscf0", "libc6 ", {f"{lib}/libscf.so.0"}),
-                ("libscf-dev", "libscf0 (= ", {f"{lib}/libscf.a", f"{lib}/libscf.so", f"{lib}/pkgconfig/scf.pc",
-                                               "usr/include/scf.h"}),
-                ("python3-scf", "libscf0, python3 ", {"usr/lib/python3/dist-packages/scf.py"})):
+                ("libscf-dev", "libscf0 (= ", {
+                    f"{lib}/libscf.a", f"{lib}/libscf.so", f"{lib}/pkgconfig/scf.pc", "usr/include/scf.h",
+                    "usr/include/scf.hpp", *pages, *documents}),
+                ("python3-scf", f"libscf0 (>= {VERSION}), python3 ",
+                 {f"usr/lib/python3/dist-packages/scf/{it}" for it in ("__init__.py", "py.typed")})):
             path, = (it for it in made if os.path.basename(it).startswith(f"{package}_"))
             self.assertTrue(self.run_words(["dpkg-deb", "-f", path, "Depends"])[1].startswith(needs), package)
             listed = self.run_words(["dpkg-deb", "-c", path])[1].splitlines()
             names = {line.split()[5].removeprefix("./") for line in listed if not line.startswith("d")}
-            self.assertEqual({it for it in names if "/doc/" not in it}, wanted)
+            own = {f"usr/share/doc/{package}/{it}" for it in ("copyright", "changelog.Debian.gz")}
+            self.assertEqual(names, wanted | own)
             self.assertEqual(self.run_words(["dpkg-deb", "-x", path, root])[0], 0)
+            self.licences(f"{root}/usr/share/doc/{package}", {"json", "core"} if package != "python3-scf" else set())
         self.file("version.c", "#include <scf.h>\nint main(void) { return scf_version() != SCF_VERSION; }\n")
         folder = os.path.join(root, lib)
         self.assertEqual(self.run_words(["cc", "-o", "version", "version.c", f"-I{root}/usr/include", f"-L{folder}",
@@ -96,7 +173,7 @@ class Package(Case):
         with tarfile.open(made) as archive:
             self.assertEqual({(it.uid, it.gid, it.mtime) for it in archive}, {(0, 0, 1700000000)})
             archive.extractall(self.folder)
-        folder = os.path.join(self.folder, "scf-0.1.0-x86_64")
+        folder = os.path.join(self.folder, f"scf-{VERSION}-x86_64")
         self.assertEqual(self.run_words(["sha256sum", "--quiet", "-c", "SHA256SUMS"], cwd=folder), (0, "", ""))
         self.assertEqual(self.run_words(["sha256sum", "--quiet", "-c", f"{made}.sha256"], cwd=os.path.dirname(made)),
                          (0, "", ""))
@@ -109,7 +186,7 @@ class Package(Case):
         program = os.path.join(folder, "lib", "scf", "program", "scf")
         self.assertNotIn("NEEDED", self.run_words(["readelf", "-d", program])[1])
         self.assertLessEqual({"include/scf.h", "lib/libscf.a", "lib/libscf.so.0", "lib/pkgconfig/scf.pc",
-                              "lib/python3/dist-packages/scf.py"}, listed)
+                              "lib/python3/dist-packages/scf/__init__.py", "share/man/man3/scf_check.3"}, listed)
         self.places(folder, "/usr/local")
         self.example(folder)
 
