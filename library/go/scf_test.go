@@ -20,8 +20,12 @@ const (
 )
 
 var (
-	allow   = []byte{6, 0, 0, 0, 0, 0, 0xff, 0x7f}
-	deny    = []byte{6, 0, 0, 0, 1, 0, 5, 0}
+	allow = []byte{6, 0, 0, 0, 0, 0, 0xff, 0x7f}
+	deny  = []byte{6, 0, 0, 0, 1, 0, 5, 0}
+	// Three times word 4, less that word three times, is 0, so this denies; but no comparison splits that far.
+	unknown = []byte{0x20, 0, 0, 0, 16, 0, 0, 0, 7, 0, 0, 0, 0, 0, 0, 0, 0x24, 0, 0, 0, 3, 0, 0, 0,
+		0x1c, 0, 0, 0, 0, 0, 0, 0, 0x1c, 0, 0, 0, 0, 0, 0, 0, 0x1c, 0, 0, 0, 0, 0, 0, 0,
+		0x15, 0, 0, 1, 0, 0, 0, 0, 6, 0, 0, 0, 1, 0, 5, 0, 6, 0, 0, 0, 0, 0, 0xff, 0x7f}
 	profile = Profile{[]byte(`{"defaultAction": "SCMP_ACT_ERRNO",
 		"syscalls": [{"names": ["read"], "action": "SCMP_ACT_ALLOW"}]}`), []byte("read 0\nwrite 1\n")}
 	x86_64      = X86_64.Audit()
@@ -146,6 +150,8 @@ func TestComparisons(t *testing.T) {
 			is(t, []any{found.Call.Nr, found.Left, found.Right}, []any{uint32(1), Answer(retAllow), Answer(retEperm)})
 		}
 	}
+	found, err := Compare([][]byte{unknown}, profile, OneCall(1), Same, Limit)
+	is(t, []any{found.Verdict, found.Side, found.At, err}, []any{Undecided, uint32(1), uint64(8), nil})
 	calls, report, err := CompareCalls([][]byte{allow}, profile, Same, Limit, NoEntry)
 	if err != nil || len(calls) != 2 || calls[0].Verdict != Holds || calls[1].Verdict != Fails ||
 		!strings.HasPrefix(report, "differs\n1 write differs ") {

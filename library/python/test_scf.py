@@ -13,6 +13,9 @@ RET_ALLOW, RET_EPERM, RET_KILL_PROCESS = 0x7FFF0000, 0x00050001, 0x80000000
 PROFILE = scf.Profile(b'{"defaultAction": "SCMP_ACT_ERRNO", "syscalls": [{"names": ["read", "absent"], "action": '
                       b'"SCMP_ACT_ALLOW"}]}', b"read 0\nwrite 1\n")
 READ, WRITE = scf.Call(0), scf.Call(1)
+# Three times word 4, less that word three times, is 0, so this denies; but no comparison splits that far.
+UNKNOWN = (bytes((0x20, 0, 0, 0, 16, 0, 0, 0, 7, 0, 0, 0, 0, 0, 0, 0, 0x24, 0, 0, 0, 3, 0, 0, 0))
+           + bytes((0x1C, 0, 0, 0, 0, 0, 0, 0)) * 3 + bytes((0x15, 0, 0, 1, 0, 0, 0, 0)) + DENY + ALLOW)
 I386 = scf.Architecture.X86.audit
 BOTH = scf.Profiles(b'{"defaultAction": "SCMP_ACT_ERRNO", "architectures": ["SCMP_ARCH_X86_64", "SCMP_ARCH_X86"], '
                     b'"syscalls": [{"names": ["read"], "action": "SCMP_ACT_ALLOW"}]}',
@@ -64,6 +67,8 @@ class Calls(unittest.TestCase):
             self.assertEqual(scf.compare([ALLOW], PROFILE, scope, relation, limit).verdict.name, verdict)
         found = scf.compare([ALLOW], PROFILE, scf.Scope.numbers(1, 1))
         self.assertEqual((found.call.nr, found.left, found.right), (1, RET_ALLOW, RET_EPERM))
+        found = scf.compare([UNKNOWN], PROFILE, scf.Scope.one_call(1))
+        self.assertEqual((found.verdict, found.side, found.at, found.call), (scf.Verdict.UNDECIDED, 1, 8, None))
         both = scf.Filters([ALLOW, DENY], PROFILE.table)
         self.assertEqual(scf.compare([DENY], both, relation=scf.Relation.SAME_DISPOSITION).verdict, scf.Verdict.HOLDS)
         self.refused(scf.Source.BESIDE, scf.Kind.TRUNCATED, (0, 0, 0), scf.compare, [], scf.Filters([b"\6"]))

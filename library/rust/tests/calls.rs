@@ -8,6 +8,9 @@ use scf::{
 
 const ALLOW: [u8; 8] = [6, 0, 0, 0, 0, 0, 0xff, 0x7f];
 const DENY: [u8; 8] = [6, 0, 0, 0, 1, 0, 5, 0];
+/// Three times word 4, less that word three times, is 0, so this denies; but no comparison splits that far.
+const UNKNOWN: [u64; 9] =
+    [0x10_0000_0020, 7, 0x3_0000_0024, 0x1c, 0x1c, 0x1c, 0x0100_0015, 0x0005_0001_0000_0006, 0x7fff_0000_0000_0006];
 const RET_ALLOW: Answer = Answer(0x7fff_0000);
 const RET_EPERM: Answer = Answer(0x0005_0001);
 const X86_64: u32 = 0xc000_003e;
@@ -59,7 +62,7 @@ fn profiles() {
 fn comparisons() {
     let filters: &[&[u8]] = &[&ALLOW];
     let allow = Compare::new(filters, PROFILE);
-    let verdict = |compare: Compare| compare.run().map(|it| it.verdict);
+    let verdict = |compare: Compare| compare.run().map(|compared| compared.verdict);
     assert_eq!(verdict(allow.scope(Scope::OneCall(0))), Ok(Verdict::Holds));
     assert_eq!(verdict(allow.scope(Scope::Native).relation(Relation::NoLess)), Ok(Verdict::Holds));
     match verdict(allow.scope(Scope::Numbers(1, 1)).relation(Relation::NoMore)) {
@@ -69,6 +72,9 @@ fn comparisons() {
         other => panic!("{other:?}"),
     }
     assert_eq!(verdict(allow.limit(0)), Ok(Verdict::Unfinished));
+    let unknown: Vec<u8> = UNKNOWN.iter().flat_map(|instruction| instruction.to_le_bytes()).collect();
+    let undecided = Compare::new(&[&unknown], PROFILE).scope(Scope::OneCall(1)).run().unwrap().verdict;
+    assert_eq!(undecided, Verdict::Undecided { side: 1, at: 8 });
     let both = RightSide::Filters { filters: &[&ALLOW, &DENY], table: PROFILE.table };
     let deny = Compare::new(&[&DENY], both);
     assert_eq!(verdict(deny.relation(Relation::SameDisposition)), Ok(Verdict::Holds));
@@ -114,6 +120,14 @@ fn answers() {
         (RET_ALLOW.to_string(), Answer(0x7ffe_0001).to_string()),
         ("ALLOW 0".into(), "UNNAMED 0x7ffe0001".into())
     );
+}
+
+/// The values are those of linux/audit.h.
+#[test]
+fn audit_values() {
+    use Architecture::*;
+    let values = [X86_64, X86, X32, Aarch64, Arm].map(Architecture::audit);
+    assert_eq!(values, [0xc000_003e, 0x4000_0003, 0xc000_003e, 0xc000_00b7, 0x4000_0028]);
 }
 
 #[test]
