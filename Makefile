@@ -95,7 +95,7 @@ install-lib: $(LIBSCF) uninstall-lib
 	umask 022; sed -e 's|@PREFIX@|$(call FOR_SED,$(PREFIX))|' -e 's|@LIBDIR@|$(call FOR_SED,$(PC_LIBDIR))|' \
 	    -e 's|@VERSION@|$(VERSION)|' library/scf.pc.in >"$(DESTDIR)$(LIBDIR)/pkgconfig/scf.pc"
 	install -m 644 library/python/scf/__init__.py library/python/scf/py.typed "$(DESTDIR)$(PYTHON_DIR)/scf"
-	install -m 644 LICENSE docs/LIBRARY.md docs/FAULTS.md library/example/engine.c "$(DOC_OF_LIB)"
+	install -m 644 LICENSE docs/LICENCES.md docs/LIBRARY.md docs/FAULTS.md library/example/engine.c "$(DOC_OF_LIB)"
 
 uninstall-lib:
 	rm -f "$(TO)/include/scf.h" "$(TO)/include/scf.hpp" "$(DESTDIR)$(LIBDIR)/libscf.a" "$(DESTDIR)$(LIBDIR)/libscf.so" \

@@ -108,7 +108,8 @@ class Package(Case):
         self.assertEqual(set(made), {f"{it}{end}" for it in ("scf", "libscf", "libscf-devel")}
                          | {f"python3-scf-{VERSION}-1.noarch.rpm"})
         self.assertIn("/usr/bin/scf-compare", made[f"scf{end}"])
-        self.assertEqual(made[f"libscf{end}"], ["/usr/lib64/libscf.so.0"])
+        self.assertEqual({os.path.basename(it) for it in made[f"libscf{end}"]} - {"libscf", f"libscf-{VERSION}"},
+                         {"libscf.so.0", "LICENSE", "LICENCES.md"})
         self.assertLessEqual({"/usr/include/scf.h", "/usr/share/man/man3/scf_check.3.gz"}, {
             f"{it}.gz" if it.endswith(".3") else it for it in made[f"libscf-devel{end}"]})
 
@@ -142,7 +143,7 @@ class Package(Case):
         """The packages of libscf have these files, and a program is compiled and run with what they unpack."""
         lib, root = "usr/lib/x86_64-linux-gnu", os.path.join(self.folder, "library")
         pages = {f"usr/share/man/man3/{it}.gz" for it in PAGES}
-        documents = {f"usr/share/doc/libscf-dev/{it}" for it in ("LIBRARY.md", "FAULTS.md", "engine.c")}
+        documents = {f"usr/share/doc/libscf-dev/{it}" for it in ("LICENCES.md", "LIBRARY.md", "FAULTS.md", "engine.c")}
         for package, needs, wanted in (
                 ("libscf0", "libc6 ", {f"{lib}/libscf.so.0"}),
                 ("libscf-dev", "libscf0 (= ", {
