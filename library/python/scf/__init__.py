@@ -203,17 +203,17 @@ def _within(bits: int, **numbers: int) -> None:
             raise ValueError(f"{name} isn't a number of {bits} bits: {number}")
 
 
-def _bytes(name: str, data: Buffer) -> _Bytes:
+def _in(name: str, data: Buffer) -> tuple[bytes, int]:
+    """The bytes of a buffer, and their count."""
     try:
         whole = data if isinstance(data, bytes) else bytes(memoryview(data))
     except TypeError:
         raise TypeError(f"{name} must be bytes or another buffer, not {type(data).__name__}") from None
-    return _Bytes(whole, len(whole))
+    return whole, len(whole)
 
 
-def _in(name: str, data: Buffer) -> tuple[bytes, int]:
-    whole = _bytes(name, data)
-    return whole.at or b"", whole.len
+def _bytes(name: str, data: Buffer) -> _Bytes:
+    return _Bytes(*_in(name, data))
 
 
 def _stack(name: str, filters: Sequence[Buffer]) -> tuple[ctypes.Array[_Bytes], int]:
