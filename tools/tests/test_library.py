@@ -6,10 +6,12 @@ import json
 import os
 import random
 import re
+import shlex
 import shutil
 import subprocess
 import sys
 import unittest
+import zipfile
 from unittest import mock
 
 from support.common import (ALLOW, EPERM, I386, PATIENCE, TOP, X86_64, Case, filter_of, insn, jeq, load, part,
@@ -21,7 +23,9 @@ OUT = os.path.join(LIBRARY, "out")
 PROGRAM = os.path.join(TOP, "crates", "scf", "out", "scf")
 CALLS = {f"scf_{name}" for name in ("check", "run", "trace", "decide", "assemble", "list", "compile", "ask", "compare",
                                     "compare_calls", "compile_architectures", "ask_architectures",
-                                    "compare_architectures", "version")}
+                                    "compare_architectures", "version", "load", "table")}
+# The version of scf that brought each call, which its symbol has.
+BROUGHT = {"SCF_0.1": CALLS}
 STRICT = ["-Wall", "-Wextra", "-Wpedantic", "-Werror", "-Wno-unused-function", "-Wno-unused-variable"]
 LINES = re.compile(r"`fault (\w+) (\w+)((?: \w+ N)*)( \[entry N\])?`")
 
@@ -33,7 +37,7 @@ def read(*path):
 
 def python_module(folder=OUT):
     """The module scf, over the library of this folder."""
-    spec = importlib.util.spec_from_file_location("scf", os.path.join(LIBRARY, "python", "scf.py"))
+    spec = importlib.util.spec_from_file_location("scf", os.path.join(LIBRARY, "python", "scf", "__init__.py"))
     module = importlib.util.module_from_spec(spec)
     with mock.patch.dict(os.environ, LIBSCF=os.path.join(folder, "libscf.so.0")), \
             mock.patch.dict(sys.modules, scf=module):
@@ -50,6 +54,48 @@ def header_numbers(prefix):
     """The numbers of an enum of scf.h, by their names without the prefix."""
     return {name: int(number) for name, number in
             re.findall(rf"^ +SCF_{prefix}(\w+) = (\d+)", read(LIBRARY, "scf.h"), re.M)}
+
+
+ENUMS = ("source", "kind", "verdict", "relation", "reason", "architecture")
+
+
+def plain(numbers):
+    """Numbers by their names, without case, low lines, what each language puts before them, and what means nothing."""
+    made = {re.sub(r"^(scf|source|kind|by|table)*(?=.)", "", name.lower().replace("_", "")): int(number)
+            for name, number in numbers}
+    return {name: number for name, number in made.items() if name not in ("none", "noverdict", "noreason")}
+
+
+def numbers_of_header():
+    header = read(LIBRARY, "scf.h")
+    bodies = {name: re.search(rf"enum scf_{name}(?:_kind)? {{.*?}};", header, re.S)[0] for name in ENUMS}
+    return {name: plain(re.findall(r"(SCF_\w+) = (\d+)", body)) for name, body in bodies.items()}
+
+
+def numbers_of_python():
+    module = python_module()
+    return {name: plain((it.name, it.value) for it in getattr(module, name.title())) for name in ENUMS}
+
+
+def numbers_of_go():
+    blocks = re.findall(r"const \(\n\t(\w+) +(\w+) += iota( \+ 1)?(.*?)\n\)", read(LIBRARY, "go", "scf.go"), re.S)
+    return {kind.lower(): plain(zip([first, *re.findall(r"(?m)^\t(\w+)", rest)], itertools.count(1 if plus else 0)))
+            for first, kind, plus, rest in blocks}
+
+
+def numbers_of_rust():
+    text = "".join(read(LIBRARY, "rust", "src", f"{it}.rs") for it in ("fault", "lib", "compare"))
+    lists = {name: zip(names.split(), itertools.count(1)) for name, names in
+             re.findall(r"\n    (Source|Kind): ([\w\s]+);", text)}
+    enums = {name: re.findall(r"(?m)^ +(\w+) = (\d+),", body) for name, body in
+             re.findall(r"pub enum (Relation|Architecture) {(.*?)\n}", text, re.S)}
+    return {name.lower(): plain(numbers) for name, numbers in {**lists, **enums}.items()}
+
+
+def numbers_of_cpp():
+    enums = re.findall(r"enum class (\w+) : std::uint32_t { (\w+)( = 1)?(.*?) };", read(LIBRARY, "scf.hpp"))
+    return {name: plain(zip([first, *re.findall(r"\w+", rest)], itertools.count(1 if one else 0)))
+            for name, first, one, rest in enums if name != "status"}
 
 
 def fault_lines():
@@ -81,7 +127,7 @@ class Interface(Built):
         shared = os.path.join(OUT, "libscf.so.0")
         names = self.runs("nm", "-D", "--defined-only", shared).split("\n")
         self.assertEqual({line.split()[-1] for line in names if line},
-                         {f"{name}@@SCF_0" for name in CALLS} | {"SCF_0"})
+                         {f"{name}@@{version}" for version, calls in BROUGHT.items() for name in calls} | {*BROUGHT})
         dynamic = self.runs("readelf", "-dW", shared)
         self.assertEqual(re.findall(r"\((NEEDED|SONAME|TEXTREL)\).*?\[?(\S+?)\]?$", dynamic, re.M),
                          [("NEEDED", "libc.so.6"), ("SONAME", "libscf.so.0")])
@@ -92,8 +138,9 @@ class Interface(Built):
         self.assertEqual(written - {".dynamic", ".got", ".data.rel.ro"}, set())
         self.assertNotIn("RWE", self.runs("readelf", "-lW", shared).replace(" ", ""))
         undefined = {line.split()[-1].split("@")[0] for line in self.runs("nm", "-D", "-u", shared).split("\n") if line}
+        # (the last three are scf_load's)
         self.assertEqual(undefined - {"memcpy", "memmove", "memset", "memcmp", "bcmp", "strlen"},
-                         {"malloc", "realloc", "free"})
+                         {"malloc", "realloc", "free", "prctl", "syscall", "__errno_location"})
 
     def test_the_archive_has_the_calls_and_nothing_else(self):
         names = self.runs("nm", "-g", "--defined-only", os.path.join(OUT, "libscf.a")).split("\n")
@@ -130,34 +177,88 @@ class Interface(Built):
         self.assertLessEqual(max(map(len, fault_lines().values())), 3)
 
     def test_the_numbers_of_the_bindings_are_those_of_the_header(self):
-        module, rust = python_module(), read(LIBRARY, "rust", "src", "fault.rs")
-        for name in ("Source", "Kind"):
-            numbers = header_numbers(f"{name.upper()}_")
-            self.assertEqual({it.name: it.value for it in getattr(module, name)}, numbers)
-            variants = re.search(rf"\n    {name}: ([\w\s]+);", rust)[1].split()
-            self.assertEqual({snake(it): place for place, it in enumerate(variants, 1)}, numbers)
-        header = read(LIBRARY, "scf.h")
-        for enum, names in (("verdict", module.Verdict), ("relation", module.Relation), ("reason_kind", module.Reason),
-                            ("architecture", module.Architecture)):
-            listed = re.search(rf"enum scf_{enum} {{(.*?)}};", header, re.S)[1]
-            numbers = {int(it) for it in re.findall(r"= (\d+)", listed)}
-            self.assertEqual({it.value for it in names} | ({0} & numbers), numbers, enum)
+        header = numbers_of_header()
+        for enums_of, count in ((numbers_of_python, 6), (numbers_of_go, 6), (numbers_of_rust, 4), (numbers_of_cpp, 4)):
+            enums = enums_of()
+            self.assertEqual(enums, {name: header[name] for name in enums})
+            self.assertEqual(len(enums), count)
+        # and what Go prints of a kind
+        names = re.search(r"Fields\(`(.*?)`", read(LIBRARY, "go", "scf.go"), re.S)[1].split()
+        self.assertEqual([snake(it) for it in names], [*header_numbers("KIND_")])
+
+    def test_the_audit_values_of_the_bindings_are_those_of_the_header(self):
+        """Which tests/layout.c compares with linux/audit.h."""
+        header = read(LIBRARY, "scf.h").replace("SCF_AUDIT_X32 SCF_AUDIT_X86_64", "SCF_AUDIT_X32 0xc000003eu")
+        wanted = {name: int(number, 16) for name, number in re.findall(r"SCF_AUDIT_(\w+) (0x[0-9a-f]+)u", header)}
+        self.assertEqual({it.name: it.audit for it in python_module().Architecture}, wanted)
+        values = re.search(r"audit := .*?{0, (.*?)}", read(LIBRARY, "go", "scf.go"))[1].split(", ")
+        self.assertEqual([int(it, 16) for it in values], [*wanted.values()])
+
+    def test_one_file_has_the_version(self):
+        version = read(TOP, "VERSION").strip()
+        self.assertEqual(".".join(re.findall(r"define SCF_VERSION_[MP]\w+ (\d+)", read(LIBRARY, "scf.h"))), version)
+        for path, line in ((("rust", "Cargo.toml"), 'version = "{}"'), (("python", "pyproject.toml"), 'version = "{}"'),
+                           (("scf-uninstalled.pc",), "Version: {}")):
+            self.assertIn(line.format(version), read(LIBRARY, *path).splitlines())
+        self.assertEqual(self.runs(os.path.join(TOP, "scf"), "--version"), f"scf {version}\n")
+        self.assertEqual(".".join(map(str, python_module().version())), version)
+        # a call's symbol has a version up to this one
+        for brought in BROUGHT:
+            self.assertLessEqual([int(it) for it in brought.removeprefix("SCF_").split(".")],
+                                 [int(it) for it in version.split(".")])
+
+    def test_its_tables_are_the_files(self):
+        scf = python_module()
+        names = {"X86": "i386"}
+        for architecture in scf.Architecture:
+            name = names.get(architecture.name, architecture.name.lower())
+            self.assertEqual(scf.table(architecture), read(TOP, "tables", f"{name}.table").encode(), name)
+
+    def test_a_loaded_filter(self):
+        program = self.compiled("tests/load.c", os.path.join(OUT, "libscf.a"), "-pthread",
+                                compiler=["gcc", "-std=gnu99"])
+        self.assertEqual(self.runs(program), "loaded\n")
+
+    def test_the_compiler_warns(self):
+        for text, warning in (("scf_check(filter, 1, &count, &fault);", "unused-result"),
+                              ("return scf_check(filter, 1, NULL, &fault);", "nonnull"),
+                              ("return scf_check(filter, 2, &count, &fault);", "stringop-overread")):
+            self.file("misused.c", "#include <scf.h>\nint main(void) { size_t count; struct scf_fault fault; "
+                                   f"uint8_t filter[1] = {{0}}; {text} }}\n")
+            err = self.run_words(["gcc", "-O1", "-Wall", "-Werror", f"-I{LIBRARY}", "-c", "misused.c"])[2]
+            self.assertIn(f"-Werror={warning}", err)
+
+    @unittest.skipUnless(shutil.which("man"), "there is no man here")
+    def test_each_call_has_a_page(self):
+        self.runs(os.path.join(LIBRARY, "manual"), self.folder)
+        self.assertEqual({*os.listdir(self.folder)}, {f"{name}.3" for name in (*CALLS, "libscf")})
+        for name in os.listdir(self.folder):
+            words = ["man", "--warnings", "-E", "UTF-8", "-l", "-Tutf8", os.path.join(self.folder, name)]
+            shown = self.runs(*words, MANWIDTH="200", LC_ALL="C.UTF-8")
+            if name != "libscf.3":
+                self.assertRegex(shown, rf"\n +\S[^\n]*[ *]{name[:-2]}\(")
 
     def test_it_is_found_by_pkg_config_where_it_is_installed(self):
-        prefix = os.path.join(self.folder, "a-prefix")
-        words = ["make", "-s", "-C", TOP, f"PREFIX={prefix}"]
-        self.runs(*words, "install-lib")
-        found = {os.path.relpath(os.path.join(at, name), prefix) for at, _, names in os.walk(prefix) for name in names}
-        self.assertEqual(found, {"include/scf.h", "lib/libscf.a", "lib/libscf.so", "lib/libscf.so.0",
-                                 "lib/pkgconfig/scf.pc", "lib/python3/dist-packages/scf.py"})
-        env = {"PKG_CONFIG_PATH": f"{prefix}/lib/pkgconfig"}
-        flags = self.runs("pkg-config", "--cflags", "--libs", "scf", **env).split()
-        self.assertEqual(flags, [f"-I{prefix}/include", f"-L{prefix}/lib", "-lscf"])
-        number = self.runs("pkg-config", "--modversion", "scf", **env).strip()
-        self.assertIn(number, self.runs(os.path.join(TOP, "scf"), "--version"))
-        self.assertEqual(number, ".".join(map(str, python_module().version())))
-        self.runs(*words, "uninstall-lib")
-        self.assertEqual([names for _, _, names in os.walk(prefix) if names], [])
+        for name in ("a-prefix", "a prefix", "a&prefix|b"):
+            prefix = os.path.join(self.folder, name)
+            words = ["make", "-s", "-C", TOP, f"PREFIX={prefix}"]
+            self.runs(*words, "install-lib")
+            files = {os.path.relpath(os.path.join(at, it), prefix) for at, _, names in os.walk(prefix) for it in names}
+            self.assertEqual(files, {
+                "include/scf.h", "include/scf.hpp", "lib/libscf.a", "lib/libscf.so", "lib/libscf.so.0",
+                "lib/pkgconfig/scf.pc", *(f"lib/python3/dist-packages/scf/{it}" for it in ("__init__.py", "py.typed")),
+                *(f"share/man/man3/{it}.3" for it in (*CALLS, "libscf")),
+                *(f"share/doc/libscf/{it}" for it in ("LICENSE", "LICENCES.md", "LIBRARY.md", "FAULTS.md",
+                                                      "engine.c"))})
+            env = {"PKG_CONFIG_PATH": f"{prefix}/lib/pkgconfig"}
+            flags = shlex.split(self.runs("pkg-config", "--cflags", "--libs", "scf", **env))
+            self.assertEqual(flags, [f"-I{prefix}/include", f"-L{prefix}/lib", "-lscf"])
+            self.assertEqual(self.runs("pkg-config", "--modversion", "scf", **env), read(TOP, "VERSION"))
+            if " " not in name:
+                self.assertIn("\nlibdir=${prefix}/lib\n", read(prefix, "lib", "pkgconfig", "scf.pc"))
+            self.file(f"{name}/share/man/man3/scf_other.3", b"")
+            self.runs(*words, "uninstall-lib")
+            self.assertEqual([names for _, _, names in os.walk(prefix) if names], [["scf_other.3"]])
 
     @unittest.skipUnless(os.path.exists("/usr/include/seccomp.h"), "there is no libseccomp to compile with here")
     def test_the_example(self):
@@ -197,30 +298,118 @@ class Languages(Built):
         program = self.compiled("tests/calls.c", *self.ARCHIVE, compiler=["clang", "-std=c99", *flags])
         self.assertRegex(self.runs(program), r"^\d{3} checks\n$")
 
-    def test_python(self):
-        env = {**os.environ, "LIBSCF": os.path.join(OUT, "libscf.so.0"), "PYTHONDONTWRITEBYTECODE": "1"}
-        done = self.run_words([sys.executable, "-m", "unittest", "test_scf"], env=env,
-                              cwd=os.path.join(LIBRARY, "python"))
+    def test_cpp_20(self):
+        for compiler in ("g++", "clang++"):
+            if shutil.which(compiler) is not None:
+                program = self.compiled("tests/calls.cpp", *self.ARCHIVE, out=compiler,
+                                        compiler=[compiler, "-std=c++20", "-fno-exceptions"])
+                self.assertRegex(self.runs(program), r"^\d{2} checks\n$")
+
+
+class Bindings(Built):
+    """The README of each binding: its program, which prints what it says, and its commands."""
+
+    PROFILE = profile_of("read", "write", "exit_group")
+
+    def setUp(self):
+        super().setUp()
+        self.tree = os.path.join(self.folder, "library")
+        shutil.copytree(LIBRARY, self.tree, symlinks=True,
+                        ignore=shutil.ignore_patterns("rattle", "target", "__pycache__"))
+        self.env = {**os.environ, "PKG_CONFIG_PATH": self.tree, "LD_LIBRARY_PATH": f"{self.tree}/out",
+                    "PYTHONDONTWRITEBYTECODE": "1", "GOFLAGS": "-mod=mod", "GOPROXY": "off",
+                    "GOCACHE": os.path.join(self.folder, "cache"), "CARGO_NET_OFFLINE": "true",
+                    "RUSTFLAGS": "-Dwarnings"}
+        self.file("program/profile.json", self.PROFILE)
+
+    def commands(self, language, kind="sh"):
+        return "".join(re.findall(rf"```{kind}\n(.*?)```", read(LIBRARY, language, "README.md"), re.S))
+
+    def commands_work(self, language, **env):
+        """The commands work as they are written, with no more than a shell has."""
+        env = {**self.env, **env}
+        del env["PKG_CONFIG_PATH"], env["LD_LIBRARY_PATH"]
+        done = self.run_words(["sh", "-c", self.commands(language)], env=env, cwd=os.path.join(self.tree, language))
         self.assertEqual(done[0], 0, done)
+        return done
+
+    def prints_what_it_says(self, printed, line, language, kind):
+        said = re.search(r"(?:#|//) (ERRNO 1.*)", self.commands(language, kind))[1]
+        self.assertEqual(printed.splitlines()[line], said)
+
+    def program(self, name, text, *words):
+        """What a program prints, in the folder that has the profile."""
+        self.file(f"program/{name}", text)
+        done = self.run_words(words, env=self.env, cwd=os.path.join(self.folder, "program"))
+        self.assertEqual(done[0], 0, done)
+        return done[1]
+
+    def test_python(self):
+        self.commands_work("python")
+        self.env.update(PYTHONPATH=f"{self.tree}/python")
+        printed = self.program("readme.py", self.commands("python", "python"), sys.executable, "readme.py")
+        self.prints_what_it_says(printed, 1, "python", "python")
+        if shutil.which("mypy"):
+            words = ["mypy", "--strict", "--cache-dir", self.folder, "readme.py", f"{self.tree}/python/scf"]
+            done = self.run_words(words, env={**self.env, "MYPYPATH": f"{self.tree}/python"},
+                                  cwd=os.path.join(self.folder, "program"))
+            self.assertEqual((done[0], done[2]), (0, ""), done)
+
+    def test_a_wheel(self):
+        folder = os.path.join(self.folder, "wheels")
+        needed = "import setuptools, wheel, pip"
+        python = next((it for it in (sys.executable, "/usr/bin/python3")
+                       if os.path.exists(it) and not self.run_words([it, "-c", needed])[0]), None)
+        if python is None:
+            self.skipTest(f"no Python can {needed} here")
+        pip = [python, "-m", "pip", "--quiet", "--no-cache-dir", "--disable-pip-version-check"]
+        done = self.run_words([*pip, "wheel", "--no-index", "--no-deps", "--no-build-isolation", "-w", folder, "."],
+                              cwd=f"{self.tree}/python")
+        self.assertEqual(done[0], 0, done)
+        wheel, = os.listdir(folder)
+        self.assertEqual(wheel, f"scf-{read(TOP, 'VERSION').strip()}-py3-none-any.whl")
+        with zipfile.ZipFile(os.path.join(folder, wheel)) as file:
+            self.assertEqual({it for it in file.namelist() if "dist-info" not in it},
+                             {"scf/__init__.py", "scf/py.typed"})
 
     @unittest.skipUnless(shutil.which("cargo"), "there is no cargo here")
     def test_rust(self):
-        folder = os.path.join(self.folder, "rust")
-        shutil.copytree(os.path.join(LIBRARY, "rust"), folder)
-        done = self.run_words(["cargo", "test", "--offline", "--quiet"], cwd=folder,
-                              env={**os.environ, "SCF_LIB_DIR": OUT, "RUSTFLAGS": "-Dwarnings"})
-        self.assertEqual(done[0], 0, done)
+        self.commands_work("rust")
+        folder = f"{self.tree}/rust"
+        self.file("library/rust/examples/readme.rs", self.commands("rust", "rust"))
+        example = ["cargo", "run", "--offline", "--quiet", "--manifest-path", f"{folder}/Cargo.toml",
+                   "--example", "readme"]
+        printed = self.program("readme.rs", "", *example)
+        self.prints_what_it_says(printed, 1, "rust", "rust")
+        self.assertEqual(self.program("readme.rs", "", *example, "--features", "dynamic"), printed)
+        shared = self.run_words(["ldd", f"{folder}/target/debug/examples/readme"], env=self.env)[1]
+        self.assertIn(f"libscf.so.0 => {self.tree}/out/", shared)
+        os.remove(f"{folder}/examples/readme.rs")
+        status, out, err = self.run_words(["cargo", "package", "--offline", "--allow-dirty"], env=self.env, cwd=folder)
+        self.assertEqual((status, out), (0, ""), err)
+        self.assertNotIn("warning", err)
+        if shutil.which("rustfmt"):
+            words = ["rustfmt", "--edition", "2021", "--check", "build.rs", "src/lib.rs", "tests/calls.rs"]
+            self.assertEqual(self.run_words(words, cwd=folder), (0, "", ""))
+
+    @unittest.skipUnless(os.path.exists("/usr/bin/cargo"), "there is no cargo of Debian's here")
+    def test_rust_of_debian(self):
+        """Debian 12 has the oldest that Cargo.toml allows."""
+        self.commands_work("rust", PATH="/usr/bin:/bin")
 
     @unittest.skipUnless(shutil.which("go") and shutil.which("pkg-config"), "there is no go here")
     def test_go(self):
-        prefix, folder = os.path.join(self.folder, "prefix"), os.path.join(self.folder, "go")
-        self.runs("make", "-s", "-C", TOP, "install-lib", f"PREFIX={prefix}")
-        shutil.copytree(os.path.join(LIBRARY, "go"), folder)
-        done = self.run_words(["go", "test", "./..."], cwd=folder, env={
-            **os.environ, "PKG_CONFIG_PATH": f"{prefix}/lib/pkgconfig", "LD_LIBRARY_PATH": f"{prefix}/lib",
-            "GOFLAGS": "-mod=mod", "GOPROXY": "off", "GOCACHE": os.path.join(self.folder, "cache")})
-        self.assertEqual(done[0], 0, done)
+        self.commands_work("go")
+        folder = f"{self.tree}/go"
+        for words, env in ((["go", "vet", "."], {}), (["go", "vet", "."], {"CGO_ENABLED": "0"}),
+                           (["go", "test", "."], {"CGO_ENABLED": "0"})):
+            done = self.run_words(words, cwd=folder, env={**self.env, **env})
+            self.assertEqual(done[0], 0, done)
         self.assertEqual(self.runs("gofmt", "-l", folder), "")
+        module = re.search(r"(?m)^module (.*)", read(folder, "go.mod"))[1]
+        self.file("program/go.mod", f"module program\nrequire {module} v0.0.0\nreplace {module} => {folder}\n")
+        self.program("main.go", self.commands("go", "go"), "go", "vet", ".")
+        self.prints_what_it_says(self.program("main.go", self.commands("go", "go"), "go", "run", "."), 0, "go", "go")
 
 
 class Memory(Built):
