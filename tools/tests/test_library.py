@@ -260,6 +260,23 @@ class Interface(Built):
             self.runs(*words, "uninstall-lib")
             self.assertEqual([names for _, _, names in os.walk(prefix) if names], [["scf_other.3"]])
 
+    def test_the_code_of_the_page(self):
+        """Each piece is compiled as the body of a function."""
+        first, second = re.findall(r"```c\n(.*?)```", read(TOP, "docs", "LIBRARY.md"), re.S)
+        cpp, = re.findall(r"```cpp\n(.*?)```", read(TOP, "docs", "LIBRARY.md"), re.S)
+        declared = ("const struct scf_bytes stack = {filter, len};\nstruct scf_comparison comparison;\n"
+                    "struct scf_fault fault;\nsize_t needed;\nconst struct scf_bytes x86_64 = stack, i386 = stack, "
+                    "x32 = stack;\n")
+        given = "const uint8_t *filter, size_t len, const uint8_t *profile, size_t profile_len"
+        self.file("page.c", "#include <scf.h>\n" + "".join(
+            f"int {name}({given});\nint {name}({given}) {{\n{body}return -1;\n}}\n"
+            for name, body in (("native", first), ("several", declared + second))))
+        self.file("page.cpp", "#include <scf.hpp>\nint prove(std::span<const std::uint8_t> filter, "
+                              f"std::string_view json) {{\n{cpp}return -1;\n}}\n")
+        for words in (["gcc", "-std=c99", "page.c"], ["g++", "-std=c++20", "page.cpp"]):
+            done = self.run_words([*words, *STRICT, f"-I{LIBRARY}", "-c", "-o", "page.o"])
+            self.assertEqual(done, (0, "", ""))
+
     @unittest.skipUnless(os.path.exists("/usr/include/seccomp.h"), "there is no libseccomp to compile with here")
     def test_the_example(self):
         program = self.compiled("example/engine.c", f"-L{OUT}", "-lscf", "-lseccomp", compiler=["gcc", "-std=gnu99"])
