@@ -19,5 +19,5 @@ fn folder_of_pkg_config() -> Option<String> {
     let program = env::var_os("PKG_CONFIG").unwrap_or_else(|| "pkg-config".into());
     let output = process::Command::new(program).args(["--variable=libdir", "scf"]).output().ok()?;
     let folder = String::from_utf8(output.stdout).ok()?.trim().to_string();
-    (output.status.success() && !folder.is_empty()).then(|| folder)
+    (output.status.success() && !folder.is_empty()).then_some(folder)
 }
