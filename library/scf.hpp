@@ -64,14 +64,14 @@ inline struct scf_table table_of(architecture of) { return table_of(of, table(of
 
 namespace detail {
 
-template <class T, class Call> result<T> made(Call call) {
+template <class T, class Call> result<T> make(Call call) {
     result<T> made;
     made.status = static_cast<scf::status>(call(made.value, made.fault));
     return made;
 }
 
-/* What a call hands out into a container: its address and length, and the place of the length needed. */
-template <class T, class Call> std::uint32_t handed_out(T &list, std::size_t room, Call call) {
+/* The list or text that a call hands out: it gets an address and the room there, and the place of the length needed. */
+template <class T, class Call> std::uint32_t output(T &list, std::size_t room, Call call) {
     for (;;) {
         std::size_t needed;
         list.resize(room);
@@ -90,7 +90,7 @@ inline std::uint8_t *characters(char *at) { return reinterpret_cast<std::uint8_t
 
 /* The number of instructions of a filter that the kernel accepts. */
 inline result<std::size_t> check(scf_bytes filter) {
-    return detail::made<std::size_t>(
+    return detail::make<std::size_t>(
         [&](auto &count, auto &fault) { return scf_check(filter.at, filter.len, &count, &fault); });
 }
 
@@ -99,7 +99,7 @@ struct execution {
 };
 
 inline result<execution> run(scf_bytes filter, const scf_call &call) {
-    return detail::made<execution>([&](auto &made, auto &fault) {
+    return detail::make<execution>([&](auto &made, auto &fault) {
         return scf_run(filter.at, filter.len, &call, &made.answer, &made.steps, &fault);
     });
 }
@@ -110,8 +110,8 @@ struct path {
 };
 
 inline result<path> trace(scf_bytes filter, const scf_call &call) {
-    return detail::made<path>([&](auto &made, auto &fault) {
-        return detail::handed_out(made.indices, 4096, [&](auto *at, auto room, auto *needed) {
+    return detail::make<path>([&](auto &made, auto &fault) {
+        return detail::output(made.indices, 4096, [&](auto *at, auto room, auto *needed) {
             return scf_trace(filter.at, filter.len, &call, &made.answer, at, room, needed, &fault);
         });
     });
@@ -119,8 +119,8 @@ inline result<path> trace(scf_bytes filter, const scf_call &call) {
 
 /* The listing of a filter, which isn't checked. */
 inline result<std::string> list(scf_bytes filter) {
-    return detail::made<std::string>([&](auto &text, auto &fault) {
-        return detail::handed_out(text, 1 << 16, [&](auto *at, auto room, auto *needed) {
+    return detail::make<std::string>([&](auto &text, auto &fault) {
+        return detail::output(text, 1 << 16, [&](auto *at, auto room, auto *needed) {
             return scf_list(filter.at, filter.len, detail::characters(at), room, needed, &fault);
         });
     });
@@ -128,8 +128,8 @@ inline result<std::string> list(scf_bytes filter) {
 
 /* The filter that a text spells. It isn't checked. */
 inline result<std::vector<std::uint8_t>> assemble(std::string_view text) {
-    return detail::made<std::vector<std::uint8_t>>([&](auto &filter, auto &fault) {
-        return detail::handed_out(filter, 1 << 15, [&](auto *at, auto room, auto *needed) {
+    return detail::make<std::vector<std::uint8_t>>([&](auto &filter, auto &fault) {
+        return detail::output(filter, 1 << 15, [&](auto *at, auto room, auto *needed) {
             return scf_assemble(view(text).at, text.size(), at, room, needed, &fault);
         });
     });
@@ -137,7 +137,7 @@ inline result<std::vector<std::uint8_t>> assemble(std::string_view text) {
 
 /* The answer of a stack of filters to a call. */
 inline result<std::uint32_t> decide(filters stack, const scf_call &call) {
-    return detail::made<std::uint32_t>(
+    return detail::make<std::uint32_t>(
         [&](auto &answer, auto &fault) { return scf_decide(stack.data(), stack.size(), &call, &answer, &fault); });
 }
 
@@ -150,16 +150,16 @@ inline result<std::uint32_t> decide(filters stack, const scf_call &call) {
 
 /* A filter that answers every call as the profile does. */
 inline result<std::vector<std::uint8_t>> compile(const profile &of) {
-    return detail::made<std::vector<std::uint8_t>>([&](auto &filter, auto &fault) {
-        return detail::handed_out(filter, 1 << 15, [&](auto *at, auto room, auto *needed) {
+    return detail::make<std::vector<std::uint8_t>>([&](auto &filter, auto &fault) {
+        return detail::output(filter, 1 << 15, [&](auto *at, auto room, auto *needed) {
             return scf_compile(view(of.text).at, of.text.size(), of.table.at, of.table.len, at, room, needed, &fault);
         });
     });
 }
 
 inline result<std::vector<std::uint8_t>> compile(const profiles &of) {
-    return detail::made<std::vector<std::uint8_t>>([&](auto &filter, auto &fault) {
-        return detail::handed_out(filter, 1 << 15, [&](auto *at, auto room, auto *needed) {
+    return detail::make<std::vector<std::uint8_t>>([&](auto &filter, auto &fault) {
+        return detail::output(filter, 1 << 15, [&](auto *at, auto room, auto *needed) {
             return scf_compile_architectures(view(of.text).at, of.text.size(), of.tables.data(), of.tables.size(), at,
                                              room, needed, &fault);
         });
@@ -174,8 +174,8 @@ struct profile_answer {
 
 namespace detail {
 
-template <class Call> result<profile_answer> asked(Call call) {
-    return made<profile_answer>([&](auto &asked, auto &fault) {
+template <class Call> result<profile_answer> answer_of(Call call) {
+    return make<profile_answer>([&](auto &asked, auto &fault) {
         scf_reason why;
         const std::uint32_t status = call(&asked.answer, &why, &fault);
         asked.reason = static_cast<scf::reason>(why.kind), asked.entry = why.entry;
@@ -187,13 +187,13 @@ template <class Call> result<profile_answer> asked(Call call) {
 
 /* The profile's answer to a call, and why. */
 inline result<profile_answer> ask(const profile &of, const scf_call &call) {
-    return detail::asked([&](auto... out) {
+    return detail::answer_of([&](auto... out) {
         return scf_ask(view(of.text).at, of.text.size(), of.table.at, of.table.len, &call, out...);
     });
 }
 
 inline result<profile_answer> ask(const profiles &of, const scf_call &call) {
-    return detail::asked([&](auto... out) {
+    return detail::answer_of([&](auto... out) {
         return scf_ask_architectures(view(of.text).at, of.text.size(), of.tables.data(), of.tables.size(), &call,
                                      out...);
     });
@@ -231,21 +231,21 @@ struct calls_comparison {
 
 namespace detail {
 
-inline scf_question asks(const question &of) {
+inline scf_question question_of(const question &of) {
     return {of.scope.kind, static_cast<std::uint32_t>(of.relation), of.scope.first, of.scope.last, of.limit,
             of.total_limit, {}};
 }
 
-template <class Call> result<comparison> compared(Call call) {
-    return made<comparison>([&](auto &compared, auto &fault) {
-        scf_comparison found;
+template <class Call> result<comparison> comparison_of(Call call) {
+    return make<comparison>([&](auto &comparison, auto &fault) {
+        scf_comparison raw;
         const std::uint32_t status =
-            handed_out(compared.report, 1 << 13, [&](auto *at, auto room, auto *needed) {
-                return call(&found, characters(at), room, needed, &fault);
+            output(comparison.report, 1 << 13, [&](auto *at, auto room, auto *needed) {
+                return call(&raw, characters(at), room, needed, &fault);
             });
-        compared.verdict = static_cast<scf::verdict>(found.verdict);
-        compared.left = found.left, compared.right = found.right;
-        compared.side = found.side, compared.at = found.at, compared.call = found.call;
+        comparison.verdict = static_cast<scf::verdict>(raw.verdict);
+        comparison.left = raw.left, comparison.right = raw.right;
+        comparison.side = raw.side, comparison.at = raw.at, comparison.call = raw.call;
         return status;
     });
 }
@@ -256,17 +256,17 @@ inline scf_right_side right_of(filters stack, scf_bytes table = {}) {
 }
 
 inline result<comparison> compare(filters left, const scf_right_side &right, const question &of) {
-    const scf_question asked = asks(of);
-    return compared(
+    const scf_question asked = question_of(of);
+    return comparison_of(
         [&](auto... out) { return scf_compare(left.data(), left.size(), &right, &asked, out...); });
 }
 
 inline result<calls_comparison> compare_calls(filters left, const scf_right_side &right, const question &of) {
-    scf_question asked = asks(of);
+    scf_question asked = question_of(of);
     asked.scope = SCF_NATIVE_CALLS;
-    return made<calls_comparison>([&](auto &made, auto &fault) {
-        return handed_out(made.calls, 512, [&](auto *calls, auto calls_room, auto *calls_needed) {
-            return handed_out(made.report, 1 << 15, [&](auto *at, auto room, auto *needed) {
+    return make<calls_comparison>([&](auto &made, auto &fault) {
+        return output(made.calls, 512, [&](auto *calls, auto calls_room, auto *calls_needed) {
+            return output(made.report, 1 << 15, [&](auto *at, auto room, auto *needed) {
                 return scf_compare_calls(left.data(), left.size(), &right, &asked, calls, calls_room, calls_needed,
                                          characters(at), room, needed, &fault);
             });
@@ -283,7 +283,7 @@ inline result<comparison> compare(filters left, const profile &right, const ques
 }
 
 inline result<comparison> compare(filters left, const profiles &right, const question &of = {}) {
-    return detail::compared([&](auto... out) {
+    return detail::comparison_of([&](auto... out) {
         return scf_compare_architectures(left.data(), left.size(), view(right.text).at, right.text.size(),
                                          right.tables.data(), right.tables.size(),
                                          static_cast<std::uint32_t>(of.relation), of.limit, out...);

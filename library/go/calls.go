@@ -14,8 +14,8 @@ import (
 	"unsafe"
 )
 
-// ended makes a call of the library, and says how it ended.
-func ended(call func(fault *C.struct_scf_fault) C.uint32_t) error {
+// invoke makes a call of the library; an error says why it failed.
+func invoke(call func(fault *C.struct_scf_fault) C.uint32_t) error {
 	var f C.struct_scf_fault
 	switch call(&f) {
 	case C.SCF_OK:
@@ -28,7 +28,7 @@ func ended(call func(fault *C.struct_scf_fault) C.uint32_t) error {
 	return &Fault{Source(f.source), Kind(f.kind), *(*[3]uint64)(unsafe.Pointer(&f.numbers))}
 }
 
-func at(b []byte) *C.uint8_t {
+func ptr(b []byte) *C.uint8_t {
 	if len(b) == 0 {
 		return nil
 	}
@@ -37,14 +37,14 @@ func at(b []byte) *C.uint8_t {
 
 func size(b []byte) C.size_t { return C.size_t(len(b)) }
 
-func record(call *Call) *C.struct_scf_call { return (*C.struct_scf_call)(unsafe.Pointer(call)) }
+func callPtr(call *Call) *C.struct_scf_call { return (*C.struct_scf_call)(unsafe.Pointer(call)) }
 
-// handedOut is what a call hands out into a list that it is given with the place of the length needed.
-func handedOut(room int, call func(list []byte, needed *C.size_t, f *C.struct_scf_fault) C.uint32_t) ([]byte, error) {
+// output is the list that a call hands out: it gets room, and the address of the length needed.
+func output(room int, call func(list []byte, needed *C.size_t, f *C.struct_scf_fault) C.uint32_t) ([]byte, error) {
 	for {
 		list := make([]byte, room)
 		var needed C.size_t
-		err := ended(func(fault *C.struct_scf_fault) C.uint32_t { return call(list, &needed, fault) })
+		err := invoke(func(fault *C.struct_scf_fault) C.uint32_t { return call(list, &needed, fault) })
 		if err != nil {
 			return nil, err
 		}
@@ -55,9 +55,9 @@ func handedOut(room int, call func(list []byte, needed *C.size_t, f *C.struct_sc
 	}
 }
 
-// copied has texts in C's memory: a list in Go's may not be handed to C, since it holds pointers to Go's memory. free
-// gives the memory back.
-func copied(texts [][]byte) (list []C.struct_scf_bytes, free func(), err error) {
+// copyToC copies texts to C's memory, which free gives back: a list in Go's may not be handed to C, since it holds
+// pointers to Go's memory.
+func copyToC(texts [][]byte) (list []C.struct_scf_bytes, free func(), err error) {
 	lists, all := C.sizeof_struct_scf_bytes*len(texts), 1
 	for _, text := range texts {
 		all += len(text)
@@ -69,7 +69,7 @@ func copied(texts [][]byte) (list []C.struct_scf_bytes, free func(), err error) 
 	list = unsafe.Slice((*C.struct_scf_bytes)(block), len(texts))
 	room := unsafe.Slice((*byte)(unsafe.Add(block, lists)), all)
 	for i, text := range texts {
-		list[i] = C.struct_scf_bytes{at: at(room), len: size(text)}
+		list[i] = C.struct_scf_bytes{at: ptr(room), len: size(text)}
 		room = room[copy(room, text):]
 	}
 	return list, func() { C.free(block) }, nil
@@ -84,15 +84,15 @@ func Version() (major, minor, patch uint32) {
 // Check returns the number of instructions of a filter that the kernel accepts.
 func Check(filter []byte) (int, error) {
 	var count C.size_t
-	err := ended(func(f *C.struct_scf_fault) C.uint32_t { return C.scf_check(at(filter), size(filter), &count, f) })
+	err := invoke(func(f *C.struct_scf_fault) C.uint32_t { return C.scf_check(ptr(filter), size(filter), &count, f) })
 	return int(count), err
 }
 
 // Run returns a filter's answer to a call, and how many instructions it executed.
 func Run(filter []byte, call Call) (answer Answer, steps int, err error) {
 	var a, s C.uint32_t
-	err = ended(func(f *C.struct_scf_fault) C.uint32_t {
-		return C.scf_run(at(filter), size(filter), record(&call), &a, &s, f)
+	err = invoke(func(f *C.struct_scf_fault) C.uint32_t {
+		return C.scf_run(ptr(filter), size(filter), callPtr(&call), &a, &s, f)
 	})
 	return Answer(a), int(s), err
 }
@@ -102,8 +102,8 @@ func Trace(filter []byte, call Call) (answer Answer, path []int, err error) {
 	var a C.uint32_t
 	var needed C.size_t
 	room := make([]C.size_t, 4096)
-	err = ended(func(f *C.struct_scf_fault) C.uint32_t {
-		return C.scf_trace(at(filter), size(filter), record(&call), &a, &room[0], C.size_t(len(room)), &needed, f)
+	err = invoke(func(f *C.struct_scf_fault) C.uint32_t {
+		return C.scf_trace(ptr(filter), size(filter), callPtr(&call), &a, &room[0], C.size_t(len(room)), &needed, f)
 	})
 	for _, index := range room[:needed] {
 		path = append(path, int(index))
@@ -113,38 +113,39 @@ func Trace(filter []byte, call Call) (answer Answer, path []int, err error) {
 
 // List returns the listing of a filter, which isn't checked.
 func List(filter []byte) (string, error) {
-	text, err := handedOut(1<<16, func(list []byte, needed *C.size_t, f *C.struct_scf_fault) C.uint32_t {
-		return C.scf_list(at(filter), size(filter), at(list), size(list), needed, f)
+	text, err := output(1<<16, func(list []byte, needed *C.size_t, f *C.struct_scf_fault) C.uint32_t {
+		return C.scf_list(ptr(filter), size(filter), ptr(list), size(list), needed, f)
 	})
 	return string(text), err
 }
 
 // Assemble returns the filter that a text spells. It isn't checked.
 func Assemble(text string) ([]byte, error) {
-	spelled := []byte(text)
-	return handedOut(1<<15, func(list []byte, needed *C.size_t, f *C.struct_scf_fault) C.uint32_t {
-		return C.scf_assemble(at(spelled), size(spelled), at(list), size(list), needed, f)
+	source := []byte(text)
+	return output(1<<15, func(list []byte, needed *C.size_t, f *C.struct_scf_fault) C.uint32_t {
+		return C.scf_assemble(ptr(source), size(source), ptr(list), size(list), needed, f)
 	})
 }
 
 // Decide returns the answer of a stack of filters, the oldest first, to a call.
 func Decide(filters [][]byte, call Call) (Answer, error) {
-	list, free, err := copied(append(filters[:len(filters):len(filters)], nil)) // one more, so that there is a first
+	// with an element more, so that there is a first
+	list, free, err := copyToC(append(filters[:len(filters):len(filters)], nil))
 	if err != nil {
 		return 0, err
 	}
 	defer free()
 	var a C.uint32_t
-	err = ended(func(f *C.struct_scf_fault) C.uint32_t {
-		return C.scf_decide(&list[0], C.size_t(len(filters)), record(&call), &a, f)
+	err = invoke(func(f *C.struct_scf_fault) C.uint32_t {
+		return C.scf_decide(&list[0], C.size_t(len(filters)), callPtr(&call), &a, f)
 	})
 	return Answer(a), err
 }
 
 // Compile returns a filter that answers every call as the profile does.
 func (p Profile) Compile() ([]byte, error) {
-	return handedOut(1<<15, func(list []byte, needed *C.size_t, f *C.struct_scf_fault) C.uint32_t {
-		return C.scf_compile(at(p.Text), size(p.Text), at(p.Table), size(p.Table), at(list), size(list), needed, f)
+	return output(1<<15, func(list []byte, needed *C.size_t, f *C.struct_scf_fault) C.uint32_t {
+		return C.scf_compile(ptr(p.Text), size(p.Text), ptr(p.Table), size(p.Table), ptr(list), size(list), needed, f)
 	})
 }
 
@@ -152,20 +153,20 @@ func (p Profile) Compile() ([]byte, error) {
 func (p Profile) Ask(call Call) (answer Answer, why Reason, entry int, err error) {
 	var a C.uint32_t
 	var reason C.struct_scf_reason
-	err = ended(func(f *C.struct_scf_fault) C.uint32_t {
-		return C.scf_ask(at(p.Text), size(p.Text), at(p.Table), size(p.Table), record(&call), &a, &reason, f)
+	err = invoke(func(f *C.struct_scf_fault) C.uint32_t {
+		return C.scf_ask(ptr(p.Text), size(p.Text), ptr(p.Table), size(p.Table), callPtr(&call), &a, &reason, f)
 	})
 	return Answer(a), Reason(reason.kind), int(reason.entry), err
 }
 
-// tables has the tables in C's memory, as copied does.
+// tables copies the tables to C's memory.
 func (p Profiles) tables() (tables []C.struct_scf_table, free func(), err error) {
 	texts := make([][]byte, len(p.Tables))
 	for i, table := range p.Tables {
 		texts[i] = table.Text
 	}
-	list, free, err := copied(texts)
-	tables = make([]C.struct_scf_table, len(list)+1) // one more, so that there is a first
+	list, free, err := copyToC(texts)
+	tables = make([]C.struct_scf_table, len(list)+1) // with an element more, so that there is a first
 	for i, text := range list {
 		tables[i] = C.struct_scf_table{architecture: C.uint32_t(p.Tables[i].Architecture), bytes: text}
 	}
@@ -179,8 +180,8 @@ func (p Profiles) Compile() ([]byte, error) {
 		return nil, err
 	}
 	defer free()
-	return handedOut(1<<15, func(list []byte, needed *C.size_t, f *C.struct_scf_fault) C.uint32_t {
-		return C.scf_compile_architectures(at(p.Text), size(p.Text), &tables[0], C.size_t(len(p.Tables)), at(list),
+	return output(1<<15, func(list []byte, needed *C.size_t, f *C.struct_scf_fault) C.uint32_t {
+		return C.scf_compile_architectures(ptr(p.Text), size(p.Text), &tables[0], C.size_t(len(p.Tables)), ptr(list),
 			size(list), needed, f)
 	})
 }
@@ -194,14 +195,14 @@ func (p Profiles) Ask(call Call) (answer Answer, why Reason, entry int, err erro
 	defer free()
 	var a C.uint32_t
 	var reason C.struct_scf_reason
-	err = ended(func(f *C.struct_scf_fault) C.uint32_t {
-		return C.scf_ask_architectures(at(p.Text), size(p.Text), &tables[0], C.size_t(len(p.Tables)), record(&call), &a,
+	err = invoke(func(f *C.struct_scf_fault) C.uint32_t {
+		return C.scf_ask_architectures(ptr(p.Text), size(p.Text), &tables[0], C.size_t(len(p.Tables)), callPtr(&call), &a,
 			&reason, f)
 	})
 	return Answer(a), Reason(reason.kind), int(reason.entry), err
 }
 
-// sides has both sides of a comparison in C's memory, as copied does.
+// sides copies both sides of a comparison to C's memory.
 func sides(filters [][]byte, right RightSide) (left *C.struct_scf_bytes, side C.struct_scf_right_side, free func(),
 	err error) {
 	if right == nil {
@@ -209,7 +210,7 @@ func sides(filters [][]byte, right RightSide) (left *C.struct_scf_bytes, side C.
 	}
 	kind, others, profile, table := right.parts()
 	texts := append(append(append([][]byte{}, filters...), others...), profile, table)
-	list, free, err := copied(texts)
+	list, free, err := copyToC(texts)
 	if err != nil {
 		return nil, side, nil, err
 	}
@@ -235,14 +236,14 @@ func Compare(filters [][]byte, right RightSide, scope Scope, relation Relation, 
 	question := C.struct_scf_question{scope: C.uint32_t(scope.scope), relation: C.uint32_t(relation),
 		first: C.uint32_t(scope.first), last: C.uint32_t(scope.last), limit: C.uint64_t(limit)}
 	var c C.struct_scf_comparison
-	report, err := handedOut(1<<13, func(text []byte, needed *C.size_t, f *C.struct_scf_fault) C.uint32_t {
-		return C.scf_compare(left, C.size_t(len(filters)), &side, &question, &c, at(text), size(text), needed, f)
+	report, err := output(1<<13, func(text []byte, needed *C.size_t, f *C.struct_scf_fault) C.uint32_t {
+		return C.scf_compare(left, C.size_t(len(filters)), &side, &question, &c, ptr(text), size(text), needed, f)
 	})
 	return comparison(&c, report), err
 }
 
-// CompareArchitectures compares a stack of filters, the oldest first, with a profile over the calls of all architectures
-// that have a table, each in at most limit steps.
+// CompareArchitectures compares a stack of filters, the oldest first, with a profile over the calls of all
+// architectures that have a table, each in at most limit steps.
 func CompareArchitectures(filters [][]byte, p Profiles, relation Relation, limit uint64) (Comparison, error) {
 	left, _, free, err := sides(filters, Filters{})
 	if err != nil {
@@ -255,9 +256,9 @@ func CompareArchitectures(filters [][]byte, p Profiles, relation Relation, limit
 	}
 	defer freeTables()
 	var c C.struct_scf_comparison
-	report, err := handedOut(1<<13, func(text []byte, needed *C.size_t, f *C.struct_scf_fault) C.uint32_t {
-		return C.scf_compare_architectures(left, C.size_t(len(filters)), at(p.Text), size(p.Text), &tables[0],
-			C.size_t(len(p.Tables)), C.uint32_t(relation), C.uint64_t(limit), &c, at(text), size(text), needed, f)
+	report, err := output(1<<13, func(text []byte, needed *C.size_t, f *C.struct_scf_fault) C.uint32_t {
+		return C.scf_compare_architectures(left, C.size_t(len(filters)), ptr(p.Text), size(p.Text), &tables[0],
+			C.size_t(len(p.Tables)), C.uint32_t(relation), C.uint64_t(limit), &c, ptr(text), size(text), needed, f)
 	})
 	return comparison(&c, report), err
 }
@@ -275,10 +276,10 @@ func CompareCalls(filters [][]byte, right RightSide, relation Relation,
 		total_limit: C.uint64_t(totalLimit)}
 	list := make([]C.struct_scf_call_comparison, 512)
 	var count C.size_t
-	text, err := handedOut(1<<15, func(text []byte, needed *C.size_t, f *C.struct_scf_fault) C.uint32_t {
+	text, err := output(1<<15, func(text []byte, needed *C.size_t, f *C.struct_scf_fault) C.uint32_t {
 		for {
 			status := C.scf_compare_calls(left, C.size_t(len(filters)), &side, &question, &list[0], C.size_t(len(list)),
-				&count, at(text), size(text), needed, f)
+				&count, ptr(text), size(text), needed, f)
 			if int(count) <= len(list) {
 				return status
 			}
@@ -304,7 +305,7 @@ func SyscallTable(architecture Architecture) []byte {
 // no_new_privs is set. The result is 0, the listener's descriptor, or with TSYNC the id of a thread that can't be
 // reached: then no thread gets the filter. An error of the kernel is a syscall.Errno.
 func Load(filter []byte, flags uint32) (int, error) {
-	result := C.scf_load(at(filter), size(filter), C.uint32_t(flags))
+	result := C.scf_load(ptr(filter), size(filter), C.uint32_t(flags))
 	if result < 0 {
 		return 0, syscall.Errno(-result)
 	}

@@ -34,8 +34,8 @@ func ExampleCompare() {
 		fmt.Println(err)
 		return
 	}
-	found, err := scf.Compare([][]byte{allowAll}, profile, scf.OneCall(41), scf.NoMore, scf.Limit)
-	fmt.Println(found.Verdict, found.Call.Nr, found.Left, "beside", found.Right, err)
+	compared, err := scf.Compare([][]byte{allowAll}, profile, scf.OneCall(41), scf.NoMore, scf.Limit)
+	fmt.Println(compared.Verdict, compared.Call.Nr, compared.Left, "beside", compared.Right, err)
 	// Output: fails 41 ALLOW 0 beside ERRNO 1 <nil>
 }
 

@@ -159,8 +159,8 @@ func (a Answer) Action() Action { return Action(a & 0xffff0000) }
 // Data is the error number of Errno, the message of Trace, and so on.
 func (a Answer) Data() uint16 { return uint16(a) }
 
-var actions = map[Action]string{ActionKillProcess: "KILL_PROCESS", ActionKillThread: "KILL_THREAD", ActionTrap: "TRAP", ActionErrno: "ERRNO",
-	ActionUserNotif: "USER_NOTIF", ActionTrace: "TRACE", ActionLog: "LOG", ActionAllow: "ALLOW"}
+var actions = map[Action]string{ActionKillProcess: "KILL_PROCESS", ActionKillThread: "KILL_THREAD", ActionTrap: "TRAP",
+	ActionErrno: "ERRNO", ActionUserNotif: "USER_NOTIF", ActionTrace: "TRACE", ActionLog: "LOG", ActionAllow: "ALLOW"}
 
 func (a Action) String() string {
 	if name, has := actions[a]; has {
@@ -176,8 +176,8 @@ func (a Answer) String() string {
 	return fmt.Sprintf("UNNAMED 0x%08x", uint32(a))
 }
 
-// named is the name of a number, the first of which is `from`; of a number of a later library its type and itself.
-func named(kind string, number, from uint32, names ...string) string {
+// nameOf is the name of a number, the first of which is `from`; of a number of a later library its type and itself.
+func nameOf(kind string, number, from uint32, names ...string) string {
 	if number >= from && number-from < uint32(len(names)) {
 		return names[number-from]
 	}
@@ -185,18 +185,18 @@ func named(kind string, number, from uint32, names ...string) string {
 }
 
 func (a Architecture) String() string {
-	return named("Architecture", uint32(a), 1, "x86_64", "x86", "x32", "aarch64", "arm")
+	return nameOf("Architecture", uint32(a), 1, "x86_64", "x86", "x32", "aarch64", "arm")
 }
 
 func (r Relation) String() string {
-	return named("Relation", uint32(r), 0, "same", "no more", "no less", "same disposition")
+	return nameOf("Relation", uint32(r), 0, "same", "no more", "no less", "same disposition")
 }
 
 func (v Verdict) String() string {
-	return named("Verdict", uint32(v), 1, "holds", "fails", "undecided", "unfinished")
+	return nameOf("Verdict", uint32(v), 1, "holds", "fails", "undecided", "unfinished")
 }
 
-func (r Reason) String() string { return named("Reason", uint32(r), 1, "default", "entry", "foreign") }
+func (r Reason) String() string { return nameOf("Reason", uint32(r), 1, "default", "entry", "foreign") }
 
 // Fault says which input isn't accepted, why, and where: the numbers are those of the line that docs/FAULTS.md has for
 // it. It is an error, and so is its Kind: errors.Is(err, scf.KindConflict) finds it.
@@ -232,7 +232,7 @@ const (
 )
 
 func (s Source) String() string {
-	return named("Source", uint32(s), 1, "filter", "beside", "text", "table", "profile", "compile", "stack", "compare")
+	return nameOf("Source", uint32(s), 1, "filter", "beside", "text", "table", "profile", "compile", "stack", "compare")
 }
 
 // Kind says why an input isn't accepted, by the names of docs/FAULTS.md.
@@ -284,7 +284,7 @@ var kinds = strings.Fields(`Memory Read Truncated TooLong Empty Code Load Scratc
 	NotAscii Mnemonic Operand NumberRange Label JumpTooFar Form Name Number Repeated Json Missing Kind Action Operator
 	EmptyNames Index RepeatedIndex Errno ErrnoRange NoX8664 EngineForm TooMany Conflict TooLarge NotListed`)
 
-func (k Kind) String() string { return named("Kind", uint32(k), 1, kinds...) }
+func (k Kind) String() string { return nameOf("Kind", uint32(k), 1, kinds...) }
 func (k Kind) Error() string  { return k.String() }
 
 var (

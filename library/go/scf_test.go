@@ -32,10 +32,10 @@ var (
 	read, write = Call{Nr: 0, Arch: x86_64}, Call{Nr: 1, Arch: x86_64}
 )
 
-func is(t *testing.T, found, wanted any) {
+func is(t *testing.T, actual, wanted any) {
 	t.Helper()
-	if !reflect.DeepEqual(found, wanted) {
-		t.Errorf("%v, not %v", found, wanted)
+	if !reflect.DeepEqual(actual, wanted) {
+		t.Errorf("%v, not %v", actual, wanted)
 	}
 }
 
@@ -91,9 +91,9 @@ func TestProfiles(t *testing.T) {
 	_, err := Profile{[]byte("{}"), nil}.Compile()
 	refused(t, err, SourceProfile, KindMissing, NoEntry)
 	filter, _ := profile.Compile()
-	found, err := Compare([][]byte{filter}, profile, All, Same, Limit)
-	if err != nil || found.Verdict != Holds || found.Report != "same\n" {
-		t.Error(found, err)
+	compared, err := Compare([][]byte{filter}, profile, All, Same, Limit)
+	if err != nil || compared.Verdict != Holds || compared.Report != "same\n" {
+		t.Error(compared, err)
 	}
 }
 
@@ -106,20 +106,21 @@ func TestArchitectures(t *testing.T) {
 		call   Call
 		answer Answer
 		why    Reason
-	}{{read, retAllow, ByEntry}, {Call{Nr: 3, Arch: i386}, retAllow, ByEntry}, {Call{Nr: 0, Arch: i386}, retEperm, ByDefault},
+	}{{read, retAllow, ByEntry}, {Call{Nr: 3, Arch: i386}, retAllow, ByEntry},
+		{Call{Nr: 0, Arch: i386}, retEperm, ByDefault},
 		{Call{Nr: 1 << 30, Arch: x86_64}, retKillProcess, Foreign}} {
 		answer, why, entry, err := p.Ask(row.call)
 		is(t, []any{answer, why, entry, err}, []any{row.answer, row.why, 0, nil})
 	}
 	filter, _ := p.Compile()
-	found, err := CompareArchitectures([][]byte{filter}, p, Same, Limit)
-	if err != nil || found.Verdict != Holds || found.Report != "same\n" {
-		t.Error(found, err)
+	compared, err := CompareArchitectures([][]byte{filter}, p, Same, Limit)
+	if err != nil || compared.Verdict != Holds || compared.Report != "same\n" {
+		t.Error(compared, err)
 	}
 	filter, _ = Profiles{p.Text, p.Tables[:1]}.Compile()
-	found, err = CompareArchitectures([][]byte{filter}, p, Same, Limit)
-	if err != nil || found.Verdict != Fails || found.Call.Arch != i386 {
-		t.Error(found, err)
+	compared, err = CompareArchitectures([][]byte{filter}, p, Same, Limit)
+	if err != nil || compared.Verdict != Fails || compared.Call.Arch != i386 {
+		t.Error(compared, err)
 	}
 	_, err = CompareArchitectures(nil, Profiles{p.Text, []Table{p.Tables[0], {Arm, nil}}}, Same, Limit)
 	refused(t, err, SourceProfile, KindNotListed, 1)
@@ -143,15 +144,15 @@ func TestComparisons(t *testing.T) {
 		{allow, profile, Numbers(1, 1), NoMore, Limit, Fails}, {allow, profile, All, Same, 0, Unfinished},
 		{deny, both, All, SameDisposition, Limit, Holds},
 	} {
-		found, err := Compare([][]byte{row.filter}, row.right, row.scope, row.relation, row.limit)
-		if err != nil || found.Verdict != row.verdict {
-			t.Error(row, found, err)
+		compared, err := Compare([][]byte{row.filter}, row.right, row.scope, row.relation, row.limit)
+		if err != nil || compared.Verdict != row.verdict {
+			t.Error(row, compared, err)
 		} else if row.verdict == Fails {
-			is(t, []any{found.Call.Nr, found.Left, found.Right}, []any{uint32(1), Answer(retAllow), Answer(retEperm)})
+			is(t, []any{compared.Call.Nr, compared.Left, compared.Right}, []any{uint32(1), Answer(retAllow), Answer(retEperm)})
 		}
 	}
-	found, err := Compare([][]byte{unknown}, profile, OneCall(1), Same, Limit)
-	is(t, []any{found.Verdict, found.Side, found.At, err}, []any{Undecided, uint32(1), uint64(8), nil})
+	compared, err := Compare([][]byte{unknown}, profile, OneCall(1), Same, Limit)
+	is(t, []any{compared.Verdict, compared.Side, compared.At, err}, []any{Undecided, uint32(1), uint64(8), nil})
 	calls, report, err := CompareCalls([][]byte{allow}, profile, Same, Limit, NoEntry)
 	if err != nil || len(calls) != 2 || calls[0].Verdict != Holds || calls[1].Verdict != Fails ||
 		!strings.HasPrefix(report, "differs\n1 write differs ") {

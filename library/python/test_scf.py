@@ -144,7 +144,7 @@ class Calls(unittest.TestCase):
 
     def test_numbers_of_a_later_library(self):
         """They stay numbers."""
-        self.assertEqual(scf._compared(scf._Comparison(verdict=9)).verdict, 9)
+        self.assertEqual(scf._comparison_of(scf._Comparison(verdict=9)).verdict, 9)
         self.assertEqual(str(scf.Refused(9, 99, (1, 2, 3))), "9 is refused: 99 (1, 2, 3)")
 
     def test_tables(self):
@@ -169,7 +169,7 @@ class Calls(unittest.TestCase):
     def test_it_is_imported_without_what_takes_long(self):
         """dataclasses takes longer than all else: it imports inspect, which imports ast, dis and tokenize."""
         self.assertEqual(self.run_python("import sys; old = {*sys.modules}; import scf\n"
-                                         "print({'dataclasses', 'inspect', 'ast', 're'} & ({*sys.modules} - old))"),
+                                         "print({'dataclasses', 'inspect', 'ast'} & ({*sys.modules} - old))"),
                          b"set()\n")
 
     def test_threads(self):

@@ -148,12 +148,12 @@ _lib.scf_table.restype, _lib.scf_table.argtypes = ctypes.c_void_p, [_U32, _NEEDE
 _lib.scf_load.restype, _lib.scf_load.argtypes = ctypes.c_int, [*_IN, _U32]
 
 
-def _named(names: type[enum.IntEnum], number: int) -> int:
+def _member(names: type[enum.IntEnum], number: int) -> int:
     """The member with this number; the number, where a later library has one more."""
     return names(number) if number in names._value2member_map_ else number
 
 
-def _shown(number: int) -> str:
+def _name_of(number: int) -> str:
     return number.name.lower() if isinstance(number, enum.Enum) else str(number)
 
 
@@ -161,15 +161,15 @@ class Refused(ValueError):
     """An input isn't accepted: which one, why, and the numbers that say where (docs/FAULTS.md)."""
 
     def __init__(self, source: int, kind: int, numbers: Sequence[int]):
-        self.source, self.kind, self.numbers = _named(Source, source), _named(Kind, kind), tuple(numbers)
+        self.source, self.kind, self.numbers = _member(Source, source), _member(Kind, kind), tuple(numbers)
         where = "" if self.numbers[0] == NO_ENTRY else f" {self.numbers}"
-        super().__init__(f"{_shown(self.source)} is refused: {_shown(self.kind)}{where}")
+        super().__init__(f"{_name_of(self.source)} is refused: {_name_of(self.kind)}{where}")
 
 
-def _call(function: Callable[..., int], *given: object) -> None:
+def _call(function: Callable[..., int], *arguments: object) -> None:
     """Calls the library, and raises what its status says."""
     fault = _Fault()
-    status = function(*given, fault)
+    status = function(*arguments, fault)
     if status == 3:
         raise MemoryError
     if status == 2:
@@ -178,11 +178,11 @@ def _call(function: Callable[..., int], *given: object) -> None:
         raise Refused(fault.source, fault.kind, fault.numbers)
 
 
-def _handed_out(room: int, function: Callable[..., int], *given: object) -> bytes:
+def _output_of(room: int, function: Callable[..., int], *arguments: object) -> bytes:
     """The bytes that a call hands out."""
     while True:
         text, needed = ctypes.create_string_buffer(room), _SIZE()
-        _call(function, *given, text, room, needed)
+        _call(function, *arguments, text, room, needed)
         if needed.value <= room:
             return text.raw[:needed.value]
         room = needed.value
@@ -190,20 +190,20 @@ def _handed_out(room: int, function: Callable[..., int], *given: object) -> byte
 
 # ---- arguments: one that isn't as it must be is an error that names it
 
-def _is(kind: type, **arguments: object) -> None:
+def _check_type(kind: type, **arguments: object) -> None:
     for name, value in arguments.items():
         if not isinstance(value, kind):
             raise TypeError(f"{name} must be {kind.__name__}, not {type(value).__name__}")
 
 
-def _within(bits: int, **numbers: int) -> None:
-    _is(int, **numbers)
+def _check_bits(bits: int, **numbers: int) -> None:
+    _check_type(int, **numbers)
     for name, number in numbers.items():
         if not 0 <= number < 1 << bits:
             raise ValueError(f"{name} isn't a number of {bits} bits: {number}")
 
 
-def _in(name: str, data: Buffer) -> tuple[bytes, int]:
+def _buffer(name: str, data: Buffer) -> tuple[bytes, int]:
     """The bytes of a buffer, and their count."""
     try:
         whole = data if isinstance(data, bytes) else bytes(memoryview(data))
@@ -213,12 +213,13 @@ def _in(name: str, data: Buffer) -> tuple[bytes, int]:
 
 
 def _bytes(name: str, data: Buffer) -> _Bytes:
-    return _Bytes(*_in(name, data))
+    return _Bytes(*_buffer(name, data))
 
 
 def _stack(name: str, filters: Sequence[Buffer]) -> tuple[ctypes.Array[_Bytes], int]:
-    _is(Sequence, **{name: filters})
-    return (_Bytes * len(filters))(*(_bytes(f"{name}[{place}]", it) for place, it in enumerate(filters))), len(filters)
+    _check_type(Sequence, **{name: filters})
+    stack = (_bytes(f"{name}[{index}]", filter) for index, filter in enumerate(filters))
+    return (_Bytes * len(filters))(*stack), len(filters)
 
 
 class _CallFields(NamedTuple):
@@ -234,16 +235,16 @@ class Call(_CallFields):
     __slots__ = ()
 
     def __new__(cls, nr: int, args: Sequence[int] = (), arch: int = Architecture.X86_64.audit, ip: int = 0) -> Call:
-        _is(Sequence, args=args)
-        _within(32, nr=nr, arch=arch)
-        _within(64, ip=ip, **{f"args[{place}]": it for place, it in enumerate(args)})
+        _check_type(Sequence, args=args)
+        _check_bits(32, nr=nr, arch=arch)
+        _check_bits(64, ip=ip, **{f"args[{index}]": number for index, number in enumerate(args)})
         if len(args) > 6:
             raise ValueError("a syscall has six arguments")
         return super().__new__(cls, nr, (*args, *(0,) * (6 - len(args))), arch, ip)
 
 
 def _record(call: Call) -> _Call:
-    _is(Call, call=call)
+    _check_type(Call, call=call)
     return _Call(call.nr, call.arch, call.ip, call.args)
 
 
@@ -292,18 +293,19 @@ class Scope(NamedTuple):
 ALL, NATIVE = Scope(0), Scope(1)
 
 
-def _of_profile(profile: Profile) -> tuple[object, ...]:
-    _is(Profile, profile=profile)
-    return *_in("profile.text", profile.text), *_in("profile.table", profile.table)
+def _profile_arguments(profile: Profile) -> tuple[object, ...]:
+    _check_type(Profile, profile=profile)
+    return *_buffer("profile.text", profile.text), *_buffer("profile.table", profile.table)
 
 
-def _of_profiles(profiles: Profiles) -> tuple[object, ...]:
-    _is(Profiles, profiles=profiles)
-    _is(Mapping, **{"profiles.tables": profiles.tables})
+def _profiles_arguments(profiles: Profiles) -> tuple[object, ...]:
+    _check_type(Profiles, profiles=profiles)
+    _check_type(Mapping, **{"profiles.tables": profiles.tables})
     for architecture in profiles.tables:
-        _is(Architecture, **{f"profiles.tables' key {architecture!r}": architecture})
-    tables = [_Table(it, 0, _bytes(f"profiles.tables[{it!r}]", table)) for it, table in profiles.tables.items()]
-    return *_in("profiles.text", profiles.text), (_Table * len(tables))(*tables), len(tables)
+        _check_type(Architecture, **{f"profiles.tables' key {architecture!r}": architecture})
+    tables = [_Table(architecture, 0, _bytes(f"profiles.tables[{architecture!r}]", table))
+              for architecture, table in profiles.tables.items()]
+    return *_buffer("profiles.text", profiles.text), (_Table * len(tables))(*tables), len(tables)
 
 
 def _sides(filters: Sequence[Buffer], right: RightSide, question: _Question) -> tuple[object, ...]:
@@ -324,7 +326,7 @@ class Answer(int):
     @property
     def action(self) -> int:
         """The action; the number, if the kernel has no such one."""
-        return _named(Action, self & 0xFFFF0000)
+        return _member(Action, self & 0xFFFF0000)
 
     @property
     def data(self) -> int:
@@ -388,17 +390,17 @@ class CallsComparison(NamedTuple):
     report: str
 
 
-def _compared(found: _Comparison, report: str = "") -> Comparison:
-    verdict, it = _named(Verdict, found.verdict), found.call
+def _comparison_of(result: _Comparison, report: str = "") -> Comparison:
+    verdict, call = _member(Verdict, result.verdict), result.call
     if verdict == Verdict.FAILS:
-        return Comparison(verdict, Call(it.nr, tuple(it.args), it.arch, it.ip), Answer(found.left), Answer(found.right),
-                          None, None, report)
-    place = (found.side, found.at) if verdict == Verdict.UNDECIDED else (None, None)
-    return Comparison(verdict, None, None, None, *place, report)
+        call = Call(call.nr, tuple(call.args), call.arch, call.ip)
+        return Comparison(verdict, call, Answer(result.left), Answer(result.right), None, None, report)
+    side, at = (result.side, result.at) if verdict == Verdict.UNDECIDED else (None, None)
+    return Comparison(verdict, None, None, None, side, at, report)
 
 
-def _text(handed: bytes) -> str:
-    return handed.decode("utf-8", "surrogateescape")
+def _text(data: bytes) -> str:
+    return data.decode("utf-8", "surrogateescape")
 
 
 # ---- calls
@@ -412,32 +414,32 @@ def version() -> tuple[int, int, int]:
 def check(filter: Buffer) -> int:
     """The number of instructions of a filter that the kernel accepts."""
     count = _SIZE()
-    _call(_lib.scf_check, *_in("filter", filter), count)
+    _call(_lib.scf_check, *_buffer("filter", filter), count)
     return count.value
 
 
 def run(filter: Buffer, call: Call) -> Run:
     """A filter's answer to a call, and how many instructions it executed."""
     answer, steps = _U32(), _U32()
-    _call(_lib.scf_run, *_in("filter", filter), _record(call), answer, steps)
+    _call(_lib.scf_run, *_buffer("filter", filter), _record(call), answer, steps)
     return Run(Answer(answer.value), steps.value)
 
 
 def trace(filter: Buffer, call: Call) -> Trace:
     """A filter's answer to a call, and the indices of the instructions that it executed."""
     answer, path, needed = _U32(), (_SIZE * 4096)(), _SIZE()
-    _call(_lib.scf_trace, *_in("filter", filter), _record(call), answer, path, len(path), needed)
+    _call(_lib.scf_trace, *_buffer("filter", filter), _record(call), answer, path, len(path), needed)
     return Trace(Answer(answer.value), path[:needed.value])
 
 
 def listing(filter: Buffer) -> str:
     """The listing of a filter, which isn't checked."""
-    return _text(_handed_out(1 << 16, _lib.scf_list, *_in("filter", filter)))
+    return _text(_output_of(1 << 16, _lib.scf_list, *_buffer("filter", filter)))
 
 
 def assemble(text: Buffer) -> bytes:
     """The filter that a text spells. It isn't checked."""
-    return _handed_out(1 << 15, _lib.scf_assemble, *_in("text", text))
+    return _output_of(1 << 15, _lib.scf_assemble, *_buffer("text", text))
 
 
 def decide(filters: Sequence[Buffer], call: Call) -> Answer:
@@ -449,74 +451,74 @@ def decide(filters: Sequence[Buffer], call: Call) -> Answer:
 
 def compile(profile: Profile) -> bytes:
     """A filter that answers every call as the profile does."""
-    return _handed_out(1 << 15, _lib.scf_compile, *_of_profile(profile))
+    return _output_of(1 << 15, _lib.scf_compile, *_profile_arguments(profile))
 
 
 def compile_architectures(profiles: Profiles) -> bytes:
     """A filter that answers every call as the profile of its architecture does."""
-    return _handed_out(1 << 15, _lib.scf_compile_architectures, *_of_profiles(profiles))
+    return _output_of(1 << 15, _lib.scf_compile_architectures, *_profiles_arguments(profiles))
 
 
-def _asked(function: Callable[..., int], profile: tuple[object, ...], call: Call) -> ProfileAnswer:
+def _ask(function: Callable[..., int], profile: tuple[object, ...], call: Call) -> ProfileAnswer:
     answer, reason = _U32(), _Reason()
     _call(function, *profile, _record(call), answer, reason)
     entry = reason.entry if reason.kind == Reason.ENTRY else None
-    return ProfileAnswer(Answer(answer.value), _named(Reason, reason.kind), entry)
+    return ProfileAnswer(Answer(answer.value), _member(Reason, reason.kind), entry)
 
 
 def ask(profile: Profile, call: Call) -> ProfileAnswer:
     """A profile's answer to a call."""
-    return _asked(_lib.scf_ask, _of_profile(profile), call)
+    return _ask(_lib.scf_ask, _profile_arguments(profile), call)
 
 
 def ask_architectures(profiles: Profiles, call: Call) -> ProfileAnswer:
     """The same of the profile of the call's architecture; its reason is FOREIGN where that has no table."""
-    return _asked(_lib.scf_ask_architectures, _of_profiles(profiles), call)
+    return _ask(_lib.scf_ask_architectures, _profiles_arguments(profiles), call)
 
 
 def compare(filters: Sequence[Buffer], right: RightSide, scope: Scope = ALL, relation: Relation = Relation.SAME,
             limit: int = LIMIT) -> Comparison:
     """Compares a stack of filters, the oldest first, with a profile or with other filters."""
-    _is(Scope, scope=scope)
-    _is(Relation, relation=relation)
-    _within(32, **{f"scope.{name}": it for name, it in scope._asdict().items()})
-    _within(64, limit=limit)
+    _check_type(Scope, scope=scope)
+    _check_type(Relation, relation=relation)
+    _check_bits(32, **{f"scope.{name}": number for name, number in scope._asdict().items()})
+    _check_bits(64, limit=limit)
     sides = _sides(filters, right, _Question(scope.kind, relation, scope.first, scope.last, limit))
-    found = _Comparison()
-    report = _handed_out(1 << 13, _lib.scf_compare, *sides, found)
-    return _compared(found, _text(report))
+    result = _Comparison()
+    report = _output_of(1 << 13, _lib.scf_compare, *sides, result)
+    return _comparison_of(result, _text(report))
 
 
 def compare_architectures(filters: Sequence[Buffer], profiles: Profiles, relation: Relation = Relation.SAME,
                           limit: int = LIMIT) -> Comparison:
     """Compares a stack of filters, the oldest first, with a profile over the calls of all architectures that have a
     table, each in at most `limit` steps."""
-    _is(Relation, relation=relation)
-    _within(64, limit=limit)
-    given, found = (*_stack("filters", filters), *_of_profiles(profiles), relation, limit), _Comparison()
-    report = _handed_out(1 << 13, _lib.scf_compare_architectures, *given, found)
-    return _compared(found, _text(report))
+    _check_type(Relation, relation=relation)
+    _check_bits(64, limit=limit)
+    arguments, result = (*_stack("filters", filters), *_profiles_arguments(profiles), relation, limit), _Comparison()
+    report = _output_of(1 << 13, _lib.scf_compare_architectures, *arguments, result)
+    return _comparison_of(result, _text(report))
 
 
 def compare_calls(filters: Sequence[Buffer], right: RightSide, relation: Relation = Relation.SAME, limit: int = LIMIT,
                   total_limit: int = 2 ** 64 - 1) -> CallsComparison:
     """Compares call by call of the table, each by itself in at most `limit` steps, and all together in at most
     `total_limit`."""
-    _is(Relation, relation=relation)
-    _within(64, limit=limit, total_limit=total_limit)
+    _check_type(Relation, relation=relation)
+    _check_bits(64, limit=limit, total_limit=total_limit)
     sides = _sides(filters, right, _Question(NATIVE.kind, relation, 0, 0, limit, total_limit))
     room, calls, count = 0, (_CallComparison * 512)(), _SIZE(512)
     while room < count.value:
         room = count.value
         calls = (_CallComparison * room)()
-        report = _handed_out(1 << 15, _lib.scf_compare_calls, *sides, calls, room, count)
-    found = [CallComparison(it.nr, _compared(it.comparison)) for it in calls[:count.value]]
-    return CallsComparison(found, _text(report))
+        report = _output_of(1 << 15, _lib.scf_compare_calls, *sides, calls, room, count)
+    comparisons = [CallComparison(call.nr, _comparison_of(call.comparison)) for call in calls[:count.value]]
+    return CallsComparison(comparisons, _text(report))
 
 
 def table(architecture: Architecture) -> bytes:
     """The syscall table that scf has of an architecture. Its first line says of which kernel it is."""
-    _is(Architecture, architecture=architecture)
+    _check_type(Architecture, architecture=architecture)
     size = _SIZE()
     at = _lib.scf_table(architecture, size)
     return ctypes.string_at(at, size.value) if at is not None else b""
@@ -526,8 +528,8 @@ def load(filter: Buffer, flags: int = 0) -> int:
     """Loads a filter for this thread by seccomp(2), with SECCOMP_FILTER_FLAG_.. of linux/seccomp.h, and sets
     no_new_privs unless the flags have KEEP_PRIVILEGES. Returns 0, the listener's descriptor, or with TSYNC the id of a
     thread that can't be reached: then no thread gets the filter. An error of the kernel is an OSError."""
-    _within(32, flags=flags)
-    result: int = _lib.scf_load(*_in("filter", filter), flags)
+    _check_bits(32, flags=flags)
+    result: int = _lib.scf_load(*_buffer("filter", filter), flags)
     if result < 0:
         raise OSError(-result, os.strerror(-result))
     return result

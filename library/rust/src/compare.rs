@@ -1,6 +1,6 @@
 //! Comparisons.
 
-use crate::{handed_out, several, sys, Answer, Call, Error, Profile, Profiles, LIMIT};
+use crate::{list_of, output, sys, Answer, Call, Error, Profile, Profiles, LIMIT};
 
 /// What filters are compared with.
 #[derive(Clone, Copy, Debug)]
@@ -8,7 +8,7 @@ use crate::{handed_out, several, sys, Answer, Call, Error, Profile, Profiles, LI
 pub enum RightSide<'a> {
     /// A profile.
     Profile(Profile<'a>),
-    /// A profile for several architectures, over the calls of all that have a table.
+    /// A profile for list_of architectures, over the calls of all that have a table.
     Profiles(Profiles<'a>),
     /// Other filters.
     Filters {
@@ -160,7 +160,7 @@ impl<'a> Compare<'a> {
     fn with_right_side<T>(&self, call: impl FnOnce(&sys::RightSide) -> Result<T, Error>) -> Result<T, Error> {
         let (kind, beside, profile, table) = match self.right {
             RightSide::Profile(Profile { text, table }) => (1, vec![], text, table),
-            RightSide::Filters { filters, table } => (2, several(filters), &[][..], table),
+            RightSide::Filters { filters, table } => (2, list_of(filters), &[][..], table),
             RightSide::Profiles(_) => return Err(Error::WrongArgument),
         };
         let (filters, filters_len) = (beside.as_ptr(), beside.len());
@@ -171,22 +171,22 @@ impl<'a> Compare<'a> {
     /// Compares over all calls of the scope. With `Profiles` the scope has to be `All`.
     #[rustfmt::skip]
     pub fn run(&self) -> Result<Comparison, Error> {
-        let (left, question, mut found) = (several(self.filters), self.question(), sys::Comparison::default());
+        let (left, question, mut result) = (list_of(self.filters), self.question(), sys::Comparison::default());
         let report = match self.right {
             RightSide::Profiles(_) if self.scope != Scope::All => Err(Error::WrongArgument),
             RightSide::Profiles(Profiles { text, tables }) => {
                 let tables = sys::tables_of(tables);
-                handed_out(1 << 13, |out, room, needed, fault| unsafe {
+                output(1 << 13, |out, room, needed, fault| unsafe {
                     sys::scf_compare_architectures(
                         left.as_ptr(), left.len(), text.as_ptr(), text.len(), tables.as_ptr(), tables.len(),
-                        question.relation, question.limit, &mut found, out, room, needed, fault)
+                        question.relation, question.limit, &mut result, out, room, needed, fault)
                 })
             }
-            _ => self.with_right_side(|right| handed_out(1 << 13, |out, room, needed, fault| unsafe {
-                sys::scf_compare(left.as_ptr(), left.len(), right, &question, &mut found, out, room, needed, fault)
+            _ => self.with_right_side(|right| output(1 << 13, |out, room, needed, fault| unsafe {
+                sys::scf_compare(left.as_ptr(), left.len(), right, &question, &mut result, out, room, needed, fault)
             })),
         }?;
-        Ok(Comparison { verdict: verdict_of(&found), report })
+        Ok(Comparison { verdict: verdict_of(&result), report })
     }
 
     /// Compares call by call of the right side's table, each by itself. The scope isn't looked at: it is that of
@@ -194,10 +194,10 @@ impl<'a> Compare<'a> {
     #[rustfmt::skip]
     pub fn run_calls(&self) -> Result<CallsComparison, Error> {
         let question = Compare { scope: Scope::Native, ..*self }.question();
-        let (left, mut report) = (several(self.filters), vec![]);
-        let calls = self.with_right_side(|right| handed_out(512, |calls, room, calls_needed, fault| {
+        let (left, mut report) = (list_of(self.filters), vec![]);
+        let calls = self.with_right_side(|right| output(512, |calls, room, calls_needed, fault| {
             let mut status = 0;
-            report = handed_out(1 << 15, |out, out_room, needed, _| unsafe {
+            report = output(1 << 15, |out, out_room, needed, _| unsafe {
                 status = sys::scf_compare_calls(
                     left.as_ptr(), left.len(), right, &question, calls, room, calls_needed, out, out_room, needed,
                     fault);
@@ -206,16 +206,16 @@ impl<'a> Compare<'a> {
             .unwrap_or_default();
             status
         }))?;
-        let calls = calls.iter().map(|found: &sys::CallComparison| (found.nr, verdict_of(&found.comparison))).collect();
+        let calls = calls.iter().map(|call: &sys::CallComparison| (call.nr, verdict_of(&call.comparison))).collect();
         Ok(CallsComparison { calls, report })
     }
 }
 
-fn verdict_of(found: &sys::Comparison) -> Verdict {
-    match found.verdict {
+fn verdict_of(result: &sys::Comparison) -> Verdict {
+    match result.verdict {
         1 => Verdict::Holds,
-        2 => Verdict::Fails { call: found.call, left: Answer(found.left), right: Answer(found.right) },
-        3 => Verdict::Undecided { side: found.side, at: found.at },
+        2 => Verdict::Fails { call: result.call, left: Answer(result.left), right: Answer(result.right) },
+        3 => Verdict::Undecided { side: result.side, at: result.at },
         4 => Verdict::Unfinished,
         other => Verdict::Other(other),
     }

@@ -90,8 +90,8 @@ pub struct Profiles<'a> {
     pub tables: &'a [(Architecture, &'a [u8])],
 }
 
-/// Makes a call of the library, and says how it ended.
-fn ended(call: impl FnOnce(&mut sys::Fault) -> u32) -> Result<(), Error> {
+/// Makes a call of the library; an error says why it failed.
+fn invoke(call: impl FnOnce(&mut sys::Fault) -> u32) -> Result<(), Error> {
     let mut fault = sys::Fault::default();
     match call(&mut fault) {
         0 => Ok(()),
@@ -103,14 +103,14 @@ fn ended(call: impl FnOnce(&mut sys::Fault) -> u32) -> Result<(), Error> {
     }
 }
 
-/// What a call hands out into a list: its address and length, and the place of the length needed.
-fn handed_out<T: Copy + Default>(
+/// The list that a call hands out: it gets an address and the room there, and the place of the length needed.
+fn output<T: Copy + Default>(
     room: usize,
     mut call: impl FnMut(*mut T, usize, &mut usize, &mut sys::Fault) -> u32,
 ) -> Result<Vec<T>, Error> {
     let (mut list, mut needed) = (vec![T::default(); room], 0);
     loop {
-        ended(|fault| call(list.as_mut_ptr(), list.len(), &mut needed, fault))?;
+        invoke(|fault| call(list.as_mut_ptr(), list.len(), &mut needed, fault))?;
         if needed <= list.len() {
             list.truncate(needed);
             return Ok(list);
@@ -119,7 +119,7 @@ fn handed_out<T: Copy + Default>(
     }
 }
 
-fn several(filters: &[&[u8]]) -> Vec<Bytes> {
+fn list_of(filters: &[&[u8]]) -> Vec<Bytes> {
     filters.iter().map(|filter| Bytes::of(filter)).collect()
 }
 
@@ -135,21 +135,21 @@ pub fn version() -> (u32, u32, u32) {
 /// The number of instructions of a filter that the kernel accepts.
 pub fn check(filter: &[u8]) -> Result<usize, Error> {
     let mut count = 0;
-    ended(|fault| unsafe { sys::scf_check(filter.as_ptr(), filter.len(), &mut count, fault) })?;
+    invoke(|fault| unsafe { sys::scf_check(filter.as_ptr(), filter.len(), &mut count, fault) })?;
     Ok(count)
 }
 
 /// A filter's answer to a call, and how many instructions it executed.
 pub fn run(filter: &[u8], call: &Call) -> Result<(Answer, u32), Error> {
     let (mut answer, mut steps) = (0, 0);
-    ended(|fault| unsafe { sys::scf_run(filter.as_ptr(), filter.len(), call, &mut answer, &mut steps, fault) })?;
+    invoke(|fault| unsafe { sys::scf_run(filter.as_ptr(), filter.len(), call, &mut answer, &mut steps, fault) })?;
     Ok((Answer(answer), steps))
 }
 
 /// A filter's answer to a call, and the indices of the instructions that it executed.
 pub fn trace(filter: &[u8], call: &Call) -> Result<(Answer, Vec<usize>), Error> {
     let mut answer = 0;
-    let path = handed_out(4096, |path, room, needed, fault| unsafe {
+    let path = output(4096, |path, room, needed, fault| unsafe {
         sys::scf_trace(filter.as_ptr(), filter.len(), call, &mut answer, path, room, needed, fault)
     })?;
     Ok((Answer(answer), path))
@@ -157,29 +157,29 @@ pub fn trace(filter: &[u8], call: &Call) -> Result<(Answer, Vec<usize>), Error> 
 
 /// The listing of a filter, which isn't checked.
 pub fn list(filter: &[u8]) -> Result<Vec<u8>, Error> {
-    handed_out(1 << 16, |out, room, needed, fault| unsafe {
+    output(1 << 16, |out, room, needed, fault| unsafe {
         sys::scf_list(filter.as_ptr(), filter.len(), out, room, needed, fault)
     })
 }
 
 /// The filter that a text spells. It isn't checked.
 pub fn assemble(text: &[u8]) -> Result<Vec<u8>, Error> {
-    handed_out(1 << 15, |out, room, needed, fault| unsafe {
+    output(1 << 15, |out, room, needed, fault| unsafe {
         sys::scf_assemble(text.as_ptr(), text.len(), out, room, needed, fault)
     })
 }
 
 /// The answer of a stack of filters, the oldest first, to a call.
 pub fn decide(filters: &[&[u8]], call: &Call) -> Result<Answer, Error> {
-    let (filters, mut answer) = (several(filters), 0);
-    ended(|fault| unsafe { sys::scf_decide(filters.as_ptr(), filters.len(), call, &mut answer, fault) })?;
+    let (filters, mut answer) = (list_of(filters), 0);
+    invoke(|fault| unsafe { sys::scf_decide(filters.as_ptr(), filters.len(), call, &mut answer, fault) })?;
     Ok(Answer(answer))
 }
 
 /// A filter that answers every call as the profile does.
 pub fn compile(profile: &Profile) -> Result<Vec<u8>, Error> {
     let Profile { text, table } = *profile;
-    handed_out(1 << 15, |out, room, needed, fault| unsafe {
+    output(1 << 15, |out, room, needed, fault| unsafe {
         sys::scf_compile(text.as_ptr(), text.len(), table.as_ptr(), table.len(), out, room, needed, fault)
     })
 }
@@ -187,16 +187,16 @@ pub fn compile(profile: &Profile) -> Result<Vec<u8>, Error> {
 /// A filter that answers every call as the profile of its architecture does.
 pub fn compile_architectures(profiles: &Profiles) -> Result<Vec<u8>, Error> {
     let (text, tables) = (profiles.text, sys::tables_of(profiles.tables));
-    handed_out(1 << 15, |out, room, needed, fault| unsafe {
+    output(1 << 15, |out, room, needed, fault| unsafe {
         let (tables, count) = (tables.as_ptr(), tables.len());
         sys::scf_compile_architectures(text.as_ptr(), text.len(), tables, count, out, room, needed, fault)
     })
 }
 
 /// The answer and the reason that a call hands out.
-fn asked(call: impl FnOnce(&mut u32, &mut sys::Reason, &mut sys::Fault) -> u32) -> Result<(Answer, Reason), Error> {
+fn answer_of(call: impl FnOnce(&mut u32, &mut sys::Reason, &mut sys::Fault) -> u32) -> Result<(Answer, Reason), Error> {
     let (mut answer, mut reason) = (0, sys::Reason::default());
-    ended(|fault| call(&mut answer, &mut reason, fault))?;
+    invoke(|fault| call(&mut answer, &mut reason, fault))?;
     let reason = match reason.kind {
         1 => Reason::Default,
         2 => Reason::Entry(reason.entry),
@@ -209,7 +209,7 @@ fn asked(call: impl FnOnce(&mut u32, &mut sys::Reason, &mut sys::Fault) -> u32) 
 /// A profile's answer to a call, and why it is this.
 pub fn ask(profile: &Profile, call: &Call) -> Result<(Answer, Reason), Error> {
     let Profile { text, table } = *profile;
-    asked(|answer, reason, fault| unsafe {
+    answer_of(|answer, reason, fault| unsafe {
         sys::scf_ask(text.as_ptr(), text.len(), table.as_ptr(), table.len(), call, answer, reason, fault)
     })
 }
@@ -217,7 +217,7 @@ pub fn ask(profile: &Profile, call: &Call) -> Result<(Answer, Reason), Error> {
 /// The same of the profile of the call's architecture; the reason is `Foreign` where that has no table.
 pub fn ask_architectures(profiles: &Profiles, call: &Call) -> Result<(Answer, Reason), Error> {
     let (text, tables) = (profiles.text, sys::tables_of(profiles.tables));
-    asked(|answer, reason, fault| unsafe {
+    answer_of(|answer, reason, fault| unsafe {
         let (tables, count) = (tables.as_ptr(), tables.len());
         sys::scf_ask_architectures(text.as_ptr(), text.len(), tables, count, call, answer, reason, fault)
     })

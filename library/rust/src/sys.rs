@@ -76,7 +76,8 @@ pub struct Table {
 }
 
 pub fn tables_of(tables: &[(crate::Architecture, &[u8])]) -> Vec<Table> {
-    let table = |&(it, text)| Table { architecture: it as u32, reserved: 0, bytes: Bytes::of(text) };
+    let table =
+        |&(architecture, text)| Table { architecture: architecture as u32, reserved: 0, bytes: Bytes::of(text) };
     tables.iter().map(table).collect()
 }
 

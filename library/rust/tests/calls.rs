@@ -101,8 +101,8 @@ fn architectures() {
     assert_eq!(asked(0, I386), Ok((RET_EPERM, Reason::Default)));
     assert_eq!(asked(1 << 30, X86_64), Ok((Answer(0x8000_0000), Reason::Foreign)));
     let compared = |filter: &[u8]| Compare::new(&[filter], both).run().unwrap();
-    let found = compared(&compile_architectures(&both).unwrap());
-    assert_eq!((found.verdict, found.report.as_slice()), (Verdict::Holds, b"same\n".as_slice()));
+    let result = compared(&compile_architectures(&both).unwrap());
+    assert_eq!((result.verdict, result.report.as_slice()), (Verdict::Holds, b"same\n".as_slice()));
     let one = compile_architectures(&Profiles { text, tables: &[native] }).unwrap();
     assert!(matches!(compared(&one).verdict, Verdict::Fails { call: Call { arch: I386, .. }, .. }));
     assert_eq!(Compare::new(&[&one], both).scope(Scope::Native).run(), Err(Error::WrongArgument));
