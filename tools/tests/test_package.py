@@ -116,6 +116,8 @@ class Package(Case):
     @unittest.skipUnless(shutil.which("podman") and os.geteuid() == 0, "there is no podman here, or no root")
     def test_an_image_of_the_program(self):
         """Of a stand-in for the program, that is linked statically as well."""
+        if self.run_words(["podman", "info"])[0]:
+            self.skipTest("podman doesn't work here")
         name = f"scf-{VERSION}-x86_64"
         program = self.file(f"{name}/lib/scf/program/scf.c", '#include <stdio.h>\nint main() { puts("stands in"); }\n')
         self.assertEqual(self.run_words(["cc", "-static", "-o", program[:-2], program])[0], 0)
@@ -124,7 +126,7 @@ class Package(Case):
         for file in (".containerignore", "contrib/Containerfile"):
             shutil.copy(os.path.join(TOP, file), self.folder)
         image = f"localhost/scf-test-{os.getpid()}"
-        build = ["podman", "build", "--quiet", "--no-cache", "--target", "program", "--build-arg", f"VERSION={VERSION}",
+        build = ["podman", "build", "--quiet", "--layers=false", "--target", "program", "--build-arg", f"VERSION={VERSION}",
                  "--tag", image, "--file", "Containerfile", "."]
         status, out, err = self.run_words(build)
         self.assertEqual(status, 0, (out, err))
