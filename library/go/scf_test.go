@@ -10,6 +10,7 @@ import (
 	"sync"
 	"syscall"
 	"testing"
+	"unsafe"
 )
 
 // The answers are those of linux/seccomp.h and of the OCI specification.
@@ -166,6 +167,15 @@ func TestComparisons(t *testing.T) {
 		_, err = Compare(nil, right, All, 9, 1)
 		is(t, err, ErrWrongArgument)
 	}
+}
+
+// There is no memory for a copy of this filter, which has more bytes than a process has addresses. It isn't read.
+func TestNoMemory(t *testing.T) {
+	huge := unsafe.Slice(&allow[0], 1<<47)
+	_, decided := Decide([][]byte{huge}, read)
+	_, compared := Compare([][]byte{huge}, profile, All, Same, Limit)
+	_, compiled := Profiles{nil, []Table{{X86_64, huge}}}.Compile()
+	is(t, []error{decided, compared, compiled}, []error{ErrNoMemory, ErrNoMemory, ErrNoMemory})
 }
 
 func TestNames(t *testing.T) {
