@@ -74,7 +74,7 @@ def numbers_of_header():
 
 def numbers_of_python():
     module = python_module()
-    return {name: plain((it.name, it.value) for it in getattr(module, name.title())) for name in ENUMS}
+    return {name: plain((member.name, member.value) for member in getattr(module, name.title())) for name in ENUMS}
 
 
 def numbers_of_go():
@@ -84,7 +84,7 @@ def numbers_of_go():
 
 
 def numbers_of_rust():
-    text = "".join(read(LIBRARY, "rust", "src", f"{it}.rs") for it in ("fault", "lib", "compare"))
+    text = "".join(read(LIBRARY, "rust", "src", f"{file}.rs") for file in ("fault", "lib", "compare"))
     lists = {name: zip(names.split(), itertools.count(1)) for name, names in
              re.findall(r"\n    (Source|Kind): ([\w\s]+);", text)}
     enums = {name: re.findall(r"(?m)^ +(\w+) = (\d+),", body) for name, body in
@@ -184,15 +184,15 @@ class Interface(Built):
             self.assertEqual(len(enums), count)
         # and what Go prints of a kind
         names = re.search(r"Fields\(`(.*?)`", read(LIBRARY, "go", "scf.go"), re.S)[1].split()
-        self.assertEqual([snake(it) for it in names], [*header_numbers("KIND_")])
+        self.assertEqual([snake(name) for name in names], [*header_numbers("KIND_")])
 
     def test_the_audit_values_of_the_bindings_are_those_of_the_header(self):
         """Which tests/layout.c compares with linux/audit.h."""
         header = read(LIBRARY, "scf.h").replace("SCF_AUDIT_X32 SCF_AUDIT_X86_64", "SCF_AUDIT_X32 0xc000003eu")
         wanted = {name: int(number, 16) for name, number in re.findall(r"SCF_AUDIT_(\w+) (0x[0-9a-f]+)u", header)}
-        self.assertEqual({it.name: it.audit for it in python_module().Architecture}, wanted)
+        self.assertEqual({member.name: member.audit for member in python_module().Architecture}, wanted)
         values = re.search(r"audit := .*?{0, (.*?)}", read(LIBRARY, "go", "scf.go"))[1].split(", ")
-        self.assertEqual([int(it, 16) for it in values], [*wanted.values()])
+        self.assertEqual([int(value, 16) for value in values], [*wanted.values()])
 
     def test_one_file_has_the_version(self):
         version = read(TOP, "VERSION").strip()
@@ -204,8 +204,7 @@ class Interface(Built):
         self.assertEqual(".".join(map(str, python_module().version())), version)
         # a call's symbol has a version up to this one
         for brought in BROUGHT:
-            self.assertLessEqual([int(it) for it in brought.removeprefix("SCF_").split(".")],
-                                 [int(it) for it in version.split(".")])
+            self.assertLessEqual([*map(int, brought.removeprefix("SCF_").split("."))], [*map(int, version.split("."))])
 
     def test_its_tables_are_the_files(self):
         scf = python_module()
@@ -243,12 +242,14 @@ class Interface(Built):
             prefix = os.path.join(self.folder, name)
             words = ["make", "-s", "-C", TOP, f"PREFIX={prefix}"]
             self.runs(*words, "install-lib")
-            files = {os.path.relpath(os.path.join(at, it), prefix) for at, _, names in os.walk(prefix) for it in names}
+            files = {os.path.relpath(os.path.join(at, file), prefix) for at, _, names in os.walk(prefix)
+                     for file in names}
             self.assertEqual(files, {
                 "include/scf.h", "include/scf.hpp", "lib/libscf.a", "lib/libscf.so", "lib/libscf.so.0",
-                "lib/pkgconfig/scf.pc", *(f"lib/python3/dist-packages/scf/{it}" for it in ("__init__.py", "py.typed")),
-                *(f"share/man/man3/{it}.3" for it in (*CALLS, "libscf")),
-                *(f"share/doc/libscf/{it}" for it in ("LICENSE", "LICENCES.md", "LIBRARY.md", "FAULTS.md",
+                "lib/pkgconfig/scf.pc",
+                *(f"lib/python3/dist-packages/scf/{file}" for file in ("__init__.py", "py.typed")),
+                *(f"share/man/man3/{page}.3" for page in (*CALLS, "libscf")),
+                *(f"share/doc/libscf/{file}" for file in ("LICENSE", "LICENCES.md", "LIBRARY.md", "FAULTS.md",
                                                       "engine.c"))})
             env = {"PKG_CONFIG_PATH": f"{prefix}/lib/pkgconfig"}
             flags = shlex.split(self.runs("pkg-config", "--cflags", "--libs", "scf", **env))
@@ -339,20 +340,20 @@ class Bindings(Built):
                     "RUSTFLAGS": "-Dwarnings"}
         self.file("program/profile.json", self.PROFILE)
 
-    def commands(self, language, kind="sh"):
+    def code(self, language, kind="sh"):
         return "".join(re.findall(rf"```{kind}\n(.*?)```", read(LIBRARY, language, "README.md"), re.S))
 
-    def commands_work(self, language, **env):
+    def run_commands(self, language, **env):
         """The commands work as they are written, with no more than a shell has."""
         env = {**self.env, **env}
         del env["PKG_CONFIG_PATH"], env["LD_LIBRARY_PATH"]
-        done = self.run_words(["sh", "-c", self.commands(language)], env=env, cwd=os.path.join(self.tree, language))
+        done = self.run_words(["sh", "-c", self.code(language)], env=env, cwd=os.path.join(self.tree, language))
         self.assertEqual(done[0], 0, done)
         return done
 
-    def prints_what_it_says(self, printed, line, language, kind):
-        said = re.search(r"(?:#|//) (ERRNO 1.*)", self.commands(language, kind))[1]
-        self.assertEqual(printed.splitlines()[line], said)
+    def check_printed_line(self, printed, line, language, kind):
+        comment = re.search(r"(?:#|//) (ERRNO 1.*)", self.code(language, kind))[1]
+        self.assertEqual(printed.splitlines()[line], comment)
 
     def program(self, name, text, *words):
         """What a program prints, in the folder that has the profile."""
@@ -362,10 +363,10 @@ class Bindings(Built):
         return done[1]
 
     def test_python(self):
-        self.commands_work("python")
+        self.run_commands("python")
         self.env.update(PYTHONPATH=f"{self.tree}/python")
-        printed = self.program("readme.py", self.commands("python", "python"), sys.executable, "readme.py")
-        self.prints_what_it_says(printed, 1, "python", "python")
+        printed = self.program("readme.py", self.code("python", "python"), sys.executable, "readme.py")
+        self.check_printed_line(printed, 1, "python", "python")
         if shutil.which("mypy"):
             words = ["mypy", "--strict", "--cache-dir", self.folder, "readme.py", f"{self.tree}/python/scf"]
             done = self.run_words(words, env={**self.env, "MYPYPATH": f"{self.tree}/python"},
@@ -375,8 +376,8 @@ class Bindings(Built):
     def test_a_wheel(self):
         folder = os.path.join(self.folder, "wheels")
         needed = "import setuptools, wheel, pip"
-        python = next((it for it in (sys.executable, "/usr/bin/python3")
-                       if os.path.exists(it) and not self.run_words([it, "-c", needed])[0]), None)
+        python = next((path for path in (sys.executable, "/usr/bin/python3")
+                       if os.path.exists(path) and not self.run_words([path, "-c", needed])[0]), None)
         if python is None:
             self.skipTest(f"no Python can {needed} here")
         pip = [python, "-m", "pip", "--quiet", "--no-cache-dir", "--disable-pip-version-check"]
@@ -386,18 +387,18 @@ class Bindings(Built):
         wheel, = os.listdir(folder)
         self.assertEqual(wheel, f"scf-{read(TOP, 'VERSION').strip()}-py3-none-any.whl")
         with zipfile.ZipFile(os.path.join(folder, wheel)) as file:
-            self.assertEqual({it for it in file.namelist() if "dist-info" not in it},
+            self.assertEqual({name for name in file.namelist() if "dist-info" not in name},
                              {"scf/__init__.py", "scf/py.typed"})
 
     @unittest.skipUnless(shutil.which("cargo"), "there is no cargo here")
     def test_rust(self):
-        self.commands_work("rust")
+        self.run_commands("rust")
         folder = f"{self.tree}/rust"
-        self.file("library/rust/examples/readme.rs", self.commands("rust", "rust"))
+        self.file("library/rust/examples/readme.rs", self.code("rust", "rust"))
         example = ["cargo", "run", "--offline", "--quiet", "--manifest-path", f"{folder}/Cargo.toml",
                    "--example", "readme"]
         printed = self.program("readme.rs", "", *example)
-        self.prints_what_it_says(printed, 1, "rust", "rust")
+        self.check_printed_line(printed, 1, "rust", "rust")
         self.assertEqual(self.program("readme.rs", "", *example, "--features", "dynamic"), printed)
         shared = self.run_words(["ldd", f"{folder}/target/debug/examples/readme"], env=self.env)[1]
         self.assertIn(f"libscf.so.0 => {self.tree}/out/", shared)
@@ -412,11 +413,11 @@ class Bindings(Built):
     @unittest.skipUnless(os.path.exists("/usr/bin/cargo"), "there is no cargo of Debian's here")
     def test_rust_of_debian(self):
         """Debian 12 has the oldest that Cargo.toml allows."""
-        self.commands_work("rust", PATH="/usr/bin:/bin")
+        self.run_commands("rust", PATH="/usr/bin:/bin")
 
     @unittest.skipUnless(shutil.which("go") and shutil.which("pkg-config"), "there is no go here")
     def test_go(self):
-        self.commands_work("go")
+        self.run_commands("go")
         folder = f"{self.tree}/go"
         for words, env in ((["go", "vet", "."], {}), (["go", "vet", "."], {"CGO_ENABLED": "0"}),
                            (["go", "test", "."], {"CGO_ENABLED": "0"})):
@@ -425,8 +426,8 @@ class Bindings(Built):
         self.assertEqual(self.runs("gofmt", "-l", folder), "")
         module = re.search(r"(?m)^module (.*)", read(folder, "go.mod"))[1]
         self.file("program/go.mod", f"module program\nrequire {module} v0.0.0\nreplace {module} => {folder}\n")
-        self.program("main.go", self.commands("go", "go"), "go", "vet", ".")
-        self.prints_what_it_says(self.program("main.go", self.commands("go", "go"), "go", "run", "."), 0, "go", "go")
+        self.program("main.go", self.code("go", "go"), "go", "vet", ".")
+        self.check_printed_line(self.program("main.go", self.code("go", "go"), "go", "run", "."), 0, "go", "go")
 
 
 class Memory(Built):
