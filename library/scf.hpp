@@ -277,12 +277,13 @@ inline result<calls_comparison> compare_calls(filters left, const scf_right_side
 } // namespace detail
 
 /* Compares a stack of filters with a profile, with a profile over the calls of all architectures that have a table (the
- * question's scope isn't looked at), or with other filters. */
+ * scope has to be all_calls), or with other filters. */
 inline result<comparison> compare(filters left, const profile &right, const question &of = {}) {
     return detail::compare(left, detail::right_of(right), of);
 }
 
 inline result<comparison> compare(filters left, const profiles &right, const question &of = {}) {
+    if (of.scope.kind != SCF_ALL_CALLS) return {status::wrong_argument, {}, {}};
     return detail::comparison_of([&](auto... out) {
         return scf_compare_architectures(left.data(), left.size(), view(right.text).at, right.text.size(),
                                          right.tables.data(), right.tables.size(),

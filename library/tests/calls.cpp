@@ -56,6 +56,7 @@ static void architectures() {
     const scf_bytes stack[] = {scf::view(*compiled)}, other[] = {scf::view(deny)};
     IS(scf::compare(stack, both)->verdict == scf::verdict::holds);
     IS(scf::compare(other, both)->verdict == scf::verdict::fails);
+    IS(scf::compare(stack, both, {.scope = scf::native_calls}).status == scf::status::wrong_argument);
     IS(scf::compile(scf::profiles{text, {}}).status == scf::status::wrong_argument);
     IS(scf::table(static_cast<scf::architecture>(99)).at == nullptr);
 }
