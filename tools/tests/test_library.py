@@ -334,6 +334,7 @@ class Bindings(Built):
         self.tree = os.path.join(self.folder, "library")
         shutil.copytree(LIBRARY, self.tree, symlinks=True,
                         ignore=shutil.ignore_patterns("rattle", "target", "__pycache__"))
+        shutil.copy(os.path.join(TOP, "LICENSE"), self.folder)
         self.env = {**os.environ, "PKG_CONFIG_PATH": self.tree, "LD_LIBRARY_PATH": f"{self.tree}/out",
                     "PYTHONDONTWRITEBYTECODE": "1", "GOFLAGS": "-mod=mod", "GOPROXY": "off",
                     "GOCACHE": os.path.join(self.folder, "cache"), "CARGO_NET_OFFLINE": "true",
@@ -387,8 +388,9 @@ class Bindings(Built):
         wheel, = os.listdir(folder)
         self.assertEqual(wheel, f"scf-{read(TOP, 'VERSION').strip()}-py3-none-any.whl")
         with zipfile.ZipFile(os.path.join(folder, wheel)) as file:
-            self.assertEqual({name for name in file.namelist() if "dist-info" not in name},
-                             {"scf/__init__.py", "scf/py.typed"})
+            names = {re.sub(r"scf-[0-9.]+dist-info", "about", name) for name in file.namelist()}
+        self.assertEqual(names, {"scf/__init__.py", "scf/py.typed", *(
+            f"about/{name}" for name in ("LICENSE", "METADATA", "RECORD", "WHEEL", "top_level.txt"))})
 
     @unittest.skipUnless(shutil.which("cargo"), "there is no cargo here")
     def test_rust(self):
@@ -406,6 +408,8 @@ class Bindings(Built):
         status, out, err = self.run_words(["cargo", "package", "--offline", "--allow-dirty"], env=self.env, cwd=folder)
         self.assertEqual((status, out), (0, ""), err)
         self.assertNotIn("warning", err)
+        package = f"{folder}/target/package/scf-{read(TOP, 'VERSION').strip()}.crate"
+        self.assertIn("/LICENSE\n", self.runs("tar", "tf", package))
         if shutil.which("rustfmt"):
             words = ["rustfmt", "--edition", "2021", "--check", "build.rs", "src/lib.rs", "tests/calls.rs"]
             self.assertEqual(self.run_words(words, cwd=folder), (0, "", ""))

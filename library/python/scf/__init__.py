@@ -22,10 +22,11 @@ if TYPE_CHECKING:
     from mmap import mmap
 
 __all__ = ["ALL", "Action", "Answer", "Architecture", "Buffer", "Call", "CallComparison", "CallsComparison",
-           "Comparison", "Filters", "Kind", "NATIVE", "Profile", "ProfileAnswer", "Profiles", "Reason", "Refused",
-           "Relation", "RightSide", "Run", "Scope", "Source", "Trace", "Verdict", "ask", "ask_architectures",
-           "assemble", "check", "compare", "compare_architectures", "compare_calls", "compile",
-           "compile_architectures", "decide", "listing", "load", "run", "table", "trace", "version"]
+           "Comparison", "Filters", "KEEP_PRIVILEGES", "Kind", "LIMIT", "NATIVE", "NO_ENTRY", "Profile",
+           "ProfileAnswer", "Profiles", "Reason", "Refused", "Relation", "RightSide", "Run", "Scope", "Source", "Trace",
+           "Verdict", "ask", "ask_architectures", "assemble", "check", "compare", "compare_architectures",
+           "compare_calls", "compile", "compile_architectures", "decide", "listing", "load", "run", "table", "trace",
+           "version"]
 
 Buffer = Union[bytes, bytearray, memoryview, "mmap"]
 LIMIT = 1_000_000  # the most steps of a comparison that scf takes without --limit
