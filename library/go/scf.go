@@ -1,8 +1,8 @@
 // Package scf checks, runs, compiles and compares seccomp filters in this process, by libscf.
 //
-// What the library answers is proved: see docs/TRUST.md of scf. Each function is one of its arguments, and may be
-// called from any number of goroutines. Without cgo there are the same names: each call that can fail returns
-// ErrNoCgo.
+// What the library answers is proved (docs/TRUST.md of scf), but for SyscallTable and Load. Each function is one of its
+// arguments, and may be called from any number of goroutines. Without cgo there are the same names: each call that can
+// fail returns ErrNoCgo.
 package scf
 
 import (

@@ -1,7 +1,7 @@
 //! Checks, runs, compiles and compares seccomp filters, by libscf.
 //!
-//! What the library answers is proved: see docs/TRUST.md of scf. Each function is one of its arguments and may be
-//! called in any number of threads.
+//! What the library answers is proved (docs/TRUST.md of scf), but for [`table`] and [`load`]. Each function is one of
+//! its arguments and may be called in any number of threads.
 //!
 //! ```no_run
 //! use scf::{Architecture, Compare, Profile, Scope, Verdict};
