@@ -62,7 +62,7 @@ install: $(PROGRAM) uninstall
 	install -m 644 docs/FAULTS.md "$(LIB)/docs"
 	install -m 644 docs/scf.1 "$(MAN)"
 	umask 022; dev/manual "$(MAN)" && dev/completion "$(BASH)/scf" "$(ZSH)/_scf" "$(FISH)/scf.fish"
-	install -m 644 LICENSE README.md $(PAGES:%=docs/%.md) "$(DOC)"
+	install -m 644 LICENSE README.md $(PAGES:%=docs/%.md) docs/scf.schema.json "$(DOC)"
 	install -m 644 contrib/systemd/scf-audit.timer "$(UNITS)"
 	install -m 644 contrib/prometheus/scf.rules.yml "$(SHARE)/prometheus"
 	umask 022; $(HERE) contrib/systemd/scf-audit.service >"$(UNITS)/scf-audit.service" && \

@@ -27,7 +27,7 @@ ALLOWING = ("ALLOW", "LOG")
 DENYING = ("ERRNO", "TRAP", "KILL_THREAD", "KILL_PROCESS", "UNNAMED")
 # The disposition of a syscall, the strictest first. It follows from the action alone; the rank of an answer only says
 # which of a stack's answers decides.
-DISPOSITIONS = DENIED, DELEGATED, ALLOWED = "denied", "delegated to a supervisor or tracer", "allowed"
+DISPOSITIONS = DENIED, DELEGATED, ALLOWED = "denied", "delegated", "allowed"
 # Actions whose data a profile gives, as an errno or a number, 1 if it gives none (the OCI specification).
 WITH_ERRNO = ("ERRNO", "TRACE")
 # Actions whose data is always printed, even if it is 0.

@@ -311,4 +311,4 @@ def report_as_json(report: Report) -> dict[str, object]:
     found = report.found
     return {"status": report.status, "events": [as_json(it) for it in report.causes],
             "faults": [{"line": number, "why": why} for number, why in found.faults],
-            "suppressed": found.suppressed, "left": found.left}
+            "suppressed": found.suppressed, "not_judged": found.left}

@@ -376,4 +376,5 @@ def as_json(changes: Changes, table: Table) -> dict[str, object]:
             "counts": changes.counts, "changes": [_change_json(changes, change, table) for change in changes.calls],
             "unnamed": None if changes.unnamed is None else _change_json(changes, changes.unnamed, table),
             "skipped": {side: list(names) for side, names in changes.skipped.items()},
-            "alone": changes.alone, "other": {side: list(names) for side, names in changes.architectures.items()}}
+            "alone": changes.alone,
+            "other_architectures": {side: list(names) for side, names in changes.architectures.items()}}

@@ -222,7 +222,7 @@ def as_json(comparison: Comparison, report: Report, scope: str, status: int) -> 
         if above:
             members["newer"] = {**above.as_json(), "are_all": newer.another_call(comparison, above) is None}
     members["calls"] = [{**call.as_json(), **call.verdict.as_json(comparison.table)} for call in calls]
-    members["skipped"], members["other"] = list(report.skipped), list(report.architectures)
+    members["skipped"], members["other_architectures"] = list(report.skipped), list(report.architectures)
     if report.skipped:
         members["unknown"] = [{"name": name, "nearest": near}
                               for name, near in tables.classify(report.skipped, comparison.tables).unknown]

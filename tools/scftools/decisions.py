@@ -251,9 +251,10 @@ def of_stack(filters: Sequence[Filter], query: Query, table: Table) -> Reply:
 def of_run(one: Filter, query: Query, table: Table, with_path: bool) -> Reply:
     """What a filter answers to a syscall, in how many instructions, and on request by which path."""
     path = listing.path_of(one.data, query.words(), with_path)
-    members = {"steps": path.decision.steps, "path": list(path.indexes) or None}
-    return replace(_reply(path.status, path.lines, query, path.decision, table),
-                   members=lambda: {name: it for name, it in members.items() if it is not None})
+    members: dict[str, object] = {} if path.decision.steps is None else {"steps": path.decision.steps}
+    if path.indexes:
+        members["path"] = Giver(one, True, path).as_json()
+    return replace(_reply(path.status, path.lines, query, path.decision, table), members=lambda: members)
 
 
 def is_undetermined(reason: Reason, call: Call, profile: bytes, judged: Tables) -> bool:

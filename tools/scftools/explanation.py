@@ -6,7 +6,7 @@ import re
 from collections.abc import Iterator, Sequence
 
 from . import architectures, output, program, tables, verdicts
-from .answers import X86_64, Answer
+from .answers import DELEGATED, X86_64, Answer
 from .calls import Call
 from .tables import Table, Tables
 from .verdicts import Fault, Report
@@ -74,8 +74,9 @@ def of_differing(verdict: verdicts.Verdict, table: Table, is_native: bool, count
     if verdict.profile:
         yield f"the profile answers {verdict.profile.describe()}"
     if verdict.word != verdicts.DIFFERS and verdict.filters and verdict.profile:
-        yield (f"the syscall is {verdict.filters.disposition} by the filter{'s' * (count > 1)}, and "
-               f"{verdict.profile.disposition} by the profile")
+        filters, profile = (it.disposition + " to a supervisor or tracer" * (it.disposition == DELEGATED)
+                            for it in (verdict.filters, verdict.profile))
+        yield f"the syscall is {filters} by the filter{'s' * (count > 1)}, and {profile} by the profile"
 
 
 def of_verdict(report: Report, table: Table, is_native: bool, count: int) -> Iterator[str]:

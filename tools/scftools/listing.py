@@ -183,13 +183,18 @@ def _meaning(index: int, insn: Instruction, known: Known, table: Table, count: i
     return (f"{what}: " if what else "") + f"to {shown[0]}" + (f", else {shown[1]}" if len(shown) > 1 else "")
 
 
+def meanings(data: bytes, table: Table) -> list[str | None]:
+    """What each instruction means, None where the instruction alone says as much."""
+    insns = instructions(data)
+    return [_meaning(index, insn, known, table, len(insns))
+            for index, (insn, known) in enumerate(zip(insns, known_facts(insns)))]
+
+
 def listing_lines(data: bytes, lines: Sequence[str], table: Table) -> Iterator[str]:
     """The lines of `scf dis`, each after its index and before its comment."""
-    insns = instructions(data)
     index_width, line_width = len(str(len(lines) - 1)), max(map(len, lines), default=0)
-    for index, (line, insn, known) in enumerate(zip(lines, insns, known_facts(insns))):
-        means = _meaning(index, insn, known, table, len(insns))
-        yield f"{index:{index_width}}  " + (f"{line:{line_width}}  // {means}" if means else line)
+    for index, (line, meaning) in enumerate(zip(lines, meanings(data, table))):
+        yield f"{index:{index_width}}  " + (f"{line:{line_width}}  // {meaning}" if meaning else line)
 
 
 @dataclass(frozen=True)
@@ -234,7 +239,7 @@ class Giver:
         yield from lines
 
     def as_json(self) -> dict[str, object]:
-        return {"filter": self.filter.name, "places": list(self.path.indexes)}
+        return {"filter": self.filter.name, "indexes": list(self.path.indexes)}
 
 
 def deciding_filters(filters: Sequence[Filter], words: Sequence[str], answer: Answer) -> list[Giver]:

@@ -102,13 +102,11 @@ class Known:
 
     def as_json(self) -> dict[str, object]:
         found: dict[str, object] = {"kind": self.kind.name, "is_decided": self.is_proved}
-        if self.is_proved:
-            return {**found, "let_through": [
-                {"number": call.number, "names": self.kind.names(call.number), "architecture": hex(call.architecture),
-                 "answer": answer.as_json()} for call, answer in self.not_denied]}
-        return {**found, "tried": len(self.kind.calls), "let_through": [
-            {"name": self.kind.names(call.number)[0], "number": call.number, "answer": answer.as_json()}
-            for call, answer in self.not_denied]}
+        if not self.is_proved:
+            found["tried"] = len(self.kind.calls)
+        return {**found, "not_denied": [
+            {"number": call.number, "names": self.kind.names(call.number), "architecture": hex(call.architecture),
+             "answer": answer.as_json()} for call, answer in self.not_denied]}
 
 
 def _proved(filters: Sequence[bytes], kind: Kind) -> Known | None:

@@ -122,14 +122,14 @@ def flush() -> None:
 
 
 # The version of docs/JSON.md: members may be added to it; one that goes or changes its meaning makes another version.
-SCHEMA = 1
+SCHEMA = 2
 
 
 def put_json(value: dict[str, object]) -> None:
     """Prints an object as a line of JSON, in which control characters and those beyond ASCII are escaped."""
     import json  # pylint: disable=import-outside-toplevel
 
-    put(json.dumps({**value, "schema": SCHEMA}).replace("\x7f", "\\u007f") + "\n")
+    put(json.dumps({"schema": SCHEMA, **value}).replace("\x7f", "\\u007f") + "\n")
 
 
 def replace_file(path: str, text: str) -> None:

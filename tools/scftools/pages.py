@@ -12,11 +12,12 @@ import time
 from collections.abc import Iterable, Iterator, Sequence
 
 from . import client, output, surface_output, surfaces, watchlist
+from .answers import ALLOWED, DELEGATED, DENIED
 from .calls import Call
 from .compare import Comparison
 from .stack_surfaces import Block
 from .surface_output import Groups
-from .surfaces import ALLOWED, DELEGATED, DENIED, DEPENDS, Surface, word_of
+from .surfaces import DEPENDS, Surface
 from .tables import Table
 from .values import dataclass
 from .verdicts import Report
@@ -166,7 +167,7 @@ def _cell(rows: list[surfaces.Row]) -> str:
     if said == {ALLOWED}:
         return ALL_ALLOWED
     counts = [sum(1 for it in rows if it.said == one) for one in (ALLOWED, DEPENDS, DELEGATED)]
-    shown = [f"{count} {word_of(one)}" for count, one in zip(counts, (ALLOWED, DEPENDS, DELEGATED)) if count]
+    shown = [f"{count} {one}" for count, one in zip(counts, (ALLOWED, DEPENDS, DELEGATED)) if count]
     unknown = len(rows) - sum(counts) - sum(1 for it in rows if it.said == DENIED)
     return f"{SOME}: {', '.join(shown + [f'{unknown} not known'] * bool(unknown)) or 'denied'} of {len(rows)}"
 
@@ -181,7 +182,7 @@ def stack(one: Named, groups: Groups) -> Iterator[Markup]:
         return
     yield listed(surface_output.of_whole(one.surface))
     for group, rows in surface_output.grouped(one.surface.rows, groups):
-        calls = listed(joined([tag("code", " or ".join(it.names)), f" {word_of(it.said)}",
+        calls = listed(joined([tag("code", " or ".join(it.names)), f" {it.said}",
                                *(f"; {detail}" for detail in surface_output.details(it))]) for it in rows)
         yield tag("details", tag("summary", f"{group}: {_cell(rows)}"), tag("div", calls, id=f"{one.anchor}-{group}"))
 
@@ -191,7 +192,7 @@ def matrix(found: Sequence[Named], groups: Groups) -> Iterator[Markup]:
     yield tag("h2", "Groups of syscalls by stack")
     by_stack = [dict(surface_output.grouped(it.surface.rows, groups)) if it.surface is not None else {} for it in found]
     head = ["group", *(tag("a", it.name, href=f"#{it.anchor}") for it in found)]
-    lines = [[group, *(tag("a", _cell(rows[group]), href=f"#{one.anchor}-{group}") if group in rows else "refused"
+    lines = [[group, *(tag("a", _cell(rows[group]), href=f"#{one.anchor}-{group}") if group in rows else DENIED
                        for one, rows in zip(found, by_stack))]
              for group in groups.order if any(group in rows for rows in by_stack)]
     yield table(head, lines, "scroll")
@@ -208,7 +209,7 @@ def dangerous(found: Sequence[Named], table_of: Table) -> Iterator[Markup]:
             continue
         only = "".join(f" if argument {it.index} has {it.value:#x}" for it in danger.conditions)
         lines.append([joined([tag("code", name), only]),
-                      *(tag("span", word_of(rows[name].said), class_="good" if rows[name].said == DENIED else "warn")
+                      *(tag("span", rows[name].said, class_="good" if rows[name].said == DENIED else "warn")
                         if name in rows else "not known" for rows in said), danger.reason])
     yield table(["syscall", *(it.name for it in found), "why"], lines, "scroll")
 

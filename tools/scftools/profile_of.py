@@ -427,21 +427,27 @@ def _allowed(request: Request, one: Architecture) -> Iterator[str]:
 
 @dataclass(frozen=True)
 class Result:
-    """The tool's status and output, and its lines on standard error."""
+    """The tool's status and output, its lines on standard error, and the profiles in the output."""
 
     status: int
     text: str
     remarks: Sequence[str]
+    profiles: Sequence[ProvedProfile] = ()
+
+    def as_json(self) -> dict[str, object]:
+        """The same as one object."""
+        remarks = [line[2:] for line in self.text.split("\n") if line.startswith("# ")]
+        return {"status": self.status, "remarks": [*remarks, *self.remarks],
+                "profiles": [{"relations": list(it.relations), "profile": it.profile} for it in self.profiles]}
 
 
-def _both_sides(request: Request, answers: FilterAnswers) -> Iterator[str]:
+def _both_sides(request: Request, answers: FilterAnswers, bounds: Sequence[ProvedProfile]) -> Iterator[str]:
     """The nearest profiles on both sides of the filters, each after lines about it."""
     yield "# no profile was found that scf proves to answer as the filters do"
     if answers.is_unfinished:
         yield f"# {UNFINISHED.format(request.steps.most)}"
     if request.runtime is None and answers.with_stub().end != answers.end:
         yield "# if runc loaded the filter, --runtime runc expects the ENOSYS that it adds"
-    bounds = _bounds(request, answers)
     yield from output.notes(_covered(request, [request.architecture.oci], len(bounds)))
     for bound in bounds:
         yield from output.notes(_differences(request, answers, bound))
@@ -466,12 +472,14 @@ def _of_answers(request: Request, answers: FilterAnswers, relation: str) -> Resu
     if same is not None:
         same = _with_others(request, answers, same)
         stub = [runtimes.stub_note(same.stub)] if same.stub else []
-        return Result(program.SUCCESS, same.text, [*_covered(request, same.architectures), *stub])
+        return Result(program.SUCCESS, same.text, [*_covered(request, same.architectures), *stub], [same])
     if relation == SAME:
-        return Result(program.UNKNOWN, "".join(f"{line}\n" for line in _both_sides(request, answers)), [])
+        bounds = _bounds(request, answers)
+        lines = _both_sides(request, answers, bounds)
+        return Result(program.UNKNOWN, "".join(f"{line}\n" for line in lines), [], bounds)
     bound = _bound(request, answers, relation)
     if bound is None:
         return Result(program.UNKNOWN, "", [f"no profile was found that scf proves to be {SAID[relation]} than the "
                                             f"filters"])
     return Result(program.SUCCESS, bound.text,
-                  [*_differences(request, answers, bound), *_covered(request, bound.architectures)])
+                  [*_differences(request, answers, bound), *_covered(request, bound.architectures)], [bound])

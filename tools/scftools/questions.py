@@ -122,10 +122,10 @@ class Unnamed:
         return f"{which} are allowed or delegated with some arguments{self._as_shown}"
 
     def as_json(self) -> dict[str, object]:
-        found: dict[str, object] = {"count": self.count, "let_through": self.not_denied, "untold": self.undecided,
-                                    "are_made": self.are_allowed}
+        found: dict[str, object] = {"count": self.count, "not_denied": self.not_denied, "undecided": self.undecided,
+                                    "are_allowed": self.are_allowed}
         if self.shown is not None and self.shown.call is not None and self.shown.filters is not None:
-            found["shown"] = {"number": self.shown.call.number, "answer": self.shown.filters.as_json()}
+            found["example"] = {"number": self.shown.call.number, "answer": self.shown.filters.as_json()}
         return found
 
 

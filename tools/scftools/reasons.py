@@ -47,6 +47,12 @@ def _read(status: int, text: str) -> Reason:
     return Reason(status, line, Answer.read(found[1]), int(found[2]) if found[2] else None, bool(found[4]))
 
 
+def members_of(line: str) -> dict[str, object]:
+    """The same as `as_json`, of a line of `scf ask` without the profile."""
+    word, *index = line.split(" ")[2:]
+    return {"reason": word, **({"entry": int(index[0])} if index else {})}
+
+
 def meaning(text: str, call: Call | None, table: Table) -> Iterator[str]:
     """What output of `scf ask` means without the profile."""
     reason = _read(program.SUCCESS, text)
@@ -100,9 +106,9 @@ def describe(reason: Reason, profile: bytes, call: Call | None,
             return
         yield f"by entry {index} of syscalls" + (f": {_entry_text(entry)}" if entry is not None else "")
         for condition in _conditions(entry) if call else ():
-            held = _condition_text(condition, call)
-            if held:
-                yield held
+            met = _condition_text(condition, call)
+            if met:
+                yield met
 
 
 def as_json(reason: Reason, profile: bytes, call: Call | None,
@@ -115,6 +121,6 @@ def as_json(reason: Reason, profile: bytes, call: Call | None,
     found: dict[str, object] = {"reason": word}
     if reason.entry is not None and word == "entry":
         entry = profiles.entry_at(profile, reason.entry)
-        held = [_condition_text(it, call) for it in _conditions(entry)] if call else []
-        found.update(place=index, entry=entry, held=[it for it in held if it])
+        met = [_condition_text(it, call) for it in _conditions(entry)] if call else []
+        found.update(entry=index, definition=entry, conditions_met=[it for it in met if it])
     return found

@@ -27,9 +27,7 @@ from .verdicts import Verdict
 
 # An example that is allowed, and one that isn't, with its answer.
 Answers = "tuple[Call | None, tuple[Call, Answer] | None]"
-IS_ALLOWED, ISNT_ALLOWED, DEPENDS, UNDECIDED = "made", "not made", "depends", "untold"
-# The words of text output; JSON has those above.
-WORDS = {IS_ALLOWED: "allowed", ISNT_ALLOWED: "not allowed", DEPENDS: DEPENDS, UNDECIDED: "undecided"}
+IS_ALLOWED, ISNT_ALLOWED, DEPENDS, UNDECIDED = "allowed", "not allowed", "depends", "undecided"
 # What in a log isn't judged, by its name in JSON.
 UNJUDGED = {"foreign": "syscalls not judged, since scf has no table of their architecture",
             "cut": "syscalls not judged, since the log lacks their beginning or end",
@@ -313,7 +311,7 @@ def lines(needs: Needs) -> Iterator[str]:
         for one in needs.of(disposition):
             yield from _of_judged(one, needs.are_several)
     yield from output.notes(_remarks(needs))
-    counts = ", ".join(f"{WORDS[it]} {len(needs.of(it))}" for it in (IS_ALLOWED, ISNT_ALLOWED, DEPENDS, UNDECIDED)
+    counts = ", ".join(f"{it} {len(needs.of(it))}" for it in (IS_ALLOWED, ISNT_ALLOWED, DEPENDS, UNDECIDED)
                        if it != UNDECIDED or needs.of(UNDECIDED))
     yield f"# syscalls, each with the arguments that conditions test: {counts}"
 
@@ -324,16 +322,16 @@ def as_json(needs: Needs, table: Table) -> dict[str, object]:
         traced = one.traced
         shown: dict[str, object] = {
             **({} if traced.architecture.oci == NATIVE else {"architecture": traced.architecture.name}),
-            "number": traced.number, "name": traced.name, "fate": one.disposition, "count": traced.seen.count,
+            "number": traced.number, "name": traced.name, "disposition": one.disposition, "count": traced.seen.count,
             "line": traced.seen.line, "log": traced.seen.log,
             "depends_on": traced.unsure if one.disposition == DEPENDS else [],
             "arguments": {str(index): None if values is None else list(map(hex, values))
                           for index, values in traced.arguments}}
         if one.denied:
-            shown["refused"] = {"call": one.denied[0].as_json(table), "answer": one.denied[1].as_json(),
-                                "reason": one.line.split(" ", 2)[-1]}
+            shown["not_allowed"] = {"call": one.denied[0].as_json(table), "answer": one.denied[1].as_json(),
+                                    **reasons.members_of(one.line)}
         if one.allowed and one.disposition == DEPENDS:
-            shown["made"] = one.allowed.as_json(table)
+            shown["allowed"] = one.allowed.as_json(table)
         if one.disposition == UNDECIDED:
             shown["verdict"] = one.line
         found.append(shown)

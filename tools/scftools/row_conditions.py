@@ -15,7 +15,7 @@ from .entries import Condition
 from .filters import Filter
 from .profile_of import UNFINISHED, FilterAnswers, Request, entry_of, own_steps
 from .questions import EVERYTHING, NOTHING, Asker
-from .surfaces import Row, disposition_of, word_of
+from .surfaces import Row
 from .tables import Table
 from .values import dataclass
 from .verdicts import NO_LESS, NO_MORE, SAME
@@ -69,7 +69,7 @@ def _condition_text(one: Condition, syscall: str, others: Alternative, architect
 
 def answer_text(answer: Answer) -> str:
     """A disposition, with what else is to be known of an answer."""
-    word = word_of(disposition_of(answer))
+    word = answer.disposition
     if answer.action == "ERRNO":
         return f"{word} ({ERRNOS.get(answer.data, f'ERRNO {answer.data}')})"
     return word if answer.action == "ALLOW" else f"{word} ({answer})"
@@ -90,7 +90,7 @@ class Conditions:
     architecture: Architecture
 
     def _answer_text(self, answer: Answer) -> str:
-        return answer_text(answer) if self.is_whole else word_of(disposition_of(answer))
+        return answer_text(answer) if self.is_whole else answer.disposition
 
     def describe(self) -> str:
         def shown(alternative: Alternative) -> str:
@@ -102,7 +102,7 @@ class Conditions:
 
     def _json_of(self, answer: Answer) -> dict[str, object]:
         whole = {"answer": answer.as_json()} if self.is_whole else {}
-        return {"disposition": disposition_of(answer), **whole}
+        return {"disposition": answer.disposition, **whole}
 
     def as_json(self) -> dict[str, object]:
         return {"where": [{**self._json_of(answer), "any_of": [entry_of((), answer, it)["args"] for it in those]}

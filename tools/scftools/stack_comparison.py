@@ -131,8 +131,8 @@ def as_json(comparison: StackComparison, report: Report, scope: str, status: int
     verdict, table = report.verdict, comparison.table
     found: dict[str, object] = {"status": status, "scope": scope, "relation": comparison.relation, "verdict": None}
     if report.fault is not None:
-        found["fault"] = {**report.fault.as_json(explanation.of_fault(report.fault)),
-                          "files": faulty(comparison, report)}
+        found["fault"] = report.fault.as_json(explanation.of_fault(report.fault))
+        found["files"] = faulty(comparison, report)
     if verdict is None:
         return found
     found.update(verdict=verdict.word, **verdict.as_json(table, bundles.BESIDE))

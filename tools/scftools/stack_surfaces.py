@@ -15,7 +15,7 @@ from .questions import Asker
 from .refusals import faulty_filters
 from .stack_comparison import StackComparison
 from .surface_output import LEAST, Groups, details, fitted, grouped, of_whole, row_json, wrapped
-from .surfaces import DEPENDS, Row, Surface, word_of
+from .surfaces import DEPENDS, Row, Surface
 from .tables import Table
 from .values import dataclass
 from .verdicts import NamedCall, Verdict
@@ -116,7 +116,7 @@ def _of_both(found: Beside) -> Iterator[str]:
 
 def _told(pair: Pair, is_in_table: bool) -> list[str]:
     """Both sides of a pair, each with its examples."""
-    return [" ".join([word_of(row.said), *details(row, is_in_table)]) for row in (pair.one, pair.other)]
+    return [" ".join([row.said, *details(row, is_in_table)]) for row in (pair.one, pair.other)]
 
 
 def _as_table(found: Beside, groups: Groups, width: int) -> Iterator[str]:
@@ -157,11 +157,11 @@ def _lines_beside(found: Beside, groups: Groups, width: int | None) -> Iterator[
 
 def _pair_json(pair: Pair, groups: Groups) -> dict[str, object]:
     verdict = pair.line.verdict
-    found: dict[str, object] = {"one": row_json(pair.one, groups), "other": row_json(pair.other, groups),
+    found: dict[str, object] = {"filter": row_json(pair.one, groups), "beside": row_json(pair.other, groups),
                                 "verdict": verdict.word}
     if verdict.call is not None and verdict.filters is not None and verdict.profile is not None:
-        found.update(arguments=[hex(it) for it in verdict.call.arguments], filter=verdict.filters.as_json(),
-                     beside=verdict.profile.as_json())
+        found["example"] = {"arguments": [hex(it) for it in verdict.call.arguments],
+                            "filter": verdict.filters.as_json(), "beside": verdict.profile.as_json()}
     return found
 
 

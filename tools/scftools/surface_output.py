@@ -5,8 +5,9 @@ import os
 from collections.abc import Iterable, Iterator, Sequence
 
 from . import other_abis, program
+from .answers import ALLOWED, DENIED
 from .architectures import NATIVE
-from .surfaces import ALLOWED, DENIED, DEPENDS, SAID, Row, Surface, word_of
+from .surfaces import DEPENDS, SAID, Row, Surface
 
 # The width of a terminal that doesn't report one, and the least width of a column of names beside others.
 USUAL, LEAST = 80, 24
@@ -58,7 +59,7 @@ def fitted(told: Iterable[str], width: int | None) -> Iterator[str]:
 def _summary(surface: Surface) -> str:
     counts = surface.counts
     shown = [said for said in SAID if counts[said] or said in (ALLOWED, DEPENDS, DENIED)]
-    one, told = surface.asker.architecture, ", ".join(f"{word_of(said)} {counts[said]}" for said in shown)
+    one, told = surface.asker.architecture, ", ".join(f"{said} {counts[said]}" for said in shown)
     return told if one.oci == NATIVE else f"{one.name}: {told}"
 
 
@@ -76,7 +77,7 @@ def details(row: Row, is_in_table: bool = False) -> list[str]:
         return [row.conditions.describe()]
     name = row.names[0] if is_in_table else None
     if row.shown:
-        return [f"{word_of(disposition)} {shown.describe(name)}" for disposition, shown in row.shown.items()]
+        return [f"{disposition} {shown.describe(name)}" for disposition, shown in row.shown.items()]
     return [row.answer.named() if is_in_table else str(row.answer)] if row.answer else []
 
 
@@ -84,7 +85,7 @@ def plain(rows: Iterable[Row], groups: Groups) -> Iterator[str]:
     """A line for each syscall, group by group."""
     for group, members in grouped(rows, groups):
         for row in members:
-            yield " ".join([group, word_of(row.said), str(row.number), ",".join(row.names), *details(row)])
+            yield " ".join([group, row.said, str(row.number), ",".join(row.names), *details(row)])
 
 
 def grouped(rows: Iterable[Row], groups: Groups) -> list[tuple[str, list[Row]]]:
@@ -111,7 +112,7 @@ def _cell(said: str, rows: Sequence[Row], width: int) -> list[str]:
 def as_table(rows: Iterable[Row], groups: Groups, width: int) -> Iterator[str]:
     """The syscalls of each group, by disposition."""
     found = grouped(rows, groups)
-    before, next_to = max((len(group) for group, _ in found), default=0) + 2, max(map(len, map(word_of, SAID))) + 2
+    before, next_to = max((len(group) for group, _ in found), default=0) + 2, max(map(len, SAID)) + 2
     is_narrow = width - before - next_to < LEAST
     for group, members in found:
         heading = group
@@ -120,11 +121,11 @@ def as_table(rows: Iterable[Row], groups: Groups, width: int) -> Iterator[str]:
             if not those:
                 continue
             if is_narrow:
-                yield from ([heading] if heading else []) + [f" {word_of(said)}"]
+                yield from ([heading] if heading else []) + [f" {said}"]
                 yield from (f"  {line}" for line in _cell(said, those, width - 2))
             else:
                 for at, line in enumerate(_cell(said, those, width - before - next_to)):
-                    yield f"{heading if at == 0 else '':{before}}{word_of(said) if at == 0 else '':{next_to}}{line}"
+                    yield f"{heading if at == 0 else '':{before}}{said if at == 0 else '':{next_to}}{line}"
             heading = ""
 
 
@@ -136,9 +137,9 @@ def lines(surface: Surface, groups: Groups, width: int | None) -> Iterator[str]:
 
 def row_json(row: Row, groups: Groups) -> dict[str, object]:
     found: dict[str, object] = {"number": row.number, "names": row.names, "group": groups.of_call(row.names),
-                                "said": row.said}
+                                "disposition": row.said}
     if row.shown:
-        found["shown"] = {disposition: shown.as_json() for disposition, shown in row.shown.items()}
+        found["examples"] = {disposition: shown.as_json() for disposition, shown in row.shown.items()}
         found["never"] = row.never
     elif row.answer:
         found["answer"] = row.answer.as_json()
@@ -152,6 +153,6 @@ def as_json(surface: Surface, groups: Groups) -> dict[str, object]:
     others = [{"architecture": it.asker.architecture.name, "counts": {said: it.counts[said] for said in SAID}}
               for it in surface.others]
     return {"architecture": surface.asker.architecture.name, "counts": {said: counts[said] for said in SAID},
-            **({"others": others} if others else {}),
+            **({"other_abis": others} if others else {}),
             "foreign": [one.as_json() for one in surface.foreign],
             "unnamed": surface.unnamed.as_json(), "calls": [row_json(row, groups) for row in surface.rows]}

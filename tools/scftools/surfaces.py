@@ -4,8 +4,8 @@ from __future__ import annotations
 from collections import Counter
 from collections.abc import Iterable, Sequence
 
-from . import answers, client, constants, other_abis, questions, tables
-from .answers import Answer
+from . import client, constants, other_abis, questions, tables
+from .answers import ALLOWED, DELEGATED, DENIED, Answer
 from .architectures import JUDGED, NATIVE, Architecture
 from .calls import Call
 from .questions import IS_ALLOWED, IS_DENIED, IS_NEVER_ALLOWED, IS_NEVER_DENIED, Asker, Question, Unnamed
@@ -17,21 +17,9 @@ TYPE_CHECKING = False
 if TYPE_CHECKING:
     from .row_conditions import Conditions
 
-ALLOWED, DELEGATED, DENIED, DEPENDS = "made", "referred", "refused", "depends"
-DISPOSITIONS = {answers.ALLOWED: ALLOWED, answers.DELEGATED: DELEGATED, answers.DENIED: DENIED}
 # What may hold for all syscalls of a number, in the order in which it is printed; the last two if scf can't decide.
+DEPENDS = "depends"
 SAID = (ALLOWED, DEPENDS, DELEGATED, DENIED, UNDECIDED, UNFINISHED)
-# The words of text output; JSON has those above.
-WORDS = {ALLOWED: "allowed", DELEGATED: "delegated", DENIED: "denied"}
-
-
-def word_of(said: str) -> str:
-    """How text output calls what JSON calls `said`."""
-    return WORDS.get(said, said)
-
-
-def disposition_of(answer: Answer) -> str:
-    return DISPOSITIONS[answer.disposition]
 
 
 @dataclass(frozen=True)
@@ -52,7 +40,7 @@ class Shown:
     def as_json(self) -> dict[str, object]:
         return {"arguments": [hex(it) for it in self.call.arguments], "is_whole": self.is_whole,
                 "pointer": hex(self.call.pointer or 0) if self.is_whole else None,
-                "answer": {**self.answer.as_json(), "does": self.answer.does()}}
+                "answer": self.answer.as_json(explains=True)}
 
 
 @dataclass
@@ -76,7 +64,7 @@ class Row:
         found: dict[str, tuple[Question, NamedCall]] = {}
         for question, line in self.lines.items():
             if line is not None and line.verdict.filters is not None:
-                found.setdefault(disposition_of(line.verdict.filters), (question, line))
+                found.setdefault(line.verdict.filters.disposition, (question, line))
         return found
 
     @property
@@ -164,7 +152,7 @@ def _shown(asker: Asker, question: Question, line: NamedCall) -> Shown:
         return Shown(call, answer, True)
     alone = asker.of_numbers(question, line.number, line.number)
     if alone is not None and alone.call is not None and alone.filters is not None:
-        if disposition_of(alone.filters) == disposition_of(answer) and asker.decided(alone.call) == alone.filters:
+        if alone.filters.disposition == answer.disposition and asker.decided(alone.call) == alone.filters:
             return Shown(alone.call, alone.filters, True)
     return Shown(call, answer, False)
 

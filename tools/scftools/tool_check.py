@@ -1,6 +1,6 @@
 """Says whether the kernel accepts filters: runs `scf check` on each, and says what a fault means.
 
-    scf check FILTER..
+    scf check [--json] FILTER..
 
 Each FILTER may be a file or a pipe, and one of them `-` for standard input. Its contents say whether it is a raw filter
 or text: hexadecimal (as xxd, `xxd -p` and `hexdump -C` print it), a C array (`{ 0x20, 0, 0, 4 },`, BPF_STMT and
@@ -21,17 +21,30 @@ Examples:
 from . import client, explanation, filters, output, words
 
 
+def as_json(name, data, done):
+    """One filter and what `scf check` said of it."""
+    fault = client.Fault.read(done.line)
+    return {"file": name, "status": done.status,
+            **({"fault": fault.as_json(explanation.of_fault(fault))} if fault else {"instructions": len(data) // 8})}
+
+
 def main():
     parser = words.Parser(__doc__)
-    parser.add_argument("filters", metavar="FILTER", nargs="+", help="a raw filter; - is standard input")
+    parser.add("--json", "filters")
     options = parser.parse_args()
     parser.one_standard_input(options.filters)
-    statuses = []
+    statuses, objects = [], []
     for name in options.filters:
-        done = client.run(["check"], filters.read(name).data)
+        data = filters.read(name).data
+        done = client.run(["check"], data)
         statuses.append(done.status)
+        if options.json:
+            objects.append(as_json(name, data, done))
+            continue
         output.put_line(done.line)
         if len(options.filters) > 1:
             output.put_line(f"# {name}")
         output.put_lines(output.notes(explanation.of_line(done.line)))
+    if options.json:
+        output.put_json({"status": client.worst(statuses), "filters": objects})
     return client.worst(statuses)

@@ -1,6 +1,6 @@
 """Prints a filter that answers as a profile does: runs `scf compile`, and says what was left out.
 
-    scf compile [--native] [--strict] [--table FILE] [--caps LIST] PROFILE >FILTER
+    scf compile [--native] [--strict] [--json] [--table FILE] [--caps LIST] PROFILE >FILTER
 
 PROFILE is a resolved OCI seccomp profile, or another one as `scf ask` takes it: a file, a pipe, or `-` for standard
 input. The filter answers the syscalls of each architecture that the profile names, as far as scf has a table of it,
@@ -24,14 +24,18 @@ from . import compilation, output, profile_inputs, program, tables, words
 
 def main():
     parser = words.Parser(__doc__)
-    parser.add("--native", "--strict", "--table", "--caps", "profile")
+    parser.add("--native", "--strict", "--json", "--table", "--caps", "profile")
     options = parser.parse_args()
     parser.one_standard_input([options.profile, options.table])
-    if sys.stdout is not None and sys.stdout.isatty():
+    if not options.json and sys.stdout is not None and sys.stdout.isatty():
         parser.error("a filter isn't text: redirect the output into a file")
     profile = profile_inputs.read(options.profile, options.caps, is_strict=options.strict)
     table = tables.read(options.table)
     judged = tables.of_profile(profile.data, table, options.native)
+    if options.json:
+        value = compilation.compilation_as_json(profile.data, judged, profile.origins)
+        output.put_json(value)
+        return value["status"]
     status, out, remarks = compilation.compile_profile(profile.data, judged, profile.origins)
     output.put(out)
     output.flush()

@@ -1,6 +1,6 @@
 """Lists a filter with the indexes of its instructions, the targets of its jumps, and names of syscalls.
 
-    scf list [--dot] [--nr NUMBER|NAME] [--arch ARCH] [--ip N] [--a0 N] .. [--a5 N]
+    scf list [--dot|--json] [--nr NUMBER|NAME] [--arch ARCH] [--ip N] [--a0 N] .. [--a5 N]
              [--table FILE] FILTER
 
 FILTER is a filter as `scf check` takes it, accepted or not: a file, a pipe, or `-` for standard input. Each line has
@@ -28,27 +28,49 @@ Examples:
 from . import (client, decisions, explanation, filters, flow_graph, listing, output, program, tables, words)
 
 
+def refused(options, status, line):
+    """Prints scf's line on a filter that can't be listed, or run."""
+    if options.json:
+        fault = client.Fault.read(line)
+        output.put_json({"status": status, **({"fault": fault.as_json(explanation.of_fault(fault))} if fault else {})})
+    else:
+        output.put_explained([line], explanation.of_line(line))
+    return status
+
+
+def as_json(one, lines, table, query, path):
+    """The listing as an object; given a syscall with its answer and the instructions that run on it."""
+    instructions = [{"index": index, "text": line, "meaning": meaning}
+                    for index, (line, meaning) in enumerate(zip(lines, listing.meanings(one.data, table)))]
+    of_call = {} if path is None else {"call": query.call.as_json(table), "path": listing.Giver(one, True, path).as_json(),
+                                       "answer": path.decision.answer.as_json(explains=True)}
+    return {"status": program.SUCCESS, "instructions": instructions, **of_call}
+
+
 def main():
     parser = words.Parser(__doc__)
     parser.add_argument("--nr", metavar="NUMBER|NAME",
                         help="mark the instructions that run on this syscall, by number or by name [default: 0]")
     decisions.add_numbers(parser)
     parser.add_argument("--dot", action="store_true", help="print the control flow as a graph for graphviz")
-    parser.add("--table", "filter")
+    parser.add("--json", "--table", "filter")
     options = parser.parse_args()
     parser.one_standard_input([options.filter, options.table])
+    if options.dot and options.json:
+        parser.error("give either --dot or --json")
     table = tables.read(options.table)
-    call, data = decisions.one_query(options, table), filters.read(options.filter).data
+    call, one = decisions.one_query(options, table), filters.read(options.filter)
+    data = one.data
     done = client.run(["dis"], data)
     if done.status != program.SUCCESS:
-        output.put_explained(done.lines[:1], explanation.of_line(done.line))
-        return done.status
-    lines, path = list(listing.listing_lines(data, done.lines, table)), None
-    if call is not None:
-        path = listing.path_of(data, call.words())
-        if path.decision.answer is None:
-            output.put_explained([path.decision.line], explanation.of_line(path.decision.line))
-            return path.status
+        return refused(options, done.status, done.line)
+    path = listing.path_of(data, call.words()) if call is not None else None
+    if path is not None and path.decision.answer is None:
+        return refused(options, path.status, path.decision.line)
+    if options.json:
+        output.put_json(as_json(one, done.lines, table, call, path))
+        return path.status if path else done.status
+    lines = list(listing.listing_lines(data, done.lines, table))
     if options.dot:
         output.put(flow_graph.Drawing(flow_graph.Graph(data), lines, table, path.indexes if path else ()).text())
     elif path is None:

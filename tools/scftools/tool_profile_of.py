@@ -1,7 +1,7 @@
 """Prints the profile of filters: what they answer to syscalls, as an OCI seccomp profile.
 
-    scf profile-of [--arch ARCH|--runtime RUNTIME] [--no-more|--no-less] [--limit N]
-                   [--splits N] [--table FILE] FILTER.. >PROFILE
+    scf profile-of [--arch ARCH|--runtime RUNTIME] [--no-more|--no-less] [--json]
+                   [--limit N] [--splits N] [--table FILE] FILTER.. >PROFILE
 
 The FILTERs form one stack, oldest first; `scf filters-of` takes them from a process. Before a profile is printed, scf
 proves that it answers every syscall of each architecture that it lists as the filters do; `scf compare FILTER..
@@ -52,7 +52,7 @@ def read_words():
     parser.add_argument("--runtime", choices=tuple(runtimes.RUNTIMES),
                         help="print a profile for this container runtime; docker stands for runc, podman for crun")
     parser.relation("print the nearest profile that is nowhere {} than the filters")
-    parser.add("--arch", "--limit", "--splits", "--table", "filters")
+    parser.add("--arch", "--json", "--limit", "--splits", "--table", "filters")
     options = parser.parse_args()
     if options.runtime is not None and options.arch is not None:
         parser.error("give either --arch or --runtime, which confines this machine's syscalls whatever a profile lists")
@@ -69,10 +69,16 @@ def main():
     try:
         result = profile_of.of_request(request, options.relation)
     except Refusal as why:
-        program.say(why.line, *explanation.of_line(why.line))
+        if options.json and why.fault is not None:
+            output.put_json({"status": why.status, "fault": why.fault.as_json(explanation.of_fault(why.fault))})
+        else:
+            program.say(why.line, *explanation.of_line(why.line))
         return why.status
     except engines.Refused as why:
         raise program.ToolError(str(why), program.NEGATIVE) from why
+    if options.json:
+        output.put_json(result.as_json())
+        return result.status
     output.put(result.text)
     output.flush()
     program.say(*result.remarks)

@@ -1,7 +1,8 @@
 """Prints the resolved profile that a systemd unit's syscall settings describe.
 
-    scf unit-profile [--arch ARCH] UNIT
-    scf unit-profile --set LIST .. [--errno ERRNO] [--architectures LIST] [--log LIST ..]
+    scf unit-profile [--json] [--arch ARCH] UNIT
+    scf unit-profile [--json] --set LIST .. [--errno ERRNO] [--architectures LIST]
+                     [--log LIST ..]
 
 It says what all filters that systemd adds for the settings answer together: SystemCallFilter=, SystemCallErrorNumber=,
 SystemCallArchitectures=, SystemCallLog=, RestrictNamespaces=, RestrictAddressFamilies=, MemoryDenyWriteExecute=,
@@ -32,6 +33,8 @@ Examples:
     scf unit-profile --set @system-service ~@mount >profile.json
     scf unit-profile --set ~ptrace --errno EPERM >profile.json
 """
+import json
+
 from . import architectures, libseccomp, output, program, unit_profiles, units, words
 from .explanation import join_names
 
@@ -43,6 +46,7 @@ def read_words():
     parser.add_argument("--architectures", metavar="LIST", help="with --set: SystemCallArchitectures= [default: none]")
     parser.add_argument("--log", metavar="LIST", nargs="+", help="with --set: assignments of SystemCallLog=")
     parser.add_argument("--arch", metavar="ARCH", help="print the profile for this architecture [default: x86-64]")
+    parser.add("--json")
     parser.add_argument("unit", metavar="UNIT", nargs="?", help="a unit, as systemctl(1) names it")
     options = parser.parse_args()
     if (options.unit is None) == (options.set is None):
@@ -56,7 +60,7 @@ def read_words():
     return options
 
 
-def group_of(settings, wanted):
+def group_of(settings, wanted, say):
     """The architectures for which a profile is printed, among them this one; says which others there are."""
     group = next((it for it in unit_profiles.groups_of(settings) if wanted.oci in it), None)
     if group is None:
@@ -64,20 +68,22 @@ def group_of(settings, wanted):
     alike, others = (architectures.names_of([it for it in units.LOCAL if it in settings.architectures
                                              and (it in group) == is_alike]) for is_alike in (True, False))
     if others:
-        program.say(f"the profile is for {join_names(alike)} alone: something else is denied on {join_names(others)}, "
-                    f"which --arch {others[0]} prints")
+        say(f"the profile is for {join_names(alike)} alone: something else is denied on {join_names(others)}, "
+            f"which --arch {others[0]} prints")
     return group
 
 
 def main():
     options = read_words()
     wanted = architectures.judged_in(options.arch or architectures.NATIVE)
-    reader = units.Reader(units.all_groups, program.say)
+    remarks = []
+    say = remarks.append if options.json else program.say
+    reader = units.Reader(units.all_groups, say)
     if options.set is not None:
         try:
             reader.is_call = libseccomp.Library().knows
         except program.ToolError as why:
-            program.say(f"names that libseccomp doesn't know can't be left out, as systemd may do: {why}")
+            say(f"names that libseccomp doesn't know can't be left out, as systemd may do: {why}")
     try:
         if options.unit is not None:
             settings = units.settings_in(units.shown_by_systemctl([options.unit])[0], options.unit, reader)
@@ -86,13 +92,16 @@ def main():
                                       units.architectures_of(options.architectures or ""),
                                       reader.assigned(options.log or (), None))
         reader.tell_unknown()
-        text = unit_profiles.profile_of(settings, group_of(settings, wanted))
+        text = unit_profiles.profile_of(settings, group_of(settings, wanted, say))
     except units.SettingError as why:
         raise program.ToolError(str(why), program.NEGATIVE) from why
     if settings.filter is None:
-        program.say("there is no SystemCallFilter: every syscall is allowed"
-                    + (" that no other setting denies" if settings.restrictions else ""))
+        say("there is no SystemCallFilter: every syscall is allowed"
+            + (" that no other setting denies" if settings.restrictions else ""))
     if settings.doubt is not None:
-        program.say(settings.doubt)
-    output.put(text)
+        say(settings.doubt)
+    if options.json:
+        output.put_json({"status": program.SUCCESS, "profile": json.loads(text), "remarks": remarks})
+    else:
+        output.put(text)
     return program.SUCCESS

@@ -174,7 +174,7 @@ def main():
     remarks = [*request.remarks, *other_runtime(options, kernel, request, blocks[0])]
     if options.json:
         group = None if container is None else container.description
-        value = {**verify.as_json(blocks, found, request, group), "status": status, "others": others}
+        value = {**verify.as_json(blocks, found, request, group), "status": status, "not_checked": others}
         if options.runtime is not None or remarks:
             value["remarks"] = remarks
         output.put_json({**value, "verdict": None} if is_unknown else value)

@@ -29,7 +29,7 @@ SHARED: dict[str, dict[str, Any]] = {
                 "help": "also stop threads that wait for a seccomp supervisor, which then gets their syscalls a "
                         "second time"},
     "--html": {"metavar": "FILE", "help": "also write a page of HTML"},
-    "--json": {"action": "store_true", "help": "print one JSON object instead of lines"},
+    "--json": {"action": "store_true", "help": "print one JSON object instead of lines (JSON.md says what it holds)"},
     "--keep-first": {"action": "store_true",
                      "help": "of two answers to a syscall, both without conditions, keep the first, as libseccomp "
                              "does"},

@@ -729,7 +729,7 @@ class Words(Causes):
         self.assertEqual((found["status"], event["process"], event["name"], event["call"]["number"], event["actions"]),
                          (1, 12551, "python3", 41, ["KILL_PROCESS"]))
         self.assertEqual((event["profile"]["verdict"], event["profile"]["cases"][0]["reason"],
-                          event["profile"]["cases"][0]["place"]), ("fits", "entry", 0))
+                          event["profile"]["cases"][0]["entry"]), ("fits", "entry", 0))
         self.assertEqual((event["filters"]["verdict"], event["filters"]["cases"][0]["answer"]["action"]),
                          ("contradicts", "ALLOW"))
         self.assertEqual(event["changes"], [{"taken_out": [0], "added": []}])

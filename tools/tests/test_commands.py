@@ -1,21 +1,15 @@
 """The command scf: which words the program answers and which a tool, the list of commands, help, examples, and the
 completion of shells."""
 import errno
-import json
 import os
 import pty
 import re
 import shutil
 import subprocess
-import sys
 
 from support.common import (ALLOW, SCF, TABLE, TOP, Case, filter_of, for_developers, jeq, part, profile_of, ret,
                             source_of)
 from support.confined import OLDEST, Confined, here
-
-sys.path.append(os.path.join(TOP, "tools"))
-
-from scftools import output  # noqa: E402
 
 PROGRAM = os.path.join(TOP, "crates", "scf", "out", "scf")
 # Commands that no tool has, and a tool under its former name, which is no command.
@@ -256,24 +250,6 @@ class Completion(Case):
         if shutil.which("fish"):
             out = self.run_words(["fish", "-c", f"source {self.paths[2]}; complete -C 'scf compare --no-'"])[1]
             self.assertEqual(re.findall(r"(?m)^--no-\w+", out), ["--no-less", "--no-more"])
-
-
-class Json(Case):
-    """docs/JSON.md."""
-
-    def test_every_object_has_its_version_and_status(self):
-        self.file("p.json", profile_of("read", "raed", "waitpid"))
-        self.file("f.bpf", filter_of([0, 257]))
-        self.file("bad.bpf", jeq(0, 0, 9) + ret(ALLOW))
-        self.file("log", "read(0, \"\", 9) = 0\nopenat(AT_FDCWD, \"x\", 0) = 3\n")
-        self.assertIn(f"`schema` is the version of this page, now {output.SCHEMA}:", text_of("docs", "JSON.md"))
-        for words in (["compare", "f.bpf", "p.json"], ["compare", "f.bpf", "log"], ["decide", "--nr", "openat", "f.bpf"],
-                      ["ask", "--nr", "read", "p.json"], ["surface", "bad.bpf"], ["lint", "p.json"], ["needs", "log", "p.json"],
-                      ["compare-profiles", "p.json", "p.json"], ["compare-profiles", "log", "p.json"]):
-            with self.subTest(words):
-                status, out, err = self.run_words([SCF, words[0], "--json", *words[1:]])
-                found = json.loads(out)
-                self.assertEqual((found["schema"], found["status"], err), (output.SCHEMA, status, ""))
 
 
 class Color(Case):

@@ -403,7 +403,7 @@ class OtherAbis(Case):
             f"# {x32}", "# other ABIs: the kernel has no others", ""]))
         self.assertEqual(self.said(self.lets_i386, self.profile())[1], ["same", ""])
         found = json.loads(self.run_tool("compare", "--native", "--json", self.lets_both, both)[1])
-        self.assertEqual([bool(one["let_through"]) for one in found["foreign"]], [False, True])
+        self.assertEqual([bool(one["not_denied"]) for one in found["foreign"]], [False, True])
 
     def test_ask(self):
         for arch, number, names, line in (("i386", "3", ("X86",), "ALLOW 0 entry 0"),

@@ -34,7 +34,7 @@ READ_WRITE = profile(("read write", "ALLOW", {}))
 
 
 def degree(answer):
-    return ("denied", "delegated to a supervisor or tracer", "allowed").index(answer.disposition)
+    return ("denied", "delegated", "allowed").index(answer.disposition)
 
 
 class Program(Case):
@@ -182,9 +182,9 @@ class Program(Case):
             "counts": {MORE: 1, LESS: 1, OTHERWISE: 0, "undecided": 0, "unfinished": 0}})
         more, less = found["changes"]
         self.assertEqual([more[key] for key in ("number", "names", "change")], [41, ["socket"], MORE])
-        self.assertEqual((more["old"]["reason"], more["new"]["reason"], more["new"]["place"]), ("default", "entry", 1))
-        self.assertEqual(more["new"]["entry"], json.loads(new)["syscalls"][1])
-        self.assertEqual(len(more["new"]["held"]), 1)
+        self.assertEqual((more["old"]["reason"], more["new"]["reason"], more["new"]["entry"]), ("default", "entry", 1))
+        self.assertEqual(more["new"]["definition"], json.loads(new)["syscalls"][1])
+        self.assertEqual(len(more["new"]["conditions_met"]), 1)
         self.assertEqual(less["old"]["answer"], {"action": "ALLOW", "data": 0, "does": "the syscall is executed"})
         self.assertEqual(less["call"]["names"], ["write"])
 
@@ -331,7 +331,7 @@ class Runtimes(Case):
             self.assertIn(f"1 write less {NO_ARGUMENTS} old ALLOW entry 1 new ERRNO 1 default", lines)
             self.assertIn('# old: entry 1 of syscalls: {"names": ["read", "write"], "action": "SCMP_ACT_ALLOW"}', lines)
             found = json.loads(self.lines(old, new, "--json", *words)[1][0])
-            self.assertEqual((status, found["changes"][0]["old"]["place"]), (1, 1))
+            self.assertEqual((status, found["changes"][0]["old"]["entry"]), (1, 1))
 
     def test_entries_that_count_for_nothing(self):
         one = {"defaultAction": ERRNO, "syscalls": [{"names": ["mkdir"], "action": ALLOW}]}

@@ -47,8 +47,8 @@ class Slow(Case):
         name = self.file("f.bpf", GATE + jge(100, 4, 0) + jeq(0, 0, 1) + ret(ALLOW) + ret(EPERM) + ret(EPERM)
                          + ORDERS[len(GATE):])
         status, out, err = self.ends("surface", "--json", name)
-        found = {row["number"]: row["said"] for row in json.loads(out)["calls"]}
-        self.assertEqual((status, found[0], found[1], found[99]), (4, "made", "refused", "refused"))
+        found = {row["number"]: row["disposition"] for row in json.loads(out)["calls"]}
+        self.assertEqual((status, found[0], found[1], found[99]), (4, "allowed", "denied", "denied"))
         self.assertEqual({said for number, said in found.items() if number >= 100}, {"unfinished"})
         self.assertEqual(err, f"surface: {TOLD}\n")
 

@@ -83,7 +83,7 @@ class Programs(Confined):
             for name, words in (("verify-process", (str(pid), profile)), ("surface", ("--pid", str(pid)))):
                 status, out, err = self.run_tool(name, "--json", *words)
                 self.assertEqual((status, err), (3, f"{name}: {why}\n"))
-                self.assertEqual(json.loads(out), {"status": 3, "verdict": None, "stacks": [], "why": why, "schema": 1})
+                self.assertEqual(json.loads(out), {"status": 3, "verdict": None, "stacks": [], "why": why, "schema": 2})
 
     @here
     def test_a_zombie(self):
@@ -431,7 +431,7 @@ class VerifyProcess(Confined):
         self.assertEqual(by_thread[other]["filter"], {"action": "ERRNO", "data": 1, "errno": "EPERM"})
         self.assertEqual(by_thread[other]["profile"], {"action": "ALLOW", "data": 0})
         self.assertEqual((by_thread[main]["skipped"], by_thread[main]["filters"]), (["umont2"], [9]))
-        self.assertEqual([kind["let_through"] for kind in by_thread[main]["foreign"]], [[], []])
+        self.assertEqual([kind["not_denied"] for kind in by_thread[main]["foreign"]], [[], []])
         self.assertEqual(by_thread[main]["processes"][0]["process"], child.pid)
 
     @here
@@ -571,7 +571,7 @@ class Containers(Confined):
                          (4, "", [told, f"the container is the control group {group}/inner; its processes that "
                                         f"were checked: 1"]))
         found = json.loads(self.verify(first, refuses("mount"), "--all", "--json")[1])
-        self.assertEqual((found["status"], found["verdict"], found["others"]), (4, None, told))
+        self.assertEqual((found["status"], found["verdict"], found["not_checked"]), (4, None, told))
         # where both are, all is known
         self.grouped((child, "inner", second))
         self.assertEqual(self.verify(first, refuses("mount"), "--all")[0], 0)
@@ -656,8 +656,9 @@ class Containers(Confined):
         self.assertEqual(out.split("\n")[:4],
                          ["differs", "call nr 440 arch 0xc000003e ip 0x0 args 0x0 0x0 0x0 0x0 0x0 0x0",
                           "filter ERRNO 38", "profile ERRNO 1"])
-        fates, first = comments(out)[:2]
-        self.assertEqual(fates, "it is neither more permissive nor stricter than the profile: only the answers differ")
+        dispositions, first = comments(out)[:2]
+        self.assertEqual(dispositions, "it is neither more permissive nor stricter than the profile: only the answers "
+                                       "differ")
         self.assertTrue(first.startswith("only syscalls with numbers above all that the profile names differ, the first is "
                                          "process_madvise (440)"), first)
         self.assertIn("# other ABIs: every i386 and x32 syscall is denied; ", out)

@@ -15,7 +15,8 @@ TOOLS = sorted(name for name in os.listdir(os.path.join(TOP, "tools"))
 OF_PROGRAM = ("asm", "dis")
 MODULES = sorted(name for name in os.listdir(os.path.join(TOP, "tools", "scftools")) if name.endswith(".py"))
 TABLES = os.listdir(os.path.join(TOP, "tables"))
-DOCUMENTS = ["LICENSE", "README.md", *(f"{it}.md" for it in ("TUTORIAL", "RECIPES", "OPERATIONS", "JSON", "LICENCES"))]
+DOCUMENTS = ["LICENSE", "README.md", "scf.schema.json",
+             *(f"{it}.md" for it in ("TUTORIAL", "RECIPES", "OPERATIONS", "JSON", "LICENCES"))]
 
 
 class Install(Case):

@@ -73,7 +73,7 @@ class Usage(Linted):
         clean = profile(entry("read", "write", comment="as it is"), defaultErrnoRet=38)
         for words in ((), ("--strict",)):
             self.assertEqual(self.run_lint(clean, *words), (0, "# no findings\n", ""))
-        self.assertEqual(self.report(clean, "--strict"), {"schema": 1, "status": 0, "findings": [], "untold": []})
+        self.assertEqual(self.report(clean, "--strict"), {"schema": 2, "status": 0, "findings": [], "undecided": []})
 
     def test_strict_and_except(self):
         odd = profile(entry("umont2"), default=ALLOW)
@@ -164,8 +164,9 @@ class Usage(Linted):
         given = profile(entry("read"), entry("read"))
         report = self.report(given, "--limit=0")
         self.assertEqual(report["findings"], [])
-        self.assertEqual({it["verdict"] for it in report["untold"] if it["kind"] == "without-effect"}, {"unfinished"})
-        self.assertTrue(any(it["kind"] == "dangerous-call" for it in report["untold"]))
+        self.assertEqual({it["verdict"] for it in report["undecided"] if it["kind"] == "without-effect"},
+                         {"unfinished"})
+        self.assertTrue(any(it["kind"] == "dangerous-call" for it in report["undecided"]))
         out = self.run_lint(given, "--limit=0")[1]
         self.assertIn("# without-effect: undecided which entries have an effect: unfinished\n", out)
         self.assertTrue(out.split("\n")[-2].startswith("# no findings; undecided: "), out)
@@ -346,9 +347,9 @@ class Dangerous(Linted):
         self.assertIn("ptrace (101) is allowed with some arguments, such as 0x7 ", found["text"])
         both = profile(entry("ptrace", args=[(0, "LT", 7)]), entry("ptrace", args=[(0, "GE", 7)]))
         self.assertEqual([it[:2] for it in self.made(both)], [("ptrace", True)])
-        referred = profile(entry("ptrace", args=[(0, "LT", 7)]),
-                           entry("ptrace", action="SCMP_ACT_TRACE", args=[(0, "GE", 7)]))
-        self.assertEqual(self.made(referred), [("ptrace", False, 0)])
+        delegated = profile(entry("ptrace", args=[(0, "LT", 7)]),
+                            entry("ptrace", action="SCMP_ACT_TRACE", args=[(0, "GE", 7)]))
+        self.assertEqual(self.made(delegated), [("ptrace", False, 0)])
         self.assertEqual(self.made(profile(entry("ptrace", args=[(0, "LT", 0)]))), [])
 
 
@@ -684,7 +685,7 @@ class Arguments(Linted):
         report = self.report(given)
         self.assertNotIn("fault", report)
         # a socket call with zeros meets none
-        self.assertNotIn("always-met", [it["kind"] for it in (*report["findings"], *report["untold"])])
+        self.assertNotIn("always-met", [it["kind"] for it in (*report["findings"], *report["undecided"])])
 
     def test_the_list_beside_the_kernel(self):
         """What this kernel's tracepoints say of its syscalls."""
@@ -1041,9 +1042,9 @@ class Several(Linted):
     def test_what_could_not_be_told(self):
         """It is said once, as what is told is."""
         given = profile(entry("ptrace", "nanosleep"), architectures=ENGINES)
-        untold = [it for it in self.report(given, "--limit=0", "--strict", status=4)["untold"]
-                  if it.get("name") == "ptrace" or it["kind"] == "no-restart"]
-        self.assertEqual([(it["text"], it["architectures"]) for it in untold], [
+        undecided = [it for it in self.report(given, "--limit=0", "--strict", status=4)["undecided"]
+                     if it.get("name") == "ptrace" or it["kind"] == "no-restart"]
+        self.assertEqual([(it["text"], it["architectures"]) for it in undecided], [
             ("undecided whether ptrace (101) is allowed: unfinished", ["x86-64", "i386", "x32"]),
             ("undecided whether restart_syscall (219) is always allowed", ["x86-64", "i386", "x32"])])
 

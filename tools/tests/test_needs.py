@@ -280,19 +280,20 @@ class Judgement(Case):
                              self.file("p.json", json.dumps(profile or self.PROFILE)), **settings)
 
     def judged(self, log, status, profile=None):
-        """The fate of each call, by name, as --json and the lines tell it."""
+        """The disposition of each call, by name, as --json and the lines tell it."""
         found, out, err = self.needs(log, "--json", profile=profile)
         self.assertEqual((found, err, out.count("\n")), (status, "", 1), out)
         report = json.loads(out)
         self.assertEqual(report["status"], status)
         found, out, err = self.needs(log, profile=profile)
         self.assertEqual((found, err), (status, ""))
-        fates = [(" ".join([*([it["architecture"]] if "architecture" in it else []), it["name"]]), it["fate"])
-                 for it in report["calls"]]
+        dispositions = [(" ".join([*([it["architecture"]] if "architecture" in it else []), it["name"]]),
+                         it["disposition"]) for it in report["calls"]]
         lines = [line for line in out.split("\n")[:-1] if line[0] != "#"]
         self.assertEqual([re.sub(r"^(\S+ |)\d+ (\S+) .*", r"\1\2", it) for it in lines],
-                         [name for fate in ("not made", "depends", "untold") for name, its in fates if its == fate])
-        return dict(fates), report, out
+                         [name for word in ("not allowed", "depends", "undecided") for name, its in dispositions
+                          if its == word])
+        return dict(dispositions), report, out
 
 
 class Needs(Judgement):
@@ -302,37 +303,38 @@ class Needs(Judgement):
         self.assertEqual((status, out), (2, ""))
         self.assertIn("leave out --json", err)
 
-    def test_made_and_not_made(self):
-        fates, _, out = self.judged("read(3, 0x7f, 1) = 1\nexit_group(0) = ?\n", 0)
-        self.assertEqual(fates, {"read": "made", "exit_group": "made"})
+    def test_allowed_and_not_allowed(self):
+        dispositions, _, out = self.judged("read(3, 0x7f, 1) = 1\nexit_group(0) = ?\n", 0)
+        self.assertEqual(dispositions, {"read": "allowed", "exit_group": "allowed"})
         self.assertEqual(out, f"{COUNTED}: allowed 2, not allowed 0, depends 0\n")
-        fates, report, out = self.judged("1 open(\"a\") = 3\n1 ptrace(1) = 0\n1 open(\"b\") = 3\n1 bpf(1) = 3\n", 1)
-        self.assertEqual(fates, {"open": "not made", "ptrace": "made", "bpf": "not made"})
+        dispositions, report, out = self.judged("1 open(\"a\") = 3\n1 ptrace(1) = 0\n1 open(\"b\") = 3\n"
+                                                "1 bpf(1) = 3\n", 1)
+        self.assertEqual(dispositions, {"open": "not allowed", "ptrace": "allowed", "bpf": "not allowed"})
         self.assertEqual(out, "2 open ERRNO 1 default\n# 2 times, first in line 1 of the log\n321 bpf TRACE 1 entry 4\n"
                               f"# once in line 4 of the log\n{COUNTED}: allowed 1, not allowed 2, depends 0\n")
         first = report["calls"][0]
-        self.assertEqual((first["number"], first["count"], first["line"], first["refused"]["answer"],
-                          first["refused"]["reason"]), (2, 2, 1, {"action": "ERRNO", "data": 1, "errno": "EPERM"},
+        self.assertEqual((first["number"], first["count"], first["line"], first["not_allowed"]["answer"],
+                          first["not_allowed"]["reason"]), (2, 2, 1, {"action": "ERRNO", "data": 1, "errno": "EPERM"},
                                                        "default"))
 
     def test_arguments_that_a_condition_looks_at(self):
         _, report, out = self.judged("socket(40, 1, 0) = 3\nsocket(0x28, 2, 0) = 3\nsocket(1, 1, 0) = 3\n", 1)
         self.assertEqual(out.split("\n")[:2], ["41 socket arg 0 0x28 ERRNO 22 entry 3",
                                                "# 2 times, first in line 1 of the log"])
-        self.assertEqual([(it["fate"], it["arguments"]) for it in report["calls"]],
-                         [("not made", {"0": ["0x28"]}), ("made", {"0": ["0x1"]})])
+        self.assertEqual([(it["disposition"], it["arguments"]) for it in report["calls"]],
+                         [("not allowed", {"0": ["0x28"]}), ("allowed", {"0": ["0x1"]})])
 
     def test_arguments_that_are_not_known(self):
         for log in ("socket(AF_NONE, 1, 0) = 3", "socket(AF_NONE|1, 1, 0) = 3", "socket(40", "socket() = 3",
                     "1 socket(40 <unfinished ...>"):
-            fates, report, out = self.judged(f"{log} = 3" if log == "socket(40" else log, 4)
-            self.assertEqual(fates, {"socket": "depends"}, log)
+            dispositions, report, out = self.judged(f"{log} = 3" if log == "socket(40" else log, 4)
+            self.assertEqual(dispositions, {"socket": "depends"}, log)
             self.assertEqual(out.split("\n")[0], "41 socket depends on arg 0")
             one = report["calls"][0]
             self.assertEqual(one["depends_on"], [0])
-            self.assertEqual((one["refused"]["call"]["arguments"][0], one["refused"]["answer"]),
+            self.assertEqual((one["not_allowed"]["call"]["arguments"][0], one["not_allowed"]["answer"]),
                              ("0x28", {"action": "ERRNO", "data": 22, "errno": "EINVAL"}))
-            self.assertNotEqual(one["made"]["arguments"][0], "0x28")
+            self.assertNotEqual(one["allowed"]["arguments"][0], "0x28")
             self.assertRegex(out.split("\n")[1],
                              r"^# allowed with args 0x[0-9a-f]+( 0x0){5}; with args 0x28( 0x0){5} it is ERRNO 22$")
 
@@ -343,31 +345,32 @@ class Needs(Judgement):
             {"names": ["socket"], "action": "SCMP_ACT_LOG", "args": [{"index": 0, "op": "SCMP_CMP_GE", "value": 5}]},
             {"names": ["bind"], "action": ALLOW, "args": [{"index": 0, "op": "SCMP_CMP_EQ", "value": 5},
                                                           {"index": 1, "op": "SCMP_CMP_EQ", "value": 5}]}]}
-        self.assertEqual(self.judged("socket(AF_NONE) = 3", 0, halves)[0], {"socket": "made"})
-        self.assertEqual(self.judged("bind(6, {x}) = 3", 1, halves)[0], {"bind": "not made"})
-        fates, _, out = self.judged("bind(5, {x}) = 3", 4, halves)
-        self.assertEqual((fates, out.split("\n")[0]), ({"bind": "depends"}, "49 bind arg 0 0x5 depends on arg 1"))
+        self.assertEqual(self.judged("socket(AF_NONE) = 3", 0, halves)[0], {"socket": "allowed"})
+        self.assertEqual(self.judged("bind(6, {x}) = 3", 1, halves)[0], {"bind": "not allowed"})
+        dispositions, _, out = self.judged("bind(5, {x}) = 3", 4, halves)
+        self.assertEqual((dispositions, out.split("\n")[0]),
+                         ({"bind": "depends"}, "49 bind arg 0 0x5 depends on arg 1"))
         self.assertEqual(self.judged("bind(X, {x}) = 3", 4, halves)[2].split("\n")[0], "49 bind depends on args 0, 1")
 
     def test_a_negative_number(self):
-        fates, report, out = self.judged("wait4(-1, NULL, 0, NULL) = 3", 4)
-        self.assertEqual((fates, out.split("\n")[0]), ({"wait4": "depends"}, "61 wait4 depends on arg 0"))
+        dispositions, report, out = self.judged("wait4(-1, NULL, 0, NULL) = 3", 4)
+        self.assertEqual((dispositions, out.split("\n")[0]), ({"wait4": "depends"}, "61 wait4 depends on arg 0"))
         self.assertEqual(report["calls"][0]["arguments"], {"0": ["0xffffffff", "0xffffffffffffffff"]})
-        self.assertEqual(self.judged("wait4(-2, NULL, 0, NULL) = 3", 1)[0], {"wait4": "not made"})
+        self.assertEqual(self.judged("wait4(-2, NULL, 0, NULL) = 3", 1)[0], {"wait4": "not allowed"})
         self.assertEqual(self.judged("wait4(0xffffffff, NULL, 0, NULL) = 3", 4)[0], {"wait4": "depends"})
-        self.assertEqual(self.judged("wait4(0xffffffffffffffff, NULL, 0, NULL) = 3", 1)[0], {"wait4": "not made"})
+        self.assertEqual(self.judged("wait4(0xffffffffffffffff, NULL, 0, NULL) = 3", 1)[0], {"wait4": "not allowed"})
 
     def test_what_is_not_judged(self):
         log = "read(1) = 1\nno_such_call(1) = 1\n[ Process PID=7 runs in odd mode. ]\nopen(1) = 1\nwhat\n"
-        fates, report, out = self.judged(log, 4)
-        self.assertEqual((fates, report["not_judged"]),
-                         ({"read": "made"},
+        dispositions, report, out = self.judged(log, 4)
+        self.assertEqual((dispositions, report["not_judged"]),
+                         ({"read": "allowed"},
                           {"names": {"no_such_call": 1}, "foreign": 1, "cut": 0, "more": 0, "lines": 1, "lost": 0}))
         for line in ("# not judged, since the table doesn't have it: no_such_call, times: 1",
                      "# syscalls not judged, since scf has no table of their architecture: 1",
                      "# lines not judged, since they can't be parsed: 1"):
             self.assertIn(f"{line}\n", out)
-        self.assertEqual(self.judged("read(1) = 1\nwhat\n", 4)[0], {"read": "made"})
+        self.assertEqual(self.judged("read(1) = 1\nwhat\n", 4)[0], {"read": "allowed"})
         out = self.judged("read(1) = 1\nmmap2(1) = 1\n" + "".join(f"no{it}(1) = 1\n" for it in range(30)), 4)[2]
         self.assertIn("doesn't have it: mmap2, times: 1; it is a syscall of other architectures alone\n", out)
         self.assertEqual(out.count("# not judged, since the table doesn't have it: "), 20)
@@ -378,8 +381,8 @@ class Needs(Judgement):
     def test_a_call_without_its_beginning(self):
         for log in ("<... ptrace resumed>) = 0", "7 <... ptrace resumed>, 1) = 0",
                     "7 read(3 <unfinished ...>\n7 <... ptrace resumed>) = 0"):
-            fates, report, out = self.judged(f"read(1) = 1\n{log}\n", 4)
-            self.assertEqual((fates, report["not_judged"]["cut"]), ({"read": "made"}, 1), log)
+            dispositions, report, out = self.judged(f"read(1) = 1\n{log}\n", 4)
+            self.assertEqual((dispositions, report["not_judged"]["cut"]), ({"read": "allowed"}, 1), log)
             self.assertIn("# syscalls not judged, since the log lacks their beginning or end: 1\n", out)
         self.assertEqual(self.judged("read(1) = 1\n<... what resumed>) = 0\n", 4)[1]["not_judged"]["lines"], 1)
 
@@ -388,9 +391,9 @@ class Needs(Judgement):
         both = {**self.PROFILE, "architectures": ["SCMP_ARCH_X86_64", "SCMP_ARCH_X86"]}
         log = "7 [   0] read(1) = 1\n7 [  20] getpid() = 7\n7 [   3] read(1) = 1\n"
         self.assertEqual(self.judged(log, 1, both)[0],
-                         {"read": "made", "i386 read": "made", "i386 getpid": "not made"})
-        fates, report, _ = self.judged("7 [   0] read(1) = 1\n7 [ 999] getpid() = 7\n", 4)
-        self.assertEqual((fates, report["not_judged"]["foreign"]), ({"read": "made"}, 1))
+                         {"read": "allowed", "i386 read": "allowed", "i386 getpid": "not allowed"})
+        dispositions, report, _ = self.judged("7 [   0] read(1) = 1\n7 [ 999] getpid() = 7\n", 4)
+        self.assertEqual((dispositions, report["not_judged"]["foreign"]), ({"read": "allowed"}, 1))
 
     def test_the_wrong_order(self):
         log, profile = self.file("l", "7  openat(AT_FDCWD, \"x\") = 3\n"), self.file("p.json", profile_of("read"))
@@ -403,9 +406,9 @@ class Needs(Judgement):
     def test_a_line_that_ends_before_its_result(self):
         for cut in ('mount("/dev/sda", "/mnt"', "mount(", 'mount("/dev/sda", "/mnt", NULL, 0, NULL)'):
             for log in (f"read(1) = 1\n{cut}", f"read(1) = 1\n{cut}\nread(1) = 1\n"):
-                fates, report, out = self.judged(log, 4)
-                self.assertEqual((fates, report["not_judged"]["cut"], report["not_judged"]["lines"]),
-                                 ({"read": "made"}, 1, 0))
+                dispositions, report, out = self.judged(log, 4)
+                self.assertEqual((dispositions, report["not_judged"]["cut"], report["not_judged"]["lines"]),
+                                 ({"read": "allowed"}, 1, 0))
                 self.assertIn("# syscalls not judged, since the log lacks their beginning or end: 1\n", out)
                 self.assertEqual(self.needs(log, "--profile")[0], 4)
         # what isn't a call's name isn't strace's
@@ -414,14 +417,14 @@ class Needs(Judgement):
     def test_a_line_longer_than_it_is_looked_at(self):
         for leader in ("", "7 ", "[pid     7] ", "12:00:00 "):
             log = f"read(1) = 1\n{leader}read(1, \"{'a' * (1 << 17)}\", 7) = 7\n"
-            fates, report, _ = self.judged(log, 0)
-            self.assertEqual((fates, report["not_judged"]["cut"]), ({"read": "made"}, 0))
+            dispositions, report, _ = self.judged(log, 0)
+            self.assertEqual((dispositions, report["not_judged"]["cut"]), ({"read": "allowed"}, 0))
             self.assertEqual(report["calls"][0]["count"], 2)
 
     def test_a_call_without_a_name(self):
-        fates, report, out = self.judged("syscall_0x3ff(0x1, 0, 0, 0, 0, 0) = -1\nsyscall_0x1(0x1) = 0", 1)
+        dispositions, report, out = self.judged("syscall_0x3ff(0x1, 0, 0, 0, 0, 0) = -1\nsyscall_0x1(0x1) = 0", 1)
         self.assertEqual(out.split("\n")[0], "1023 syscall_0x3ff ERRNO 1 default")
-        self.assertEqual(fates, {"syscall_0x3ff": "not made", "syscall_0x1": "made"})
+        self.assertEqual(dispositions, {"syscall_0x3ff": "not allowed", "syscall_0x1": "allowed"})
         self.assertIn("isn't in the profile", self.needs("syscall_0x3ff(0x1) = -1", "--profile")[2])
         for name in ("syscall_0x1ffffffff", "syscall_0x", "syscall_0xg"):
             self.assertEqual(self.judged(f"{name}(0x1) = -1", 4)[1]["not_judged"]["names"], {name: 1})
@@ -471,10 +474,11 @@ class InArchitectures(Judgement):
     def test_a_part_in_32_bit_mode(self):
         """By asm/unistd_32.h open is 5, dup 41 and socket 359. Only the low half of an argument of i386 counts: -1 is
         0xffffffff, and no call has 0x100000008."""
-        fates, report, out = self.judged(f"read(3) = 1\nclose(-1) = 0\n{self.MODE}{self.CALLS}", 1)
-        self.assertEqual(fates, {"read": "made", "close": "depends", "i386 read": "made", "i386 open": "not made",
-                                 "i386 close": "made", "i386 dup": "not made", "i386 socketcall": "made",
-                                 "i386 mmap2": "made", "i386 socket": "made"})
+        dispositions, report, out = self.judged(f"read(3) = 1\nclose(-1) = 0\n{self.MODE}{self.CALLS}", 1)
+        self.assertEqual(dispositions, {
+            "read": "allowed", "close": "depends", "i386 read": "allowed", "i386 open": "not allowed",
+            "i386 close": "allowed", "i386 dup": "not allowed", "i386 socketcall": "allowed", "i386 mmap2": "allowed",
+            "i386 socket": "allowed"})
         self.assertEqual(out.split("\n")[:6], [
             "i386 5 open ERRNO 1 default", "# once in line 9 of the log",
             "i386 41 dup arg 0 0x8 ERRNO 1 default", "# once in line 10 of the log",
@@ -486,37 +490,36 @@ class InArchitectures(Judgement):
                           ("i386", 5, {}), ("i386", 6, {"0": ["0xffffffff"]}), ("i386", 41, {"0": ["0x8"]}),
                           ("i386", 102, {}), ("i386", 192, {}), ("i386", 359, {"0": ["0x28"]}),
                           ("i386", 359, {"0": ["0x2"]})])
-        refused = {it["name"]: it["refused"]["call"] for it in report["calls"] if it["fate"] == "not made"}
-        self.assertEqual((refused["open"]["number"], refused["open"]["architecture"], refused["open"]["names"]),
+        calls = {it["name"]: it["not_allowed"]["call"] for it in report["calls"] if it["disposition"] == "not allowed"}
+        self.assertEqual((calls["open"]["number"], calls["open"]["architecture"], calls["open"]["names"]),
                          (5, "0x40000003", ["open"]))
 
     def test_an_argument_that_is_not_known(self):
-        fates, report, out = self.judged(f"{self.MODE}socket(AF_NONE, 1) = 3\n", 4)
-        self.assertEqual(fates, {"i386 socketcall": "made", "i386 socket": "depends"})
+        dispositions, report, out = self.judged(f"{self.MODE}socket(AF_NONE, 1) = 3\n", 4)
+        self.assertEqual(dispositions, {"i386 socketcall": "allowed", "i386 socket": "depends"})
         self.assertEqual(out.split("\n")[0], "i386 359 socket depends on arg 0")
         one = report["calls"][1]
-        self.assertEqual([(one[it] if it == "made" else one[it]["call"])["architecture"] for it in ("made", "refused")],
-                         ["0x40000003"] * 2)
-        self.assertEqual(int(one["refused"]["call"]["arguments"][0], 16) % (1 << 32), 40)
-        self.assertNotEqual(int(one["made"]["arguments"][0], 16) % (1 << 32), 40)
+        self.assertEqual([it["architecture"] for it in (one["allowed"], one["not_allowed"]["call"])], ["0x40000003"] * 2)
+        self.assertEqual(int(one["not_allowed"]["call"]["arguments"][0], 16) % (1 << 32), 40)
+        self.assertNotEqual(int(one["allowed"]["arguments"][0], 16) % (1 << 32), 40)
 
     def test_x32(self):
         """Numbers in a record have 0x40000000 added (asm/unistd.h); x32's execve is 520, and x86-64's 59."""
         three = {**self.PROFILE, "architectures": [*self.BOTH, "SCMP_ARCH_X32"]}
         log = "[ Process PID=7 runs in x32 mode. ]\nexecve(1) = 0\nopen(1) = 1\n"
-        fates, report, out = self.judged(log, 1, three)
-        self.assertEqual(fates, {"x32 execve": "made", "x32 open": "not made"})
+        dispositions, report, out = self.judged(log, 1, three)
+        self.assertEqual(dispositions, {"x32 execve": "allowed", "x32 open": "not allowed"})
         self.assertEqual(out.split("\n")[0], "x32 2 open ERRNO 1 default")
         self.assertEqual([it["number"] for it in report["calls"]], [2, 520])
-        self.assertEqual(report["calls"][0]["refused"]["call"]["number"], 0x40000002)
+        self.assertEqual(report["calls"][0]["not_allowed"]["call"]["number"], 0x40000002)
 
     def test_an_architecture_that_the_profile_does_not_list(self):
         alone = {**self.PROFILE, "architectures": ["SCMP_ARCH_X86_64"]}
         note = ("# i386 syscalls aren't allowed, since the profile doesn't list SCMP_ARCH_X86: engines' filters kill "
                 "for them\n")
         for profile in (alone, {**alone, "architectures": []}):
-            fates, _, out = self.judged(f"read(3) = 1\n{self.MODE}{self.CALLS}", 1, profile)
-            self.assertEqual(fates, {"read": "made", **{f"i386 {it}": "not made" for it in (
+            dispositions, _, out = self.judged(f"read(3) = 1\n{self.MODE}{self.CALLS}", 1, profile)
+            self.assertEqual(dispositions, {"read": "allowed", **{f"i386 {it}": "not allowed" for it in (
                 "read", "open", "close", "dup", "socketcall", "mmap2", "socket")}})
             self.assertEqual(out.split("\n")[0], "i386 3 read KILL_PROCESS 0 foreign")
             # no condition tests an argument there
@@ -957,11 +960,11 @@ void _start(void)
             log, _ = self.log_of(made, options=options)
             judged = json.loads(self.run_tool("needs", "--json", log, profile)[1])
             self.assertEqual([it for it in judged["not_judged"].values() if it], [])
-            fates = {(it.get("architecture"), it["number"], *it["arguments"].get("0", ["0x0"])): it["fate"]
-                     for it in judged["calls"]}
+            dispositions = {(it.get("architecture"), it["number"], *it["arguments"].get("0", ["0x0"])):
+                            it["disposition"] for it in judged["calls"]}
             for (name, number, value), is_denied in calls.items():
                 shown = "0x0" if name == "getpid" else hex(value % (1 << 32))
-                self.assertEqual(fates.get(("i386", number, shown)), "not made" if is_denied else "made",
+                self.assertEqual(dispositions.get(("i386", number, shown)), "not allowed" if is_denied else "allowed",
                                  (options, name, value))
         # under the least profile it runs as alone
         status, out, _ = self.run_tool("needs", "--profile", log, self.file("q.json", json.dumps(
@@ -969,7 +972,7 @@ void _start(void)
         self.assertEqual((status, self.ended(self.file("least.json", out), made)), (0, (0, b"0" * len(calls))))
 
     def test_each_call_becomes_what_is_said(self):
-        """Registers that strace prints alike have other fates: what is said of each holds under the filter."""
+        """Registers that strace prints alike have other dispositions: what is said of each holds under the filter."""
         denied = {"defaultAction": ALLOW, "syscalls": [
             {"names": [name], "action": ERRNO, "errnoRet": 77, "args": [
                 {"index": index, "op": op, "value": value, "valueTwo": value}]}
@@ -997,7 +1000,8 @@ void _start(void)
             judged = json.loads(self.run_tool("needs", "--json", log, profile)[1])["calls"]
             for (name, *arguments), is_denied in zip(calls, failed):
                 value = hex(arguments[looked[name]] % HIGH)
-                fates = {it["fate"] for it in judged if it["name"] == name and value in
+                dispositions = {it["disposition"] for it in judged if it["name"] == name and value in
                          it["arguments"][str(looked[name])]}
-                self.assertTrue(fates, (options, name, value))
-                self.assertLessEqual(fates, {"depends", "not made" if is_denied else "made"}, (options, name, value))
+                self.assertTrue(dispositions, (options, name, value))
+                self.assertLessEqual(dispositions, {"depends", "not allowed" if is_denied else "allowed"},
+                                     (options, name, value))

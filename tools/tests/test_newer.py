@@ -5,7 +5,7 @@ import json
 from support.common import ALLOW, EPERM, KILL_PROCESS, X86_64, Case, filter_of, jeq, load, profile_of, ret, stub
 
 SAID = "syscalls with numbers above all that the profile names differ, the first is"
-FATES = "it is neither more permissive nor stricter than the profile: only the answers differ"
+ONLY_ANSWERS = "it is neither more permissive nor stricter than the profile: only the answers differ"
 BOTH = "; both sides deny them, the filter with ERRNO 38 (ENOSYS) and the profile with ERRNO 1 (EPERM)"
 # The numbers of the table's last calls, and the count of its calls from 450 on.
 CACHESTAT, LAST, COUNT_FROM_450 = 451, 469, 20
@@ -29,7 +29,7 @@ class Newer(Case):
         call, added = self.added(stub(450) + filter_of(self.rules))
         self.assertTrue(call.startswith("call nr 450 "))
         self.assertEqual(added[:8], [
-            FATES,
+            ONLY_ANSWERS,
             f"only {SAID} set_mempolicy_home_node (450){BOTH}",
             f"syscalls in the table among these: {COUNT_FROM_450}",
             "the syscall is set_mempolicy_home_node (450)",
@@ -44,12 +44,12 @@ class Newer(Case):
             _, added = self.added(stub(first) + filter_of(self.rules))
             name = {450: "set_mempolicy_home_node (450)", 451: "cachestat (451)", 460: "lsm_set_self_attr (460)",
                     469: "file_setattr (469)"}.get(first, f"number {first}, which the table doesn't name")
-            self.assertEqual(added[:2], [FATES, f"only {SAID} {name}{BOTH}"])
+            self.assertEqual(added[:2], [ONLY_ANSWERS, f"only {SAID} {name}{BOTH}"])
 
     def test_of_several_filters(self):
         allow = load(0) + ret(ALLOW)
         _, added = self.added(allow, stub(450) + filter_of(self.rules), allow)
-        self.assertEqual(added[0], FATES.replace("it is", "they are"))
+        self.assertEqual(added[0], ONLY_ANSWERS.replace("it is", "they are"))
         self.assertTrue(added[1].startswith(f"only {SAID} set_mempolicy_home_node (450)"), added)
 
     def test_others_come_first_and_are_counted_apart(self):
@@ -98,7 +98,7 @@ class Newer(Case):
         _, added = self.added(stub(450) + filter_of(self.rules), scope="--calls")
         said = SAID.replace("syscalls", "syscalls in the table", 1)
         self.assertEqual(added, [
-            f"over the syscalls in the table: {FATES}",
+            f"over the syscalls in the table: {ONLY_ANSWERS}",
             f"only {said} set_mempolicy_home_node (450); both sides deny them: {COUNT_FROM_450}"])
         _, added = self.added(stub(450) + filter_of([*self.rules, 41, 42]), scope="--calls")
         self.assertEqual(added, ["other syscalls that differ: 2",

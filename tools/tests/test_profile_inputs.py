@@ -212,7 +212,7 @@ class Caps(Case):
         out = self.run_tool("ask", "--caps=SYS_ADMIN", "--nr=mount", self.engine)[1]
         self.assertIn("# by entry 3 of syscalls: ", out)
         found = json.loads(self.run_tool("ask", "--caps=SYS_ADMIN", "--nr=mount", "--json", self.engine)[1])
-        self.assertEqual(found["calls"][0]["place"], 3)
+        self.assertEqual(found["calls"][0]["entry"], 3)
 
     def test_what_is_refused(self):
         for words, status, says in ((("--caps=SYS_ADMINN",), 2, "'SYS_ADMINN' isn't a capability"),

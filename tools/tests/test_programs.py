@@ -343,12 +343,13 @@ class Objects(Case):
             self.assertEqual(json.loads(out)["status"], status)
             return {name: value for name, value in json.loads(out).items() if name != "schema"}
 
-        left_out = {"skipped": ["waitpid", "umont2"], "other": ["SCMP_ARCH_X86"],
+        left_out = {"skipped": ["waitpid", "umont2"], "other_architectures": ["SCMP_ARCH_X86"],
                     "unknown": [{"name": "umont2", "nearest": "umount2"}]}
-        foreign = {"foreign": [{"kind": kind, "is_decided": True, "let_through": []} for kind in ("i386", "x32")]}
+        foreign = {"foreign": [{"kind": kind, "is_decided": True, "not_denied": []} for kind in ("i386", "x32")]}
         alone = self.file("alone.json", profile_of("read", "waitpid", "umont2"))
         self.assertEqual(found("--all", same, alone),
-                         {"status": 0, "scope": "all", "verdict": "same", "calls": [], **left_out, "other": []})
+                         {"status": 0, "scope": "all", "verdict": "same", "calls": [], **left_out,
+                          "other_architectures": []})
         of_i386 = found(same, profile)
         self.assertEqual({name: of_i386[name] for name in ("status", "scope", "verdict", "architectures", "skipped")},
                          {"status": 1, "scope": "listed", "verdict": "differs", "skipped": ["umont2"],
@@ -361,20 +362,20 @@ class Objects(Case):
                 "pointer": "0x0", "arguments": ["0x0"] * 6}
         sides = {"call": call, "filter": {"action": "ALLOW", "data": 0},
                  "profile": {"action": "ERRNO", "data": 1, "errno": "EPERM"}}
-        why = {"reason": "default", "path": {"filter": wrong, "places": [0, 1, 3, 4, 6, 7, 9]}}
+        why = {"reason": "default", "path": {"filter": wrong, "indexes": [0, 1, 3, 4, 6, 7, 9]}}
         line = {"number": 231, "names": ["exit_group"], "verdict": "differs", **sides}
-        fates = {"no_more": "more", "no_less": "no less"}
+        relations = {"no_more": "more", "no_less": "no less"}
         self.assertEqual(found("--all", wrong, alone),
-                         {"status": 1, "scope": "all", "verdict": "differs", **sides, **why, **fates, "calls": [],
-                          **left_out, "other": []})
+                         {"status": 1, "scope": "all", "verdict": "differs", **sides, **why, **relations, "calls": [],
+                          **left_out, "other_architectures": []})
         self.assertEqual(found("--native", wrong, profile),
-                         {"status": 1, "scope": "native", "verdict": "differs", **sides, **why, **fates,
+                         {"status": 1, "scope": "native", "verdict": "differs", **sides, **why, **relations,
                           "calls": [line], **left_out, **foreign})
         self.assertEqual(found("--calls", wrong, alone),
-                         {"status": 1, "scope": "calls", "verdict": "differs", **fates, "calls": [line], **left_out,
-                          "other": [], **foreign})
+                         {"status": 1, "scope": "calls", "verdict": "differs", **relations, "calls": [line], **left_out,
+                          "other_architectures": [], **foreign})
         of_both = found("--calls", wrong, profile)
-        self.assertEqual((of_both["calls"][0], of_both["other"], of_both["foreign"]),
+        self.assertEqual((of_both["calls"][0], of_both["other_architectures"], of_both["foreign"]),
                          (line, [], foreign["foreign"][1:]))
         self.assertEqual({it.get("architecture") for it in of_both["calls"]}, {None, "i386"})
         jump = found(same, self.file("bad.bpf", jeq(0, 9, 0) + ret(ALLOW)), profile)
@@ -393,9 +394,9 @@ class Objects(Case):
                 "arguments": ["0x7", *["0x0"] * 5]}
         answer = {"action": "ERRNO", "data": 2, "errno": "ENOENT", "does": "the syscall fails with ENOENT"}
         status, out, _ = self.run_tool("decide", "--json", "--a0=7", one, two)
-        self.assertEqual((status, json.loads(out)), (0, {"schema": 1, "status": 0, "calls": [
+        self.assertEqual((status, json.loads(out)), (0, {"schema": 2, "status": 0, "calls": [
             {"status": 0, "call": call, "answer": answer, "filters": [two],
-             "path": {"filter": two, "places": [0]}}]}))
+             "path": {"filter": two, "indexes": [0]}}]}))
         status, out, _ = self.run_tool("run", "--json", "--a0=7", "--nr", "read", "--nr", "x", two)
         self.assertEqual(status, 2)
         status, out, _ = self.run_tool("run", "--json", "--a0=7", "--nr=read", "--nr=99999999999", two)
@@ -434,7 +435,7 @@ class Programs(Case):
         link = os.path.join(self.folder, "\x1b[2J%s\\1")
         os.symlink(tool("check"), link)
         status, out, err = self.run_words([link, "--help"])
-        self.assertEqual((status, err, out.split("\n")[0]), (0, "", "usage: \\x1b[2J%s\\1 FILTER.."))
+        self.assertEqual((status, err, out.split("\n")[0]), (0, "", "usage: \\x1b[2J%s\\1 [--json] FILTER.."))
 
     def test_nothing_of_the_user_is_imported(self):
         """A module of the same name beside the tool's user, or in PYTHONPATH, isn't read: the tools run as root."""

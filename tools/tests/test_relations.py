@@ -100,7 +100,7 @@ PAIRS = {
                            ("same", "no more", "no less")),
     "both together too little": ([filter_of([READ]), filter_of([WRITE])], ALLOWS_READ, ("differs", "no more", "less")),
     "foreign calls are made": ([filter_of([READ], foreign=ALLOW)], ALLOWS_READ, ("differs", "more", "no less")),
-    "foreign calls are referred": ([filter_of([READ], foreign=TRACE)], ALLOWS_READ, ("differs", "more", "no less")),
+    "foreign calls are delegated": ([filter_of([READ], foreign=TRACE)], ALLOWS_READ, ("differs", "more", "no less")),
     "an action without a name kills": ([gate(ret(0x7FFE0000))], ALLOWS, ("differs", "no more", "less")),
     "no more than one that is killed": ([gate(ret(0x7FFE0000))], profile(default="SCMP_ACT_KILL_PROCESS"),
                                         ("differs", "no more", "no less")),
@@ -204,17 +204,17 @@ class Relations(Case):
                              (4, ["unfinished"]))
 
 
-class Fates(Case):
+class Dispositions(Case):
     def test_each_answer(self):
         """What becomes of a call, as the tools say it."""
         for answer in EACH:
             printed = answers.Answer.read(StandIn().printed(answer))
             self.assertEqual(printed.disposition,
-                             ("denied", "delegated to a supervisor or tracer", "allowed")[degree(answer)],
+                             ("denied", "delegated", "allowed")[degree(answer)],
                              hex(answer))
         self.assertEqual([answers.Answer.read(it).disposition
                           for it in ("ERRNO 65535", "USER_NOTIF 0", "TRACE 9", "LOG 0")],
-                         ["denied", *["delegated to a supervisor or tracer"] * 2, "allowed"])
+                         ["denied", *["delegated"] * 2, "allowed"])
 
 
 class Compare(Case):
@@ -360,7 +360,8 @@ class Foreign(Case):
                                           "such as read (3): LOG")
         self.assertEqual(found[0].as_json(), {
             "kind": "i386", "is_decided": False, "tried": 12,
-            "let_through": [{"name": "read", "number": 3, "answer": {"action": "LOG", "data": 0}}]})
+            "not_denied": [{"number": 3, "names": ["read"], "architecture": hex(I386),
+                            "answer": {"action": "LOG", "data": 0}}]})
         with mock.patch.dict(client.limits, {"limit": "0"}):
             self.assertEqual([one.describe() for one in other_abis.known_of([filter_of([READ])])], [
                 f"{kind}: undecided whether any syscall is allowed; of {count} tried, none is"
@@ -402,7 +403,7 @@ class VerifyProcess(Confined):
         found = json.loads(self.run_tool("verify-process", "--no-more", "--json", str(child.pid), given)[1])
         stack = found["stacks"][0]
         self.assertEqual((found["verdict"], stack["relation"]), ("no more", "no more"))
-        self.assertEqual(stack["foreign"], [{"kind": kind.name, "is_decided": True, "let_through": []}
+        self.assertEqual(stack["foreign"], [{"kind": kind.name, "is_decided": True, "not_denied": []}
                                             for kind in other_abis.KINDS])
 
 

@@ -21,7 +21,7 @@ EINVAL = 0x00050000 | 22
 AUDIT = where(0, "SCMP_CMP_EQ", 16, 0, where(2, "SCMP_CMP_EQ", 9, 0, ret(EINVAL), ret(ALLOW)), ret(ALLOW))
 NAMESPACES = 0x7E020000
 # The dispositions in the JSON of surface, the strictest first.
-RANKS = ("refused", "referred", "made")
+RANKS = ("denied", "delegated", "allowed")
 
 
 class Lines(Case):

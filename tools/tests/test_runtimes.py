@@ -385,7 +385,7 @@ class VerifyProcess(Case):
             self.assertRegex(out, "\n# by entry 13 of syscalls: ")
             found = json.loads(self.verify(process, MOBY, "--runtime", "docker", "--caps", "docker,SYS_ADMIN",
                                            "--json")[1])
-            self.assertEqual(found["stacks"][0]["place"], 13)
+            self.assertEqual(found["stacks"][0]["entry"], 13)
 
     def test_the_capabilities_of_the_container(self):
         """Without --caps an engine's profile is resolved for what the container has, and not for a default."""

@@ -188,11 +188,11 @@ class Relations(OnStacks):
 
     def test_each_answer(self):
         """Both answer each native call so."""
-        for answer, fate in ANSWERS:
+        for answer, rank in ANSWERS:
             data = [assembled(f"ret #{answer}")]
-            for action, stated, stated_fate in ACTIONS:
+            for action, stated, stated_rank in ACTIONS:
                 profile = '{"defaultAction":"SCMP_ACT_%s"}' % action
-                holds = {"same": answer == stated, "no more": fate <= stated_fate, "no less": fate >= stated_fate}
+                holds = {"same": answer == stated, "no more": rank <= stated_rank, "no less": rank >= stated_rank}
                 for relation, (flag, _) in RELATIONS.items():
                     with self.subTest(answer=hex(answer), action=action, relation=relation):
                         wanted = SAME if holds[relation] else (printed(answer), printed(stated))

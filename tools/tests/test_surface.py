@@ -78,18 +78,18 @@ KNOWN = {
     "all is refused": ([ret(EPERM)], [R] * 5),
     "all threads end": ([ret(KILL_THREAD)], [R] * 5),
     "all is trapped": ([ret(TRAP)], [R] * 5),
-    "all is referred": ([ret(TRACE | 7)], [F] * 5),
+    "all is delegated": ([ret(TRACE | 7)], [F] * 5),
     "a supervisor and a tracer": ([of_number(READ, USER_NOTIF, TRACE)], [F] * 5),
     "some are made": ([filter_of([READ, GETPID])], [M, R, M, R, R]),
     "one is refused": ([of_number(SOCKET, EPERM, ALLOW)], [M, M, M, R, M]),
-    "one is referred": ([of_number(SOCKET, USER_NOTIF, ALLOW)], [M, M, M, F, M]),
+    "one is delegated": ([of_number(SOCKET, USER_NOTIF, ALLOW)], [M, M, M, F, M]),
     "by an argument": ([of_number(SOCKET, by_argument(40, EPERM, ALLOW), EPERM)], [R, R, R, D, R]),
     "by a high half": ([of_number(SOCKET, by_argument(40 * HIGH, ALLOW, EPERM), EPERM)], [R, R, R, D, R]),
     "by no argument": ([of_number(SOCKET, by_argument(40, LOG, ALLOW), EPERM)], [R, R, R, M, R]),
     "refused so or so": ([of_number(SOCKET, by_argument(40, EPERM, KILL_PROCESS), ALLOW)], [M, M, M, R, M]),
-    "made or referred": ([of_number(SOCKET, by_argument(40, USER_NOTIF, ALLOW), EPERM)], [R, R, R, D, R]),
-    "refused or referred": ([of_number(SOCKET, by_argument(40, TRACE, EPERM), ALLOW)], [M, M, M, D, M]),
-    "of three fates": ([of_number(SOCKET, load(16) + jeq(1, 0, 1) + ret(EPERM) + jeq(2, 0, 1) + ret(TRACE) + ret(LOG),
+    "allowed or delegated": ([of_number(SOCKET, by_argument(40, USER_NOTIF, ALLOW), EPERM)], [R, R, R, D, R]),
+    "denied or delegated": ([of_number(SOCKET, by_argument(40, TRACE, EPERM), ALLOW)], [M, M, M, D, M]),
+    "all dispositions": ([of_number(SOCKET, load(16) + jeq(1, 0, 1) + ret(EPERM) + jeq(2, 0, 1) + ret(TRACE) + ret(LOG),
                                   ALLOW)], [M, M, M, D, M]),
     "by a bit": ([of_number(WRITE, load(24) + insn(0x45, 4, 0, 1) + ret(EPERM) + ret(ALLOW), ALLOW)], [M, D, M, M, M]),
     "by the instruction pointer": ([of_number(WRITE, BY_POINTER, EPERM)], [R, D, R, R, R]),
@@ -109,21 +109,21 @@ ARGUMENTS = (0, 1, 2, 3, 4, 5, 8, 39, 40, 41, 42, 40 * HIGH, 40 * HIGH + 40, 41 
 POINTERS = (0, 0x1234, 0x1235)
 
 
-def fate(answer):
+def disposition(answer):
     """What becomes of a call by the action of an answer (`__seccomp_filter` of kernel/seccomp.c)."""
     action = answer & 0xFFFF0000
     return F if action in (USER_NOTIF, TRACE) else M if action in (LOG, ALLOW) else R
 
 
-def fate_by_hand(filters, call):
-    return fate(answers.Answer.read(StandIn().decide(filters, call)).word)
+def disposition_by_hand(filters, call):
+    return disposition(answers.Answer.read(StandIn().decide(filters, call)).word)
 
 
-def fates_by_hand(filters, number):
-    """The fates of the calls of a number, at each corner of the filters here."""
+def dispositions_by_hand(filters, number):
+    """The dispositions of the calls of a number, at each corner of the filters here."""
     calls = (Call(number, X86_64, pointer, (one, other, 0, 0, 0, 0))
              for one, other, pointer in itertools.product(ARGUMENTS, (0, 4), POINTERS))
-    return {fate_by_hand(filters, call) for call in calls}
+    return {disposition_by_hand(filters, call) for call in calls}
 
 
 def answers_by_hand(filters, number):
@@ -165,32 +165,32 @@ class Rows(Case):
         """As its row says, and as the other machine answers at each corner."""
         for name, (filters, expected) in KNOWN.items():
             with self.subTest(name):
-                by_hand = [fates_by_hand(filters, number) for number in NUMBERS]
-                self.assertEqual([D if len(fates) > 1 else next(iter(fates)) for fates in by_hand], expected)
+                by_hand = [dispositions_by_hand(filters, number) for number in NUMBERS]
+                self.assertEqual([D if len(it) > 1 else next(iter(it)) for it in by_hand], expected)
                 surface = known(name)
                 self.assertEqual([row.number for row in surface.rows], NUMBERS)
                 self.assertEqual([row.said for row in surface.rows], expected)
                 self.assertTrue(surface.is_decided)
-                for row, fates in zip(surface.rows, by_hand):
-                    self.is_shown(filters, row, fates)
+                for row, dispositions in zip(surface.rows, by_hand):
+                    self.is_shown(filters, row, dispositions)
 
-    def is_shown(self, filters, row, fates):
-        """Where it depends, a call of two fates at least, each of which has it; and no fate is excluded that is."""
+    def is_shown(self, filters, row, dispositions):
+        """Where it depends, a call of each of two dispositions at least; and none is excluded that occurs."""
         if row.said != D:
             self.assertEqual(row.shown, {})
-            self.assertIn(fate(row.answer.word), fates)
+            self.assertIn(disposition(row.answer.word), dispositions)
             return
         self.assertGreater(len(row.shown), 1)
-        self.assertLessEqual(set(row.shown), fates)
+        self.assertLessEqual(set(row.shown), dispositions)
         for said, shown in row.shown.items():
             self.assertTrue(shown.is_whole)
             self.assertEqual((shown.call.number, shown.call.architecture), (row.number, X86_64))
             self.assertEqual(answers.Answer.read(StandIn().decide(filters, shown.call)), shown.answer)
-            self.assertEqual(fate(shown.answer.word), said)
-        self.assertFalse(set(row.never) & fates)
-        if fates == {F, R}:
+            self.assertEqual(disposition(shown.answer.word), said)
+        self.assertFalse(set(row.never) & dispositions)
+        if dispositions == {F, R}:
             self.assertEqual(row.never, [M])
-        if fates == {F, M}:
+        if dispositions == {F, M}:
             self.assertEqual(row.never, [R])
 
     def test_the_pointer_is_shown(self):
@@ -209,7 +209,7 @@ class Rows(Case):
         self.assertEqual((shown.is_whole, shown.describe()), (False, "at some ip args 0x0 0x0 0x0 0x0 0x0 0x0 ALLOW"))
 
     def test_random_filters(self):
-        """No sampled call has a fate that what is said excludes, and what is shown is so."""
+        """No sampled call has a disposition that what is said excludes, and what is shown is so."""
         random_of, said = random.Random(35), set()
         for count in (*range(6, 30), *[60] * 6):
             made = random_of.choice((random_plain, random_plain, random_filter))
@@ -221,13 +221,13 @@ class Rows(Case):
                     arguments = tuple(random_of.choice((0, 1, 2, 41, HIGH - 1, random_of.getrandbits(64)))
                                       for _ in range(6))
                     call = Call(row.number, X86_64, random_of.choice((0, random_of.getrandbits(64))), arguments)
-                    sampled.add(fate_by_hand(filters, call))
+                    sampled.add(disposition_by_hand(filters, call))
                 if row.said in (M, F, R):
                     self.assertEqual(sampled, {row.said})
                 self.assertFalse(sampled & set(row.never))
-                for fated, shown in row.shown.items():
+                for disposition_of_shown, shown in row.shown.items():
                     if shown.is_whole:
-                        self.assertEqual(fate_by_hand(filters, shown.call), fated)
+                        self.assertEqual(disposition_by_hand(filters, shown.call), disposition_of_shown)
         self.assertLessEqual({M, D, F, R}, said)
 
     def test_undecided_and_unfinished(self):
@@ -248,10 +248,11 @@ class Rows(Case):
         surface = of([BY_SQUARE])
         self.assertEqual([row.said for row in surface.rows], [M, M, M, D, M])
         self.assertEqual([number for number in range(1000)
-                          if fate_by_hand([BY_SQUARE], Call(SOCKET, X86_64, 0, (number, 0, 0, 0, 0, 0))) == M], [3])
+                          if disposition_by_hand([BY_SQUARE], Call(SOCKET, X86_64, 0, (number, 0, 0, 0, 0, 0))) == M],
+                         [3])
         self.assertEqual(sorted(surface.rows[3].shown), sorted([M, R]))
         for said, shown in surface.rows[3].shown.items():
-            self.assertEqual(fate_by_hand([BY_SQUARE], shown.call), said)
+            self.assertEqual(disposition_by_hand([BY_SQUARE], shown.call), said)
 
     def test_a_number_with_two_names_and_one_with_zeros(self):
         self.assertEqual(of([ret(ALLOW)]).rows[0].names, ["read", "too"])
@@ -442,7 +443,7 @@ class Program(Case):
         self.assertEqual((status, "either --arch or --beside" in err), (2, True))
 
     def test_json(self):
-        filters = KNOWN["of three fates"][0]
+        filters = KNOWN["all dispositions"][0]
         status, lines = self.said(filters, "--json")
         self.assertEqual((status, len(lines)), (0, 1))
         found = json.loads(lines[0])
@@ -452,14 +453,14 @@ class Program(Case):
             (0, ["read", "too"], "files", M), (1, ["write"], "files", M), (39, ["getpid"], "processes", M),
             (41, ["socket"], "network", D), (231, ["exit_group"], "processes", M)])
         self.assertEqual(found["calls"][0]["answer"], {"action": "ALLOW", "data": 0})
-        for said, shown in found["calls"][3]["shown"].items():
+        for said, shown in found["calls"][3]["examples"].items():
             call = Call(SOCKET, X86_64, int(shown["pointer"], 16), tuple(int(it, 16) for it in shown["arguments"]))
-            self.assertEqual(fate_by_hand(filters, call), said)
+            self.assertEqual(disposition_by_hand(filters, call), said)
             self.assertEqual(answers.Answer.read(StandIn().decide(filters, call)).as_json(),
                              {key: value for key, value in shown["answer"].items() if key != "does"})
-        self.assertEqual(found["unnamed"], {"count": OTHERS, "let_through": OTHERS, "untold": 0, "are_made": True,
-                                            "shown": {"number": 2, "answer": {"action": "ALLOW", "data": 0}}})
-        self.assertEqual([(one["kind"], one["let_through"]) for one in found["foreign"]],
+        self.assertEqual(found["unnamed"], {"count": OTHERS, "not_denied": OTHERS, "undecided": 0, "are_allowed": True,
+                                            "example": {"number": 2, "answer": {"action": "ALLOW", "data": 0}}})
+        self.assertEqual([(one["kind"], one["not_denied"]) for one in found["foreign"]],
                          [(kind, []) for kind in ("i386", "x32")])
 
     def test_statuses(self):
@@ -657,10 +658,10 @@ class Beside(Case):
             "numbers without a name: some get different answers\n"),
             ""))
         found = json.loads(self.run_tool("surface", "--json", *words)[1])
-        self.assertEqual([(pair["one"]["number"], pair["one"]["said"], pair["other"]["said"])
+        self.assertEqual([(pair["filter"]["number"], *(pair[side]["disposition"] for side in ("filter", "beside")))
                           for pair in found["beside"]["differs"]], [(0, M, R), (1, R, M)])
         self.assertEqual((found["status"], found["beside"]["unnamed_differ"]), (1, True))
-        self.assertEqual([(pair["verdict"], pair["filter"]["action"], pair["beside"]["action"])
+        self.assertEqual([(pair["verdict"], *(pair["example"][side]["action"] for side in ("filter", "beside")))
                           for pair in found["beside"]["differs"]],
                          [("differs", "ALLOW", "ERRNO"), ("differs", "ERRNO", "ALLOW")])
 

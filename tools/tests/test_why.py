@@ -225,8 +225,8 @@ class Ask(Case):
         self.assertEqual((status, found["status"]), (0, 0))
         self.assertEqual([call["reason"] for call in found["calls"]], ["default", "entry", "entry", "foreign"])
         self.assertEqual([call.get("entry") for call in found["calls"]], [None, self.ENTRIES[2], self.ENTRIES[0], None])
-        self.assertEqual(found["calls"][1]["place"], 2)
-        self.assertEqual(len(found["calls"][1]["held"]), 2)
+        self.assertEqual(found["calls"][1]["entry"], 2)
+        self.assertEqual(len(found["calls"][1]["conditions_met"]), 2)
         self.assertEqual(found["calls"][1]["answer"], {"action": "ALLOW", "data": 0, "does": "the syscall is executed"})
 
     def test_a_whole_config_and_standard_input(self):
@@ -394,7 +394,7 @@ class Behind(Case):
         self.assertIn("# both filters answer so\n", out)
         self.assertIn("/b.bpf: 0 1 3 4 6 8\n", out)
         path = json.loads(self.run_tool("decide", "--json", "--nr=read", other, of_i386)[1])["calls"][0]["path"]
-        self.assertEqual((path["filter"], path["places"]), (other, [0, 1, 3, 4, 6, 8]))
+        self.assertEqual((path["filter"], path["indexes"]), (other, [0, 1, 3, 4, 6, 8]))
         # where all look at the architecture alone, it is the newest
         self.assertIn("/i386.bpf: 0-2\n", self.run_tool("decide", "--nr=read", of_i386, of_i386)[1])
 
@@ -430,9 +430,9 @@ class Behind(Case):
                             for line in lines), lines)
         status, out, _ = self.run_tool("compare", "--json", self.file("f.bpf", filter_of([0])), profile)
         found = json.loads(out)
-        self.assertEqual((status, found["reason"], found["place"], found["entry"]), (1, "entry", 1, entry))
+        self.assertEqual((status, found["reason"], found["entry"], found["definition"]), (1, "entry", 1, entry))
         call = Call(1, arguments=tuple(int(it, 16) for it in found["call"]["arguments"]))
-        self.assertEqual(found["path"]["places"], StandIn().path(filter_of([0]), call))
+        self.assertEqual(found["path"]["indexes"], StandIn().path(filter_of([0]), call))
 
     def test_a_foreign_call(self):
         lines = self.added("--all", self.file("f.bpf", filter_of([0], foreign=EPERM)),
@@ -454,5 +454,5 @@ class Behind(Case):
         self.assertEqual(self.run_tool("run", "--path", "--nr=write", name)[1].split("\n")[:3],
                          ["ERRNO 1 steps 6", "path 0 1 3 4 6 7", "# the syscall is write (1)"])
         found = json.loads(self.run_tool("run", "--path", "--json", "--nr=write", name)[1])["calls"][0]
-        self.assertEqual((found["steps"], found["path"]), (6, [0, 1, 3, 4, 6, 7]))
+        self.assertEqual((found["steps"], found["path"]), (6, {"filter": name, "indexes": [0, 1, 3, 4, 6, 7]}))
         self.assertNotIn("path", self.run_tool("run", "--json", "--nr=write", name)[1])

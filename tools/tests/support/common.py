@@ -12,6 +12,8 @@ import tempfile
 import time
 import unittest
 
+from . import json_schema
+
 TOP = os.path.abspath(os.path.join(os.path.dirname(__file__), "..", "..", ".."))
 # (some tests read profiles a second way, as those of the kernel do)
 sys.path[:0] = [os.path.join(TOP, "tools"), os.path.join(TOP, "conformance")]
@@ -163,7 +165,9 @@ class Case(unittest.TestCase):
                               cwd=settings.pop("cwd", self.folder), **settings)
         if seconds is not None:
             self.assertLess(taken() - before, seconds, words[:9])
-        return done.returncode, (done.stdout or b"").decode(), done.stderr.decode()
+        out = (done.stdout or b"").decode()
+        self.assertEqual(list(json_schema.faults_of_output(words, out, done.returncode)), [], words)
+        return done.returncode, out, done.stderr.decode()
 
     def run_tool(self, name, *words, given=b"", **settings):
         return self.run_words([tool(name), *words], given, **settings)

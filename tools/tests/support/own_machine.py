@@ -11,6 +11,7 @@ import tempfile
 import time
 import unittest
 
+from . import json_schema
 from .common import PATIENCE, Case, comes
 from .confined import here
 
@@ -164,7 +165,9 @@ class OwnMachine(Machine):
         self.first.stdin.write(json.dumps([words, env, base64.b64encode(given).decode()]) + "\n")
         self.first.stdin.flush()
         status, out, err = json.loads(self.first.stdout.readline())
-        return (status, *(base64.b64decode(it).decode("utf-8", "replace") for it in (out, err)))
+        out, err = (base64.b64decode(it).decode("utf-8", "replace") for it in (out, err))
+        self.assertEqual(list(json_schema.faults_of_output(words, out, status)), [], words)
+        return status, out, err
 
 
 SYSTEMD = "/lib/systemd/systemd"
