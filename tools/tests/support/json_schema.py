@@ -12,12 +12,15 @@ with open(os.path.join(TOP, "docs", "scf.schema.json"), encoding="utf-8") as fil
 COMMANDS = {it for it in os.listdir(os.path.join(TOP, "tools")) if it in SCHEMA["$defs"]}
 TYPES = {"object": dict, "array": list, "string": str, "integer": int, "number": (int, float), "boolean": bool,
          "null": type(None)}
-KEYWORDS = {"$ref", "allOf", "anyOf", "type", "const", "enum", "pattern", "required", "properties",
+KEYWORDS = {"allOf", "anyOf", "type", "const", "enum", "pattern", "required", "properties",
             "additionalProperties", "items", "minItems", "maxItems"}
 
 
 def definition(schema):
-    return SCHEMA["$defs"][schema["$ref"].rpartition("/")[2]] if "$ref" in schema else schema
+    """The schema to which a reference leads."""
+    while "$ref" in schema:
+        schema = SCHEMA["$defs"][schema["$ref"].rpartition("/")[2]]
+    return schema
 
 
 def has_type(value, name):
@@ -76,5 +79,6 @@ def faults_of_output(words, out, status):
     name = command if "--json" in words else "audit-lines"
     for value in map(json.loads, out.splitlines()):
         yield from faults(value, {"$ref": f"#/$defs/{name}"}, name)
-        if value.get("status", status) != status:
+        # (a dry run of the hook ends with 0)
+        if value.get("status", status) != status and not value.get("dry_run"):
             yield f"{name}: the status is {value['status']}, and that of the process {status}"

@@ -1,0 +1,115 @@
+"""docs/JSON.md and docs/scf.schema.json: each command's object."""
+import copy
+import json
+import os
+import re
+import shlex
+import subprocess
+import unittest
+
+import json_schema
+from common import ALLOW, EPERM, SCF, TOP, Case, jeq, load, ret, tool
+from scftools import output
+
+with open(os.path.join(TOP, "docs", "JSON.md"), encoding="utf-8") as page:
+    PAGE = page.read()
+# Each command line of the page, and what it prints.
+EXAMPLES = [(line, json.loads(" ".join(printed.split("\n"))))
+            for line, printed in re.findall(r"(?m)^\$ (scf .*)\n((?:(?!```|\$ ).*\n)+)", PAGE)]
+# The commands whose output depends on the machine.
+OF_MACHINE = {"audit", "oci-hook", "unit-profile", "verify-process"}
+
+
+def commands_with_json():
+    """The commands whose --help has --json."""
+    for name in sorted(it for it in os.listdir(tool("")) if os.path.isfile(tool(it))):
+        done = subprocess.run([tool(name), "--help"], stdin=subprocess.DEVNULL, stdout=subprocess.PIPE, check=True)
+        if b"--json " in done.stdout or b"--json\n" in done.stdout:
+            yield name
+
+
+class Page(Case):
+    def setUp(self):
+        super().setUp()
+        self.file("filter.bpf", load(0) + jeq(41, 0, 1) + ret(EPERM) + ret(ALLOW))
+        self.file("few.table", "socket 41\nbind 49\n")
+        self.file("profile.json", '{"defaultAction": "SCMP_ACT_ALLOW", "syscalls": [{"names": ["bind"], '
+                                  '"action": "SCMP_ACT_ERRNO"}]}')
+        self.file("slip.json", '{"defaultAction": "SCMP_ACT_KILL_PROCESS", "syscalls": [{"names": ["bnid"], '
+                               '"action": "SCMP_ACT_ALLOW"}]}')
+        self.file("log", "socket(AF_INET, SOCK_STREAM, 0) = 3\nbind(3, 0x7ffd1000, 16) = 0\n")
+
+    def test_each_example_is_what_its_command_prints(self):
+        for line, expected in EXAMPLES:
+            with self.subTest(line):
+                words = shlex.split(line)
+                self.assertEqual(list(json_schema.faults_of_output(words, json.dumps(expected), expected["status"])), [])
+                if words[1] not in OF_MACHINE:
+                    status, out, err = self.run_words([SCF, *words[1:]])
+                    self.assertEqual((json.loads(out), status, err), (expected, expected["status"], ""))
+
+    def test_each_command_stands_in_the_page_and_the_schema(self):
+        commands = set(commands_with_json())
+        self.assertEqual({shlex.split(line)[1] for line, _ in EXAMPLES}, commands)
+        self.assertLessEqual(commands, set(json_schema.SCHEMA["$defs"]))
+        self.assertIn(f"the version of this page, now {output.SCHEMA},", PAGE)
+        self.assertEqual(json_schema.SCHEMA["$defs"]["version"], {"const": output.SCHEMA})
+
+    def test_each_page_links_to_it(self):
+        for path in ("README.md", "docs/OPERATIONS.md", "docs/scf.1", "tables/commands"):
+            with open(os.path.join(TOP, path), encoding="utf-8") as file:
+                self.assertIn("JSON.md", file.read(), path)
+
+
+class Checker(unittest.TestCase):
+    """The reading of the schema by the tests."""
+
+    def faults(self, value, schema):
+        return len(list(json_schema.faults(value, schema)))
+
+    def test_each_keyword(self):
+        for schema, good, bad in (
+                ({"type": "integer"}, (0, -1), (True, 1.0, "1", None)),
+                ({"type": ["string", "null"]}, ("", None), (1, [])),
+                ({"type": "number"}, (1, 1.5), ("1", True)),
+                ({"const": 2}, (2,), (1, "2")),
+                ({"enum": ["a", "b"]}, ("a",), ("c", None)),
+                ({"type": "string", "pattern": "^0x[0-9a-f]+$"}, ("0x1f",), ("1f", "0xG")),
+                ({"anyOf": [{"type": "integer"}, {"type": "null"}]}, (1, None), ("1",)),
+                ({"type": "array", "items": {"type": "integer"}, "minItems": 1, "maxItems": 2}, ([1], [1, 2]),
+                 ([], [1, 2, 3], ["1"])),
+                ({"type": "object", "required": ["a"], "properties": {"a": {"type": "integer"}, "b": {}}},
+                 ({"a": 1}, {"a": 1, "b": None}), ({}, {"a": "1"}, {"a": 1, "c": 2})),
+                ({"type": "object", "additionalProperties": {"type": "integer"}}, ({}, {"x": 1}), ({"x": "1"},)),
+                ({"allOf": [{"type": "object", "properties": {"a": {"type": "integer"}}},
+                            {"type": "object", "properties": {"b": {"type": "integer"}}}]},
+                 ({}, {"a": 1, "b": 2}), ({"a": "1"}, {"b": "1"}, {"c": 1})),
+                ({"$ref": "#/$defs/answer"}, ({"action": "ALLOW", "data": 0},),
+                 ({"action": "allow", "data": 0}, {"action": "ALLOW"}))):
+            for value in good:
+                self.assertEqual(self.faults(value, schema), 0, (schema, value))
+            for value in bad:
+                self.assertGreater(self.faults(value, schema), 0, (schema, value))
+        with self.assertRaises(AssertionError):
+            self.faults(1, {"minimum": 0})
+
+    def test_a_member_that_the_schema_lacks_or_has_otherwise(self):
+        for line, printed in EXAMPLES:
+            words = shlex.split(line)
+            for change in (lambda it: it.pop("schema"), lambda it: it.update(status="0"),
+                           lambda it: it.update(let_through=[])):
+                value = copy.deepcopy(printed)
+                change(value)
+                self.assertTrue(list(json_schema.faults_of_output(words, json.dumps(value), printed["status"])), line)
+
+    def test_as_another_validator_reads_it(self):
+        try:
+            import jsonschema
+        except ImportError:
+            self.skipTest("there is no jsonschema here")
+        jsonschema.Draft202012Validator.check_schema(json_schema.SCHEMA)
+        for line, printed in EXAMPLES:
+            command = shlex.split(line)[1]
+            schema = {"$ref": f"#/$defs/{command}", "$defs": json_schema.SCHEMA["$defs"]}
+            jsonschema.Draft202012Validator(schema).validate(printed)
+
