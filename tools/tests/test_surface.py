@@ -449,7 +449,8 @@ class Program(Case):
         found = json.loads(lines[0])
         self.assertEqual((found["status"], found["counts"]), (0, {M: 4, D: 1, F: 0, R: 0, "undecided": 0,
                                                                   "unfinished": 0}))
-        self.assertEqual([(row["number"], row["names"], row["group"], row["said"]) for row in found["calls"]], [
+        self.assertEqual([(row["number"], row["names"], row["group"], row["disposition"])
+                          for row in found["calls"]], [
             (0, ["read", "too"], "files", M), (1, ["write"], "files", M), (39, ["getpid"], "processes", M),
             (41, ["socket"], "network", D), (231, ["exit_group"], "processes", M)])
         self.assertEqual(found["calls"][0]["answer"], {"action": "ALLOW", "data": 0})
