@@ -72,11 +72,10 @@ install: $(PROGRAM) uninstall
 	sed 's|^beside=$$|beside=/../lib/scf|' scf >"$(BIN)/scf"
 	chmod 755 "$(BIN)/scf"
 	for tool in $(TOOLS); do ln -sf "../lib/scf/tools/$$tool" "$(BIN)/scf-$$tool" || exit 1; done
-	ln -sf scf-resolve-profile.1 "$(MAN)/scf-plain-profile.1"
 
 uninstall:
 	for tool in "$(LIB)"/tools/*; do rm -f "$(BIN)/scf-$${tool##*/}" "$(MAN)/scf-$${tool##*/}.1"; done
-	rm -f "$(BIN)/scf" "$(MAN)/scf.1" "$(MAN)/scf-asm.1" "$(MAN)/scf-dis.1" "$(BASH)/scf" "$(ZSH)/_scf" "$(FISH)/scf.fish"
+	rm -f "$(BIN)/scf" "$(MAN)/scf.1" "$(BASH)/scf" "$(ZSH)/_scf" "$(FISH)/scf.fish"
 	rm -f "$(UNITS)/scf-audit.service" "$(UNITS)/scf-audit.timer"
 	rm -rf "$(LIB)" "$(DOC)" "$(SHARE)"
 

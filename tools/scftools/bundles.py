@@ -12,7 +12,7 @@ KINDS = ("filter", "profile", *TABLES)
 BESIDE = "beside"
 # The most bytes that scf reads; it refuses a longer bundle.
 LIMIT = 1 << 24
-HEADER = Pattern(rb"(filter|profile|table(?:-x86|-x32|-aarch64|-arm)?) ([0-9]{1,8})\n")
+HEADER = Pattern(rb"(?:filter|beside|profile|table(?:-x86|-x32|-aarch64|-arm)?) [0-9]{1,8}\n")
 
 
 def bundle(parts: Iterable[tuple[str, bytes]]) -> bytes:
@@ -25,18 +25,6 @@ def bundle(parts: Iterable[tuple[str, bytes]]) -> bytes:
         if length > LIMIT:
             break
     return b"".join(pieces)
-
-
-def part_of(data: bytes, kind: str) -> bytes | None:
-    """The first part of a kind, if a bundle has one before any malformed part."""
-    at = 0
-    while True:
-        header = HEADER.match(data, at)
-        if header is None or header.end() + int(header[2]) > len(data):
-            return None
-        at = header.end() + int(header[2])
-        if header[1].decode() == kind:
-            return data[header.end():at]
 
 
 def of_stack(filters: Sequence[bytes]) -> bytes:

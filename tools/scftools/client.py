@@ -7,7 +7,7 @@ from collections.abc import Iterable, Sequence
 from . import bundles, output, program
 from .program import NEGATIVE, NOT_BUILT, SUCCESS, UNKNOWN, ToolError
 from .tables import Tables
-from .values import Pattern, dataclass
+from .values import NoReturn, Pattern, dataclass
 
 # In the sources the command, which builds the program where it never was; the program, as it is installed or was built.
 SCF = os.path.join(program.TOP, "scf")
@@ -110,7 +110,7 @@ def built() -> str | None:
     return next((path for path in PROGRAMS if os.access(path, os.X_OK)), None)
 
 
-def _holding(data: bytes) -> int:
+def holding(data: bytes) -> int:
     """A file descriptor with these bytes."""
     try:
         file = os.memfd_create("scf")
@@ -152,14 +152,14 @@ def run(words: Sequence[str], given: bytes | None = b"", seconds: float | None =
     program_built = built()
     if program_built is None and not may_build:
         return Run(NOT_BUILT, b"")
-    path = program_built or SCF
+    path, before = (program_built, ["scf"]) if program_built is not None else (SCF, ["scf", "core"])
     ends = os.pipe()
     actions: list[tuple] = [(os.POSIX_SPAWN_DUP2, ends[1], 1)]
-    source = None if given is None else _holding(given)
+    source = None if given is None else holding(given)
     if source is not None:
         actions.append((os.POSIX_SPAWN_DUP2, source, 0))
     try:
-        child = os.posix_spawn(path, ["scf", *words], os.environ, file_actions=actions)
+        child = os.posix_spawn(path, [*before, *words], os.environ, file_actions=actions)
     except OSError as error:
         raise ToolError(f"scf can't be run: {path}: {error.strerror}", NOT_BUILT) from error
     os.close(ends[1])
@@ -180,11 +180,15 @@ def run(words: Sequence[str], given: bytes | None = b"", seconds: float | None =
     return Run(os.WEXITSTATUS(state), out)
 
 
-def print_version() -> int:
-    """Prints what `--version` of a tool prints: its version is scf's."""
-    done = run(["--version"])
-    output.put_line(f"{program.name()} of {done.text.rstrip()}")
-    return done.status
+def become(words: Sequence[str]) -> NoReturn:
+    """Runs scf in place of this process, on its standard input."""
+    path, before = built(), ["scf"]
+    if path is None:
+        path, before = SCF, ["scf", "core"]
+    else:
+        _limit(os.getpid(), None)
+    output.flush()
+    os.execv(path, [*before, *words])
 
 
 def compile_profile(profile: bytes, tables: Tables) -> bytes:

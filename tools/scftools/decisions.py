@@ -45,16 +45,6 @@ class Query:
         return Call(found[0], found[1], found[2], tuple(found[3:])) if len(found) == len(OPTIONS) else None
 
 
-def query_in(words: Sequence[str]) -> Query:
-    """The record that scf's own options give."""
-    found: dict[str, str] = {}
-    for at, word in enumerate(words):
-        name, is_given, text = word.partition("=")
-        if name[:2] == "--" and name[2:] in OPTIONS:
-            found[name[2:]] = text if is_given else "".join(words[at + 1:at + 2])
-    return Query(tuple(found.items()))
-
-
 def add_numbers(parser: Parser) -> None:
     """Adds the options for a record's fields beside its number."""
     parser.add_argument("--arch", metavar="ARCH", help="the architecture, by name (i386, x32, SCMP_ARCH_AARCH64 ..) or "
@@ -73,6 +63,7 @@ def add_options(parser: Parser) -> None:
                              "from the first on; - is standard input")
     add_numbers(parser)
     parser.add("--table", "--json")
+    parser.record_words = record_words
 
 
 @dataclass(frozen=True)
@@ -158,7 +149,7 @@ def queries(options: Any, table: Table) -> list[Query]:
     """The records that a command line gives, in order."""
     numbering = Numbering(table, options.arch)
     rest = _rest_of(options, numbering)
-    found = [Query((("nr", numbering.number_of(text)), *rest)) for text in options.nr]
+    found = [Query((("nr", numbering.number_of(it)), *rest)) for text in options.nr for it in text.split(",")]
     if options.calls_from is not None:
         for number, *arguments in _lines_of(options.calls_from):
             own = tuple(zip(OPTIONS[3:], map(numbering.argument, arguments)))
@@ -166,6 +157,14 @@ def queries(options: Any, table: Table) -> list[Query]:
             found.append(Query((("nr", numbering.number_of(number)), *left, *own)))
         return found
     return found or [Query((("nr", numbering.number_of("0")), *rest))]
+
+
+def record_words(options: Any) -> list[str] | None:
+    """The options of scf for the record that a command line gives; None if it gives several."""
+    if options.calls_from is not None:
+        return None
+    found = queries(options, tables.read(options.table))
+    return found[0].words() if len(found) == 1 else None
 
 
 def of_givers(filters: Sequence[Filter], givers: Sequence[Giver]) -> Iterator[str]:

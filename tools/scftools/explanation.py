@@ -36,6 +36,11 @@ def _rows() -> dict[str, list[str]]:
     return rows
 
 
+def has_row(line: str) -> bool:
+    """Whether the page has a row for a printed line."""
+    return _key(line) in _rows()
+
+
 def what_a_row_says(line: str) -> list[str]:
     """The sentences of a printed line's row: when it appears, and what to do."""
     return _rows().get(_key(line), ["docs/FAULTS.md doesn't name this line."])

@@ -100,9 +100,13 @@ def put_lines(lines: Iterable[str]) -> None:
         put_line(line)
 
 
+# Whether a tool adds lines to scf's.
+has_notes = True
+
+
 def notes(lines: Iterable[str]) -> Iterator[str]:
     """Lines marked as a tool's own, which it adds after scf's."""
-    return (f"# {line}" for line in lines)
+    return (f"# {line}" for line in lines if has_notes)
 
 
 def put_explained(lines: Iterable[str], added: Iterable[str]) -> None:

@@ -10,6 +10,8 @@ from collections.abc import Callable
 from . import output
 from .values import NoReturn
 
+# (the launcher reads it here)
+VERSION = "0.1.0"
 TOP = os.path.dirname(os.path.dirname(os.path.dirname(os.path.realpath(__file__))))
 FAULTS = os.path.join(TOP, "docs", "FAULTS.md")
 
@@ -31,6 +33,11 @@ def name() -> str:
     """The tool as it was called: as `scf compare`, which says so by an option of Python's, or as its file is called."""
     tool = os.path.basename(sys.argv[0])
     return f"scf {tool}" if "scf" in sys._xoptions else tool  # pylint: disable=protected-access
+
+
+def version() -> str:
+    """What `--version` prints: the version of a tool is scf's."""
+    return f"{output.escaped(name())} of scf {VERSION}"
 
 
 def say(*lines: str) -> None:

@@ -4,11 +4,11 @@ from __future__ import annotations
 import json
 from collections.abc import Iterator, Sequence
 
-from . import bundles, client, explanation, profiles, program
+from . import bundles, client, profiles
 from .answers import Answer
 from .calls import Call
 from .profiles import HOLDS, Origin
-from .tables import Table, Tables
+from .tables import Tables
 from .values import Pattern, dataclass
 from .verdicts import Fault
 
@@ -51,13 +51,6 @@ def members_of(line: str) -> dict[str, object]:
     """The same as `as_json`, of a line of `scf ask` without the profile."""
     word, *index = line.split(" ")[2:]
     return {"reason": word, **({"entry": int(index[0])} if index else {})}
-
-
-def meaning(text: str, call: Call | None, table: Table) -> Iterator[str]:
-    """What output of `scf ask` means without the profile."""
-    reason = _read(program.SUCCESS, text)
-    if reason.answer:
-        yield from explanation.of_answer(call, reason.answer, table)
 
 
 def _entry_text(entry: object) -> str:

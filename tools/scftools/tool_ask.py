@@ -11,7 +11,8 @@ resolved as by `scf resolve-profile --keep-first`. All tools that take profiles 
 one line (N is its index in `syscalls`, from 0 on; at most 400 characters are shown), and which of its conditions the
 syscall meets, with the values of its arguments. Syscalls of each architecture that the profile names are answered, as
 far as scf has a table of it; with --native x86-64's alone. For another one that the profile names the answer is
-`undetermined`. With --json one object is printed instead.
+`undetermined`. With --json one object is printed instead. Without a PROFILE standard input is read, a profile or a
+bundle, and nothing is added to scf's lines.
 
 The exit status is the worst of all syscalls: 0 success, 1 the profile or the table is refused, 2 usage error, 3 an
 input or the output failed, 4 undetermined; 125 scf can't be run.
@@ -25,9 +26,9 @@ from . import decisions, profile_inputs, tables, words
 
 
 def main():
-    parser = words.Parser(__doc__)
+    parser = words.Parser(__doc__, command="ask")
     decisions.add_options(parser)
-    parser.add("--native", "--strict", "--caps", "profile")
+    parser.add("--native", "--strict", "--caps", "--architectures", "profile")
     options = parser.parse_args()
     parser.one_standard_input([options.profile, options.table, options.calls_from])
     table = tables.read(options.table)

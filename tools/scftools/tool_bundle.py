@@ -19,7 +19,7 @@ Examples:
 import os
 import sys
 
-from . import bundles, client, inputs, output, program
+from . import bundles, inputs, output, program
 
 USAGE = """usage: {} KIND FILE [KIND FILE ..]
 KIND is filter, profile or table, or for another architecture than x86-64 table-x86, table-x32, table-aarch64
@@ -50,7 +50,8 @@ def main():
         output.put(USAGE.format(output.escaped(program.name())))
         return program.SUCCESS
     if words == ["--version"]:
-        return client.print_version()
+        output.put_line(program.version())
+        return program.SUCCESS
     if not words:
         refuse("no KIND and no FILE given")
     if len(words) % 2:

@@ -8,7 +8,8 @@ BPF_JUMP, or bytes), decimals of `tcpdump -ddd`, or scf's assembler text. Which 
 standard error; what is known to be no filter is refused. All tools that take filters take them so.
 
 For each of them scf's line comes first; the lines after it are marked by `# `: the file, if there are several, and what
-a fault is and what to do about it.
+a fault is and what to do about it. Without a FILTER scf reads a raw one from standard input, and nothing is added to
+its line.
 
 The exit status is the worst of all filters: 0 accepted, 1 refused, 2 usage error, 3 an input or the output failed; 125
 scf can't be run.
@@ -29,7 +30,7 @@ def as_json(name, data, done):
 
 
 def main():
-    parser = words.Parser(__doc__)
+    parser = words.Parser(__doc__, command="check")
     parser.add("--json", "filters")
     options = parser.parse_args()
     parser.one_standard_input(options.filters)

@@ -12,8 +12,8 @@ standard input. The first lines are scf's; the lines after them are marked by `#
 differ, these show the syscall, the profile's entry that decides it and which of the entry's conditions it meets, and
 the last tests on its path through the filter, at most 12, each with the value that was loaded and the branch that was
 taken; then each syscall in the tables that differs, as with --calls, with its architecture before it if that isn't
-x86-64. With --json one object is printed instead, which
-says the same; --html also writes it as a page without scripts, which replaces FILE at once.
+x86-64. With --json one object is printed instead, which says the same; --html also writes it as a page without scripts,
+which replaces FILE at once.
 
 The syscalls of each architecture that the profile names are compared, as far as scf has a table of it: x86-64, i386,
 x32, aarch64 and arm. A profile without a list is for x86-64. --native compares x86-64's alone, whatever the profile
@@ -34,6 +34,9 @@ added line says so.
 With --beside the filters are compared with other filters, a stack too, over each possible record unless --native: an
 old release beside a new one, a filter made by hand beside a generated one. The added lines show the tests of both.
 
+Without files scf answers a bundle on standard input (see `scf bundle` and scf(1)), and nothing is added to its lines.
+Then all records are compared unless --native or --calls, or --architectures, which takes the tables in the bundle.
+
 The exit status is that of `scf compare`: 0 same, no more or no less, 1 differs, more, less or refused, 2 usage error, 3
 an input or the output failed, 4 undecided, undetermined or unfinished; 125 scf can't be run.
 
@@ -49,18 +52,21 @@ from . import compare, compare_output, filters, output, profile_inputs, program,
 
 
 def read_words():
-    parser = words.Parser(__doc__)
+    parser = words.Parser(__doc__, command="compare")
     parser.scope("x86-64 syscalls alone, whatever architectures the profile names",
                  "all syscalls, also those of other ABIs [default with --beside]")
     parser.relation(of_disposition=words.OF_DISPOSITION)
     parser.add("--limit", "--splits", "--strict", "--table", "--verbose", "--caps", "--json", "--html")
-    parser.add_argument("--beside", metavar="FILTER", nargs="+",
+    parser.add("--architectures", "--total-limit", "--nr-from", "--nr-to")
+    parser.add_argument("--beside", metavar="FILTER", nargs="*",
                         help="compare with these filters, oldest first, and not with a profile")
     parser.add("filters")
     if not any(it.partition("=")[0] == "--beside" for it in sys.argv):
         parser.add_argument("profile", metavar="PROFILE",
                             help="a resolved profile, or a config.json; - is standard input; none with --beside")
     options = parser.parse_args()
+    if options.beside == []:
+        parser.error("argument --beside: expected at least one argument")
     for name, value in (("--caps", options.caps), ("--verbose", options.verbose), ("--html", options.html),
                         ("--strict", options.strict)):
         if options.beside is not None and value:

@@ -7,7 +7,7 @@ input. The filter answers the syscalls of each architecture that the profile nam
 with --native x86-64's alone, and kills a process that makes any other. Standard output is the raw filter alone; what
 was left out of the profile, and what a refusal means, go to standard error. So does a line on members that nothing
 reads, such as "arg" in place of "args", without which an entry has no conditions; with --strict such a profile is
-refused.
+refused. Without a PROFILE standard input is read: a profile, or a bundle, to whose filter or fault nothing is added.
 
 The exit status is that of `scf compile`: 0 success, 1 the table or the profile is refused or the filter would be too
 long, 2 usage error, 3 an input or the output failed; 125 scf can't be run.
@@ -17,18 +17,16 @@ Examples:
     scf compile profile.json >filter.bpf
     scf compile --table x86_64.table profile.json >filter.bpf
 """
-import sys
-
 from . import compilation, output, profile_inputs, program, tables, words
 
 
 def main():
-    parser = words.Parser(__doc__)
-    parser.add("--native", "--strict", "--json", "--table", "--caps", "profile")
+    parser = words.Parser(__doc__, command="compile")
+    parser.add("--native", "--strict", "--json", "--table", "--caps", "--architectures", "profile")
     options = parser.parse_args()
     parser.one_standard_input([options.profile, options.table])
-    if not options.json and sys.stdout is not None and sys.stdout.isatty():
-        parser.error("a filter isn't text: redirect the output into a file")
+    if not options.json:
+        parser.keep_off_terminal()
     profile = profile_inputs.read(options.profile, options.caps, is_strict=options.strict)
     table = tables.read(options.table)
     judged = tables.of_profile(profile.data, table, options.native)

@@ -11,7 +11,8 @@ syscall scf's line comes first; the lines after it are marked by `# `: the sysca
 several filters gives it, and the path through that filter, the indexes of the instructions that ran, from 0 on (3-7
 stands for three or more in a row). If several filters give the answer, it is the path through the newest of them, whose
 answer the kernel takes; if all of them allow the syscall, through the one that runs the most instructions. With --json
-one object is printed instead.
+one object is printed instead. Without a FILTER standard input is read, one filter or a bundle, and nothing is added to
+scf's lines.
 
 The exit status is the worst of all syscalls: 0 success, 1 a filter is refused, 2 usage error, 3 an input or the output
 failed; 125 scf can't be run.
@@ -25,7 +26,7 @@ from . import decisions, filters, tables, words
 
 
 def main():
-    parser = words.Parser(__doc__)
+    parser = words.Parser(__doc__, command="decide")
     decisions.add_options(parser)
     parser.add("filters")
     options = parser.parse_args()

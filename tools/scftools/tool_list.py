@@ -42,7 +42,8 @@ def as_json(one, lines, table, query, path):
     """The listing as an object; given a syscall with its answer and the instructions that run on it."""
     instructions = [{"index": index, "text": line, "meaning": meaning}
                     for index, (line, meaning) in enumerate(zip(lines, listing.meanings(one.data, table)))]
-    of_call = {} if path is None else {"call": query.call.as_json(table), "path": listing.Giver(one, True, path).as_json(),
+    of_call = {} if path is None else {"call": query.call.as_json(table),
+                                       "path": listing.Giver(one, True, path).as_json(),
                                        "answer": path.decision.answer.as_json(explains=True)}
     return {"status": program.SUCCESS, "instructions": instructions, **of_call}
 

@@ -4,7 +4,7 @@
             [--a5 N] [--table FILE] [--path] [--json] FILTER
 
 This is `scf decide` for one filter, whose line also says how many instructions ran; with --path scf's next line has
-their indexes.
+their indexes. Without a FILTER scf reads a raw one from standard input, and nothing is added to its lines.
 
 The exit status is the worst of all syscalls: 0 success, 1 the filter is refused, 2 usage error, 3 an input or the
 output failed; 125 scf can't be run.
@@ -18,7 +18,7 @@ from . import decisions, filters, tables, words
 
 
 def main():
-    parser = words.Parser(__doc__)
+    parser = words.Parser(__doc__, command="run")
     decisions.add_options(parser)
     parser.add_argument("--path", action="store_true", help="also print the indexes of the instructions that ran")
     parser.add("filter")

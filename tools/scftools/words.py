@@ -6,7 +6,7 @@ import sys
 import types
 from collections.abc import Iterable
 
-from . import client, output, program, verdicts
+from . import client, output, program, standard_input, tables, verdicts
 from .values import Any, NoReturn
 
 # argparse imports gettext, and looks for translations of its messages at each start: the tools have none.
@@ -18,10 +18,14 @@ import argparse  # noqa: E402 pylint: disable=wrong-import-position
 
 ARCH_HELP = ("the architecture of the syscalls{}, and of the table if none is given: x86-64, i386, x32, aarch64 or arm "
              "[default: this machine's{}]")
+# Options that few need, which -h leaves out, and the most others that it shows.
+COMMON, MOST_IN_SHORT = ("--color", "--limit", "--splits", "--strict", "--table", "--version"), 5
 OF_DISPOSITION = "only check that both sides deny, delegate and allow the same"
 # The options and arguments that several tools take.
 SHARED: dict[str, dict[str, Any]] = {
     "--arch": {"metavar": "ARCH", "help": ARCH_HELP.format("", "")},
+    "--architectures": {"action": "store_true", "help": argparse.SUPPRESS},
+    **{name: {"metavar": "N", "help": argparse.SUPPRESS} for name in ("--nr-from", "--nr-to", "--total-limit")},
     "--caps": {"metavar": "LIST",
                "help": "PROFILE is an engine's own: resolve it, as resolve-profile does, for a container with these "
                        "capabilities, such as docker, podman, none or CAP_KILL,SYS_ADMIN"},
@@ -62,14 +66,29 @@ class Version(argparse.Action):
         super().__init__(option_strings, dest, nargs=0, default=argparse.SUPPRESS, help="print the version and exit")
 
     def __call__(self, parser: argparse.ArgumentParser, *_: Any) -> None:
-        program.finish(client.print_version())
+        output.put_line(program.version())
+        program.finish(program.SUCCESS)
+
+
+class ShortHelp(argparse.Action):
+    """`-h`: the usage, the first of the tool's own options, and the examples."""
+
+    def __init__(self, option_strings: list[str], dest: str, **_: Any):
+        super().__init__(option_strings, dest, nargs=0, default=argparse.SUPPRESS,
+                         help="show the usage, some options and the examples")
+
+    def __call__(self, parser: Any, *_: Any) -> None:
+        parser.print_help(is_short=True)
+        program.finish(program.SUCCESS)
 
 
 class Parser(argparse.ArgumentParser):
     """The command line of a tool, whose docstring has what it does, its usage, its statuses and its examples. `needs`
-    says what it needs beside its words."""
+    says what it needs beside its words; `command` is the program's command that answers standard input if no file is
+    given, `record_words` that command's options for the record that the words give."""
 
-    def __init__(self, doc: str, needs: str = ""):
+    def __init__(self, doc: str, needs: str = "", command: str | None = None):
+        self.command, self.record_words = command, lambda options: []
         text, _, examples = doc.partition("\nExamples:\n")
         (summary, usage, *rest), name = text.split("\n\n"), output.escaped(program.name())
         statuses = [it for it in rest if it.startswith(("Exit status:", "The exit status is"))]
@@ -78,9 +97,11 @@ class Parser(argparse.ArgumentParser):
         usage = re.sub("(?m)^   ", " " * len("usage:"), usage)
         # (with a fixed width no tool asks the terminal for it at the start)
         super().__init__(prog=name, usage=usage.strip().replace("%", "%%"), description=summary,
-                         epilog=" ".join([needs, *statuses]), allow_abbrev=False,
+                         epilog=" ".join([needs, *statuses]), allow_abbrev=False, add_help=False,
                          formatter_class=lambda prog: argparse.HelpFormatter(prog, width=100))
         self.examples = re.findall(r"(?m)^    (.*)$", examples)
+        self.add_argument("-h", action=ShortHelp)
+        self.add_argument("--help", action="help", help="show all and exit")
         self.add_argument("--version", action=Version)
         self.add_argument("--color", choices=("auto", "always", "never"), default="auto",
                           help="whether verdicts are coloured [default: auto, at a terminal unless NO_COLOR is set]")
@@ -91,12 +112,17 @@ class Parser(argparse.ArgumentParser):
             output.put_json({"options": [
                 {"names": it.option_strings, "help": (it.help or "").split(" [default")[0],
                  "value": None if it.nargs == 0 else it.metavar or "", "choices": it.choices and [*it.choices]}
-                for it in self._actions if it.option_strings]})
+                for it in self._actions if it.option_strings and it.help != argparse.SUPPRESS]})
             program.finish(program.SUCCESS)
+        for argument in self._actions if self.command is not None else ():
+            # (argparse would ask for files)
+            argument.required = argument.required and bool(argument.option_strings)
         options = super().parse_args(*given, **named)
         output.color = options.color
         texts = {name: getattr(options, name, None) for name in client.LIMITS}
         client.limits = {name: text for name, text in texts.items() if text is not None}
+        if self.command is not None:
+            standard_input.take(self, options)
         return options
 
     def error(self, message: str) -> NoReturn:
@@ -105,12 +131,32 @@ class Parser(argparse.ArgumentParser):
                 self.print_usage(sys.stderr)
         except (OSError, AttributeError):
             pass
-        raise program.ToolError(message)
+        raise program.ToolError(message + self._nearest(message))
 
-    def print_help(self, file: Any = None) -> None:
+    def _nearest(self, message: str) -> str:
+        """The option that a misspelt one may be."""
+        found = re.match("unrecognized arguments: (--?[A-Za-z0-9-]+)", message)
+        flags = [flag for it in self._actions if it.help != argparse.SUPPRESS for flag in it.option_strings]
+        near = tables.most_like(found[1].lower(), flags) if found else None
+        return f"; the nearest is {near}" if near else ""
+
+    def print_help(self, file: Any = None, is_short: bool = False) -> None:
         """Prints the help like any other output."""
-        output.put(self.format_help())
+        output.put(self._format_short() if is_short else self.format_help())
         output.put("".join(["\nexamples:\n", *(f"  {it}\n" for it in self.examples)] if self.examples else []))
+
+    def _format_short(self) -> str:
+        own = [it for it in self._actions if it.help != argparse.SUPPRESS
+               and not {"-h", "--help"}.union(COMMON).intersection(it.option_strings)]
+        files, options = ([it for it in own if bool(it.option_strings) == is_option] for is_option in (False, True))
+        formatter = self._get_formatter()
+        formatter.add_usage(self.usage, self._actions, [])
+        formatter.add_text(self.description)
+        formatter.start_section("options")
+        formatter.add_arguments([*files, *options[:MOST_IN_SHORT]])
+        formatter.end_section()
+        formatter.add_text(f"{self.prog} --help has all.")
+        return formatter.format_help()
 
     def add(self, *names: str, **changed: Any) -> None:
         """Adds options and arguments of SHARED, on request with another text of help."""
@@ -134,6 +180,11 @@ class Parser(argparse.ArgumentParser):
         self.one_of("relation", verdicts.SAME, ("--no-more", verdicts.NO_MORE, text.format("more permissive")),
                     ("--no-less", verdicts.NO_LESS, text.format("stricter")),
                     ("--disposition", verdicts.SAME_DISPOSITION, of_disposition))
+
+    def keep_off_terminal(self) -> None:
+        """Rejects to print a filter on a terminal."""
+        if sys.stdout is not None and sys.stdout.isatty():
+            self.error("a filter isn't text: redirect the output into a file")
 
     def one_standard_input(self, names: Iterable[str | None]) -> None:
         """Rejects a command line that names standard input twice."""

@@ -6,7 +6,7 @@ import os
 import random
 import sys
 
-from support.common import (ALLOW, EPERM, KILL_PROCESS, SCF, TOP, X86_64, Case, filter_of, insn, jeq, jge, load, part,
+from support.common import (ALLOW, CORE, EPERM, KILL_PROCESS, TOP, X86_64, Case, filter_of, insn, jeq, jge, load, part,
                             ret)
 from support.confined import NEWEST, OLDEST, Confined, here
 from support.stand_in import StandIn
@@ -92,7 +92,7 @@ class Drawn(Case):
         """The word of a verdict that agrees with the other machine."""
         holds, fails, related = RELATIONS[relation]
         data = b"".join([*(part("filter", it) for it in left), *(part("beside", it) for it in right)])
-        status, out, err = self.run_words([SCF, "compare", "--beside", *f"{scope} {relation}".split(), *words], data)
+        status, out, err = self.run_words([*CORE, "compare", "--beside", *f"{scope} {relation}".split(), *words], data)
         lines, both = out.split("\n"), [left, right]
         self.assertEqual(err, "")
         if status == 0:

@@ -1,21 +1,18 @@
-"""The command scf: which words the program answers and which a tool, the list of commands, help, examples, and the
+"""The command scf: what the program answers and what a tool, the list of commands, help, examples, and the
 completion of shells."""
 import errno
+import json
 import os
 import pty
 import re
 import shutil
 import subprocess
 
-from support.common import (ALLOW, SCF, TABLE, TOP, Case, filter_of, for_developers, jeq, part, profile_of, ret,
-                            source_of)
+from support.common import CORE, SCF, TABLE, TOP, Case, filter_of, for_developers, part, profile_of, ret, source_of
 from support.confined import OLDEST, Confined, here
 
 PROGRAM = os.path.join(TOP, "crates", "scf", "out", "scf")
-# Commands that no tool has, and a tool under its former name, which is no command.
-OF_PROGRAM, FORMER = {"asm", "dis"}, {"plain-profile"}
-TOOLS = {name for name in os.listdir(os.path.join(TOP, "tools"))
-         if os.path.isfile(os.path.join(TOP, "tools", name))} - FORMER
+TOOLS = {name for name in os.listdir(os.path.join(TOP, "tools")) if os.path.isfile(os.path.join(TOP, "tools", name))}
 GROUPS = ["Look at a filter", "Look at a profile", "Look at a process", "Compare", "Make"]
 
 
@@ -43,18 +40,52 @@ class Dispatch(Case):
     def scf(self, *words, given=b"", **settings):
         return self.run_words([SCF, *words], given, **settings)
 
-    def test_options_alone_are_the_program_s(self):
+    def test_core_is_the_program(self):
         """It prints what the program does, and needs nothing of the path."""
         for words, given in ((["check"], filter_of([0])), (["run", "--nr", "1"], filter_of([0])), (["compare"], self.bundle),
                              (["compare", "--native", "--limit", "9"], self.bundle), (["run", "--nr", "read"], b""),
-                             (["compare", "--help"], b""), (["run", "--no-such", "1"], b""),
+                             (["compare", "--help"], b""), (["run", "--no-such", "1"], b""), ([], b""),
                              (["dis"], filter_of([0])), (["asm"], b"ret a\n"), (["--version"], b""), (["--no-such"], b""),
                              (["decide", "--nr=1", "--a0", "0x5"], part("filter", filter_of([0]))), (["check", "-h"], b"")):
-            done = [subprocess.run([name, *words], input=given, stdout=subprocess.PIPE, stderr=subprocess.PIPE,
-                                   env={"PATH": "/nowhere"}, cwd=self.folder, check=False) for name in (PROGRAM, SCF)]
+            done = [subprocess.run([*name, *words], input=given, stdout=subprocess.PIPE, stderr=subprocess.PIPE,
+                                   env={"PATH": "/nowhere"}, cwd=self.folder, check=False)
+                    for name in ([PROGRAM], CORE)]
             self.assertEqual(*((it.returncode, it.stdout, it.stderr) for it in done), words)
 
-    def test_files_are_for_a_tool(self):
+    def test_without_a_file_the_program_answers_standard_input(self):
+        """Its lines and its status, and nothing else."""
+        profile, filter_ = profile_of("read"), filter_of([0])
+        compilation = self.bundle[self.bundle.index(b"profile "):]
+        for words, given in ((["check"], filter_), (["run"], filter_), (["run", "--nr", "1"], filter_),
+                             (["dis"], filter_), (["run", "--nr=0x1", "--path"], filter_), (["asm"], b"ret a\n"), (["asm"], b"no\n"),
+                             (["decide"], part("filter", filter_)), (["decide", "--nr", "1"], part("filter", filter_)),
+                             (["decide"], b""), (["compare"], self.bundle), (["compare", "--native"], self.bundle),
+                             (["compare", "--architectures"], self.bundle), (["compare", "--no-more"], self.bundle),
+                             (["compare", "--disposition", "--calls"], self.bundle), (["compare", "--limit", "9"], b""),
+                             (["compare", "--nr-from=1", "--nr-to=9"], self.bundle), (["compare", "--limit=x"], b""),
+                             (["compare", "--calls", "--total-limit", "9", "--splits", "0"], self.bundle),
+                             (["compare", "--beside"], part("filter", filter_) + part("beside", filter_)),
+                             (["compile"], compilation), (["compile", "--architectures"], compilation),
+                             (["ask"], compilation), (["ask", "--nr", "1", "--architectures"], compilation),
+                             (["run", "--nr", "4294967296"], filter_), (["run", "--a0", "0x"], filter_)):
+            done = [subprocess.run([*name, *words], input=given, stdout=subprocess.PIPE, stderr=subprocess.PIPE,
+                                   cwd=self.folder, check=False) for name in (CORE, [SCF])]
+            self.assertEqual(*((it.returncode, it.stdout, it.stderr) for it in done), words)
+        # with names, and a filter or a profile in place of a bundle
+        for words, given, out in ((["run", "--nr", "read"], filter_, "ALLOW 0 steps 6\n"),
+                                  (["run", "--nr", "read,write"], filter_, "ALLOW 0 steps 6\nERRNO 1 steps 6\n"),
+                                  (["run", "--arch", "i386"], filter_, "KILL_PROCESS 0 steps 3\n"),
+                                  (["decide", "--nr", "write"], part("filter", filter_), "ERRNO 1\n"),
+                                  (["decide", "--nr", "write"], filter_, "ERRNO 1\n"),
+                                  (["ask", "--nr", "read"], compilation, "ALLOW 0 entry 0\n"),
+                                  (["ask", "--nr", "read"], profile, "ALLOW 0 entry 0\n")):
+            self.assertEqual(self.scf(*words, given=given), (0, out, ""), words)
+        self.assertEqual(*(subprocess.run(words, input=given, stdout=subprocess.PIPE, check=True).stdout
+                           for words, given in (([SCF, "compile"], profile), ([*CORE, "compile"], compilation))))
+        self.assertEqual(json.loads(self.scf("check", "--json", given=filter_)[1])["filters"],
+                         [{"file": "-", "status": 0, "instructions": 9}])
+
+    def test_files_are_explained(self):
         for words in (["check", self.filter], ["compare", self.filter, self.profile], ["run", "--nr", "read", "f.bpf"],
                       ["decide", "--nr=read", "f.bpf"], ["compare", "--no-more", "f.bpf", "p.json"],
                       ["compare", "--json", "f.bpf", "p.json"], ["ask", "--table", TABLE, "--nr", "read", "p.json"],
@@ -64,19 +95,38 @@ class Dispatch(Case):
             self.assertEqual(self.scf(*words), (status, out, err.replace(f"{words[0]}: ", f"scf {words[0]}: ")), words)
         self.assertEqual(self.scf("check", "-", given=filter_of([0])), (0, "accepted 9\n", ""))
 
-    def test_a_word_behind_an_unknown_option_is_a_file_if_there_is_one(self):
-        self.assertIn("unexpected argument '--no-such'", self.scf("compare", "--no-such", "none")[1])
-        self.assertIn("unrecognized arguments: --no-such", self.scf("compare", "--no-such", "f.bpf", "p.json")[2])
-        self.file("1", b"")
-        self.assertEqual(self.scf("run", "--nr", "1", given=filter_of([0]))[1], "ERRNO 1 steps 6\n")
-        self.assertIn("the following arguments are required: FILTER", self.scf("decide", "--nr", "0", "--a0", "f.bpf")[2])
+    def test_help_and_usage_errors_are_the_same_everywhere(self):
+        """Whatever standard input is, and where the program was never built."""
+        tree = self.made_tree("#!/bin/sh\nexit 99\n")
+        shutil.copy2(SCF, tree)
+        ours, theirs = pty.openpty()
+        self.addCleanup(os.close, ours)
+        self.addCleanup(os.close, theirs)
+        for command, words, status in (("run", ["--help"], 0), ("asm", ["-h"], 0), ("compare", ["--version"], 0),
+                                       ("decide", ["--no-such"], 2), ("run", ["--nr"], 2), ("dis", ["--no-such"], 2),
+                                       ("compile", ["--help"], 0)):
+            done = [self.run_words([os.path.join(top, "scf"), command, *words], given=given, cwd=self.folder)
+                    for top in (TOP, tree) for given in (theirs, subprocess.DEVNULL, filter_of([0]))]
+            self.assertEqual((done, done[0][0]), (done[:1] * 6, status), (command, words))
+        self.assertEqual(self.scf("--version"), self.run_words([*CORE, "--version"]))
+
+    def test_without_a_file_at_a_terminal(self):
+        ours, theirs = pty.openpty()
+        self.addCleanup(os.close, ours)
+        self.addCleanup(os.close, theirs)
+        for command, names in (("compare", "FILTER, PROFILE"), ("check", "FILTER"), ("run", "FILTER"), ("dis", "FILE"),
+                               ("decide", "FILTER"), ("ask", "PROFILE"), ("compile", "PROFILE")):
+            status, out, err = self.scf(command, given=theirs)
+            self.assertEqual((status, out), (2, ""), command)
+            self.assertTrue(err.endswith(f"scf {command}: the following arguments are required: {names}\n"), err)
+        for words in (["compare", "f.bpf"], ["compare", "--json"]):
+            self.assertIn("arguments are required: ", self.scf(*words, given=self.bundle)[2])
+        self.assertIn("--nr-from goes with a bundle", self.scf("compare", "--nr-from=1", "f.bpf", "p.json")[2])
 
     def test_a_listing_of_a_file(self):
         self.assertEqual(self.scf("dis", "f.bpf"), self.scf("dis", given=filter_of([0])))
         self.assertEqual(self.scf("dis", "-", given=filter_of([0])), self.scf("dis", "f.bpf"))
-        status, out, err = self.scf("dis", "none")
-        self.assertEqual((status, out, err), (2, "", "scf dis: there is no file of that name that can be read\n"))
-        self.assertEqual(self.scf("dis", "f.bpf", "p.json"), (2, "", "scf dis: give one file, or standard input\n"))
+        self.assertEqual(self.scf("dis", "none"), (2, "", "scf dis: there is no file 'none'\n"))
 
     def test_no_filter_is_printed_on_a_terminal(self):
         ours, theirs = pty.openpty()
@@ -92,17 +142,6 @@ class Dispatch(Case):
         self.assertEqual(self.scf("asm", "--help", stdout=theirs)[0], 0)
         os.close(theirs)
         self.assertNotIn(b"\0", os.read(ours, 9999))
-
-    def test_at_a_terminal_there_is_no_bundle(self):
-        ours, theirs = pty.openpty()
-        try:
-            status, out, err = self.scf("compare", given=theirs)
-            self.assertEqual((status, out), (2, ""))
-            self.assertIn("scf compare: the following arguments are required: FILTER, PROFILE\n", err)
-            self.assertIn("usage: scf compare ", self.scf("compare", "--help", given=theirs)[1])
-        finally:
-            os.close(ours)
-            os.close(theirs)
 
     def test_without_python(self):
         """The program's words need none, and a tool says what it lacks."""
@@ -139,7 +178,7 @@ class Help(Case):
 
     def test_each_tool_stands_in_the_list_once_in_its_group(self):
         names = [name for name, _ in COMMANDS]
-        self.assertEqual(sorted(names), sorted(TOOLS | OF_PROGRAM))
+        self.assertEqual(sorted(names), sorted(TOOLS))
         self.assertEqual(re.findall(r"(?m)^([A-Z][a-z ]+)$", LIST), GROUPS)
         self.assertLessEqual(max(map(len, LIST.split("\n"))), 100)
 
@@ -148,9 +187,8 @@ class Help(Case):
             with self.subTest(name):
                 status, out, err = self.scf("help", name)
                 self.assertEqual((status, err), (0, ""))
-                self.assertRegex(out, rf"(?m)^[uU]sage: scf {name}\b")
-                if name in TOOLS and name not in ("check", "run", "decide", "compare", "compile", "ask"):
-                    self.assertEqual(self.scf(name, "--help")[1], out)
+                self.assertRegex(out, rf"(?m)^usage: scf {name}\b")
+                self.assertEqual(self.scf(name, "--help")[1], out)
 
     def test_the_usage_has_each_option(self):
         """In it `--a0 N .. --a5 N` stands for those between, too."""
@@ -160,6 +198,24 @@ class Help(Case):
             options = set(re.findall(r"(?m)^  (?:-h, )?(--[a-z0-9-]+)", rest)) - {"--help", "--version", "--color"}
             self.assertEqual(set(re.findall(r"--[a-z0-9-]+", usage)), options - between, name)
             self.assertLessEqual(max(map(len, usage.split("\n"))), 100, name)
+
+    def test_h_is_short(self):
+        """It has the usage, at most five options, and the examples of --help."""
+        for name in ("compare", "audit", "asm"):
+            (status, short, _), whole = self.scf(name, "-h"), self.scf(name, "--help")[1]
+            self.assertEqual((status, short.partition("\n\n")[0]), (0, whole.partition("\n\n")[0]), name)
+            self.assertLessEqual(len(re.findall(r"(?m)^  --", short)), 5, name)
+            self.assertEqual(short.partition("\nexamples:\n")[2], whole.partition("\nexamples:\n")[2], name)
+            self.assertIn(f"scf {name} --help has all.\n", short)
+
+    def test_a_wrong_option_names_the_nearest(self):
+        for words, near in ((["compare", "--no-mor", "a", "b"], "--no-more"), (["lint", "--strcit", "p"], "--strict"),
+                            (["surface", "--condition", "f"], "--conditions"), (["run", "--Path"], "--path"),
+                            (["check", "--jsn=1"], "--json")):
+            status, out, err = self.scf(*words)
+            self.assertEqual((status, out), (2, ""))
+            self.assertTrue(err.endswith(f"; the nearest is {near}\n"), err)
+        self.assertTrue(self.scf("run", "--zzz")[2].endswith("unrecognized arguments: --zzz\n"))
 
     def test_a_wrong_word_names_the_nearest(self):
         for word, near in (("comapre", "compare"), ("compare-profile", "compare-profiles"), ("verify", "verify-process"),

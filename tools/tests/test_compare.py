@@ -5,7 +5,7 @@ import re
 import shutil
 import unittest
 
-from support.common import (ALLOW, EPERM, I386, KILL_PROCESS, KILL_THREAD, SCF, TABLE, UNKNOWN_ZERO, X86_64, Case,
+from support.common import (ALLOW, CORE, EPERM, I386, KILL_PROCESS, KILL_THREAD, TABLE, UNKNOWN_ZERO, X86_64, Case,
                             filter_of, insn, jeq, jge, load, needs, part, profile_of, ret, tool)
 from scftools import tables
 
@@ -23,7 +23,7 @@ class Compare(Case):
         self.lax = self.file("lax.bpf", filter_of([READ, WRITE], foreign=KILL_THREAD))
 
     def scf_says(self, given, *words):
-        return self.run_words([SCF, "compare", *words], given)
+        return self.run_words([*CORE, "compare", *words], given)
 
     def bundle(self, *filters, profile=None):
         with open(TABLE, "rb") as file:
@@ -538,8 +538,51 @@ class Decide(Case):
 
 
 class Explain(Case):
+    """What a pasted line means."""
+
+    def explained(self, *words, **settings):
+        status, out, err = self.run_tool("explain", *words, **settings)
+        self.assertEqual((status, err), (0, ""), words)
+        return out.split("\n")[:-1]
+
     def test_usage(self):
-        self.says_usage("explain")
+        status, out, err = self.run_tool("explain", "--help")
+        self.assertEqual((status, err), (0, ""))
+        self.assertIn("usage: explain ", out)
+        for words, status in ((["no", "such", "line"], 1), (["a page fault in kernel mode"], 1), (["fault x Y"], 1),
+                              (["299"], 1), (["--no-such"], 2)):
+            found, out, err = self.run_tool("explain", *words)
+            self.assertEqual((found, out), (status, ""), words)
+            self.assertIn("explain: ", err)
+
+    def test_lines_of_logs(self):
+        """A fault, a verdict or a status is found behind what a log puts before it."""
+        for before in ("", "2024-05-01T12:00:00.0000000Z ", "May 01 12:00:00 host scf[123]: ", "web-1  | ",
+                       "[job 3] 12:00:01.5 ", "\x1b[31m"):
+            for line, means in (("fault filter Empty", "The filter has no instruction."),
+                                ("fault profile Conflict number 41 first 1 second 2", "the syscall is socket (41)"),
+                                ("same", "every syscall that was compared"), ("no more", "nowhere are the filters more"),
+                                ("unconfined though configured", "though its configuration has a profile"),
+                                ("ERRNO 1 entry 3", "entry 3 of the profile's syscalls"),
+                                ("undecided at 7", "Runs of a filter end at this instruction"),
+                                ("exit code 70.", "an internal error"), ("status 137", "signal 9 ended it")):
+                lines = self.explained(before + line)
+                self.assertTrue(any(means in it for it in lines), (before + line, lines))
+        self.assertEqual(self.explained("fault", "filter", "Empty"), self.explained("fault filter Empty"))
+        for number in (0, 1, 2, 3, 4, 70, 125):
+            self.assertEqual(len(self.explained(str(number))), 1)
+
+    def test_what_scf_prints(self):
+        """Each line of a comparison, and of one by syscalls."""
+        given = (part("filter", filter_of([41])) + part("profile", profile_of("read"))
+                 + part("table", b"read 0\nsocket 41\n"))
+        for words in (["compare", "--native"], ["compare", "--calls"], ["compare", "--native", "--limit=0"]):
+            printed = self.run_words([*CORE, *words], given)[1]
+            out = self.explained(given=printed.encode())
+            self.assertEqual([line for line in out if line[0] != "#"], printed.split("\n")[:-1])
+            for line in printed.split("\n")[:-1]:
+                self.assertEqual(out[out.index(line) + 1][:2], "# ", line)
+        self.assertEqual(self.run_tool("explain", given=b"hello\n"), (1, "hello\n", ""))
 
     def test_what_each_answer_does(self):
         for answer, line, means in ((0x7FFC0000, "LOG 0", "LOG: the syscall is executed, and logged"),
@@ -565,16 +608,6 @@ class Explain(Case):
                                     (0x12340000, "UNNAMED 0x12340000",
                                      "UNNAMED 0x12340000: the process is killed, since seccomp(2) has no such "
                                      "action")):
-            self.assertEqual(self.run_tool("explain", "run", given=ret(answer)),
-                             (0, f"{line} steps 1\n# the syscall is read (0)\n# {means}\n", ""))
-
-    def test_what_scf_prints_stands_first_as_it_is(self):
-        for words, given in ((("check",), ret(0)), (("asm",), b"ret #1\n"), (("dis",), ret(1) * 3),
-                             (("check", "--help"), b"")):
-            expected = self.run_words([SCF, *words], given)
-            self.assertEqual(self.run_tool("explain", *words, given=given), expected)
-
-    def test_wrong_words_of_scf(self):
-        status, _, err = self.run_tool("explain", "no-such-command")
-        self.assertEqual(status, 2)
-        self.assertNotIn("Traceback", err)
+            self.assertEqual(self.run_words([*CORE, "run"], ret(answer))[1], f"{line} steps 1\n")
+            self.assertEqual(self.run_tool("explain", f"{line} steps 1"),
+                             (0, f"{means}\nthe filter ran 1 instruction\n", ""))

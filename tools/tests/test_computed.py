@@ -2,7 +2,7 @@
 what it says of stacks with one whose answer is computed from two words."""
 import json
 
-from support.common import SCF, Case, part
+from support.common import CORE, Case, part
 from support.on_parts import ALL, ALLOW, NO_TABLE, READ_WRITE_TABLE, OnProgram, a_profile, a_table, behind_gate, bundle
 from support.worked import ALL_BUT_TWO, MADE, MOST, WITHOUT_READ
 
@@ -140,7 +140,7 @@ class Computed(Case):
     def assembled(self, text):
         path = self.file("text", text)
         with open(path, "rb") as given, open(self.file("filter", b""), "wb") as filter_:
-            self.assertEqual(self.run_words([SCF, "asm"], given, stdout=filter_)[0], 0, text)
+            self.assertEqual(self.run_words([*CORE, "asm"], given, stdout=filter_)[0], 0, text)
         with open(filter_.name, "rb") as file:
             return file.read()
 
@@ -148,7 +148,7 @@ class Computed(Case):
         for text, wanted in rows:
             with self.subTest(filter=text):
                 given = part("filter", self.assembled(GATE + text)) + profile + part("table", table)
-                status, out, err = self.run_words([SCF, "compare", "--limit", "18446744073709551615"], given)
+                status, out, err = self.run_words([*CORE, "compare", "--limit", "18446744073709551615"], given)
                 self.assertEqual((out.split("\n")[0], err), (wanted, ""), text)
                 self.assertEqual(status, 0 if wanted == "same" else 1)
 

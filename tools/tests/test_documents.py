@@ -7,17 +7,12 @@ import shutil
 import subprocess
 import unittest
 
-from support.common import (ALLOW, PATIENCE, SCF, TABLE, TOP, Case, filter_of, for_developers, insn, jeq, load, part,
-                            profile_of, ret, source_of)
+from support.common import (ALLOW, CORE, PATIENCE, SCF, TABLE, TOP, Case, filter_of, for_developers, insn, jeq, load,
+                            part, profile_of, ret, source_of)
 from test_texts import CODES
 
 PROGRAM = os.path.join(TOP, "crates", "scf", "out", "scf")
-# The tools that have a page of their own; plain-profile is an old name.
-TOOLS = sorted(it for it in os.listdir(os.path.join(TOP, "tools"))
-               if os.path.isfile(os.path.join(TOP, "tools", it)) and it != "plain-profile")
-
-# Commands that no tool has.
-OF_PROGRAM = ("asm", "dis")
+TOOLS = sorted(it for it in os.listdir(os.path.join(TOP, "tools")) if os.path.isfile(os.path.join(TOP, "tools", it)))
 
 # Which enum of the program is printed for which sources; for some, only these of its kinds.
 SOURCES = {
@@ -65,7 +60,7 @@ def status_of(source, kind):
 
 
 def options(command):
-    done = subprocess.run([SCF, command, "--help"], stdin=subprocess.DEVNULL, stdout=subprocess.PIPE, check=False)
+    done = subprocess.run([*CORE, command, "--help"], stdin=subprocess.DEVNULL, stdout=subprocess.PIPE, check=False)
     return re.findall(r"--([a-z0-9-]+) <NUMBER>", done.stdout.decode())
 
 
@@ -185,12 +180,12 @@ class Faults(Case):
         seen = set()
         for words, given, line in cases:
             with self.subTest(line=line):
-                status, out, _ = self.run_tool("explain", *words, given=given)
+                status, out, _ = self.run_words([*CORE, *words], given)
                 key = tuple(line.split()[1:3])
                 seen.add(key)
                 self.assertEqual(out.split("\n")[0], line)
                 self.assertEqual(status, status_of(*key))
-                self.assertEqual(out.split("\n")[1:3], [f"# {sentence}" for sentence in rows()[key][1]])
+                self.assertEqual(self.run_tool("explain", line)[1].split("\n")[:2], rows()[key][1])
         unseen = {key for key in rows() if key not in seen and key[1] not in ("Memory", "Read") and key[0] != "number"}
         self.assertEqual(unseen, {("input", "TooLong")})
 
@@ -206,15 +201,15 @@ class Statuses(Case):
                     "same\n"),
                 (["compare"], part("filter", filter_of([1])) + rest, 1, None),
                 (["check"], b"", 1, "fault filter Empty\n"), (["no-such"], b"", 2, None),
-                (["run", "--nr", "x"], ret(ALLOW), 2, "fault number nr\n"),
+                (["run", "--nr", "0x"], ret(ALLOW), 2, "fault number nr\n"),
                 (["run"], b"x", 3, "fault filter Truncated offset 0\n"),
                 (["compare", "--limit", "0"], part("filter", filter_of([0])) + rest, 4, "unfinished\n")):
-            found, printed, _ = self.run_words([SCF, *words], given)
+            found, printed, _ = self.run_words([*CORE, *words], given)
             self.assertEqual(found, status, words)
             if out is not None:
                 self.assertEqual(printed, out)
         with open("/dev/full", "wb") as full:
-            self.assertEqual(self.run_words([SCF, "check"], ret(ALLOW), stdout=full)[0], 3)
+            self.assertEqual(self.run_words([*CORE, "check"], ret(ALLOW), stdout=full)[0], 3)
 
     def test_no_kit_and_no_program(self):
         shutil.copy2(SCF, self.folder)
@@ -514,7 +509,7 @@ class Manual(Case):
                 self.assertIn(f"--{option}", text)
         for option in ("--native", "--calls", "--no-more", "--no-less", "--path"):
             self.assertIn(option, text)
-        for name in (*TOOLS, *OF_PROGRAM):
+        for name in TOOLS:
             self.assertRegex(text, rf"(?m)^\.BR scf-{name} \(1\)", name)
         for status in (0, 1, 2, 3, 4, 70, 125):
             self.assertRegex(text, rf"(?m)^\.B {status}$", status)
@@ -542,7 +537,7 @@ class Manual(Case):
 
 
 class ManualOfTools(Case):
-    """The pages that dev/manual makes of the tools' docstrings and help, and those of the commands that no tool has."""
+    """The pages that dev/manual makes of the tools' docstrings and help."""
 
     def setUp(self):
         super().setUp()
@@ -572,13 +567,13 @@ class ManualOfTools(Case):
         with open(os.path.join(self.folder, f"scf-{name}.1"), encoding="utf-8") as file:
             return file.read().replace("\\-", "-").replace("\\e", "\\")
 
-    def test_the_examples_of_the_commands_that_no_tool_has(self):
+    def test_the_examples_of_the_assembler(self):
         os.symlink(SCF, os.path.join(self.folder, "scf"))
         for name in ("filter", "old"):
             self.file(f"{name}.bpf", filter_of([0]))
         self.file("filter.s", "ld [0]\njeq #41, no, yes\nno: ret #0x50001\nyes: ret #0x7fff0000 // read\n")
         env = {**os.environ, "PATH": f"{self.folder}:{os.environ['PATH']}"}
-        for name in OF_PROGRAM:
+        for name in ("asm", "dis"):
             examples = self.page(name).partition(".SH EXAMPLES\n.nf\n")[2].partition("\n.fi")[0].split("\n")
             self.assertEqual(len(examples), 2, name)
             for line in examples:
@@ -594,7 +589,7 @@ class ManualOfTools(Case):
 
     @unittest.skipUnless(shutil.which("groff"), "there is no groff here")
     def test_they_are_shown_without_a_warning(self):
-        for name in (*TOOLS, *OF_PROGRAM):
+        for name in TOOLS:
             done = subprocess.run(["groff", "-man", "-ww", "-Kutf8", "-Tutf8", f"{self.folder}/scf-{name}.1"],
                                   stdout=subprocess.PIPE, stderr=subprocess.PIPE, check=False)
             self.assertEqual((done.returncode, done.stderr.decode()), (0, ""), name)

@@ -6,7 +6,7 @@ import subprocess
 import sys
 import unittest
 
-from support.common import ALLOW, EPERM, SCF, TOP, Case, filter_of, insn, jeq, load, part, profile_of, ret
+from support.common import ALLOW, CORE, EPERM, TOP, Case, filter_of, insn, jeq, load, part, profile_of, ret
 
 sys.path.append(os.path.join(TOP, "tools"))
 
@@ -131,7 +131,7 @@ class Texts(Case):
             self.assertIn(says, str(caught.exception))
 
     def test_assembler(self):
-        listing = subprocess.run([SCF, "dis"], input=FILTER, stdout=subprocess.PIPE, check=True).stdout.decode()
+        listing = subprocess.run([*CORE, "dis"], input=FILTER, stdout=subprocess.PIPE, check=True).stdout.decode()
         self.is_read(listing, forms.ASSEMBLER)
         self.is_read("// a comment\n start: ret #0x7fff0000", forms.ASSEMBLER, ret(ALLOW))
         with self.assertRaises(program.ToolError) as caught:
@@ -157,7 +157,7 @@ class Raw(Case):
                      insn(0x00, 0x0A0A3130, 0x31, 0x30), insn(0x20, 0x0A0A0A0A, 0x0A, 0x0A)):
             self.assertIsNone(forms.form_of(data, "it"))
             path = self.file("f.bpf", data)
-            expected = subprocess.run([SCF, "dis"], input=data, stdout=subprocess.PIPE, check=True).stdout.decode()
+            expected = subprocess.run([*CORE, "dis"], input=data, stdout=subprocess.PIPE, check=True).stdout.decode()
             status, out, err = self.run_tool("list", path)
             self.assertEqual((status, err), (0, ""))
             self.assertIn(expected.split("\n")[0], out)
@@ -165,7 +165,7 @@ class Raw(Case):
     def test_every_code_that_the_kernel_takes_is_below_256(self):
         """What the rule stands on: seccomp_check_filter of kernel/seccomp.c, by scf."""
         for code in (0x100, 0x106, 0x120, 0x2020, 0x457F, 0x7B20, 0x8006, 0xFF20):
-            out = self.run_words([SCF, "check"], insn(code, 0) + ret(0))[1]
+            out = self.run_words([*CORE, "check"], insn(code, 0) + ret(0))[1]
             self.assertEqual(out, "fault filter Code at 0\n")
 
     def test_other_bytes_go_to_scf(self):

@@ -11,7 +11,7 @@ import subprocess
 import sys
 import tempfile
 
-from support.common import ALLOW, KILL_PROCESS, SCF, X86_64, Case, insn, jeq, jge, limited, load, part, ret
+from support.common import ALLOW, CORE, KILL_PROCESS, X86_64, Case, insn, jeq, jge, limited, load, part, ret
 
 LIMIT_OF_FILTER, LIMIT_OF_TEXT, LIMIT_OF_INPUT = 32768, 4194304, 16777216
 # Seconds of a processor: 3 are measured of a text of many labels in no order, and 0.9 of a million steps.
@@ -48,7 +48,7 @@ def run(words, data):
     with tempfile.TemporaryFile() as given:
         given.write(data)
         given.seek(0)
-        measured = subprocess.run([sys.executable, "-IS", "-c", MEASURE, SCF, *words], stdin=given,
+        measured = subprocess.run([sys.executable, "-IS", "-c", MEASURE, *CORE, *words], stdin=given,
                                   capture_output=True, preexec_fn=limited(SECONDS), check=True)
     status, seconds, megabytes = measured.stderr.split()
     return int(status), measured.stdout, float(seconds), float(megabytes)
@@ -57,7 +57,7 @@ def run(words, data):
 class Hostile(Case):
     @classmethod
     def setUpClass(cls):
-        subprocess.run([SCF, "--version"], stdin=subprocess.DEVNULL, stdout=subprocess.DEVNULL, check=True)
+        subprocess.run([*CORE, "--version"], stdin=subprocess.DEVNULL, stdout=subprocess.DEVNULL, check=True)
 
     def ends(self, words, data, *expected, most=MEGABYTES):
         """It ends soon, in little memory, with one of these statuses and outputs; an output of None may be any."""

@@ -10,7 +10,7 @@ import subprocess
 import sys
 import unittest
 
-from support.common import ALLOW, PATIENCE, SCF, TOP, Case, limited, profile_of, ret, tool
+from support.common import ALLOW, CORE, PATIENCE, TOP, Case, limited, profile_of, ret, tool
 
 PROGRAM = "crates/scf/out/scf"
 # Seconds of a processor and megabytes that a tool and all that it runs may take.
@@ -215,7 +215,7 @@ class Texts(Case):
         on faults says."""
         text = PROFILES["objects"]
         bundle = self.file("bundle", b"profile %d\n%btable 7\nread 0\n" % (len(text), text))
-        self.assertEqual(self.ends("objects", SCF, "compile", given=bundle), 3)
+        self.assertEqual(self.ends("objects", *CORE, "compile", given=bundle), 3)
         with open(os.path.join(TOP, "docs", "FAULTS.md"), encoding="utf-8") as file:
             self.assertIn(f" or {PROGRAM} on a bundle.", file.read())
         with open(bundle, "rb") as file:

@@ -72,7 +72,7 @@ class Limits(Case):
                     (("list", "--table", endless, self.filter), 2, table),
                     (("compile", endless), 1, "fault profile TooMany\n"),
                     (("compile", "--table", endless, self.profile), 2, table),
-                    (("explain", "--table", endless, "check"), 2, table),
+                    (("explain", "--table", endless, "same"), 2, table),
                     (("bundle", "filter", endless), 2, f"has more than {FILTER} bytes"),
                     (("bundle", "profile", endless), 2, table), (("bundle", "table", endless), 2, table)):
                 with self.subTest(words=words):
@@ -80,7 +80,8 @@ class Limits(Case):
 
     def test_endless_standard_input(self):
         for words, status in ((("compare", "-", self.profile), 3), (("list", "-"), 3), (("check", "-"), 3),
-                              (("compile", "-"), 1), (("explain", "check"), 3), (("explain", "decide"), 3)):
+                              (("compile", "-"), 1), (("check",), 3), (("decide",), 3), (("asm", "-"), 3), (("dis", "-"), 3),
+                              (("explain",), 2)):
             with open("/dev/zero", "rb") as zero:
                 found, _, err, seconds, megabytes = run(words, stdin=zero)
             self.assertEqual((found, "Traceback" in err), (status, False), words)
@@ -213,7 +214,7 @@ class Words(Case):
     def test_files_that_are_not_there(self):
         for words in (("compare", "none", self.profile), ("decide", "none"), ("run", "none"), ("check", "none"),
                       ("list", "none"), ("compile", "none"), ("decide", "--calls-from=none", self.filter),
-                      ("explain", "--table=none", "check"), ("bundle", "filter", "none")):
+                      ("explain", "--table=none", "same"), ("bundle", "filter", "none")):
             status, out, err = self.run_tool(*words)
             self.assertEqual((status, out), (2, ""), words)
             self.assertIn("there is no file 'none'", err)

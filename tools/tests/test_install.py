@@ -11,8 +11,6 @@ from support.common import TOP, Case, filter_of, profile_of
 
 TOOLS = sorted(name for name in os.listdir(os.path.join(TOP, "tools"))
                if os.path.isfile(os.path.join(TOP, "tools", name)))
-# Commands that no tool has.
-OF_PROGRAM = ("asm", "dis")
 MODULES = sorted(name for name in os.listdir(os.path.join(TOP, "tools", "scftools")) if name.endswith(".py"))
 TABLES = os.listdir(os.path.join(TOP, "tables"))
 DOCUMENTS = ["LICENSE", "README.md", "scf.schema.json",
@@ -44,7 +42,7 @@ class Install(Case):
                        *(f"share/doc/scf/{it}" for it in DOCUMENTS), "share/man/man1/scf.1",
                        "share/scf/hooks.d/scf.json", "share/scf/prometheus/scf.rules.yml",
                        *(f"lib/systemd/system/scf-audit.{it}" for it in ("service", "timer")),
-                       *(f"share/man/man1/scf-{name}.1" for name in (*TOOLS, *OF_PROGRAM))])
+                       *(f"share/man/man1/scf-{name}.1" for name in TOOLS)])
 
     def run_installed(self, *words, given=b""):
         env = {**os.environ, "PATH": f"{self.prefix}/bin:{os.environ['PATH']}"}
@@ -65,14 +63,14 @@ class Install(Case):
             self.assertEqual((status, err), (1, ""))
             self.assertIn("exit_group (231)", out)
         self.assertIn("usage: scf lint ", self.run_installed("scf", "help", "lint")[1])
-        self.assertIn("Usage: scf asm\n", self.run_installed("scf", "help", "asm")[1])
-        self.assertEqual(self.run_installed("scf-explain", "run", given=b"x")[0], 3)
+        self.assertIn("usage: scf asm [FILE] >FILTER\n", self.run_installed("scf", "help", "asm")[1])
+        self.assertEqual(self.run_installed("scf-run", given=b"x")[:2], (3, "fault filter Truncated offset 0\n"))
+        self.assertEqual(self.run_installed("scf-explain", "fault", "filter", "Empty")[0], 0)
 
     def test_each_tool_has_help_a_version_and_a_page_and_names_itself_as_it_was_called(self):
         self.make("install")
         version = self.run_installed("scf", "--version")[1].strip()
-        # (plain-profile says that it has another name now)
-        for name in set(TOOLS) - {"plain-profile"}:
+        for name in TOOLS:
             with self.subTest(name):
                 status, out, err = self.run_installed(f"scf-{name}", "--help")
                 self.assertEqual((status, err), (0, ""))
@@ -127,7 +125,7 @@ class Install(Case):
     @unittest.skipUnless(shutil.which("man"), "there is no man here")
     def test_man_finds_the_pages(self):
         self.make("install")
-        for name in ("scf", *(f"scf-{it}" for it in (*TOOLS, *OF_PROGRAM))):
+        for name in ("scf", *(f"scf-{it}" for it in TOOLS)):
             done = subprocess.run(["man", "-M", os.path.join(self.prefix, "share", "man"), "-w", name],
                                   stdout=subprocess.PIPE, stderr=subprocess.PIPE, check=False)
             self.assertEqual(done.returncode, 0, done.stderr)

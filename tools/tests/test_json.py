@@ -7,8 +7,8 @@ import shlex
 import subprocess
 import unittest
 
-import json_schema
-from common import ALLOW, EPERM, SCF, TOP, Case, jeq, load, ret, tool
+from support import json_schema
+from support.common import ALLOW, EPERM, SCF, TOP, Case, jeq, load, ret, tool
 from scftools import output
 
 with open(os.path.join(TOP, "docs", "JSON.md"), encoding="utf-8") as page:
@@ -43,7 +43,8 @@ class Page(Case):
         for line, expected in EXAMPLES:
             with self.subTest(line):
                 words = shlex.split(line)
-                self.assertEqual(list(json_schema.faults_of_output(words, json.dumps(expected), expected["status"])), [])
+                faults = json_schema.faults_of_output(words, json.dumps(expected), expected["status"])
+                self.assertEqual(list(faults), [])
                 if words[1] not in OF_MACHINE:
                     status, out, err = self.run_words([SCF, *words[1:]])
                     self.assertEqual((json.loads(out), status, err), (expected, expected["status"], ""))

@@ -7,7 +7,7 @@ import re
 import struct
 import subprocess
 
-from support.common import ALLOW, EPERM, KILL_PROCESS, SCF, X86_64, Case, insn, jeq, jge, load, part, ret
+from support.common import ALLOW, CORE, EPERM, KILL_PROCESS, X86_64, Case, insn, jeq, jge, load, part, ret
 
 MOST = 4096
 # MAX_INSNS_PER_PATH (kernel/seccomp.c), and what each older filter of a stack costs more.
@@ -49,11 +49,11 @@ def differs(number, filter_answer, profile_answer):
 class Largest(Case):
     @classmethod
     def setUpClass(cls):
-        subprocess.run([SCF, "--version"], stdin=subprocess.DEVNULL, stdout=subprocess.DEVNULL, check=True)
+        subprocess.run([*CORE, "--version"], stdin=subprocess.DEVNULL, stdout=subprocess.DEVNULL, check=True)
 
     def ends(self, words, data, status, out):
         """It prints this and nothing else; where it doesn't, the first line that is another one is shown."""
-        done = subprocess.run([SCF, *words], input=data, stdout=subprocess.PIPE, check=False)
+        done = subprocess.run([*CORE, *words], input=data, stdout=subprocess.PIPE, check=False)
         if done.stdout != out:
             pairs = zip(done.stdout.split(b"\n"), out.split(b"\n"))
             self.fail(next((f"line {at}: {found!r}, not {wanted!r}" for at, (found, wanted) in enumerate(pairs)
@@ -173,9 +173,9 @@ class Largest(Case):
         self.ends(["compare"], part("filter", wanted) + profile + table, 0, b"same\n")
         wrong = GATE + jge(MOST - 1, 1, 0) + ret(ALLOW) + ret(EPERM)
         self.ends(["compare"], part("filter", wrong) + profile + table, 1, differs(MOST - 1, "ERRNO 1", "ALLOW 0"))
-        done = subprocess.run([SCF, "compile"], input=profile + table, stdout=subprocess.PIPE, check=True)
+        done = subprocess.run([*CORE, "compile"], input=profile + table, stdout=subprocess.PIPE, check=True)
         for number, answer in ((0, b"ALLOW 0"), (MOST - 1, b"ALLOW 0"), (MOST, b"ERRNO 1"), (0x3FFFFFFF, b"ERRNO 1"),
                                (0x40000000, b"KILL_PROCESS 0")):
-            ran = subprocess.run([SCF, "run", f"--nr={number}"], input=done.stdout, stdout=subprocess.PIPE, check=True)
+            ran = subprocess.run([*CORE, "run", f"--nr={number}"], input=done.stdout, stdout=subprocess.PIPE, check=True)
             self.assertEqual(ran.stdout.split(b" steps ")[0], answer, number)
         self.assertLessEqual(len(list(struct.iter_unpack("<HBBI", done.stdout))), MOST)

@@ -4,9 +4,8 @@ import unittest
 
 from support.common import TOP, Case
 
-# (plain-profile starts resolve-profile)
 TOOLS = sorted(name for name in os.listdir(os.path.join(TOP, "tools"))
-               if os.path.isfile(os.path.join(TOP, "tools", name)) and name != "plain-profile")
+               if os.path.isfile(os.path.join(TOP, "tools", name)))
 
 
 class Failing(Case):

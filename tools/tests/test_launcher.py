@@ -40,7 +40,7 @@ class Launcher(Case):
             return len(file.readlines())
 
     def test_scf_is_built_where_it_never_was(self):
-        status, out, err = self.run_here("scf", "check", "--b c")
+        status, out, err = self.run_here("scf", "core", "check", "--b c")
         self.assertEqual((status, out), (0, "one check --b c\n"))
         self.assertEqual(err, "build: proving and building scf; the first time this may take half an hour\n")
         self.assertEqual(self.run_here("scf", "dis"), (0, "one dis\n", ""))

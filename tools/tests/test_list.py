@@ -6,7 +6,7 @@ import shutil
 import subprocess
 import unittest
 
-from support.common import ALLOW, EPERM, I386, KILL_PROCESS, SCF, X86_64, Case, filter_of, insn, jeq, jge, load, ret
+from support.common import ALLOW, CORE, EPERM, I386, KILL_PROCESS, X86_64, Case, filter_of, insn, jeq, jge, load, ret
 from scftools import flow_graph, listing, tables
 from scftools.calls import Call
 from support.stand_in import StandIn
@@ -50,7 +50,7 @@ class List(Case):
         odd = b"".join(insn(code, k, jt, jf) for code in (*EVERY_CODE, 0x94, 0xFFFF) for k in (0, 4, 0xFFFFFFFF)
                        for jt in (0, 3) for jf in (0, 255))
         for data in (GATE, filter_of(range(200)), odd):
-            plain = self.run_words([SCF, "dis"], data)[1].split("\n")[:-1]
+            plain = self.run_words([*CORE, "dis"], data)[1].split("\n")[:-1]
             listed = self.listed(data)
             self.assertEqual([re.sub(r" *//.*", "", re.sub(r"^ *[0-9]+  ", "", line)) for line in listed], plain)
             self.assertEqual([int(line.split()[0]) for line in listed], list(range(len(plain))))

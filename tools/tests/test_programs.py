@@ -6,7 +6,7 @@ import re
 import subprocess
 import sys
 
-from support.common import (ALLOW, EPERM, I386, KILL_PROCESS, SCF, TABLE, TOP, UNKNOWN_ZERO, X86_64, Case, filter_of,
+from support.common import (ALLOW, CORE, EPERM, I386, KILL_PROCESS, TABLE, TOP, UNKNOWN_ZERO, X86_64, Case, filter_of,
                             insn, jeq, jge, load, part, profile_of, ret, tool)
 
 sys.path.append(os.path.join(TOP, "tools"))
@@ -64,7 +64,7 @@ class Compile(Case):
     def test_it_is_the_filter_of_scf(self):
         with open(TABLE, "rb") as file:
             given = part("profile", profile_of("read", "openat")) + part("table", file.read())
-        expected = subprocess.run([SCF, "compile"], input=given, stdout=subprocess.PIPE, check=True).stdout
+        expected = subprocess.run([*CORE, "compile"], input=given, stdout=subprocess.PIPE, check=True).stdout
         profile = self.file("p.json", profile_of("read", "openat"))
         self.assertEqual(self.compiled(profile), (0, expected, ""))
         self.assertEqual(self.compiled("-", given=profile_of("read", "openat")), (0, expected, ""))
@@ -414,7 +414,7 @@ class Objects(Case):
 
 class Programs(Case):
     def test_versions(self):
-        version = self.run_words([SCF, "--version"])[1]
+        version = self.run_words([*CORE, "--version"])[1]
         for name in TOOLS:
             self.assertEqual(self.run_tool(name, "--version"), (0, f"{name} of {version}", ""))
 
@@ -425,7 +425,7 @@ class Programs(Case):
             self.assertIn(f"usage: scf-{name} ", self.run_words([link, "--help"])[1])
             words = ("filter", "none") if name == "bundle" else \
                 ("none", "none") if name.startswith("compare") or name in ("needs", "why") else \
-                ("--table", "none", "check") if name == "explain" else \
+                ("--table", "none", "same") if name == "explain" else \
                 ("none",)
             status, out, err = self.run_words([link, *words])
             self.assertEqual((status, out), (2, ""))

@@ -7,7 +7,7 @@ import re
 import sys
 from unittest import mock
 
-from support.common import (ALLOW, EPERM, I386, KILL_PROCESS, KILL_THREAD, SCF, TABLE, TOP, X86_64, Case, filter_of,
+from support.common import (ALLOW, CORE, EPERM, I386, KILL_PROCESS, KILL_THREAD, TABLE, TOP, X86_64, Case, filter_of,
                             insn, jeq, jge, load, needs, part, ret)
 from support.confined import Confined, here
 from support.stand_in import StandIn
@@ -130,7 +130,7 @@ class Relations(Case):
     def says(self, filters, given, *options):
         """The status and the lines of scf."""
         bundle = b"".join(part("filter", it) for it in filters) + part("profile", given) + part("table", self.table)
-        status, out, err = self.run_words([SCF, "compare", *options], bundle)
+        status, out, err = self.run_words([*CORE, "compare", *options], bundle)
         self.assertEqual(err, "")
         return status, out.split("\n")[:-1]
 
@@ -305,13 +305,6 @@ class Compare(Case):
             status, out, err = self.run_tool(name, "--no-more", "--no-less", *words)
             self.assertEqual((status, out), (2, ""))
             self.assertIn("not allowed with argument", err)
-
-    def test_explain(self):
-        with open(TABLE, "rb") as file:
-            given = part("filter", filter_of([WRITE])) + part("profile", ALLOWS) + part("table", file.read())
-        status, out, _ = self.run_tool("explain", "compare", "--no-less", "--native", given=given)
-        self.assertEqual((status, out.split("\n")[0]), (1, "less"))
-        self.assertTrue(out.endswith("# the syscall is denied by the filter, and allowed by the profile\n"), out)
 
 
 class Foreign(Case):

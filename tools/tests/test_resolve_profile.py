@@ -2,7 +2,7 @@
 import json
 import os
 
-from support.common import SCF, TABLE, Case, part
+from support.common import CORE, TABLE, Case, part
 
 ALLOW, ERRNO = "SCMP_ACT_ALLOW", "SCMP_ACT_ERRNO"
 MAP = [{"architecture": "SCMP_ARCH_AARCH64", "subArchitectures": ["SCMP_ARCH_ARM"]},
@@ -220,7 +220,7 @@ class ResolveProfile(Case):
         _, out, _ = self.run_tool("resolve-profile", "-", given=json.dumps(given).encode())
         with open(TABLE, "rb") as file:
             bundle = part("profile", out.encode()) + part("table", file.read())
-        self.assertEqual(self.run_words([SCF, "compile"], bundle, stdout=-3)[0], 0)
+        self.assertEqual(self.run_words([*CORE, "compile"], bundle, stdout=-3)[0], 0)
 
     def test_files(self):
         path = self.file("p.json", json.dumps(engine(entry("read"))).encode())
@@ -322,13 +322,3 @@ class ErrnoByName(Case):
         for members in ({"errno": ""}, {"errno": None}, {"comment": "errno"}):
             given = json.dumps(engine(entry("mkdir", action=ERRNO, **members), defaultErrno=None))
             self.assertEqual(self.run_tool("ask", "--nr=mkdir", self.file("p.json", given))[0], 0)
-
-
-class OldName(Case):
-    def test_the_old_name(self):
-        """plain-profile says once what it is called now, and does the same."""
-        for given, words in ((json.dumps(engine(entry("read"))).encode(), ("--caps", "none", "-")), (b"{", ("-",)),
-                             (b"", ("--caps", "NO_SUCH", "-"))):
-            status, out, err = self.run_tool("resolve-profile", *words, given=given)
-            self.assertEqual(self.run_tool("plain-profile", *words, given=given),
-                             (status, out, "plain-profile: this is called resolve-profile now\n" + err))

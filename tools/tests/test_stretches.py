@@ -3,7 +3,7 @@ filter answers each number as the rules say, within the search bound, and scf th
 import json
 import struct
 
-from support.common import ALLOW, EPERM, I386, KILL_PROCESS, SCF, X86_64, Case, part
+from support.common import ALLOW, CORE, EPERM, I386, KILL_PROCESS, X86_64, Case, part
 from support.stand_in import StandIn
 
 LOG, ERRNO_5, ERRNO_22 = 0x7FFC0000, 0x00050005, 0x00050016
@@ -165,7 +165,7 @@ class Stretches(Case):
         given = part("profile", profile_of(default, stretches)) + part("table", table)
         path = self.file("filter", b"")
         with open(path, "wb") as file:
-            self.assertEqual(self.run_words([SCF, "compile"], given, stdout=file)[0], 0)
+            self.assertEqual(self.run_words([*CORE, "compile"], given, stdout=file)[0], 0)
         with open(path, "rb") as file:
             filter_ = file.read()
         program = list(struct.iter_unpack("<HBBI", filter_))
@@ -175,7 +175,7 @@ class Stretches(Case):
             answer = StandIn().answer(program, words_of(architecture, number, of), ran)
             self.assertEqual(answer, answer_of(default, rules_of, architecture, number, of), (number, of))
             self.assertLessEqual(len(ran), bound, (number, of))
-        compared = self.run_words([SCF, "compare"], part("filter", filter_) + given)
+        compared = self.run_words([*CORE, "compare"], part("filter", filter_) + given)
         self.assertEqual(compared, (0, "same\n", ""))
 
     def are_compiled(self, subjects, arguments):

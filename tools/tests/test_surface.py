@@ -16,7 +16,7 @@ import termios
 import unittest
 from unittest import mock
 
-from support.common import (ALLOW, EPERM, I386, KILL_PROCESS, KILL_THREAD, SCF, TABLE, TOP, UNKNOWN_ZERO, X86_64, Case,
+from support.common import (ALLOW, EPERM, I386, KILL_PROCESS, KILL_THREAD, TABLE, TOP, UNKNOWN_ZERO, X86_64, Case,
                             filter_of, insn, jeq, jge, load, ret, tool)
 from support.confined import NEWEST, OLDEST, Confined, here
 from support.stand_in import StandIn
@@ -70,6 +70,7 @@ UNKNOWN = gate(UNKNOWN_ZERO + jeq(0, 0, 1) + ret(EPERM) + ret(ALLOW))
 BY_UNKNOWN = of_number(SOCKET, UNKNOWN_ZERO + jeq(0, 0, 1) + ret(ALLOW) + ret(EPERM), ALLOW)
 # A table without a gap whose numbers are compared one by one, each with all splits of the default.
 FEW = b"read 0\nwrite 1\nopen 2\n"
+PROGRAM = os.path.join(TOP, "crates", "scf", "out", "scf")
 M, D, F, R = surfaces.ALLOWED, surfaces.DEPENDS, surfaces.DELEGATED, surfaces.DENIED
 # Filters, oldest first, with what people expect of read, write, getpid, socket and exit_group.
 KNOWN = {
@@ -514,7 +515,7 @@ class Program(Case):
     def test_how_often_scf_is_run(self):
         """Few runs: the time of a surface is a small multiple of one comparison's."""
         counted = os.path.join(self.folder, "counted")
-        tree = self.made_tree(f'#!/bin/sh\necho "$*" >>"{counted}"\nexec "{SCF}" "$@"\n')
+        tree = self.made_tree(f'#!/bin/sh\necho "$*" >>"{counted}"\nexec {PROGRAM} "$@"\n')
         self.run_words([os.path.join(tree, "tools", "surface"), self.file("f", filter_of(range(200)))])
         with open(counted, encoding="utf-8") as file:
             # (--version has a launcher build scf, which no comparison waits for)

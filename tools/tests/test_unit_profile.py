@@ -8,7 +8,7 @@ import re
 import shutil
 import unittest
 
-from support.common import SCF, TABLE, Case, part, tool
+from support.common import CORE, SCF, TABLE, Case, part, tool
 from support.own_machine import Systemd
 from scftools import unit_restrictions, units
 from test_audit import Audited
@@ -510,7 +510,7 @@ class UnitProfile(Case):
             bundle = part("profile", out.encode()) + part("table", file.read())
         for name, number, line in (("mount", 165, "KILL_PROCESS 0 entry 0"), ("swapon", 167, "ERRNO 1 entry 1"),
                                    ("read", 0, "LOG 0 entry 2"), ("write", 1, "ALLOW 0 default")):
-            self.assertEqual(self.run_words([SCF, "ask", "--nr", str(number)], bundle)[1].split("\n")[0], line, name)
+            self.assertEqual(self.run_words([*CORE, "ask", "--nr", str(number)], bundle)[1].split("\n")[0], line, name)
 
     def test_a_closed_and_a_full_output(self):
         self.shows(SystemCallFilter="read")

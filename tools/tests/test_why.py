@@ -9,8 +9,8 @@ import subprocess
 import sys
 import unittest
 
-from support.common import (ALLOW, EPERM, I386, KILL_PROCESS, SCF, TABLE, TOP, X86_64, Case, comes, filter_of, insn,
-                            jeq, load, part, profile_of, ret)
+from support.common import (ALLOW, CORE, EPERM, I386, KILL_PROCESS, TOP, X86_64, Case, comes, filter_of, insn, jeq,
+                            load, profile_of, ret)
 from support.stand_in import StandIn
 
 sys.path.append(os.path.join(TOP, "tools"))
@@ -106,9 +106,9 @@ class Path(Case):
 
     def test_without_the_flag_nothing_changes(self):
         data = filter_of([0, 1])
-        plain = self.run_words([SCF, "run", "--nr=1"], data)
+        plain = self.run_words([*CORE, "run", "--nr=1"], data)
         self.assertEqual(plain, (0, "ALLOW 0 steps 7\n", ""))
-        self.assertEqual(self.run_words([SCF, "run", "--nr=1", "--path"], data),
+        self.assertEqual(self.run_words([*CORE, "run", "--nr=1", "--path"], data),
                          (0, plain[1] + "path 0 1 3 4 6 7 9\n", ""))
 
 
@@ -243,14 +243,6 @@ class Ask(Case):
         table = self.file("t", b"look 7\n")
         lines = self.asked("--table", table, "--nr=look", profile=self.file("q.json", profile_of("look")))[1]
         self.assertEqual(lines[:2], ["ALLOW 0 entry 0", "# the syscall is look (7)"])
-
-    def test_explain(self):
-        """What `scf ask` says of a bundle, without the profile at hand."""
-        with open(TABLE, "rb") as file:
-            given = part("profile", json.dumps(self.own).encode()) + part("table", file.read())
-        self.assertEqual(self.run_tool("explain", "ask", "--nr=1", given=given),
-                         (0, "ALLOW 0 entry 0\n# the syscall is write (1)\n# ALLOW: the syscall is executed\n", ""))
-        self.assertTrue(self.run_tool("explain", "ask", "--nr=x", given=given)[1].startswith("fault number nr\n# "))
 
     def test_inputs_without_an_end(self):
         for words, status, says in ((("/dev/zero",), 1, "fault profile TooMany"),

@@ -18,6 +18,8 @@ TOP = os.path.abspath(os.path.join(os.path.dirname(__file__), "..", "..", ".."))
 # (some tests read profiles a second way, as those of the kernel do)
 sys.path[:0] = [os.path.join(TOP, "tools"), os.path.join(TOP, "conformance")]
 SCF = os.path.join(TOP, "scf")
+# The proved program alone, which is built if it never was.
+CORE = [SCF, "core"]
 TABLE = os.path.join(TOP, "tables", "x86_64.table")
 X86_64, I386 = 0xC000003E, 0x40000003
 ALLOW, EPERM, KILL_PROCESS, KILL_THREAD = 0x7FFF0000, 0x00050001, 0x80000000, 0
@@ -119,7 +121,7 @@ def part(kind, data):
 
 @functools.lru_cache(None)
 def has_option(option, command="compare"):
-    done = subprocess.run([SCF, command, "--help"], stdin=subprocess.DEVNULL, stdout=subprocess.PIPE, check=False)
+    done = subprocess.run([*CORE, command, "--help"], stdin=subprocess.DEVNULL, stdout=subprocess.PIPE, check=False)
     return option.encode() in done.stdout
 
 
@@ -194,6 +196,7 @@ class Case(unittest.TestCase):
             shutil.copytree(os.path.join(TOP, name), os.path.join(tree, name),
                             ignore=shutil.ignore_patterns("tests", "__pycache__"))
         with open(os.path.join(tree, "scf"), "w", encoding="utf-8") as file:
-            file.write(scf)
+            # (the tools call it as `scf core`)
+            file.write(scf.replace("\n", "\nshift\n", 1))
         os.chmod(file.name, 0o755)
         return tree

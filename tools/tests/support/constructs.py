@@ -21,7 +21,7 @@ import sys
 import tempfile
 from dataclasses import dataclass, field, replace
 
-from .common import ALLOW, EPERM, KILL_PROCESS, SCF, TOP, X86_64, insn, part
+from .common import ALLOW, CORE, EPERM, KILL_PROCESS, TOP, X86_64, insn, part
 from .stand_in import StandIn
 
 # The program itself, which is asked many times; `build_program` has the launcher build it where there is none.
@@ -993,7 +993,7 @@ class FilterPair:
 
 
 def build_program():
-    subprocess.run([SCF, "--version"], stdin=subprocess.DEVNULL, stdout=subprocess.DEVNULL, check=True)
+    subprocess.run([*CORE, "--version"], stdin=subprocess.DEVNULL, stdout=subprocess.DEVNULL, check=True)
 
 
 class Wrong(Exception):

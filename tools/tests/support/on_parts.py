@@ -8,7 +8,7 @@ import re
 import subprocess
 import unittest
 
-from .common import PATIENCE, SCF, TOP, part
+from .common import CORE, PATIENCE, TOP, part
 
 # The program itself, which is run many times; the launcher builds it where it isn't current.
 PROGRAM = os.path.join(TOP, "crates", "scf", "out", "scf")
@@ -99,7 +99,7 @@ class OnProgram(unittest.TestCase):
 
     @classmethod
     def setUpClass(cls):
-        subprocess.run([SCF, "--version"], stdin=subprocess.DEVNULL, stdout=subprocess.DEVNULL, check=True)
+        subprocess.run([*CORE, "--version"], stdin=subprocess.DEVNULL, stdout=subprocess.DEVNULL, check=True)
 
     def prints(self, words, given, text, status=0):
         """What the program prints on these bytes, and its status."""
