@@ -12,7 +12,8 @@ KINDS = ("filter", "profile", *TABLES)
 BESIDE = "beside"
 # The most bytes that scf reads; it refuses a longer bundle.
 LIMIT = 1 << 24
-HEADER = Pattern(rb"(?:filter|beside|profile|table(?:-x86|-x32|-aarch64|-arm)?) [0-9]{1,8}\n")
+# How a bundle begins, and no filter, no text of one and no profile does.
+BEGINNING = Pattern(rb"(?:filter|beside|profile|table(?:-x86|-x32|-aarch64|-arm)?) ")
 
 
 def bundle(parts: Iterable[tuple[str, bytes]]) -> bytes:

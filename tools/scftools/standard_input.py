@@ -54,7 +54,7 @@ def _is_bundle() -> bool:
     file = client.holding(data)
     os.dup2(file, 0)
     os.close(file)
-    return not data or bundles.HEADER.match(data) is not None
+    return not data or len(data) > bundles.LIMIT or bundles.BEGINNING.match(data) is not None
 
 
 def take(parser: Any, options: Any) -> None:

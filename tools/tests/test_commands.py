@@ -67,7 +67,8 @@ class Dispatch(Case):
                              (["compare", "--beside"], part("filter", filter_) + part("beside", filter_)),
                              (["compile"], compilation), (["compile", "--architectures"], compilation),
                              (["ask"], compilation), (["ask", "--nr", "1", "--architectures"], compilation),
-                             (["run", "--nr", "4294967296"], filter_), (["run", "--a0", "0x"], filter_)):
+                             (["run", "--nr", "4294967296"], filter_), (["run", "--a0", "0x"], filter_),
+                             (["decide"], b"filter 8\r\n"), (["ask"], b"profile 123456789\n"), (["compile"], b"")):
             done = [subprocess.run([*name, *words], input=given, stdout=subprocess.PIPE, stderr=subprocess.PIPE,
                                    cwd=self.folder, check=False) for name in (CORE, [SCF])]
             self.assertEqual(*((it.returncode, it.stdout, it.stderr) for it in done), words)
