@@ -241,6 +241,7 @@ class Examples(Confined):
             self.file(f"{name}.bpf", filter_of(allowed))
         self.file("log", "read(0, \"\", 9) = 0\n")
         self.file("unistd_64.h", "#define __NR_read 0\n")
+        self.file("filter.s", "ld [0]\njeq #41, no, yes\nno: ret #0x50001\nyes: ret #0x7fff0000\n")
         shutil.copy2(TABLE, self.folder)
         os.symlink(SCF, os.path.join(self.folder, "scf"))
 
