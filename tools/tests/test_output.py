@@ -235,7 +235,7 @@ class Failing(Case):
 
     def test_standard_error_that_fails(self):
         with open("/dev/full", "wb") as full:
-            for words in (("run", "none"), ("run", "--no-such"), ("run",)):
+            for words in (("run", "none"), ("run", "--no-such")):
                 done = subprocess.run([tool(words[0]), *words[1:]], stderr=full, check=False)
                 self.assertEqual(done.returncode, 2, words)
 

@@ -224,7 +224,7 @@ class Ask(Case):
         found = json.loads("".join(lines))
         self.assertEqual((status, found["status"]), (0, 0))
         self.assertEqual([call["reason"] for call in found["calls"]], ["default", "entry", "entry", "foreign"])
-        self.assertEqual([call.get("entry") for call in found["calls"]], [None, self.ENTRIES[2], self.ENTRIES[0], None])
+        self.assertEqual([call.get("definition") for call in found["calls"]], [None, self.ENTRIES[2], self.ENTRIES[0], None])
         self.assertEqual(found["calls"][1]["entry"], 2)
         self.assertEqual(len(found["calls"][1]["conditions_met"]), 2)
         self.assertEqual(found["calls"][1]["answer"], {"action": "ALLOW", "data": 0, "does": "the syscall is executed"})
