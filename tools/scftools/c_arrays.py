@@ -4,7 +4,7 @@ from __future__ import annotations
 import itertools
 import operator
 import re
-from collections.abc import Iterator
+from collections.abc import Iterable, Iterator, Sequence
 
 from . import constants, tables
 from .values import Any
@@ -141,6 +141,11 @@ def _elements(text: str) -> list[str]:
 def _without_comments(text: str) -> str:
     """A text without its comments and includes. A comment that has no end stays, which no array has."""
     return re.sub(COMMENT, lambda found: found[0] if found[1] == "" else " ", text).strip()
+
+
+def packed(rows: Iterable[Sequence[int]]) -> bytes:
+    """The bytes of instructions, each a code, jt, jf and k (struct sock_filter in linux/filter.h)."""
+    return b"".join(code.to_bytes(2, "little") + bytes((jt, jf)) + k.to_bytes(4, "little") for code, jt, jf, k in rows)
 
 
 def looks_like_array(text: str) -> bool:

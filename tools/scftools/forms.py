@@ -1,4 +1,5 @@
-"""Filters in other forms than their bytes: hexadecimal text, C arrays, decimals of `tcpdump -ddd`, scf's assembler.
+"""Filters in other forms than their bytes: hexadecimal text, C arrays, decimals of `tcpdump -ddd`, scf's assembler, and
+strace's log of a program that loads one.
 
 The contents decide, not the name of a file. Bytes of which the second is a NUL are a raw filter, whatever else they
 look like: each instruction that the kernel accepts has a code below 256, whose upper byte is a NUL, and no text has
@@ -9,7 +10,7 @@ it is.
 from __future__ import annotations
 
 import re
-from collections.abc import Iterable, Iterator, Sequence
+from collections.abc import Iterator
 
 from . import c_arrays, client, program
 from .values import Pattern, dataclass
@@ -20,8 +21,9 @@ MNEMONICS = "ld ldx st stx add sub mul div or and lsh rsh xor neg ja jeq jgt jge
 # What may stand before the first mnemonic: blanks, empty statements, comments; and a word, of which a colon makes a
 # label.
 BEFORE, WORD = Pattern(r"[\s;]+|//[^\n]*\n"), Pattern(r"([A-Za-z_]\w*)\s*(:?)")
-HEXADECIMAL, ARRAY, DECIMALS, ASSEMBLER = ("hexadecimal text", "a C array", "decimals of tcpdump -ddd",
-                                           "scf's assembler text")
+HEXADECIMAL, ARRAY, DECIMALS, ASSEMBLER, LOG = ("hexadecimal text", "a C array", "decimals of tcpdump -ddd",
+                                                "scf's assembler text", "a strace log")
+LOADING = Pattern(r"(?m)^[\[\]pid 0-9]{0,30}(?:seccomp\(SECCOMP_SET_MODE_FILTER|prctl\(PR_SET_SECCOMP), ")
 # What isn't a filter: how it begins, what it is, and what to do.
 OF_PROFILE = ": `scf compare FILTER PROFILE` compares a profile with a filter, `scf compile` makes its filter"
 OTHERS = (
@@ -50,11 +52,6 @@ class Filter:
     def count(self) -> int:
         """The number of its complete instructions."""
         return len(self.data) // SIZE
-
-
-def _packed(rows: Iterable[Sequence[int]]) -> bytes:
-    """The bytes of instructions, each a code, jt, jf and k (struct sock_filter in linux/filter.h)."""
-    return b"".join(code.to_bytes(2, "little") + bytes((jt, jf)) + k.to_bytes(4, "little") for code, jt, jf, k in rows)
 
 
 def _of_line(line: str, offset: int) -> bytes:
@@ -107,14 +104,14 @@ def _of_decimals(text: str) -> bytes | None:
     fits = all(not (code >> 16 or jt >> 8 or jf >> 8 or k >> 32) for code, jt, jf, k in values)
     if rows[0][0].lstrip("0") != str(len(values)) or not fits:
         return None
-    return _packed(values) or None
+    return c_arrays.packed(values) or None
 
 
 def _of_array(text: str) -> bytes | None:
     if not c_arrays.looks_like_array(text):
         return None
     found = c_arrays.rows_in(text)
-    return found if isinstance(found, bytes) else _packed(found)
+    return found if isinstance(found, bytes) else c_arrays.packed(found)
 
 
 def _first_word(text: str) -> str:
@@ -139,7 +136,20 @@ def _of_assembler(text: str) -> bytes | None:
     return done.out
 
 
-FORMS = ((HEXADECIMAL, _of_hexadecimal), (DECIMALS, _of_decimals), (ARRAY, _of_array), (ASSEMBLER, _of_assembler))
+def _of_log(text: str) -> bytes | None:
+    """The one filter that a program loads."""
+    if not LOADING.search(text):
+        return None
+    from . import filter_loads  # pylint: disable=import-outside-toplevel
+
+    filters = {data for stack in filter_loads.stacks_in(text.split("\n")) for data in stack}
+    if len(filters) != 1:
+        raise c_arrays.Malformed(f"{len(filters)} filters are loaded in it, which `scf filters-of --log` writes")
+    return filters.pop()
+
+
+FORMS = ((HEXADECIMAL, _of_hexadecimal), (DECIMALS, _of_decimals), (ARRAY, _of_array), (ASSEMBLER, _of_assembler),
+         (LOG, _of_log))
 
 
 def _forms_of(text: str, label: str) -> Iterator[Filter]:

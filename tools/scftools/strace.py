@@ -50,6 +50,9 @@ DESCRIBED = Pattern(OBJECT, re.S)
 # A number or a name, and what it is.
 PART = Pattern(rf"(?:0x([0-9a-f]{{1,16}})|0([0-7]{{1,22}})|(-?[0-9]{{1,20}})|([A-Z_][A-Z0-9_]*))"
                rf"(?:{OBJECT})?(?: /\*.*?\*/)?", re.S)
+# A register as `strace -e raw=all` prints it, and how a log of all registers begins: other logs have a text there.
+RAW = Pattern(r"(0x[0-9a-f]{1,16}|0)(?: <unfinished \.\.\.>)?")
+RAW_BEGIN = Pattern(r"execve\(0x[0-9a-f]+, (?:0x[0-9a-f]+|0), (?:0x[0-9a-f]+|0)\) += 0\Z")
 UNFINISHED = " <unfinished ...>"
 COMMENT = Pattern(r"/\*|\*/")
 # Where strace's order isn't that of the registers: clone's arguments have names. Of others fewer than these are shown:
@@ -181,9 +184,13 @@ def is_own(line: str) -> bool:
     return CALL.match(line, leader.end()) is not None or line.startswith(("<... ", "--- ", "+++ "), leader.end())
 
 
-def registers_in(text: str, name: re.Match[str], architecture: str = NATIVE) -> Arguments:
-    """The values that the registers of a printed syscall may have, by their arguments' indexes."""
+def registers_in(text: str, name: re.Match[str], architecture: str = NATIVE, is_raw: bool = False) -> Arguments:
+    """The values that the registers of a printed syscall may have, by their arguments' indexes; with `is_raw` strace
+    printed the registers themselves."""
     printed = arguments_in(text, name.end())[0]
+    if is_raw:
+        numbers = [RAW.fullmatch(it.strip()) for it in printed]
+        return {at: (int(it[1], 16) & GREATEST[architecture],) if it else None for at, it in enumerate(numbers)}
     return {at: values_of(it, architecture) for at, it in _in_registers(name[1], printed, architecture).items()}
 
 
@@ -245,10 +252,12 @@ class Log:
     _is_long: bool = False
     # the file's name
     _name: str = ""
+    # whether strace prints registers (-e raw=all), None before the first syscall
+    _is_raw: bool | None = None
 
     def begin(self, name: str) -> None:
         """Begins a log, with processes of its own."""
-        self._name, self._other = name, None
+        self._name, self._other, self._is_raw = name, None, None
         self._architectures, self._alive, self._makers = {}, set(), {}
 
     def add(self, number: int, line: str) -> None:
@@ -397,6 +406,8 @@ class Log:
 
     def _call(self, who: str | None, line: Line, name: re.Match[str], is_cut: bool = False) -> None:
         """Counts a call; where the log doesn't say which of several it is, each of them."""
+        if self._is_raw is None:
+            self._is_raw = RAW_BEGIN.match(line.text) is not None
         architecture = self.architecture_of(who, name[1], line.nr)
         numbered = self._numbered(architecture, name[1])
         if not (is_cut or self._is_long or len(line.text) >= LINE or " = " in line.text):
@@ -414,7 +425,9 @@ class Log:
         """What is known of the arguments of a syscall, which strace prints by its name or as what it does."""
         if not self.looked_at(architecture, one):
             return {}
-        return registers_in(text, name, architecture) if one == name[1] else {0: (multiplexed.NUMBERS[one][name[1]],)}
+        if one != name[1]:
+            return {0: (multiplexed.NUMBERS[one][name[1]],)}
+        return registers_in(text, name, architecture, bool(self._is_raw))
 
     def keep(self, number: int, architecture: str, name: str, arguments: Arguments, count: int = 1) -> None:
         """Counts a syscall by its name, with what is asked for of its arguments."""
@@ -456,15 +469,15 @@ def _pieces(name: str) -> Iterator[bytes]:
         yield piece
 
 
-def lines(name: str) -> Iterator[str]:
-    """The lines of a log (`-` is standard input), each up to the limit."""
+def lines(name: str, most: int = LINE) -> Iterator[str]:
+    """The lines of a log (`-` is standard input), of each at most so many characters."""
     kept = b""
     for piece in _pieces(name):
         *whole, last = piece.split(b"\n")
         for line in whole:
-            yield (kept + line)[:LINE].decode("latin-1")
+            yield (kept + line)[:most].decode("latin-1")
             kept = b""
-        kept = (kept + last)[:LINE]
+        kept = (kept + last)[:most]
     if kept:
         yield kept.decode("latin-1")
 

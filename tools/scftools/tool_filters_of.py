@@ -1,13 +1,24 @@
-"""Writes the seccomp filters of a running process, as the kernel keeps them, into a folder.
+"""Writes the seccomp filters of a process into a folder: of a running one, as the kernel keeps them, or those that a
+program loads.
 
     scf filters-of [--thread TID] [--force] PID FOLDER
+    scf filters-of [--thread TID] FOLDER -- PROGRAM [ARGUMENT ..]
+    scf filters-of [--thread TID] --log LOG FOLDER
 
 The folder is created if it doesn't exist, and must hold no *.bpf. The filters are written oldest first, as 0.bpf, 1.bpf
 and so on (00.bpf if there are more than ten, so that *.bpf lists them in order); each file's name is printed on a line.
 Filters belong to threads: all threads of the process are read, and if they don't have the same filters, the tool says
 so, with status 3; --thread takes those of one thread. PID may also be a thread's number, and stands for its process.
 
-Exit status: 0 success; 2 usage error; 3 the filters can't be read, there are none, or the threads have different ones.
+With a PROGRAM it is run under strace to its end, which needs no rights, with the terminal, input and output as ever;
+the filters are those that it and what it starts hand to the kernel, each with what its process had before. Processes
+without filters don't count; if the others end with different ones, --thread takes those of one, whose number the tool
+says. A traced program gets no privileges of set-user-ID, set-group-ID or file capabilities. LOG is what
+`strace -f -v -o LOG PROGRAM ..` wrote, with all of seccomp, prctl, clone, clone3, fork and vfork.
+
+Exit status: 0 success; 2 usage error; 3 the filters can't be read, there are none, or the threads have different ones;
+125 strace isn't installed; 126 PROGRAM isn't executable; 127 there is none. If the filters of a PROGRAM are written, it
+is the program's status, or the signal that ended it.
 
 Examples:
 
@@ -15,17 +26,31 @@ Examples:
     scf filters-of --thread "$PID" "$PID" filters-of-one
 """
 import os
+import sys
+import tempfile
 
-from . import filters, output, processes, program, words
+from . import c_arrays, filter_loads, filters, inputs, output, processes, program, strace, tracing, words
+from .processes import Stack
+
+OPTIONS = ("-f", "-v", "-e", f"trace={filter_loads.CALLS}", "-e", "signal=none", "--quiet=attach,personality")
 
 
 def read_words():
     parser = words.Parser(__doc__, processes.NEEDS)
     parser.add_argument("--thread", metavar="TID", help="only this thread of the process")
-    parser.add("--force", "pid")
-    parser.add_argument("folder", metavar="FOLDER", help="a folder, created if it doesn't exist, without *.bpf")
-    options = parser.parse_args()
-    options.pid = processes.number_in(options.pid, parser)
+    parser.add_argument("--log", metavar="LOG", help="the filters that this log of strace -f -v shows being loaded")
+    parser.add("--force")
+    parser.add_argument("places", metavar="[PID] FOLDER", nargs="*",
+                        help="a process, or a thread of it; a folder, created if it doesn't exist, without *.bpf")
+    before, behind = tracing.split(sys.argv[1:])
+    options = parser.parse_args(before)
+    is_running = options.log is None and (len(options.places), len(behind)) in ((2, 0), (0, 2))
+    options.traced = [] if is_running else behind
+    places = [*options.places, *behind] if is_running else options.places
+    if not is_running and (len(places) != 1 or bool(options.traced) == (options.log is not None)):
+        parser.error("give PID FOLDER, FOLDER -- PROGRAM, or --log LOG FOLDER")
+    options.folder = places[-1]
+    options.pid = processes.number_in(places[0], parser) if is_running else None
     options.thread = None if options.thread is None else processes.number_in(options.thread, parser)
     if os.path.exists(options.folder) and not os.path.isdir(options.folder):
         parser.error(f"'{options.folder}' isn't a folder")
@@ -34,28 +59,53 @@ def read_words():
     return options
 
 
-def the_one_stack(found, process):
+def the_one_stack(stacks, process):
     """The stack that all threads share."""
-    if len(found.stacks) > 1:
-        shares = "".join(f"; {processes.threads_text(it.threads[process])}: {it.description}" for it in found.stacks)
+    if len(stacks) > 1:
+        shares = "".join(f"; {processes.threads_text(it.threads[process])}: {it.description}" for it in stacks)
         raise program.ToolError(f"the threads of process {process} don't have the same filters{shares}; --thread takes "
-                              f"those of one thread", program.IO_ERROR)
-    stack = found.stacks[0]
-    if not stack.filters:
-        thread = stack.threads[process][0]
-        who = processes.called(thread, process) if len(stack.threads[process]) == 1 else f"process {process}"
-        raise program.ToolError(f"{who} has {stack.description}", program.IO_ERROR)
-    return stack
+                                "those of one thread", program.IO_ERROR)
+    if not stacks[0].filters:
+        thread = stacks[0].threads[process][0]
+        who = processes.called(thread, process) if len(stacks[0].threads[process]) == 1 else f"process {process}"
+        raise program.ToolError(f"{who} has {stacks[0].description}", program.IO_ERROR)
+    return stacks[0]
 
 
-def write(those, folder):
+def loaded_in(log, label, thread):
+    """The stack that the processes of a log share, or that one thread has."""
+    try:
+        stacks = filter_loads.stacks_in(strace.lines(log, filter_loads.LINE))
+    except c_arrays.Malformed as why:
+        raise program.ToolError(f"the filters in {label} can't be read: {why}", program.IO_ERROR) from why
+    if thread is not None:
+        stacks = {stack: threads for stack, threads in stacks.items() if str(thread) in threads}
+    if not stacks:
+        raise program.ToolError(f"no filter is loaded in {label}", program.IO_ERROR)
+    if len(stacks) > 1:
+        shares = "".join(f"; {', '.join(threads[:3])}{', ..' * (len(threads) > 3)}: {Stack(stack, False).description}"
+                         for stack, threads in stacks.items())
+        raise program.ToolError(f"the processes in {label} end with different filters{shares}; --thread takes those of "
+                                "one", program.IO_ERROR)
+    return Stack(next(iter(stacks)), False)
+
+
+def of_program(options):
+    """Runs the program: the stack that it loads, and its status."""
+    with tempfile.TemporaryDirectory(prefix="scf-filters-of-") as folder:
+        log = os.path.join(folder, "log")
+        status = tracing.run(log, OPTIONS, options.traced)
+        return loaded_in(log, "the program", options.thread), status
+
+
+def write(named, folder):
     """Writes the filters, over no file, and prints their files' names; none is left where one can't be written.
 
     Whoever may write beside the folder may replace it meanwhile, so it stays open.
     """
     written, at = [], os.open(folder, os.O_PATH | os.O_DIRECTORY | os.O_CLOEXEC)
     try:
-        for one in those:
+        for one in named:
             with open(one.name, "xb", opener=lambda name, flags: os.open(name, flags, 0o666, dir_fd=at)) as file:
                 written.append(one.name)
                 file.write(one.data)
@@ -69,18 +119,28 @@ def write(those, folder):
         output.put_line(os.path.join(folder, name))
 
 
-def main():
-    options = read_words()
+def of_process(options):
+    """The stack of a running process."""
     kernel = processes.Kernel()
 
     def read():
         process = processes.process_of(kernel, options.pid)
         return process, processes.look_at_process(kernel, process, options.thread, is_forced=options.force)
 
-    process, found = processes.read_or_end(read, has_force=True)
-    for note in found.notes:
+    process, inspection = processes.read_or_end(read, has_force=True)
+    for note in inspection.notes:
         program.say(note)
-    stack = the_one_stack(found, process)
+    return the_one_stack(inspection.stacks, process)
+
+
+def main():
+    options, status = read_words(), program.SUCCESS
+    if options.traced:
+        stack, status = of_program(options)
+    elif options.log is not None:
+        stack = loaded_in(options.log, inputs.label(options.log), options.thread)
+    else:
+        stack = of_process(options)
     os.makedirs(options.folder, exist_ok=True)
     write(stack.named, options.folder)
-    return program.SUCCESS
+    return tracing.end_as(status)

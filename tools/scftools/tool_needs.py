@@ -3,8 +3,9 @@
     scf needs [--profile] [--runtime runc|crun] [--arch ARCH] [--limit N] [--splits N]
               [--table FILE] [--caps LIST] [--json] LOG.. PROFILE
 
-A LOG is what `strace -f --quiet=none -o LOG PROGRAM ..` wrote, or what strace wrote to standard error, with any
-options; without --quiet=none or -n a log file doesn't say which processes run in 32-bit mode. Or it is one of these:
+A LOG is what `scf record LOG -- PROGRAM ..` or `strace -f --quiet=none -o LOG PROGRAM ..` wrote, or what strace wrote
+to standard error, with any options; without --quiet=none or -n a log file doesn't say which processes run in 32-bit
+mode. Or it is one of these:
 
     - audit records of seccomp, as of a profile with SCMP_ACT_LOG, or of syscalls, as `auditctl -a exit,always -S all`
       writes them: the kernel's log, journald's, auditd's, or `ausearch --raw`;
@@ -28,13 +29,14 @@ syscalls is allowed: engines' filters kill for them, and scf's answer is `KILL_P
 i386 program does by socketcall or ipc by its own name, such as socket; without -n both syscalls are judged.
 
 An argument is known from strace if it is printed as a number or by names of tables/arguments.symbols, such as AF_INET
-and CLONE_NEWUSER|SIGCHLD; `strace -X raw` prints numbers in place of names. Of many arguments strace prints the lower
-half alone: if bit 31 is set, the upper half is tried both as zero and as the sign, otherwise it is taken as zero. Of
-the other logs only sys_enter has all arguments, and audit records of syscalls the first four. If a condition tests an
-argument that isn't known, scf compares over all of its values: `depends on arg N` means that the syscall is allowed
-with some and not with others, and shows both. Of i386, x32 and arm conditions compare the lower half alone. Syscalls of
-an architecture that scf has no table of, names that a table doesn't have, and lines that can't be read aren't judged,
-and are reported so. sysdig has one name for some syscalls, such as pipe and pipe2: they aren't judged.
+and CLONE_NEWUSER|SIGCHLD; `strace -X raw` prints numbers in place of names. A log of `record` has whole registers. Else
+strace prints of many arguments the lower half alone: if bit 31 is set, the upper half is tried both as zero and as the
+sign, otherwise it is taken as zero. Of the other logs only sys_enter has all arguments, and audit records of syscalls
+the first four. If a condition tests an argument that isn't known, scf compares over all of its values: `depends on arg
+N` means that the syscall is allowed with some and not with others, and shows both. Of i386, x32 and arm conditions
+compare the lower half alone. Syscalls of an architecture that scf has no table of, names that a table doesn't have, and
+lines that can't be read aren't judged, and are reported so. sysdig has one name for some syscalls, such as pipe and
+pipe2: they aren't judged.
 
 --profile prints the smallest profile that allows the syscalls of the logs, for the architectures that PROFILE lists:
 each by its name, with the values of the arguments that PROFILE's conditions test as far as they are known; all else
@@ -45,7 +47,7 @@ to end, which the log may not show. What isn't in it goes to standard error.
 --runtime adds what the container runtime itself calls behind the filter before it executes the program: without these
 no container starts.
 
-    strace -f -o log ls / && scf needs log profile.json
+    scf record log -- ls / && scf needs log profile.json
     scf needs --profile --runtime runc log profile.json >least.json
 
 Exit status: 0 every syscall is allowed; 1 one isn't, or the profile or the table is refused; 2 usage error, such as LOG

@@ -1,0 +1,229 @@
+"""tools/record and `filters-of FOLDER -- PROGRAM`: programs under strace, their logs, statuses and signals."""
+import json
+import os
+import pathlib
+import shutil
+import signal
+import subprocess
+import sys
+import unittest
+
+from support.common import ALLOW, EPERM, TOP, X86_64, Case, jeq, load, ret, tool
+
+sys.path.append(os.path.join(TOP, "tools"))
+
+from scftools import c_arrays, filter_loads, forms, strace  # noqa: E402
+from scftools.architectures import NATIVE  # noqa: E402
+
+# Filters that allow all but a syscall that nobody makes.
+FIRST, SECOND, THIRD = (load(4) + jeq(X86_64, 0, 2) + load(0) + jeq(number, 1, 0) + ret(ALLOW) + ret(EPERM)
+                        for number in (1000, 1001, 1002))
+# Loads a filter (seccomp(2) 317, prctl(2) 157; PR_SET_NO_NEW_PRIVS 38, PR_SET_SECCOMP 22, SECCOMP_MODE_FILTER 2), by
+# seccomp with these flags or by prctl.
+LOADING = """
+import ctypes, os, sys, threading
+libc = ctypes.CDLL(None, use_errno=True)
+class Program(ctypes.Structure):
+    _fields_ = [("len", ctypes.c_ushort), ("filter", ctypes.c_char_p)]
+def load(data, flags=None):
+    program = Program(len(data) // 8, data)
+    libc.prctl(38, 1, 0, 0, 0)
+    if flags is None:
+        return libc.prctl(22, 2, ctypes.byref(program))
+    return libc.syscall(317, 1, flags, ctypes.byref(program))
+FIRST, SECOND, THIRD = map(bytes.fromhex, sys.argv[1:4])
+"""
+TSYNC, NEW_LISTENER = 1, 8
+
+
+def python(script):
+    """The words that run a script behind LOADING."""
+    return [sys.executable, "-S", "-c", LOADING + script, FIRST.hex(), SECOND.hex(), THIRD.hex()]
+
+
+@unittest.skipUnless(shutil.which("strace"), "strace isn't installed")
+class Traced(Case):
+    def trace(self, script, name="log", options=("-f", "-v")):
+        """The path of the log of a script of Python's, whose arguments are the filters."""
+        log = self.path(name)
+        subprocess.run(["strace", *options, "-o", log, *python(script)], stdout=subprocess.PIPE, check=True)
+        return log
+
+    def run_python(self, name, script, *words):
+        return self.run_tool(name, *words, "--", *python(script))
+
+    def path(self, name):
+        return os.path.join(self.folder, name)
+
+    def taken(self, folder="out"):
+        files = sorted(os.listdir(os.path.join(self.folder, folder)))
+        return [pathlib.Path(self.folder, folder, it).read_bytes() for it in files]
+
+
+class Filters(Traced):
+    def test_one_process(self):
+        """Both calls load filters; a load that fails counts for nothing, and a descriptor is success."""
+        status, out, err = self.run_python("filters-of", f"""
+load(FIRST)
+load(b"\\0" * 8)
+load(SECOND, {NEW_LISTENER})
+print("hello")""", "out")
+        self.assertEqual((status, err), (0, ""))
+        self.assertEqual(out, "hello\nout/0.bpf\nout/1.bpf\n")
+        self.assertEqual(self.taken(), [FIRST, SECOND])
+
+    def test_children_have_what_their_parents_had(self):
+        script = """
+load(FIRST)
+child = os.fork()
+if child == 0:
+    load(SECOND)
+    os._exit(0)
+os.waitpid(child, 0)
+load(THIRD)
+print(child)"""
+        status, out, err = self.run_python("filters-of", script, "out")
+        self.assertEqual(status, 3)
+        self.assertIn("the processes in the program end with different filters", err)
+        self.assertIn("--thread takes those of one", err)
+        child = out.strip()
+        self.assertIn(f"; {child}: 2 filters, of 6, 6 instructions", err)
+        log = self.trace(script)
+        stacks = filter_loads.stacks_in(strace.lines(log, filter_loads.LINE))
+        self.assertEqual(list(stacks), [(FIRST, SECOND), (FIRST, THIRD)])
+        (child,), (parent,) = stacks.values()
+        self.assertEqual(self.run_tool("filters-of", "--log", "log", "--thread", child, "a")[0], 0)
+        self.assertEqual(self.run_tool("filters-of", "--log", "log", "--thread", parent, "b")[0], 0)
+        self.assertEqual([self.taken("a"), self.taken("b")], [[FIRST, SECOND], [FIRST, THIRD]])
+
+    def test_threads(self):
+        """A filter is the loading thread's alone, but with SECCOMP_FILTER_FLAG_TSYNC that of all."""
+        for flags, count in ((0, 2), (TSYNC, 1)):
+            log = self.trace(f"""
+load(FIRST)
+go, done = threading.Event(), threading.Event()
+thread = threading.Thread(target=lambda: (done.set(), go.wait()))
+thread.start()
+done.wait()
+load(SECOND, {flags})
+go.set()
+thread.join()""", f"log{flags}")
+            stacks = filter_loads.stacks_in(strace.lines(log, filter_loads.LINE))
+            self.assertEqual(sorted(map(len, stacks)), [1, 2][-count:])
+            self.assertEqual(sum(map(len, stacks.values())), 2)
+
+    def test_a_process_without_filters_does_not_count(self):
+        status, out, _ = self.run_python("filters-of", """
+if os.fork() == 0:
+    load(FIRST)
+    os._exit(0)
+os.wait()
+sys.exit(5)""", "out")
+        self.assertEqual((status, out), (5, "out/0.bpf\n"))
+        self.assertEqual(self.run_tool("filters-of", "none", "--", "true"),
+                         (3, "", "filters-of: no filter is loaded in the program\n"))
+        self.assertFalse(os.path.exists(self.path("none")))
+
+    def test_a_log_as_a_filter(self):
+        self.run_python("filters-of", "load(FIRST)", "out")
+        for options, text in ((("-v",), None), ((), "it doesn't show the filters whole: strace does with -v")):
+            with open(self.trace("load(FIRST)", options=options), "rb") as file:
+                data = b"".join(line for line in file if line.startswith((b"prctl(PR_SET_SECCOMP", b"execve(")))
+            if text is None:
+                form = forms.form_of(data, "x")
+                self.assertEqual((form.name, form.data), ("a strace log", FIRST))
+            else:
+                with self.assertRaisesRegex(forms.program.ToolError, text):
+                    forms.form_of(data, "x")
+
+    def test_libseccomp(self):
+        """What strace shows of libseccomp's loading is what libseccomp writes."""
+        script = """
+import seccomp
+made = seccomp.SyscallFilter(seccomp.ALLOW)
+made.add_rule(seccomp.ERRNO(1), "socket", seccomp.Arg(0, seccomp.EQ, 40))
+made.add_rule(seccomp.KILL_PROCESS, "ptrace")
+made.add_rule(seccomp.TRACE(7), "swapon")
+made.add_rule(seccomp.TRAP, "swapoff")
+made.add_rule(seccomp.LOG, "reboot")
+made.export_bpf(open("exported", "wb"))
+made.load()
+"""
+        if subprocess.run(["/usr/bin/python3", "-c", "import seccomp"], stderr=subprocess.PIPE, check=False).returncode:
+            self.skipTest("python3-seccomp isn't installed")
+        self.assertEqual(self.run_tool("filters-of", "out", "--", "/usr/bin/python3", "-c", script)[0], 0)
+        with open(self.path("exported"), "rb") as file:
+            self.assertEqual(self.taken(), [file.read()])
+
+    def test_logs_that_say_too_little(self):
+        stack = "{len=1, filter=[BPF_STMT(BPF_RET|BPF_K, SECCOMP_RET_ALLOW)]}"
+        loads = f"seccomp(SECCOMP_SET_MODE_FILTER, 0, {stack}) = 0"
+        self.assertEqual(filter_loads.stacks_in([loads]), {(ret(ALLOW),): [""]})
+        self.assertEqual(filter_loads.stacks_in([loads.replace(" = 0", " = -1 EINVAL (Invalid argument)")]), {})
+        self.assertEqual(filter_loads.stacks_in([loads.replace(" = 0", " = 7")]), {})
+        with self.assertRaisesRegex(c_arrays.Malformed, "1 of a filter's 2 instructions"):
+            filter_loads.stacks_in([loads.replace("len=1", "len=2")])
+        with self.assertRaisesRegex(c_arrays.Malformed, "doesn't number each process"):
+            filter_loads.stacks_in([loads, f"[pid 7] {loads}"])
+        superseded = ["1 clone(child_stack=0, flags=CLONE_VM|CLONE_THREAD <unfinished ...>", f"2 {loads}",
+                      "1 <... clone resumed>) = 2", "1 +++ superseded by execve in pid 2 +++",
+                      "1 +++ exited with 0 +++"]
+        self.assertEqual(filter_loads.stacks_in(superseded), {(ret(ALLOW),): ["1"]})
+
+    def test_usage(self):
+        for words in (("out",), ("--log", "x"), ("--log", "x", "1", "out"), ("1", "out", "--", "true"), ()):
+            status, out, err = self.run_tool("filters-of", *words)
+            self.assertEqual((status, out), (2, ""), words)
+            self.assertIn("give PID FOLDER, FOLDER -- PROGRAM, or --log LOG FOLDER", err)
+
+
+class Recorded(Traced):
+    def test_status_and_signals(self):
+        self.assertEqual(self.run_tool("record", "log", "--", "sh", "-c", "cat; echo no >&2; exit 7", given=b"in"),
+                         (7, "in", "no\n"))
+        self.assertEqual(self.run_tool("record", "log", "--", "sh", "-c", "kill -KILL $$")[0], -signal.SIGKILL)
+        self.assertEqual(self.run_tool("record", "log", "--", "nosuch"),
+                         (127, "", "record: there is no program 'nosuch'\n"))
+        self.assertEqual(self.run_tool("record", "log", "--", self.file("text", b"")),
+                         (126, "", f"record: '{self.path('text')}' isn't executable\n"))
+        self.assertEqual(self.run_tool("record", "a/b", "--", "true")[0], 3)
+        for words in (("log",), ("log", "--"), ("--", "true"), ("a", "b", "--", "true")):
+            self.assertEqual(self.run_tool("record", *words)[:2], (2, ""))
+
+    def test_the_terminal_interrupts_the_program_alone(self):
+        script = "trap 'echo caught; exit 3' INT; echo ready; while :; do sleep 0.1; done"
+        with subprocess.Popen([tool("record"), self.path("log"), "--", "sh", "-c", script], stdout=subprocess.PIPE,
+                              start_new_session=True, cwd=self.folder) as process:
+            self.assertEqual(process.stdout.readline(), b"ready\n")
+            os.killpg(process.pid, signal.SIGINT)
+            self.assertEqual((process.stdout.read(), process.wait()), (b"caught\n", 3))
+
+    def test_registers_are_whole(self):
+        """Both halves of an argument are known, whatever bit 31 is: 0x80000000 isn't its sign."""
+        script = "libc.syscall(1000, *map(ctypes.c_ulong, (1 << 31, 1 << 63 | 5, 0, 2 ** 64 - 1, 7, 8)))"
+        self.assertEqual(self.run_python("record", script, "log")[0], 0)
+        log = strace.Log(lambda *_: (0, 1, 2, 3))
+        log.begin("log")
+        for number, line in enumerate(strace.lines(self.path("log")), 1):
+            log.add(number, line)
+        log.end()
+        self.assertIn((NATIVE, "syscall_0x3e8", ((1 << 31,), (1 << 63 | 5,), (0,), (2 ** 64 - 1,))), log.calls)
+
+    def test_least_profile(self):
+        base = self.file("base.json", json.dumps({"defaultAction": "SCMP_ACT_ERRNO", "syscalls": [
+            {"names": ["personality"], "action": "SCMP_ACT_ALLOW",
+             "args": [{"index": 0, "value": 0xFFFFFFFF, "op": "SCMP_CMP_EQ"}]}]}))
+        status, out, err = self.run_python("record", "libc.personality(ctypes.c_ulong(0xFFFFFFFF)); print('ran')",
+                                           "--profile", base, "least.json")
+        self.assertEqual((status, out), (0, "ran\n"), err)
+        with open(self.path("least.json"), encoding="utf-8") as file:
+            least = json.load(file)
+        entries = {tuple(it["names"]): it.get("args") for it in least["syscalls"]}
+        self.assertEqual(entries[("personality",)], [{"index": 0, "value": 0xFFFFFFFF, "op": "SCMP_CMP_EQ"}])
+        self.assertEqual(least["defaultAction"], "SCMP_ACT_ERRNO")
+        status, out, _ = self.run_python("record", "print('ran')", "--profile", self.file("bad", b"{}"), "least.json")
+        self.assertEqual((status, out.split("\n")[0]), (1, "fault profile Missing"))
+
+
+if __name__ == "__main__":
+    unittest.main()
