@@ -1,0 +1,182 @@
+"""Regions of records, as `scf answers` prints them, judged by a second machine and a second reading of profiles: every
+record lies in exactly one region, or only in open ones, and gets the answer that stands there."""
+import random
+import re
+import unittest
+
+from common import ALLOW, EPERM, UNKNOWN_ZERO, X86_64, filter_of, insn, jeq, jge, load, part, ret
+
+import kernel_programs
+import several
+import symbolic
+from stand_in import StandIn, unpacked
+
+WORD = (1 << 32) - 1
+LINE = re.compile(r"(unknown|[A-Z_]+ (?:0x[0-9a-f]{8}|[0-9]+)) (?:at ([0-9]+):([0-9]+)|(entry [0-9]+|default|foreign))"
+                  r"( open)?((?: w[0-9]+ [^ ]+)*)")
+CALL = re.compile(r"call nr ([0-9]+) arch (0x[0-9a-f]+) ip (0x[0-9a-f]+) args((?: 0x[0-9a-f]+){6})")
+SET = re.compile(r"((?:0x[0-9a-f]+(?:-0x[0-9a-f]+)?,?)*)(?:&(0x[0-9a-f]+)=(0x[0-9a-f]+))?"
+                 r"((?:!0x[0-9a-f]+=0x[0-9a-f]+)*)")
+# The most steps of a drawn stack: random jumps have very many paths.
+STEPS = 2000
+
+
+def values_of(text):
+    """The intervals, the known bits and the refuted ones of a word."""
+    intervals, mask, bits, refuted = SET.fullmatch(text).groups()
+    ranges = [[int(it, 16) for it in part.split("-")] for part in filter(None, intervals.split(","))]
+    pairs = [[int(it, 16) for it in part.split("=")] for part in refuted.split("!")[1:]]
+    return [(it[0], it[-1]) for it in ranges] or [(0, WORD)], int(mask or "0", 16), int(bits or "0", 16), pairs
+
+
+class Region:
+    """A line of `scf answers`."""
+
+    def __init__(self, line):
+        found = LINE.fullmatch(line)
+        assert found, line
+        self.answer, filter_at, index, self.reason, is_open, words = found.groups()
+        self.place = None if index is None else (int(filter_at), int(index))
+        self.is_open = bool(is_open)
+        named = iter(words.split())
+        self.words = {int(name[1:]): values_of(text) for name, text in zip(named, named)}
+
+    def has(self, record):
+        """Whether a record, as its sixteen words, lies in it."""
+        return all(any(low <= record[at] <= high for low, high in intervals) and record[at] & mask == bits
+                   and all(record[at] & one != other for one, other in refuted)
+                   for at, (intervals, mask, bits, refuted) in self.words.items())
+
+
+def record_of(line):
+    """The sixteen words of a record that is printed."""
+    number, arch, pointer, arguments = CALL.fullmatch(line).groups()
+    whole = [int(it, 16) for it in (pointer, *arguments.split())]
+    return [int(number), int(arch, 16), *(half for it in whole for half in (it & WORD, it >> 32))]
+
+
+def regions_of(text):
+    """The regions of an output with examples, each with its record."""
+    *lines, last = text.splitlines()
+    found = [(Region(line), record_of(example)) for line, example in zip(lines[::2], lines[1::2])]
+    assert re.fullmatch(f"regions {len(found)} steps [0-9]+", last), last
+    return found
+
+
+def drawn_records(dice, programs, count):
+    """Records whose words are constants of the filters, or beside them, or drawn."""
+    known = kernel_programs.constants([[kernel_programs.Insn(code, k) for code, _, _, k in it] for it in programs])
+    for _ in range(count):
+        record = []
+        for at in range(16):
+            near = sorted(known.get(at, known[-1]))
+            record.append(dice.choice((dice.choice(near) + dice.choice((0, 0, 1, -1)), dice.getrandbits(32), 0)) & WORD)
+        yield record
+
+
+class Regions(unittest.TestCase):
+    """Those of the second implementation."""
+
+    def printed(self, bundle, **words):
+        """What is printed of a bundle with examples; None if it is unfinished."""
+        try:
+            return symbolic.printed(bundle, {"examples": True, **words}, STEPS)
+        except symbolic.Unfinished:
+            return None
+
+    def lies(self, regions, record, answer):
+        """The region of a record with this answer."""
+        having = [one for one, _ in regions if one.has(record)]
+        exact = [one for one in having if not one.is_open]
+        self.assertTrue(len(exact) == 1 or not exact and having, record)
+        for one in exact or having:
+            if not one.is_open and one.answer != "unknown":
+                self.assertEqual(one.answer, answer, record)
+        self.assertTrue(any(one.answer in (answer, "unknown") for one in having), record)
+        return exact[0] if exact else None
+
+    def of_stack(self, filters, records):
+        """Judges the regions of a stack by records, and by those that are printed."""
+        text = self.printed(b"".join(part("filter", it) for it in filters))
+        if text is None:
+            return 0
+        regions, programs, machine = regions_of(text), [unpacked(it) for it in filters], StandIn()
+        for record in (*records, *(shown for _, shown in regions)):
+            answers = [machine.answer(it, record) for it in reversed(programs)]
+            answer = min(answers, key=symbolic.rank)
+            one = self.lies(regions, record, machine.printed(answer))
+            if one is not None and one.answer != "unknown":
+                at, index = one.place
+                path = []
+                self.assertEqual(machine.answer(programs[at], record, path), answer, record)
+                self.assertEqual(path[-1], index, record)
+        for one, shown in regions:
+            self.assertTrue(one.has(shown), shown)
+        return len(records)
+
+    def of_profile(self, reading, records):
+        """Judges the regions of a profile."""
+        bundle = b"".join(part(*it) for it in [("profile", several.text(reading.profile)),
+                                               *several.tables_of(reading.given)])
+        regions = regions_of(self.printed(bundle, architectures=True))
+        for one, record in regions:
+            self.assertTrue(one.has(record) and not one.is_open, record)
+        for record in (*records, *(shown for _, shown in regions)):
+            arguments = [record[at] | record[at + 1] << 32 for at in range(4, 16, 2)]
+            answer, reason = reading.answer(record[1], record[0], arguments)
+            one = self.lies(regions, record, StandIn().printed(answer))
+            self.assertEqual(one.reason, reason, record)
+        return len(records)
+
+    def test_stacks(self):
+        """Drawn stacks, whose filters compute, jump and store at random."""
+        dice, count = random.Random(71), 0
+        while count < 5000:
+            stack = kernel_programs.random_stack(dice)
+            filters = [kernel_programs.packed(it) for it in stack]
+            count += self.of_stack(filters, list(drawn_records(dice, stack, 20)))
+
+    def test_profiles(self):
+        """Drawn profiles for several architectures, and filters of them."""
+        dice, count = random.Random(72), 0
+        while count < 5000:
+            reading = several.draw(dice)
+            if reading.fault() is not None:
+                continue
+            records = [[number, arch, 0, 0, *(half for it in arguments for half in (it & WORD, it >> 32))]
+                       for name in reading.rules for arch, number, arguments in reading.records(name, dice, 2)]
+            records = dice.sample(records, min(len(records), 40)) + [[0, 0x28] + [0] * 14]
+            count += self.of_profile(reading, records)
+            self.of_stack([several.compile_filter(reading)[0]], records[:10])
+
+    def test_computed(self):
+        """What isn't followed leaves regions open; an answer of a few bits is known."""
+        self.of_stack([UNKNOWN_ZERO + jeq(0, 0, 1) + ret(ALLOW) + ret(EPERM)],
+                      list(drawn_records(random.Random(1), [], 9)))
+        low_bits = load(16) + insn(0x54, 0x3) + insn(0x44, 0x50000) + insn(0x16, 0)
+        self.assertEqual({one.answer for one, _ in regions_of(self.printed(part("filter", low_bits)))},
+                         {f"ERRNO {it}" for it in range(4)})
+        self.assertEqual({one.answer for one, _ in regions_of(self.printed(part("filter", load(16) + insn(0x16, 0))))},
+                         {"unknown"})
+
+    def test_scopes(self):
+        """The records of x86-64, and of some of its numbers."""
+        data = part("filter", filter_of([3, 5]))
+        for words, numbers in (({"native": True}, (0, 0x3FFFFFFF)), ({"nr-from": 4, "nr-to": 5}, (4, 5))):
+            regions = regions_of(self.printed(data, **words))
+            for arch, number in ((X86_64, it) for it in {*numbers, 5}):
+                record = [number, arch] + [0] * 14
+                self.lies(regions, record, "ALLOW 0" if number == 5 else "ERRNO 1")
+            for record in ([numbers[1] + 1, X86_64] + [0] * 14, [5, 0x40000003] + [0] * 14):
+                self.assertFalse(any(one.has(record) for one, _ in regions))
+
+    def test_intervals(self):
+        """The words are printed as they are known."""
+        text = self.printed(part("filter", load(0) + jge(10, 0, 2) + insn(0x45, 6, 1, 0) + ret(EPERM) + ret(ALLOW)))
+        self.assertEqual(sorted(line for line in text.splitlines() if line.startswith(("ALLOW", "ERRNO"))), [
+            "ALLOW 0 at 0:4 w0 0x0-0x9", "ALLOW 0 at 0:4 w0 0xa-0xffffffff!0x6=0x0",
+            "ERRNO 1 at 0:3 w0 0xa-0xffffffff&0x6=0x0"])
+
+
+if __name__ == "__main__":
+    unittest.main()
