@@ -260,7 +260,7 @@ class Judge:
         """Forgets what isn't known: it may have taken too long, and may be known with more time."""
         for key in [key for key, it in self.known.values.items() if it.verdict == NOT_KNOWN]:
             del self.known.values[key]
-        for key in [key for key, those in self.foreign.values.items() if not all(it.is_proved for it in those)]:
+        for key in [key for key, those in self.foreign.values.items() if not all(it.is_decided for it in those)]:
             del self.foreign.values[key]
 
     def judge(self, stack: Stack, asked: Request | None, relation: str = SAME) -> Judgement:
@@ -316,11 +316,11 @@ class Judge:
         if key not in self.foreign.values:
             self.foreign.keep(key, comparison.foreign(comparison.scope), 0)
         for one in self.foreign.values[key]:
-            if one.kind.of.oci in names or one.kind.of.oci in elsewhere:
+            if one.abi.oci in names or one.abi.oci in elsewhere:
                 continue
             if one.not_denied:
-                return Judgement(WEAKER, why=f"the profile doesn't name {one.kind.of.oci}; {one.describe()}")
-            if not one.is_proved:
+                return Judgement(WEAKER, why=f"the profile doesn't name {one.abi.oci}; {one.describe()}")
+            if not one.is_decided:
                 found = replace(found, verdict=NOT_KNOWN, why=one.describe())
         return replace(found, not_compared=tuple(names))
 

@@ -222,10 +222,20 @@ def is_spent() -> bool:
 
 
 def compare(words: Sequence[str], bundle: bytes) -> Run:
-    """`scf compare` within the limits of the command line; a tool without --limit has scf's own while there is time,
-    and reports once that it is up."""
+    """`scf compare` within the limits of the command line."""
+    return _limited(["compare", *words, *(f"--{name}={text}" for name, text in limits.items())], bundle)
+
+
+def answers(words: Sequence[str], bundle: bytes) -> Run:
+    """`scf answers` within them."""
+    of_limit = [f"--limit={limits['limit']}"] if "limit" in limits else []
+    return _limited(["answers", *words, *of_limit], bundle)
+
+
+def _limited(words: Sequence[str], bundle: bytes) -> Run:
+    """Runs scf within the limits of the command line; a tool without --limit has scf's own while there is time, and
+    reports once that it is up."""
     global _is_spent_reported, _seconds_of_scf  # pylint: disable=global-statement
-    words = ["compare", *words, *(f"--{name}={text}" for name, text in limits.items())]
     if "limit" in limits or not program.is_tool:
         return run(words, bundle)
     if built() is None:

@@ -9,18 +9,19 @@ from __future__ import annotations
 from collections import Counter
 from collections.abc import Iterable, Iterator, Sequence
 
-from . import (answer_sets, architectures, client, constants, engines, output, program, questions, reasons,
-               runtimes, tables)
-from .answer_sets import COMPUTED, UNFOLLOWED, UPPER, Answers
-from .answers import ALLOWED, DISPOSITIONS, ENOSYS, X32, Answer
+from . import (answer_sets, architectures, client, constants, engines, other_abis, output, program, questions, reasons,
+               regions, runtimes, tables)
+from .answer_sets import OPEN, UPPER, Answers
+from .answers import DISPOSITIONS, ENOSYS, X32, Answer
 from .architectures import JUDGED, NATIVE, Architecture
 from .argument_sets import ALL, NONE, OTHERS, STEPS, Alternative, Covers, Sets, Steps, TooMany
-from .calls import NO_CALL, Call
+from .calls import Call
 from .client import Refusal
 from .compare import Comparison
 from .explanation import join_names
 from .filters import Filter
-from .questions import EVERYTHING, IS_DENIED, NOTHING, Asker
+from .questions import EVERYTHING, NOTHING, Asker
+from .regions import Numbers, Region
 from .tables import Table, Tables
 from .values import dataclass, field, replace
 from .verdicts import NO_LESS, NO_MORE, SAME, NamedCall, Report
@@ -33,7 +34,7 @@ EXACT, CONSTANT, UTMOST = range(3)
 
 def nearest(word: int | None, is_permissive: bool) -> Answer:
     """The answer of a profile that is nearest to a filter's, with the same disposition."""
-    if word is UNFOLLOWED:
+    if word is None:
         return EVERYTHING if is_permissive else NOTHING
     answer = Answer.of_word(word)
     if answer.action == "UNNAMED":
@@ -111,7 +112,7 @@ class FilterAnswers:
     def unsaid(self, found: Answers) -> Answer | None:
         """An answer to the calls of a number that no profile gives, such as TRAP with data."""
         return next((Answer.of_word(word) for word, _ in found
-                     if word is not UNFOLLOWED and Answer.of_word(word) != nearest(word, True)), None)
+                     if word is not None and Answer.of_word(word) != nearest(word, True)), None)
 
     def untested(self, found: Answers) -> str | None:
         """What the answer to the calls of a number depends on that no condition tests, or None. Raises TooMany."""
@@ -122,12 +123,12 @@ class FilterAnswers:
     def _untested(self, found: Answers) -> str | None:
         if self.is_unfinished:
             return "it is unfinished"
-        if any(word is UNFOLLOWED for word, _ in found):
+        if any(word is None for word, _ in found):
             return "its answer is computed"
         variables = set().union(*(self.sets.variables(arguments) for _, arguments in found))
         if any(OTHERS <= it < UPPER for it in variables):
             return "its answer depends on the instruction pointer"
-        if any(it >= COMPUTED for it in variables):
+        if any(it >= OPEN for it in variables):
             return "its answer depends on a comparison or computation that no operator makes"
         if any(it >= UPPER for it in variables):
             return "its answer depends on the upper half of an argument"
@@ -240,9 +241,9 @@ def own_steps() -> Steps:
 
 @dataclass(frozen=True)
 class Request:
-    """Filters, oldest first, the table of an architecture, the architecture, the name of the
-    runtime that reads the profile, the OCI names of other architectures that the profile may list, too, and the steps
-    in which filters are followed."""
+    """Filters, oldest first, the table of an architecture, the architecture, the name of the runtime that reads the
+    profile, the OCI names of other architectures that the profile may list, too, the steps in which profiles are
+    found, and the regions of the filters, None if they are unfinished."""
 
     filters: Sequence[Filter]
     table: Table
@@ -250,6 +251,7 @@ class Request:
     runtime: str | None = None
     others: Sequence[str] = ()
     steps: Steps = field(default_factory=own_steps)
+    regions: Sequence[Region] | None = None
 
     @property
     def data(self) -> list[bytes]:
@@ -282,21 +284,29 @@ class Request:
         expected = replace(comparison, stub=first if relation == SAME else {})
         return expected.calls_of(self.architecture.oci)
 
-    def check(self) -> None:
-        """Raises Refusal if scf refuses the filters, the table or the limit."""
-        self.compared({"defaultAction": "SCMP_ACT_ALLOW", "architectures": [self.architecture.oci], "syscalls": []})
+    def asked(self) -> Request:
+        """The same with the regions of the filters. Raises Refusal if scf refuses the filters or the table."""
+        try:
+            found = regions.of_filters(self.data)
+        except regions.Unfinished:
+            found = None
+        Asker(self.data, self.architecture).check(self.table)
+        return replace(self, regions=found)
 
     def answers(self) -> FilterAnswers:
-        """What accepted filters answer, number by number; nothing is known if that takes too many steps."""
-        one, sets, is_unfinished = self.architecture, Sets(self.architecture.bits, self.steps), False
-        numbers = sorted({*self.table.numbers(), *questions.numbers_tested(self.data, one),
-                          *(first for first, _ in questions.gaps(self.table, one))})
+        """What the filters answer, number by number; nothing is known if that takes too many steps."""
+        one, sets, is_unfinished = self.architecture, Sets(self.architecture.bits, self.steps), self.regions is None
+        numbers = Numbers(self.regions or (), one)
+        firsts = (it - one.first for it in numbers.turns())
+        listed = sorted({*self.table.numbers(), *(it for it in firsts if it < X32),
+                         *(first for first, _ in questions.gaps(self.table, one))})
         try:
-            found = answer_sets.of_filters(sets, self.data, one, numbers)
+            found = answer_sets.of_numbers(sets, numbers, [one.first + it for it in listed])
         except TooMany:
             sets, is_unfinished = Sets(one.bits, Steps()), True
-            found = [((UNFOLLOWED, ALL),)] * len(numbers)
-        answers = FilterAnswers(one, sets, self.table, numbers, found, Covers(sets), is_unfinished=is_unfinished)
+        if is_unfinished:
+            found = [((None, ALL),)] * len(listed)
+        answers = FilterAnswers(one, sets, self.table, listed, found, Covers(sets), is_unfinished=is_unfinished)
         is_runc = self.runtime is not None and runtimes.RUNTIMES[self.runtime].program == runtimes.RUNC
         return answers.with_stub() if is_runc else answers
 
@@ -412,17 +422,9 @@ def _covered(request: Request, listed: Sequence[str], count: int = 1) -> Iterato
 
 def _allowed(request: Request, one: Architecture) -> Iterator[str]:
     """A line if scf doesn't prove that the filters deny every syscall of an architecture."""
-    # no syscall has a number from NO_CALL on
-    verdict = Asker(request.data, one).of_numbers(IS_DENIED, 0, min(one.last, NO_CALL - 1) - one.first)
-    if verdict.holds:
-        return
-    said = "undecided whether any syscall is allowed"
-    if verdict.call is not None and verdict.filters is not None:
-        which = "some syscalls are allowed" if verdict.filters.disposition == ALLOWED else "not every syscall is denied"
-        number, table = verdict.call.number - one.first, tables.of_architecture(one.oci)
-        names = [] if table is None else table.names_of(number)
-        said = f"{which}, such as {f'{names[0]} ({number})' if names else f'number {number}'}: {verdict.filters}"
-    yield f"{one.name}: {said}; --arch {one.name} prints its profile"
+    found = other_abis.of_abi(request.data, request.regions, one)
+    if not found.are_denied:
+        yield f"{found.describe()}; --arch {one.name} prints its profile"
 
 
 @dataclass(frozen=True)
@@ -459,7 +461,7 @@ def _both_sides(request: Request, answers: FilterAnswers, bounds: Sequence[Prove
 
 def of_request(request: Request, relation: str) -> Result:
     """The profile of filters; with a relation other than the same, the nearest one that has it."""
-    request.check()
+    request = request.asked()
     try:
         return _of_answers(request, request.answers(), relation)
     except TooMany:

@@ -7,16 +7,15 @@ from collections.abc import Iterator, Sequence
 
 from . import constants, program
 from .answer_sets import Answers
-from .architectures import I386, Architecture
 from .answers import ERRNOS, Answer
+from .architectures import I386, Architecture
 from .argument_sets import ALL_ALTERNATIVES, ALL_LISTED, NONE, Alternative, TooMany
 from .client import Refusal
 from .entries import Condition
 from .filters import Filter
 from .profile_of import UNFINISHED, FilterAnswers, Request, entry_of, own_steps
 from .questions import EVERYTHING, NOTHING, Asker
-from .surfaces import Row
-from .tables import Table
+from .surfaces import Row, Surface
 from .values import dataclass
 from .verdicts import NO_LESS, NO_MORE, SAME
 
@@ -185,13 +184,15 @@ def unfinished() -> str:
     return UNFINISHED.format(own_steps().most)
 
 
-def add(filters: Sequence[bytes], table: Table, rows: Sequence[Row], one: Architecture) -> bool:
-    """Adds the conditions to the rows of an architecture that have several answers, where scf proves them. False if
-    following the filters takes too many steps."""
-    request = Request([Filter("", data) for data in filters], table, one)
-    answers, asker = request.answers(), Asker(filters, one)
+def add(surface: Surface) -> bool:
+    """Adds the conditions to the rows of a surface that have several answers, where scf proves them. False if finding
+    them takes too many steps."""
+    asker = surface.asker
+    request = Request([Filter("", data) for data in asker.filters], surface.table, asker.architecture,
+                      regions=surface.regions)
+    answers = request.answers()
     try:
-        drafts = _drafts(answers, rows)
+        drafts = _drafts(answers, surface.rows)
     except TooMany:
         return False
     groups: dict[tuple[Answer, bool], list[tuple[Row, Conditions]]] = {}

@@ -102,8 +102,8 @@ def of_surfaces(one: Surface, other: Surface) -> Beside:
     pairs = tuple(Pair(*rows, lines[rows[0].number]) for rows in zip(one.rows, other.rows) if rows[0].number in lines)
     of_unnamed = tuple(comparison.of_numbers(first, end - 1) for first, end in questions.gaps(one.table))
     # no scope of scf has the syscalls of another ABI alone
-    of_kinds = (_comparison(one.asker, other.asker, one.table, [kind.alone]) for kind in other_abis.KINDS)
-    return Beside(one, other, pairs, of_unnamed, tuple(it.run()[1].verdict for it in of_kinds))
+    of_abis = (_comparison(one.asker, other.asker, one.table, [other_abis.filter_of(it)]) for it in other_abis.ABIS)
+    return Beside(one, other, pairs, of_unnamed, tuple(it.run()[1].verdict for it in of_abis))
 
 
 def _of_both(found: Beside) -> Iterator[str]:
@@ -201,7 +201,7 @@ def _surface(filters: Sequence[Filter], settings: Settings) -> Surface:
     if settings.has_conditions:
         from . import row_conditions  # pylint: disable=import-outside-toplevel
 
-        found.are_conditions_finished = row_conditions.add(data, settings.table, found.rows, settings.architecture)
+        found.are_conditions_finished = row_conditions.add(found)
         if not found.are_conditions_finished:
             program.say(f"conditions: {row_conditions.unfinished()}")
     return found

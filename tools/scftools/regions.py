@@ -1,0 +1,183 @@
+"""Regions: everything that filters or a profile answer, by `scf answers`: sets of records, each with its answer.
+
+Each record lies in a region. All records of an exact one get its answer, and no record lies in two exact ones. Open
+regions come of a test that scf doesn't decide: a record may lie in several of them, and gets the answer of one.
+"""
+from __future__ import annotations
+
+import bisect
+from collections.abc import Iterable, Mapping, Sequence
+
+from . import bundles, client, program
+from .answers import Answer
+from .architectures import Architecture
+from .calls import Call
+from .listing import ARCHITECTURE, ARGUMENTS, NUMBER
+from .tables import Tables
+from .values import Pattern, dataclass, replace
+
+LINE = Pattern(r"((unknown|\w+ \w+) (?:at [0-9]+:[0-9]+|entry ([0-9]+)|\w+))( open)?((?: w[0-9]+ \S+)*)")
+WORD = Pattern(r"((?:0x[0-9a-f]+[-,]?)*)(?:&(0x[0-9a-f]+)=(0x[0-9a-f]+))?((?:!0x[0-9a-f]+=0x[0-9a-f]+)*)")
+# The most intervals into which bits that are known divide the numbers of a region.
+MOST = 4096
+
+
+class Unfinished(Exception):
+    """scf took as many steps as it may."""
+
+
+class TooMany(Exception):
+    """Bits that are known divide numbers into more than MOST intervals."""
+
+
+@dataclass(frozen=True)
+class Word:
+    """The possible values of a word: those in an interval, with the known bits and without any refuted ones."""
+
+    intervals: Sequence[tuple[int, int]] = ((0, (1 << 32) - 1),)
+    mask: int = 0
+    bits: int = 0
+    refuted: Sequence[tuple[int, int]] = ()
+
+    @classmethod
+    def read(cls, text: str) -> Word:
+        """Parses what `scf answers` prints of a word."""
+        found = WORD.fullmatch(text)
+        if not found:
+            raise program.ToolError(f"scf answers printed an unexpected set: {text}", program.IO_ERROR)
+        ends = [it.partition("-") for it in found[1].split(",")] if found[1] else []
+        intervals = [(int(low, 16), int(high or low, 16)) for low, _, high in ends]
+        pairs = [it.partition("=") for it in found[4].split("!")[1:]]
+        refuted = [(int(mask, 16), int(bits, 16)) for mask, _, bits in pairs]
+        return cls(intervals or cls.intervals, int(found[2] or "0", 16), int(found[3] or "0", 16), refuted)
+
+    def has(self, value: int) -> bool:
+        """Whether a value is possible."""
+        return (value & self.mask == self.bits and any(low <= value <= high for low, high in self.intervals)
+                and not any(value & mask == bits for mask, bits in self.refuted))
+
+    def within(self, first: int, last: int) -> list[tuple[int, int]]:
+        """The possible values in a range, as intervals. Raises TooMany."""
+        found = [(max(low, first), min(high, last)) for low, high in self.intervals if low <= last and high >= first]
+        return [it for part in found for it in self._split(*part)] if self.mask or self.refuted else found
+
+    def _split(self, low: int, high: int) -> list[tuple[int, int]]:
+        left, found = [(low, high)], []
+        while left:
+            low, high = left.pop()
+            same = -1 << (low ^ high).bit_length()
+            refuted = [mask & ~same for mask, bits in self.refuted if not (low ^ bits) & mask & same]
+            if (low ^ self.bits) & self.mask & same or 0 in refuted:
+                continue
+            if not self.mask & ~same and not refuted:
+                found.append((low, high))
+            else:
+                middle = high & same >> 1
+                left += (middle, high), (low, middle - 1)
+            if len(found) + len(left) > MOST:
+                raise TooMany
+        return found
+
+
+FREE, EVERY = Word(), (1 << 32) - 1
+
+
+@dataclass(frozen=True)
+class Region:
+    """A set of records: those whose words have these values, by the index of each word that isn't free."""
+
+    # the answer and its reason as scf prints them; the answer, None if it is computed; the entry that gives it
+    line: str
+    answer: Answer | None
+    entry: int | None
+    is_exact: bool
+    words: dict[int, Word]
+    # one of its records
+    call: Call
+
+    @property
+    def is_decided(self) -> bool:
+        """Whether each of its records gets its answer."""
+        return self.is_exact and self.answer is not None
+
+    def has(self, arguments: Mapping[int, int]) -> bool:
+        """Whether some of its records have these arguments, by their indexes."""
+        return all(self.words.get(ARGUMENTS + 2 * index + half, FREE).has(value >> 32 * half & EVERY)
+                   for index, value in arguments.items() for half in (0, 1))
+
+    def call_of(self, number: int, one: Architecture, given: Mapping[int, int] | None = None) -> Call:
+        """One of its records, of an architecture, that has a number and arguments which some have."""
+        arguments = [(given or {}).get(index, value) for index, value in enumerate(self.call.arguments)]
+        return replace(self.call, number=number, architecture=one.number, arguments=tuple(arguments))
+
+
+def _read(text: str) -> list[Region]:
+    lines, words, found = text.splitlines(), {}, []
+    for line, example in zip(lines[::2], lines[1::2]):
+        parts, call = LINE.fullmatch(line), Call.read(example)
+        if not parts or call is None:
+            raise program.ToolError(f"scf answers printed an unexpected line: {line}", program.IO_ERROR)
+        given = parts[5].split()
+        for one in given[1::2]:
+            if one not in words:
+                words[one] = Word.read(one)
+        of_words = {int(name[1:]): words[one] for name, one in zip(given[::2], given[1::2])}
+        entry = None if parts[3] is None else int(parts[3])
+        found.append(Region(parts[1], Answer.read(parts[2]), entry, not parts[4], of_words, call))
+    return found
+
+
+def _asked(words: Sequence[str], bundle: bytes) -> list[Region]:
+    """The regions that scf prints. Raises Refusal and Unfinished."""
+    done = client.answers(["--examples", *words], bundle)
+    if done.status == program.UNKNOWN:
+        raise Unfinished
+    if done.status != program.SUCCESS:
+        raise client.Refusal(done.line, done.status)
+    return _read(done.text)
+
+
+def of_filters(filters: Sequence[bytes]) -> list[Region]:
+    """The regions of filters, oldest first. Raises Refusal and Unfinished."""
+    return _asked([], bundles.of_stack(filters))
+
+
+def of_profile(profile: bytes, judged: Tables) -> list[Region]:
+    """The regions of a profile's architectures. Raises Refusal and Unfinished."""
+    return _asked(judged.words, bundles.of_compilation(profile, judged))
+
+
+class Numbers:
+    """The regions of an architecture by the syscall numbers of records."""
+
+    def __init__(self, found: Iterable[Region], one: Architecture, last: int | None = None):
+        self.first, self.last = one.first, one.last if last is None else last
+        self._all = [it for it in found if it.words.get(ARCHITECTURE, FREE).has(one.number)]
+        # ranges of numbers with the same regions; None if they are too many
+        self.ranges: list[tuple[int, int, list[Region]]] | None = None
+        try:
+            self.ranges = self._ranges()
+        except TooMany:
+            pass
+
+    def _ranges(self) -> list[tuple[int, int, list[Region]]]:
+        parts = [(*part, it) for it in self._all for part in it.words.get(NUMBER, FREE).within(self.first, self.last)]
+        cuts = sorted({self.first, self.last + 1, *(low for low, _, _ in parts), *(high + 1 for _, high, _ in parts)})
+        starting: dict[int, list[tuple[int, Region]]] = {}
+        for low, high, it in parts:
+            starting.setdefault(low, []).append((high, it))
+        found, here = [], []
+        for low, end in zip(cuts, cuts[1:]):
+            here = [(high, it) for high, it in here if high >= low] + starting.get(low, [])
+            found.append((low, end - 1, [it for _, it in here]))
+        return found
+
+    def of(self, number: int) -> list[Region]:
+        """Those with records of a number."""
+        if self.ranges is None:
+            return [it for it in self._all if it.words.get(NUMBER, FREE).has(number)]
+        return self.ranges[bisect.bisect(self.ranges, (number, self.last + 1)) - 1][2]
+
+    def turns(self) -> list[int]:
+        """The first numbers of ranges."""
+        return [low for low, _, _ in self.ranges or ()]
