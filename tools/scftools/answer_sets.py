@@ -10,7 +10,7 @@ from __future__ import annotations
 from collections.abc import Iterable, Sequence
 
 from .argument_sets import ALL, NONE, OTHERS, Sets
-from .listing import ARGUMENTS, END
+from .listing import ARCHITECTURE, ARGUMENTS, END
 from .regions import Numbers, Region, Word
 
 EVERY = (1 << 32) - 1
@@ -56,16 +56,22 @@ def _of_word(sets: Sets, word: int, one: Word) -> int:
     return found
 
 
+def arguments_of(sets: Sets, one: Region) -> int:
+    """The arguments of a region's records. Raises TooMany."""
+    found = ALL
+    for word, values in one.words.items():
+        found = sets.both(found, _of_word(sets, word, values)) if word > ARCHITECTURE else found
+    return found
+
+
 def of_numbers(sets: Sets, found: Numbers, numbers: Sequence[int]) -> list[Answers]:
     """For each of an architecture's numbers the answers to its syscalls. Raises TooMany."""
     memo: dict[int, int] = {}
 
-    def arguments_of(one: Region) -> int:
+    def of_region(one: Region) -> int:
         if id(one) not in memo:
-            those = ALL if one.is_exact else sets.node(OPEN + len(memo), NONE, ALL)
-            for word, values in one.words.items():
-                those = sets.both(those, _of_word(sets, word, values)) if word > 1 else those
-            memo[id(one)] = those
+            which = ALL if one.is_exact else sets.node(OPEN + len(memo), NONE, ALL)
+            memo[id(one)] = sets.both(which, arguments_of(sets, one))
         return memo[id(one)]
 
     listed: list[Answers] = []
@@ -73,6 +79,6 @@ def of_numbers(sets: Sets, found: Numbers, numbers: Sequence[int]) -> list[Answe
         answers: dict[int | None, int] = {}
         for one in found.of(number):
             word = None if one.answer is None else one.answer.word
-            answers[word] = sets.either(answers.get(word, NONE), arguments_of(one))
+            answers[word] = sets.either(answers.get(word, NONE), of_region(one))
         listed.append(tuple(answers.items()))
     return listed

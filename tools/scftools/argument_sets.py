@@ -281,9 +281,9 @@ class Sets:
         """The arguments that meet a condition."""
         index, op, value, two = one.index, one.op, one.value, one.two
         if op == "SCMP_CMP_MASKED_EQ":
-            return self.cube(index, two, value)
+            return self.cube(index, two, value) if value & two <= self.most else NONE
         if op in ("SCMP_CMP_EQ", "SCMP_CMP_NE"):
-            found = self.cube(index, value, self.most)
+            found = self.cube(index, value, self.most) if value <= self.most else NONE
             return found if op == "SCMP_CMP_EQ" else self.complement(found)
         # at least `value`, or above it
         least = value + (op in ("SCMP_CMP_GT", "SCMP_CMP_LE"))

@@ -1,7 +1,8 @@
 """Causes: why a syscall was denied, delegated or logged, by a profile and by filters, in lines and as JSON."""
 from __future__ import annotations
 
-from collections.abc import Iterator, Sequence
+import functools
+from collections.abc import Callable, Iterator, Sequence
 
 from . import amendment, client, decisions, listing, output, program, reasons, refusals, tables
 from .amendment import Amendment
@@ -63,6 +64,16 @@ class Inputs:
         """The tables of the architectures that the profile is judged for."""
         return tables.of_profile(self.profile or b"", self.table, self.is_native)
 
+    @functools.cached_property
+    def of_filters(self) -> Stack:
+        """What the filters answer. Raises Refusal."""
+        return Stack.of_filters([it.data for it in self.filters])
+
+    @functools.cached_property
+    def of_profile(self) -> Stack:
+        """What the profile answers. Raises Refusal."""
+        return Stack.of_profile(self.profile or b"", self.judged)
+
 
 @dataclass
 class Cause:
@@ -85,9 +96,9 @@ class Cause:
         return client.worst(verdicts[it.verdict] if it.refusal is None else it.refusal.status for it in self.sides)
 
 
-def _side(name: str, stack: Stack, event: Event) -> Side:
+def _side(name: str, stack_of: Callable[[], Stack], event: Event) -> Side:
     try:
-        found = tuple(cases(stack, event))
+        found = tuple(cases(stack_of(), event))
     except Refusal as why:
         return Side(name, refusal=why)
     return Side(name, found, verdict_of(found))
@@ -98,19 +109,14 @@ def of(event: Event, count: int, given: Inputs) -> Cause:
     found = Cause(event, count, given)
     if given.filters:
         name = "the filter" if len(given.filters) == 1 else "the filters"
-        found.filters = _side(name, Stack([it.data for it in given.filters], given.trial), event)
+        found.filters = _side(name, lambda: given.of_filters, event)
     if given.profile is None:
-        return found
-    try:
-        stack = Stack([client.compile_profile(given.profile, given.judged)], given.trial)
-    except Refusal as why:
-        found.profile = Side("the profile", refusal=why)
         return found
     reason = reasons.of(given.profile, given.judged, event.call.words())
     if decisions.is_undetermined(reason, event.call, given.profile, given.judged):
         found.profile = Side("the profile", is_undetermined=True)
         return found
-    found.profile = _side("the profile", stack, event)
+    found.profile = _side("the profile", lambda: given.of_profile, event)
     denied = next((it for it in found.profile.found if not it.answer.allows), None)
     if denied is not None:
         reason = reasons.of(given.profile, given.judged, denied.call.words())

@@ -6,22 +6,19 @@ of scf. On an architecture of 32 bits only the lower half is compared.
 """
 from __future__ import annotations
 
-from collections.abc import Callable, Iterator, Mapping, Sequence
+from collections.abc import Iterator, Mapping, Sequence
 
 from . import constants
 from .answers import Answer
 from .architectures import JUDGED
-from .calls import Call
-from .entries import Condition, Entry, Reading, record_of, where_met
+from .entries import Condition, Entry, Reading, record_of
 from .findings import MOST, Finding, Owners, listed
-from .questions import IS_ALLOWED
-from .reasons import Reason
+from .needless import Met
+from .regions import Numbers, Region
 from .tables import Tables
-from .trials import Trial
 from .values import dataclass
 
 LOW = (1 << 32) - 1
-DENIES = Answer("ERRNO", 1)
 # The most answers to compute in the search for evaded denials.
 LOOKS = 200000
 # A bit of the upper half, as an example for all of them.
@@ -109,35 +106,20 @@ def of_conditions(found: Sequence[Entry], judged: Tables) -> Iterator[Finding]:
             yield from _of_argument(entry, place, one, kinds[one.index], greatest)
 
 
-def _not_covered(trial: Trial, its: Mapping[str, Sequence[Entry]]) -> Iterator[str]:
-    """The names of syscalls of which scf doesn't prove that each call, on each architecture, meets one of some
-    entries."""
-    allowed = [it.allowing([name]) for name, entries_of in its.items() for it in entries_of]
-    for one in map(trial.only, trial.tables.of):
-        numbers = {name: one.tables.number_of(name) for name in its if one.tables.has(name)}
-        calls = "".join(f"{name} {number}\n" for name, number in numbers.items()).encode()
-        report = one.report([IS_ALLOWED.filter], one.profile_of(DENIES, allowed), calls, "--calls", "--no-more")
-        left_out = {it.number for it in report.calls}
-        yield from (name for name, number in numbers.items() if number in left_out)
-
-
-def of_unions(trial: Trial, found: Sequence[Entry]) -> Iterator[Finding]:
+def of_unions(judged: Tables, found: Sequence[Entry]) -> Iterator[Finding]:
     """Entries with conditions and one answer that together cover every call of a syscall: they were meant to hold all
-    at once, and one of them is enough."""
+    at once, and one of them is enough. Raises TooMany."""
     having: dict[tuple[str, Answer], list[Entry]] = {}
     for entry in found:
         for name in entry.names:
             having.setdefault((name, entry.answer), []).append(entry)
-    doubtful = {key: its for key, its in having.items() if len(its) > 1 and all(it.conditions for it in its)
-                and not where_met([], [it.conditions for it in its], trial.tables.numbers_of(key[0]))}
-    for answer in dict.fromkeys(answer for _, answer in doubtful):
-        its = {name: entries_of for (name, one), entries_of in doubtful.items() if one == answer}
-        left_out = set(_not_covered(trial, its))
-        for name, entries_of in its.items():
-            if name not in left_out:
-                places = [it.place for it in entries_of]
-                yield Finding("always-met", f"entries {listed(list(map(str, places)), 'and')}: every call of {name} "
-                              "meets one of them, so one entry is enough", {"entries": places, "name": name})
+    met = Met()
+    for (name, _), its in having.items():
+        if len(its) > 1 and all(it.conditions for it in its) and \
+                all(met.are_all(its, one) for one in judged.numbers_of(name)):
+            places = [it.place for it in its]
+            yield Finding("always-met", f"entries {listed(list(map(str, places)), 'and')}: every call of {name} meets "
+                          "one of them, so one entry is enough", {"entries": places, "name": name})
 
 
 @dataclass(frozen=True)
@@ -168,8 +150,8 @@ class Evasion:
 class Denials:
     """Searches for denials of an architecture's syscalls that a bit in the upper half of a register evades."""
 
-    def __init__(self, ask: Callable[[Call], Reason], reading: Reading):
-        self.ask, self.reading = ask, reading
+    def __init__(self, numbers: Numbers, reading: Reading):
+        self.numbers, self.reading = numbers, reading
         self.looks = LOOKS
 
     def _allows(self, number: int, record: dict[int, int]) -> bool:
@@ -186,19 +168,20 @@ class Denials:
                 return low, high
         return None
 
-    def _answer(self, number: int, record: dict[int, int]) -> tuple[Answer | None, int | None]:
-        reason = self.ask(self.reading.call(number, *(record.get(at, 0) for at in range(6))))
-        return reason.answer, reason.entry
+    def _region(self, number: int, record: dict[int, int]) -> Region | None:
+        """That of a record with these arguments, and zeros as the others."""
+        given = {index: record.get(index, 0) for index in range(6)}
+        return next((it for it in self.numbers.of(self.reading.one.first + number) if it.has(given)), None)
 
     def _evasion(self, name: str, number: int, one: Condition, pair: tuple[dict[int, int], dict[int, int]]) -> \
             Evasion | None:
-        (denied, _), (allowed, by) = (self._answer(number, it) for it in pair)
-        if denied is None or allowed is None or not denied.denies or not allowed.allows:
+        denied, allowed = (self._region(number, it) for it in pair)
+        if denied is None or allowed is None or not denied.answer.denies or not allowed.answer.allows:
             return None
         low, high = (it[one.index] for it in pair)
         asked_of = {it.index for entry in self.reading.having(number) for it in entry.conditions}
         others = tuple((at, pair[0].get(at, 0)) for at in sorted(asked_of - {one.index}))
-        return Evasion(name, one.index, low, high, others, denied, by)
+        return Evasion(name, one.index, low, high, others, denied.answer, allowed.entry)
 
     def run(self, found: Sequence[Entry]) -> Iterator[Evasion]:
         """The evaded denials, each syscall and argument once."""
@@ -218,13 +201,13 @@ class Denials:
                         yield evasion
 
 
-def of_denials(judged: Tables, ask: Callable[[Call], Reason], readings: Mapping[str, Reading],
+def of_denials(judged: Tables, regions: Sequence[Region] | None, readings: Mapping[str, Reading],
                found: Sequence[Entry]) -> Iterator[Finding]:
     """The evaded denials on architectures whose arguments have an upper half."""
     evaded: dict[Evasion, list[str]] = {}
     whole = [it for it in readings if JUDGED[it].greatest > LOW]
     for one in whole:
-        for evasion in Denials(ask, readings[one]).run(found):
+        for evasion in Denials(Numbers(regions or (), JUDGED[one]), readings[one]).run(found):
             evaded.setdefault(evasion, []).append(one)
     for evasion, on in evaded.items():
         numbers = judged.numbers_of(evasion.name)

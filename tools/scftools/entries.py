@@ -8,12 +8,12 @@ import itertools
 import json
 from collections.abc import Callable, Iterable, Iterator, Sequence
 
-from .answers import ALLOW, Answer
-from .architectures import JUDGED, Architecture
+from .answers import Answer
+from .architectures import Architecture
 from .calls import Call
 from .profiles import HOLDS, LONGEST_NUMBER
 from .tables import Table
-from .values import Any, dataclass, replace
+from .values import Any, dataclass
 
 MOST = (1 << 64) - 1
 # The most values of an argument to try, and the most records.
@@ -59,21 +59,11 @@ class Entry:
     def as_json(self) -> dict[str, object]:
         return {"names": list(self.names), **self.answer.members(), "args": [it.as_json() for it in self.conditions]}
 
-    def allowing(self, names: Sequence[str]) -> Entry:
-        """The entry for some names, with ALLOW as its action."""
-        return replace(self, names=tuple(names), answer=ALLOW)
-
 
 def profile_of(default: Answer, entries: Iterable[Entry], architectures: Iterable[str] = ()) -> bytes:
     """The text of a profile for these architectures, by default x86-64, without entries that have no names."""
     return json.dumps({**default.default(), "architectures": list(architectures),
                        "syscalls": [it.as_json() for it in entries if it.names]}).encode()
-
-
-def profile_on(default: Answer, values: dict[int, int], answer: Answer, architectures: Iterable[str] = ()) -> bytes:
-    """The text of a profile that answers so the calls of `it` with these arguments, and all else by default."""
-    conditions = tuple(Condition(index, "SCMP_CMP_EQ", value, 0) for index, value in values.items())
-    return profile_of(default, [Entry(0, ("it",), answer, conditions)], architectures)
 
 
 class Object(dict):
@@ -155,14 +145,6 @@ def record_of(all_of: Sequence[Conditions], none_of: Sequence[Conditions], most:
     return None
 
 
-def where_met(all_of: Sequence[Conditions], none_of: Sequence[Conditions], on: Iterable[str]) -> list[str]:
-    """Those of some architectures, by OCI names, on which arguments are found that meet all of the first conditions and
-    none of the second."""
-    names = list(dict.fromkeys(on))
-    is_met = {most: record_of(all_of, none_of, most) is not None for most in {JUDGED[it].greatest for it in names}}
-    return [it for it in names if is_met[JUDGED[it].greatest]]
-
-
 class Reading:
     """What a profile answers to the syscalls of an architecture, by its entries as they are read here; scf has the last
     word. A number is one of the architecture's table."""
@@ -193,8 +175,3 @@ class Reading:
 
     def allows(self, number: int | None, record: dict[int, int]) -> bool:
         return self.answer(number, record).allows
-
-    def always_allows(self, number: int | None) -> bool:
-        """Whether an entry without conditions allows a number, or the default does, and no entry has it."""
-        having = self.having(number)
-        return any(it.answer.allows and not it.conditions for it in having) or not having and self.default.allows

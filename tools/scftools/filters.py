@@ -114,9 +114,3 @@ def split(data: bytes, bounds: Sequence[tuple[int, int, int]], answer: int, runs
                 + instruction(JUMP | JGE, first, 0, 2) + instruction(JUMP | JGT, last, 1, 0) + beyond + code)
     others = instruction(RETURN_CONSTANT, answer) if runs_beyond else b""
     return code + others + instruction(LOAD_CONSTANT, 0) + data
-
-
-def only_on(data: bytes, number: int, conditions: Sequence[tuple[int, int, int]], answer: int) -> bytes:
-    """A filter that runs these bytes for such a syscall, and otherwise gives this answer."""
-    return (_tests(number, conditions) + instruction(JUMP, 1) + instruction(RETURN_CONSTANT, answer)
-            + instruction(LOAD_CONSTANT, 0) + data)

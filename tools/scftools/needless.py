@@ -1,28 +1,27 @@
 """Entries without effect: a profile without them answers every syscall as before, by a verdict of `scf compare`; and
 entries that give one syscall two answers, with an example.
 
-A short search looks for a syscall that only one entry answers. If it finds none the entry is doubtful, and scf compares
-the profile with itself without all that is doubtful, and if that isn't the same, without its halves. So all reported
-entries can be removed together, and each by itself.
+What an entry alone answers is found by sets of arguments. Entries and names that answer nothing alone are left out, the
+last first, and scf compares the profile with itself without all of them. So all reported entries can be removed
+together, and each by itself.
 """
 from __future__ import annotations
 
 from collections.abc import Iterable, Iterator, Sequence
 
 from .answers import Answer
+from .architectures import JUDGED
+from .argument_sets import ALL, NONE, Sets, Steps, TooMany
 from .calls import Call
-from .entries import Entry, where_met
+from .entries import Entry
 from .findings import Owners
 from .tables import Tables
 from .trials import Trial
 from .values import dataclass, replace
-from .verdicts import MORE, SAME, Verdict
+from .verdicts import SAME, Verdict
 
-DENIES = Answer("ERRNO", 1)
-# The most comparisons of one run, pairs of entries to check, and candidates to cover an entry.
-COMPARISONS, PAIRS, COVERS = 500, 10000, 8
-# The most entries to consider in the search for a syscall that only one answers.
-LOOKS = 200000
+# The most pairs of entries to check.
+PAIRS = 10000
 ONE, BY_DEFAULT, BY_NONE, TOGETHER = "one", "default", "none", "together"
 
 
@@ -40,11 +39,11 @@ class Needless:
 
 @dataclass(frozen=True)
 class Undecided:
-    """An undecided name of an entry, and the verdict; None if it wasn't checked."""
+    """An undecided name of an entry, and the verdict."""
 
     place: int
     name: str
-    verdict: Verdict | None
+    verdict: Verdict
 
 
 # A name of an entry, by the entry's index; and a syscall: the OCI name of an architecture, and a number of its table.
@@ -52,14 +51,44 @@ Named = tuple[int, str]
 Syscall = tuple[str, int]
 
 
+class Met:
+    """The sets of arguments that meet the conditions of entries, on each architecture. Raises TooMany."""
+
+    def __init__(self) -> None:
+        steps = Steps()
+        self._sets = {one.bits: Sets(one.bits, steps) for one in JUDGED.values()}
+        self._found: dict[tuple[int, int], int] = {}
+
+    def of(self, name: str) -> Sets:
+        """The sets of an architecture, by its OCI name."""
+        return self._sets[JUDGED[name].bits]
+
+    def by(self, entry: Entry, name: str) -> int:
+        """What meets an entry."""
+        key = entry.place, self.of(name).bits
+        if key not in self._found:
+            self._found[key] = self.of(name).of_conditions(entry.conditions)
+        return self._found[key]
+
+    def are_all(self, others: Iterable[Entry], name: str, those: int = ALL) -> bool:
+        """Whether some arguments, or all, each meet one of some entries."""
+        for other in others:
+            self.of(name).spend(1)
+            those = self.of(name).without(those, self.by(other, name)) if those else NONE
+        return those == NONE
+
+    def is_within(self, entry: Entry, others: Iterable[Entry], name: str) -> bool:
+        """Whether all that meets an entry meets one of others."""
+        return self.are_all(others, name, self.by(entry, name))
+
+
 class Search:
-    """The entries of a profile, its filter for all architectures that are judged, and the names of entries that are
-    still kept."""
+    """The entries of a profile, its filter for all architectures that are judged, and the names of entries that can be
+    left out."""
 
     def __init__(self, trial: Trial, data: bytes, default: Answer, entries: Sequence[Entry]):
-        self.trial, self.filter, self.default = trial, data, default
+        self.trial, self.filter, self.default, self.met = trial, data, default, Met()
         self.entries = {it.place: it for it in entries}
-        self.looks = LOOKS
         self.gone: set[Named] = set()
         self.undecided: list[Undecided] = []
         self._having: dict[Syscall, dict[Named, Entry]] = {}
@@ -75,75 +104,50 @@ class Search:
         """The other entries that have a syscall, without what is removed."""
         return [it for at, it in self._having[call].items() if at not in self.gone and it.place != entry.place]
 
-    def _is_alone(self, entry: Entry, call: Syscall) -> bool:
-        """Whether arguments of a syscall are found that no other entry answers."""
-        others = self._beside(entry, call)
-        self.looks -= len(others)
-        return self.looks <= 0 or bool(where_met([entry.conditions], [it.conditions for it in others], call[:1]))
+    def _has_effect(self, entry: Entry, name: str) -> bool:
+        """Whether an entry alone answers some syscall by a name, and differently than the default."""
+        try:
+            return entry.answer != self.default and not all(
+                self.met.is_within(entry, self._beside(entry, call), call[0]) for call in self._syscalls(name))
+        except TooMany:
+            return True
 
-    def _doubtful(self) -> list[Named]:
-        """What may be without effect together, since no syscall is found that only an entry answers by a name, and
-        differently than the default: whole entries first, then names of others, from the last on."""
-        found: list[Named] = []
+    def _leave_out(self) -> None:
+        """Leaves out what has no effect: whole entries first, then names of others, from the last on."""
         for is_whole in (True, False):
             for entry in reversed(self.entries.values()):
                 names = [it for it in entry.names if (entry.place, it) not in self.gone]
-                doubtful = [(entry.place, it) for it in names if entry.answer == self.default or
-                            not any(self._is_alone(entry, call) for call in self._syscalls(it))]
-                if len(doubtful) == len(entry.names) or not is_whole:
-                    found += doubtful
-                    self.gone.update(doubtful)
-        self.gone = set()
-        return found
+                needless = [(entry.place, it) for it in names if not self._has_effect(entry, it)]
+                if len(needless) == len(entry.names) or not is_whole:
+                    self.gone.update(needless)
 
-    def _kept(self, gone: set[Named]) -> Iterator[Entry]:
-        """The entries without these names."""
-        for entry in self.entries.values():
-            yield replace(entry, names=tuple(it for it in entry.names if (entry.place, it) not in gone))
-
-    def _settle(self, doubtful: Sequence[Named]) -> None:
-        """Removes what scf proves to be without effect: all of it, or else the same for its halves."""
-        if self.trial.count >= COMPARISONS:
-            self.undecided += [Undecided(*it, None) for it in doubtful]
-            return
-        gone = self.gone | set(doubtful)
-        verdict = self.trial.verdict([self.filter], self.trial.profile_of(self.default, self._kept(gone)))
-        if verdict.word == SAME:
-            self.gone = gone
-        elif len(doubtful) > 1:
-            self._settle(doubtful[:len(doubtful) // 2])
-            self._settle(doubtful[len(doubtful) // 2:])
-        elif not verdict.fails:
-            self.undecided.append(Undecided(*doubtful[0], verdict))
-
-    def _is_within(self, entry: Entry, names: Sequence[str], others: Sequence[Entry]) -> bool:
-        """Whether scf proves that others cover an entry."""
-        wider = [other.allowing(names) for other in others]
-        alone, beside = (self.trial.profile_of(DENIES, its) for its in (wider, [*wider, entry.allowing(names)]))
-        return self.trial.verdict([self.trial.filter_of(alone)], beside).word == SAME
+    def _is_same(self) -> Verdict:
+        """What scf says of the profile without what is left out."""
+        kept = (replace(it, names=tuple(name for name in it.names if (it.place, name) not in self.gone))
+                for it in self.entries.values())
+        return self.trial.verdict([self.filter], self.trial.profile_of(self.default, kept))
 
     def _why(self, entry: Entry, names: Sequence[str]) -> tuple[str, tuple[int, ...]]:
         if entry.answer == self.default:
             return BY_DEFAULT, ()
         calls = [call for name in names for call in self._syscalls(name)]
-        on = [one for one, _ in calls]
         having = [{it.place for it in self._beside(entry, call)} for call in calls]
-        around = [self.entries[place] for place in sorted(set.intersection(*having))]
-        around = [it for it in around if not where_met([entry.conditions], [it.conditions], on)][:COVERS]
-        if self.trial.count >= COMPARISONS:
-            return TOGETHER, tuple(sorted(set.union(*having)))
-        for other in around:
-            if self._is_within(entry, names, [other]):
-                return ONE, (other.place,)
-        if not where_met([entry.conditions], [], on) and self._is_within(entry, names, []):
-            return BY_NONE, ()
+        try:
+            if all(self.met.is_within(entry, [], one) for one, _ in calls):
+                return BY_NONE, ()
+            for place in sorted(set.intersection(*having)):
+                if all(self.met.is_within(entry, [self.entries[place]], one) for one, _ in calls):
+                    return ONE, (place,)
+        except TooMany:
+            pass
         return TOGETHER, tuple(sorted(set.union(*having)))
 
     def run(self) -> Iterator[Needless]:
         """What is without effect, all together, by entry; afterwards `undecided` has what is undecided."""
-        doubtful = self._doubtful()
-        if doubtful:
-            self._settle(doubtful)
+        self._leave_out()
+        verdict = self._is_same() if self.gone else None
+        if verdict is not None and verdict.word != SAME:
+            self.undecided, self.gone = [Undecided(*it, verdict) for it in sorted(self.gone)], set()
         for entry in self.entries.values():
             names = tuple(name for name in entry.names if (entry.place, name) in self.gone)
             if names:
@@ -153,21 +157,13 @@ class Search:
 
 @dataclass(frozen=True)
 class Conflict:
-    """Two entries that give a syscall two answers, on which architectures, and an example on the first of them, if scf
-    gives one."""
+    """Two entries that give a syscall two answers, on which architectures, and an example on the first of them."""
 
     first: Entry
     second: Entry
     name: str
     owners: Owners
-    call: Call | None
-
-
-def _call_of_both(trial: Trial, first: Entry, second: Entry, name: str) -> Call | None:
-    """A syscall that two entries have: one that filters of both allow."""
-    filters = [trial.filter_of(trial.profile_of(DENIES, [it.allowing([name])])) for it in (first, second)]
-    verdict = trial.verdict(filters, trial.profile_of(DENIES, []), "--no-more")
-    return verdict.call if verdict.word == MORE else None
+    call: Call
 
 
 def _pairs(entries: Sequence[Entry], judged: Tables) -> Iterator[tuple[Entry, Entry, str, list[str]]]:
@@ -185,15 +181,19 @@ def _pairs(entries: Sequence[Entry], judged: Tables) -> Iterator[tuple[Entry, En
             yield from ((other, entry, name, on) for other, on in others.values())
 
 
-def conflicts(trial: Trial, entries: Sequence[Entry], most: int) -> Iterator[Conflict]:
-    """Entries that conflict, each two once, at most so many of them."""
+def conflicts(judged: Tables, entries: Sequence[Entry], most: int) -> Iterator[Conflict]:
+    """Entries that conflict, each two once, at most so many of them. Raises TooMany."""
     seen: set[tuple[int, int]] = set()
-    for count, (first, second, name, on) in enumerate(_pairs(entries, trial.tables)):
+    met = Met()
+    for count, (first, second, name, on) in enumerate(_pairs(entries, judged)):
         if count >= PAIRS or len(seen) >= most:
             return
         places = first.place, second.place
-        met = [] if places in seen else where_met([first.conditions, second.conditions], [], on)
-        if met:
+        both = {} if places in seen else {it: met.of(it).both(met.by(first, it), met.by(second, it)) for it in on}
+        where = [it for it, those in both.items() if those]
+        if where:
             seen.add(places)
-            owners = Owners.of(met, on, trial.tables)
-            yield Conflict(first, second, name, owners, _call_of_both(trial.only(owners.first), first, second, name))
+            one = JUDGED[where[0]]
+            call = Call(one.first + judged.numbers_of(name)[one.oci], one.number,
+                        arguments=met.of(one.oci).least(both[one.oci]))
+            yield Conflict(first, second, name, Owners.of(where, on, judged), call)

@@ -88,7 +88,7 @@ def of_abi(filters: Sequence[bytes], found: Sequence[Region] | None, one: Archit
     for low, _, here in numbers.ranges:
         for region in here:
             if region.is_decided and region.answer.disposition != DENIED:
-                return Known(one, (region.call_of(low, one), region.answer))
+                return Known(one, (region.call_of(low, one.number), region.answer))
     are_decided = all(it.answer is not None and it.answer.denies for _, _, here in numbers.ranges for it in here)
     return Known(one) if are_decided else _asked(Asker(filters, one))
 

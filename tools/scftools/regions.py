@@ -18,6 +18,8 @@ from .values import Pattern, dataclass, replace
 
 LINE = Pattern(r"((unknown|\w+ \w+) (?:at [0-9]+:[0-9]+|entry ([0-9]+)|\w+))( open)?((?: w[0-9]+ \S+)*)")
 WORD = Pattern(r"((?:0x[0-9a-f]+[-,]?)*)(?:&(0x[0-9a-f]+)=(0x[0-9a-f]+))?((?:!0x[0-9a-f]+=0x[0-9a-f]+)*)")
+# Behind the words of the instruction pointer come those of the arguments.
+POINTER = -1
 # The most intervals into which bits that are known divide the numbers of a region.
 MOST = 4096
 
@@ -100,15 +102,19 @@ class Region:
         """Whether each of its records gets its answer."""
         return self.is_exact and self.answer is not None
 
+    def is_of(self, number: int, architecture: int) -> bool:
+        """Whether some of its records have this number and architecture."""
+        return self.words.get(NUMBER, FREE).has(number) and self.words.get(ARCHITECTURE, FREE).has(architecture)
+
     def has(self, arguments: Mapping[int, int]) -> bool:
-        """Whether some of its records have these arguments, by their indexes."""
+        """Whether some of its records have these arguments, by their indexes; the instruction pointer's is POINTER."""
         return all(self.words.get(ARGUMENTS + 2 * index + half, FREE).has(value >> 32 * half & EVERY)
                    for index, value in arguments.items() for half in (0, 1))
 
-    def call_of(self, number: int, one: Architecture, given: Mapping[int, int] | None = None) -> Call:
-        """One of its records, of an architecture, that has a number and arguments which some have."""
+    def call_of(self, number: int, architecture: int, given: Mapping[int, int] | None = None) -> Call:
+        """One of its records that has a number, an architecture and arguments which some have."""
         arguments = [(given or {}).get(index, value) for index, value in enumerate(self.call.arguments)]
-        return replace(self.call, number=number, architecture=one.number, arguments=tuple(arguments))
+        return replace(self.call, number=number, architecture=architecture, arguments=tuple(arguments))
 
 
 def _read(text: str) -> list[Region]:
@@ -174,7 +180,7 @@ class Numbers:
 
     def of(self, number: int) -> list[Region]:
         """Those with records of a number."""
-        if self.ranges is None:
+        if self.ranges is None or not self.first <= number <= self.last:
             return [it for it in self._all if it.words.get(NUMBER, FREE).has(number)]
         return self.ranges[bisect.bisect(self.ranges, (number, self.last + 1)) - 1][2]
 

@@ -1,8 +1,7 @@
 """What a program needs of a profile: the syscalls in logs, each judged by scf in its architecture; and those of the
 runtime that starts it.
 
-If the arguments that conditions test are known, `scf ask` answers. If one is unknown, scf compares: whether the
-profile's filter allows all syscalls with the known arguments, or none.
+All that the profile answers is known by its regions: those of a syscall with the arguments that the log shows.
 """
 from __future__ import annotations
 
@@ -10,23 +9,19 @@ import itertools
 import json
 from collections.abc import Iterable, Iterator, Sequence
 
-from . import client, entries, output, profiles, program, reasons, strace, tables, traces, verdicts
-from .answers import ALLOW, ALLOWED, Answer
+from . import client, entries, output, profiles, program, reasons, regions, strace, tables, traces, verdicts
+from .answers import ALLOWED, Answer
 from .architectures import JUDGED, NATIVE, Architecture, of_machine
 from .calls import Call
-from .client import Refusal
 from .engines import KEPT
 from .entries import Object
 from .profiles import ALLOWING
-from .reasons import Reason
+from .regions import Numbers, Region
 from .strace import Seen
 from .tables import Table, Tables
 from .traces import Trace
 from .values import dataclass
-from .verdicts import Verdict
 
-# An example that is allowed, and one that isn't, with its answer.
-Answers = "tuple[Call | None, tuple[Call, Answer] | None]"
 IS_ALLOWED, ISNT_ALLOWED, DEPENDS, UNDECIDED = "allowed", "not allowed", "depends", "undecided"
 # What in a log isn't judged, by its name in JSON.
 UNJUDGED = {"foreign": "syscalls not judged, since scf has no table of their architecture",
@@ -38,7 +33,7 @@ TAKEN = ("a log that doesn't say its architecture is taken as {}'s, since the pr
          "another")
 # The most entries with conditions for one name, and the most syscalls to judge, each with each of its values.
 CONDITIONS, WAYS = 64, 2000
-DELEGATE, EQUAL = Answer("TRACE", 1), "SCMP_CMP_EQ"
+EQUAL, FOREIGN = "SCMP_CMP_EQ", " foreign"
 # What each least profile allows where an architecture has it: a process calls these, which a log needn't show, to
 # continue after a stop or a signal, and to end.
 ALWAYS = ("restart_syscall", "rt_sigreturn", "exit", "exit_group", "sigreturn")
@@ -143,11 +138,15 @@ class Needs:
 
 
 class Judge:
-    """A profile, its filter for one architecture, and what its conditions test of each syscall there."""
+    """A profile, its regions for one architecture, and what its conditions test of each syscall there."""
 
     def __init__(self, profile: bytes, architecture: str, table: Table):
-        self.profile, self.tables = profile, Tables({architecture: table})
-        self.filter = client.compile_profile(profile, self.tables)
+        self._regions: list[Region] | None = None
+        try:
+            self._regions = regions.of_profile(profile, Tables({architecture: table}))
+        except regions.Unfinished:
+            pass
+        self._numbers: dict[Architecture, Numbers] = {}
         top = entries.read(profile)
         if top is None:
             raise program.ToolError("the profile's JSON can't be parsed by this tool", program.IO_ERROR)
@@ -159,46 +158,27 @@ class Judge:
         self.looked = {name: tuple(sorted(indices)) for number, indices in looked.items() if number is not None
                        for name in (*table.names_of(number), f"syscall_{number:#x}")}
 
+    def _of_number(self, one: Architecture, number: int) -> list[Region]:
+        """The regions of a record's number."""
+        if one not in self._numbers:
+            self._numbers[one] = Numbers(self._regions or (), one)
+        return self._numbers[one].of(number)
+
     def of(self, traced: TracedCall) -> Judgement:
-        allowed, denied = None, None
+        one, number = traced.architecture, traced.architecture.first + traced.number
+        allowed, denied = [], []
         for values in traced.known():
-            answers = self._compared(traced, values) if traced.unknown else self._asked(traced, values)
-            if isinstance(answers, Verdict):
-                return Judgement(traced, UNDECIDED, answers.word)
-            allowed, denied = answers[0] or allowed, answers[1] or denied
-        reason = self._reason(denied[0]) if denied else None
-        disposition = DEPENDS if allowed and denied else IS_ALLOWED if allowed else ISNT_ALLOWED
-        return Judgement(traced, disposition, reason.line if reason else "", allowed, denied,
-                         reason is not None and reason.is_foreign)
-
-    def _reason(self, call: Call) -> Reason:
-        found = reasons.of(self.profile, self.tables, call.words())
-        if found.answer is None:
-            raise Refusal(found.line, found.status)
-        return found
-
-    def _asked(self, traced: TracedCall, values: dict[int, int]) -> Answers:
-        """By `scf ask`: the syscall with these arguments, as one that is allowed or one that isn't."""
-        call = traced.call(values)
-        answer = self._reason(call).answer
-        return (call, None) if answer is None or answer.disposition == ALLOWED else (None, (call, answer))
-
-    def _verdict(self, traced: TracedCall, values: dict[int, int], default: Answer, answer: Answer,
-                 relation: str) -> Verdict:
-        """What scf says of the filter beside a profile that gives the calls with these arguments an answer."""
-        one = traced.architecture.oci
-        beside = entries.profile_on(default, values, answer, [one])
-        table = Tables({one: Table(b"it %d\n" % traced.number)})
-        return verdicts.compared([self.filter], beside, table, ["--architectures", relation]).verdict
-
-    def _compared(self, traced: TracedCall, values: dict[int, int]) -> Answers | Verdict:
-        """By comparisons: a syscall with these arguments that is allowed, and one that isn't; or only a verdict."""
-        less = self._verdict(traced, values, Answer("ERRNO", 1), ALLOW, "--no-less")
-        more = self._verdict(traced, values, ALLOW, DELEGATE, "--no-more")
-        for verdict in (less, more):
-            if not verdict.holds and verdict.call is None:
-                return verdict
-        return more.call, (less.call, less.filters) if less.call and less.filters else None
+            for it in self._of_number(one, number):
+                if it.answer is not None and it.has(values):
+                    shown = it.call_of(number, one.number, values)
+                    (allowed if it.answer.disposition == ALLOWED else denied).append((shown, it))
+        if not allowed and not denied:
+            return Judgement(traced, UNDECIDED, verdicts.UNFINISHED)
+        if not denied:
+            return Judgement(traced, IS_ALLOWED, allowed=allowed[0][0])
+        call, by = denied[0]
+        return Judgement(traced, DEPENDS if allowed else ISNT_ALLOWED, by.line, allowed[0][0] if allowed else None,
+                         (call, by.answer), by.line.endswith(FOREIGN))
 
 
 class Judges:

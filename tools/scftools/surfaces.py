@@ -69,7 +69,7 @@ class Row:
         examples: dict[str, Shown] = {}
         for it in found:
             if it.is_exact and it.answer is not None and it.answer.disposition not in examples:
-                examples[it.answer.disposition] = Shown(it.call_of(one.first + number, one), it.answer)
+                examples[it.answer.disposition] = Shown(it.call_of(one.first + number, one.number), it.answer)
         return cls(number, names, possible, examples, bool(found))
 
     @property
