@@ -14,7 +14,8 @@ from .architectures import Architecture
 from .calls import Call
 from .listing import ARCHITECTURE, ARGUMENTS, NUMBER
 from .tables import Tables
-from .values import Pattern, dataclass, replace
+from .values import Pattern
+from .verdicts import UNFINISHED
 
 LINE = Pattern(r"((unknown|\w+ \w+) (?:at [0-9]+:[0-9]+|entry ([0-9]+)|\w+))( open)?((?: w[0-9]+ \S+)*)")
 WORD = Pattern(r"((?:0x[0-9a-f]+[-,]?)*)(?:&(0x[0-9a-f]+)=(0x[0-9a-f]+))?((?:!0x[0-9a-f]+=0x[0-9a-f]+)*)")
@@ -32,14 +33,15 @@ class TooMany(Exception):
     """Bits that are known divide numbers into more than MOST intervals."""
 
 
-@dataclass(frozen=True)
+EVERY = (1 << 32) - 1
+
+
 class Word:
     """The possible values of a word: those in an interval, with the known bits and without any refuted ones."""
 
-    intervals: Sequence[tuple[int, int]] = ((0, (1 << 32) - 1),)
-    mask: int = 0
-    bits: int = 0
-    refuted: Sequence[tuple[int, int]] = ()
+    def __init__(self, intervals: Sequence[tuple[int, int]] = (), mask: int = 0, bits: int = 0,
+                 refuted: Sequence[tuple[int, int]] = ()):
+        self.intervals, self.mask, self.bits, self.refuted = intervals or ((0, EVERY),), mask, bits, refuted
 
     @classmethod
     def read(cls, text: str) -> Word:
@@ -51,12 +53,14 @@ class Word:
         intervals = [(int(low, 16), int(high or low, 16)) for low, _, high in ends]
         pairs = [it.partition("=") for it in found[4].split("!")[1:]]
         refuted = [(int(mask, 16), int(bits, 16)) for mask, _, bits in pairs]
-        return cls(intervals or cls.intervals, int(found[2] or "0", 16), int(found[3] or "0", 16), refuted)
+        return cls(intervals, int(found[2] or "0", 16), int(found[3] or "0", 16), refuted)
 
     def has(self, value: int) -> bool:
         """Whether a value is possible."""
-        return (value & self.mask == self.bits and any(low <= value <= high for low, high in self.intervals)
-                and not any(value & mask == bits for mask, bits in self.refuted))
+        for low, high in self.intervals:
+            if low <= value <= high:
+                return value & self.mask == self.bits and not any(value & mask == bits for mask, bits in self.refuted)
+        return False
 
     def within(self, first: int, last: int) -> list[tuple[int, int]]:
         """The possible values in a range, as intervals. Raises TooMany."""
@@ -81,21 +85,17 @@ class Word:
         return found
 
 
-FREE, EVERY = Word(), (1 << 32) - 1
+FREE = Word()
 
 
-@dataclass(frozen=True)
 class Region:
-    """A set of records: those whose words have these values, by the index of each word that isn't free."""
+    """A set of records: those whose words have these values, by the index of each word that isn't free. With the answer
+    and its reason as scf prints them, the answer, None if it is computed, the entry that gives it, and a record."""
 
-    # the answer and its reason as scf prints them; the answer, None if it is computed; the entry that gives it
-    line: str
-    answer: Answer | None
-    entry: int | None
-    is_exact: bool
-    words: dict[int, Word]
-    # one of its records
-    call: Call
+    def __init__(self, line: str, answer: Answer | None, entry: int | None, is_exact: bool, words: dict[int, Word],
+                 example: str):
+        self.line, self.answer, self.entry, self.is_exact, self.words = line, answer, entry, is_exact, words
+        self._example = example
 
     @property
     def is_decided(self) -> bool:
@@ -113,34 +113,47 @@ class Region:
 
     def call_of(self, number: int, architecture: int, given: Mapping[int, int] | None = None) -> Call:
         """One of its records that has a number, an architecture and arguments which some have."""
-        arguments = [(given or {}).get(index, value) for index, value in enumerate(self.call.arguments)]
-        return replace(self.call, number=number, architecture=architecture, arguments=tuple(arguments))
+        call = Call.read(self._example)
+        if call is None:
+            raise program.ToolError(f"scf answers printed an unexpected record: {self._example}", program.IO_ERROR)
+        arguments = tuple((given or {}).get(index, value) for index, value in enumerate(call.arguments))
+        return Call(number, architecture, call.pointer, arguments)
 
 
-def _read(text: str) -> list[Region]:
-    lines, words, found = text.splitlines(), {}, []
+def _read(text: str) -> list[Region] | None:
+    """Parses the output of `scf answers --examples`; None if it isn't one."""
+    *lines, last = text.splitlines() or [""]
+    words: dict[str, Word] = {}
+    answers: dict[str, Answer | None] = {}
+    found: list[Region] = []
     for line, example in zip(lines[::2], lines[1::2]):
-        parts, call = LINE.fullmatch(line), Call.read(example)
-        if not parts or call is None:
-            raise program.ToolError(f"scf answers printed an unexpected line: {line}", program.IO_ERROR)
+        parts = LINE.fullmatch(line)
+        if not parts:
+            return None
+        if parts[2] not in answers:
+            answers[parts[2]] = Answer.read(parts[2])
         given = parts[5].split()
         for one in given[1::2]:
             if one not in words:
                 words[one] = Word.read(one)
         of_words = {int(name[1:]): words[one] for name, one in zip(given[::2], given[1::2])}
         entry = None if parts[3] is None else int(parts[3])
-        found.append(Region(parts[1], Answer.read(parts[2]), entry, not parts[4], of_words, call))
-    return found
+        found.append(Region(parts[1], answers[parts[2]], entry, not parts[4], of_words, example))
+    return found if last.startswith(f"regions {len(found)} steps ") and len(lines) == 2 * len(found) else None
 
 
 def _asked(words: Sequence[str], bundle: bytes) -> list[Region]:
     """The regions that scf prints. Raises Refusal and Unfinished."""
     done = client.answers(["--examples", *words], bundle)
-    if done.status == program.UNKNOWN:
+    found = _read(done.text) if done.status == program.SUCCESS else None
+    if found is not None:
+        return found
+    if (done.status, done.line) == (program.UNKNOWN, UNFINISHED):
         raise Unfinished
-    if done.status != program.SUCCESS:
-        raise client.Refusal(done.line, done.status)
-    return _read(done.text)
+    refusal = client.Refusal(done.line, done.status)
+    if refusal.fault is None or done.status == program.SUCCESS:
+        raise program.ToolError(f"scf ended with status {done.status} and unexpected output", program.IO_ERROR)
+    raise refusal
 
 
 def of_filters(filters: Sequence[bytes]) -> list[Region]:
@@ -174,7 +187,7 @@ class Numbers:
             starting.setdefault(low, []).append((high, it))
         found, here = [], []
         for low, end in zip(cuts, cuts[1:]):
-            here = [(high, it) for high, it in here if high >= low] + starting.get(low, [])
+            here = [part for part in here if part[0] >= low] + starting.get(low, [])
             found.append((low, end - 1, [it for _, it in here]))
         return found
 

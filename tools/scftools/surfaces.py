@@ -48,36 +48,38 @@ class Shown:
                 "answer": self.answer.as_json(explains=True)}
 
 
-@dataclass
 class Row:
-    """A number of an architecture: the dispositions that its syscalls may have, and an example of each that occurs."""
+    """A number of an architecture, its regions, none if these are unfinished, the dispositions that its syscalls may
+    have, and examples that comparisons add."""
 
-    number: int
-    names: list[str]
-    possible: set[str]
-    examples: dict[str, Shown]
-    is_finished: bool = True
-    # which arguments get which answer, on request
-    conditions: Conditions | None = None
+    def __init__(self, number: int, names: list[str], one: Architecture, found: Sequence[Region]):
+        self.number, self.names, self.architecture, self.regions = number, names, one, found
+        self.possible = {it.answer.disposition if it.answer is not None else UNDECIDED for it in found}
+        if not self.possible or UNDECIDED in self.possible:
+            self.possible = set(DISPOSITIONS)
+        self.more: dict[str, Shown] = {}
+        # which arguments get which answer, on request
+        self.conditions: Conditions | None = None
 
-    @classmethod
-    def of(cls, number: int, names: list[str], found: Sequence[Region], one: Architecture) -> Row:
-        """The row of some regions; of none if these are unfinished."""
-        possible = {it.answer.disposition for it in found if it.answer is not None}
-        if not found or any(it.answer is None for it in found):
-            possible = set(DISPOSITIONS)
-        examples: dict[str, Shown] = {}
-        for it in found:
-            if it.is_exact and it.answer is not None and it.answer.disposition not in examples:
-                examples[it.answer.disposition] = Shown(it.call_of(one.first + number, one.number), it.answer)
-        return cls(number, names, possible, examples, bool(found))
+    def example(self, disposition: str) -> Shown | None:
+        """A syscall with this disposition, if one is known."""
+        for it in self.regions:
+            if it.is_decided and it.answer.disposition == disposition:
+                one = self.architecture
+                return Shown(it.call_of(one.first + self.number, one.number), it.answer)
+        return self.more.get(disposition)
+
+    @property
+    def occurring(self) -> set[str]:
+        """The dispositions of which there is an example."""
+        return {it.answer.disposition for it in self.regions if it.is_decided}.union(self.more)
 
     @property
     def said(self) -> str:
         """The disposition of all syscalls of the number, or that it depends or is undecided."""
         if len(self.possible) == 1:
             return next(iter(self.possible))
-        return DEPENDS if len(self.examples) > 1 else UNDECIDED if self.is_finished else UNFINISHED
+        return DEPENDS if len(self.occurring) > 1 else UNDECIDED if self.regions else UNFINISHED
 
     @property
     def is_decided(self) -> bool:
@@ -86,8 +88,8 @@ class Row:
     @property
     def shown(self) -> dict[str, Shown]:
         """An example for each disposition that occurs, if it depends or is undecided."""
-        found = self.examples if len(self.possible) > 1 else {}
-        return {it: found[it] for it in DISPOSITIONS if it in found}
+        found = {it: self.example(it) for it in DISPOSITIONS if len(self.possible) > 1}
+        return {it: shown for it, shown in found.items() if shown is not None}
 
     @property
     def never(self) -> list[str]:
@@ -97,7 +99,8 @@ class Row:
     @property
     def answer(self) -> Answer | None:
         """The answer to some syscall of the number."""
-        return next((it.answer for it in self.examples.values()), None)
+        return next((it.answer for it in self.regions if it.is_decided), None) or \
+            next((it.answer for it in self.more.values()), None)
 
 
 @dataclass
@@ -114,11 +117,10 @@ class Unnamed:
 
     def add(self, row: Row, count: int) -> None:
         """Adds numbers whose syscalls are answered as those of a row."""
-        example = row.examples.get(ALLOWED) or row.examples.get(DELEGATED)
         self.are_allowed = self.are_allowed and row.possible == {ALLOWED}
-        if example is not None or DENIED not in row.possible:
+        if row.occurring - {DENIED} or DENIED not in row.possible:
             self.not_denied += count
-            self.shown = self.shown or example
+            self.shown = self.shown or row.example(ALLOWED) or row.example(DELEGATED)
         elif row.possible != {DENIED}:
             self.undecided += count
 
@@ -194,7 +196,7 @@ def _ask(asker: Asker, rows: Iterable[Row]) -> None:
                 row.possible &= possible
             elif verdict.call is not None and verdict.filters is not None and (
                     not asker.looks_at_pointer or asker.decided(verdict.call) == verdict.filters):
-                row.examples.setdefault(verdict.filters.disposition, Shown(verdict.call, verdict.filters))
+                row.more.setdefault(verdict.filters.disposition, Shown(verdict.call, verdict.filters))
 
 
 def _of_unnamed(numbers: Numbers, table: Table, one: Architecture) -> Unnamed:
@@ -206,14 +208,14 @@ def _of_unnamed(numbers: Numbers, table: Table, one: Architecture) -> Unnamed:
         those = named[bisect.bisect_left(named, low):bisect.bisect(named, high)]
         if len(those) <= high - low:
             number = next((low + at for at, it in enumerate(those) if it != low + at), low + len(those))
-            found.add(Row.of(number - one.first, [], here, one), high - low + 1 - len(those))
+            found.add(Row(number - one.first, [], one, here), high - low + 1 - len(those))
     return found
 
 
 def of_regions(filters: Sequence[bytes], found: Sequence[Region] | None, table: Table, one: Architecture) -> Surface:
     """The surface of filters with these regions, or None if they are unfinished, to an architecture with this table."""
     asker, numbers = Asker(filters, one), Numbers(found or (), one)
-    rows = [Row.of(number, table.names_of(number), numbers.of(one.first + number), one)
+    rows = [Row(number, table.names_of(number), one, numbers.of(one.first + number))
             for number in sorted(table.numbers())]
     if found is not None:
         asker.check(table)

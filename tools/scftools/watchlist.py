@@ -14,7 +14,7 @@ from . import program
 from .answer_sets import arguments_of
 from .answers import ENOSYS, Answer
 from .architectures import Architecture
-from .argument_sets import NONE, Sets, Steps
+from .argument_sets import Sets, Steps
 from .entries import Condition, Entry
 from .findings import Finding, Owners, by_owners, listed
 from .regions import Numbers, Region
@@ -136,10 +136,9 @@ class Watch:
         sets, those = self._sets, meant()[name]
         for one in self._regions_of(name):
             if one.answer is not None and one.answer.allows:
-                found = NONE if () in those else sets.both(arguments_of(sets, one), sets.union(
-                    sets.of_conditions(it) for it in those))
-                if () in those or found:
-                    return one, sets.least(sets.possible(found)) if found else one.call.arguments
+                found = sets.both(arguments_of(sets, one), sets.union(sets.of_conditions(it) for it in those))
+                if found:
+                    return one, sets.least(sets.possible(found))
         return None
 
     def denied(self, name: str) -> Region | None:
