@@ -172,8 +172,9 @@ class Settings:
     table: Table
     other: Sequence[Filter] = ()
     architecture: Architecture = JUDGED[NATIVE]
-    # whether to say which arguments get which answer
+    # whether to say which arguments get which answer, or to show a call of each region
     has_conditions: bool = False
+    has_examples: bool = False
 
 
 @dataclass(frozen=True)
@@ -198,6 +199,8 @@ def _surface(filters: Sequence[Filter], settings: Settings) -> Surface:
     found = surfaces.of_filters(data, settings.table, settings.architecture)
     if not settings.other:
         found.add_others()
+    for row in found.rows if settings.has_examples else ():
+        row.has_examples = True
     if settings.has_conditions:
         from . import row_conditions  # pylint: disable=import-outside-toplevel
 

@@ -76,6 +76,8 @@ def details(row: Row, is_in_table: bool = False) -> list[str]:
     if row.conditions is not None:
         return [row.conditions.describe()]
     name = row.names[0] if is_in_table else None
+    if row.has_examples:
+        return [f"{shown.answer.disposition} {shown.describe(name)}" for shown in row.of_regions]
     if row.shown:
         return [f"{disposition} {shown.describe(name)}" for disposition, shown in row.shown.items()]
     return [row.answer.named() if is_in_table else str(row.answer)] if row.answer else []
@@ -98,7 +100,7 @@ def grouped(rows: Iterable[Row], groups: Groups) -> list[tuple[str, list[Row]]]:
 
 def _cell(said: str, rows: Sequence[Row], width: int) -> list[str]:
     """A group's syscalls with the same disposition: their names, or with examples a line or more each."""
-    if not any(row.shown or row.conditions for row in rows):
+    if not any(row.shown or row.conditions or row.has_examples for row in rows):
         names = [" or ".join(row.names) for row in rows]
         return wrapped([f"{name}," for name in names[:-1]] + names[-1:], width)
     lines: list[str] = []
@@ -145,6 +147,8 @@ def row_json(row: Row, groups: Groups) -> dict[str, object]:
         found["answer"] = row.answer.as_json()
     if row.conditions is not None:
         found["conditions"] = row.conditions.as_json()
+    if row.has_examples:
+        found["region_examples"] = [shown.as_json() for shown in row.of_regions]
     return found
 
 

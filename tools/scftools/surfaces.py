@@ -58,15 +58,25 @@ class Row:
         if not self.possible or UNDECIDED in self.possible:
             self.possible = set(DISPOSITIONS)
         self.more: dict[str, Shown] = {}
-        # which arguments get which answer, on request
+        # which arguments get which answer, and whether to show a syscall of each region, on request
         self.conditions: Conditions | None = None
+        self.has_examples = False
+
+    def _shown_in(self, region: Region) -> Shown:
+        """A syscall of a region that is decided."""
+        one = self.architecture
+        return Shown(region.call_of(one.first + self.number, one.number), region.answer)
+
+    @property
+    def of_regions(self) -> list[Shown]:
+        """A syscall of each region that is decided."""
+        return [self._shown_in(it) for it in self.regions if it.is_decided]
 
     def example(self, disposition: str) -> Shown | None:
         """A syscall with this disposition, if one is known."""
         for it in self.regions:
             if it.is_decided and it.answer.disposition == disposition:
-                one = self.architecture
-                return Shown(it.call_of(one.first + self.number, one.number), it.answer)
+                return self._shown_in(it)
         return self.more.get(disposition)
 
     @property

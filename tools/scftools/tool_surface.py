@@ -1,9 +1,9 @@
 """Says for each syscall whether filters allow, delegate or deny it, or on what that depends.
 
-    scf surface [--arch ARCH] [--conditions] [--limit N] [--splits N] [--table FILE]
-                [--json] [--html FILE] FILTER.. [--beside OTHER..]
-    scf surface [--arch ARCH] [--conditions] [--limit N] [--splits N] [--table FILE]
-                [--json] [--html FILE] [--force] --pid PID [--beside OTHER..]
+    scf surface [--arch ARCH] [--conditions | --examples] [--limit N] [--splits N]
+                [--table FILE] [--json] [--html FILE] FILTER.. [--beside OTHER..]
+    scf surface [--arch ARCH] [--conditions | --examples] [--limit N] [--splits N]
+                [--table FILE] [--json] [--html FILE] [--force] --pid PID [--beside OTHER..]
 
 The FILTERs form one stack, oldest first; with --pid it is that of a running process, as the kernel keeps it, and each
 distinct stack of its threads has a block of its own. Each syscall in the table is always allowed, always denied, always
@@ -21,14 +21,14 @@ With --conditions a syscall with several answers has them all instead of example
 Arguments have the names of their manual page, or are a0 to a5; they are compared as whole registers, those of i386, x32
 and arm as lower halves. Such a line is printed only if comparisons of scf prove it. If no profile gives an answer, as
 TRAP with data, the dispositions alone are told; where no profile says the conditions, there are examples. Filters that
-take too many steps to follow have examples alone, and standard error says that their conditions are `unfinished`;
---limit N gives them N steps, if that is more than they have.
+take too many steps have examples alone, and standard error says that their conditions are `unfinished`; --limit N gives
+them N steps, if that is more than they have. With --examples each syscall has a call for each of its regions, with its
+answer: the sets of records that take one path through the filters.
 
-Each disposition is proved: by comparisons of scf with profiles that deny, allow or delegate everything, which also give
-the examples. If a filter looks at the instruction pointer, `scf decide` confirms these; after `at some ip` the pointer
-isn't known. If scf can't decide, the line says `undecided` or `unfinished`, with the examples that were found; for
-other ABIs some syscalls are then tried. KILL_PROCESS, KILL_THREAD, TRAP and ERRNO deny a syscall, USER_NOTIF and TRACE
-delegate it, LOG and ALLOW allow it.
+Each disposition is proved: by the regions of all records, as `scf answers` prints them, which also have the examples;
+where a test isn't decided, by comparisons of scf with profiles that deny, allow or delegate everything. If scf can't
+decide, the line says `undecided` or `unfinished`, with the examples that were found. KILL_PROCESS, KILL_THREAD, TRAP
+and ERRNO deny a syscall, USER_NOTIF and TRACE delegate it, LOG and ALLOW allow it.
 
 Exit status: 0 everything is decided; 1 a filter or the table is refused, a thread has no filter, or with --beside they
 differ; 2 usage error; 3 an input or the output failed; 4 something is undecided.
@@ -46,6 +46,7 @@ def read_words():
     parser.add("--arch", "--limit", "--splits", "--table", "--json", "--html")
     parser.add_argument("--conditions", action="store_true",
                         help="say which arguments get which answer, instead of examples")
+    parser.add_argument("--examples", action="store_true", help="show a call for each region, with its answer")
     parser.add_argument("--pid", metavar="PID", help="the filters of a process instead of files")
     parser.add("--force")
     parser.add_argument("--beside", metavar="OTHER", nargs="+", default=[],
@@ -58,6 +59,8 @@ def read_words():
         parser.error("give either FILTERs or --pid")
     if options.beside and options.arch is not None:
         parser.error("give either --arch or --beside, which compares the syscalls of all architectures")
+    if options.conditions and options.examples:
+        parser.error("give either --conditions or --examples")
     if options.force and options.pid is None:
         parser.error("--force needs --pid")
     options.pid = None if options.pid is None else processes.number_in(options.pid, parser)
@@ -77,7 +80,8 @@ def main():
     stack = filters.read_stack(options.filters)
     one = architectures.judged_in(options.arch)
     beside = filters.read_stack(options.beside)
-    settings = stack_surfaces.Settings(tables.read(options.table, one), beside, one, options.conditions)
+    settings = stack_surfaces.Settings(tables.read(options.table, one), beside, one, options.conditions,
+                                       options.examples)
     found = None if options.pid is None else looked_at(options)
     blocks = [stack_surfaces.of_stack(stack, settings)] if found is None else stack_surfaces.of_process(found, settings)
     if options.html is not None:
