@@ -186,6 +186,22 @@ class Sets:
         """The arguments that are in a set for some value of the variables that aren't bits of arguments."""
         return self._project(one, 0, OTHERS)
 
+    def for_some_upper(self, one: int, index: int) -> int:
+        """The arguments that are in a set with some upper half of one of 64 bits."""
+        first, memo = 64 * index, {}
+
+        def visit(now: int) -> int:
+            variable, low, high = self.nodes[now]
+            if variable >= first + 32:
+                return now
+            if now not in memo:
+                self.spend(1)
+                parts = visit(low), visit(high)
+                memo[now] = self.either(*parts) if variable >= first else self.node(variable, *parts)
+            return memo[now]
+
+        return visit(one)
+
     def of_argument(self, one: int, index: int) -> int:
         """The values of an argument in a set, as the set of all arguments with such a value."""
         return self._project(one, self.bits * index, self.bits * (index + 1))

@@ -9,20 +9,18 @@ from __future__ import annotations
 from collections.abc import Iterator, Mapping, Sequence
 
 from . import constants
+from .answer_sets import arguments_of
 from .answers import Answer
-from .architectures import JUDGED
-from .entries import Condition, Entry, Reading, record_of
+from .architectures import JUDGED, Architecture
+from .argument_sets import Sets, Steps
+from .entries import Condition, Entry
 from .findings import MOST, Finding, Owners, listed
 from .needless import Met
 from .regions import Numbers, Region
-from .tables import Tables
+from .tables import Table, Tables
 from .values import dataclass
 
 LOW = (1 << 32) - 1
-# The most answers to compute in the search for evaded denials.
-LOOKS = 200000
-# A bit of the upper half, as an example for all of them.
-UPPER = 1 << 32
 
 
 def _always_holds(one: Condition, greatest: int) -> bool:
@@ -147,67 +145,52 @@ class Evasion:
                         "others": {str(at): value for at, value in others.items()}, **owners.as_json()})
 
 
-class Denials:
-    """Searches for denials of an architecture's syscalls that a bit in the upper half of a register evades."""
-
-    def __init__(self, numbers: Numbers, reading: Reading):
-        self.numbers, self.reading = numbers, reading
-        self.looks = LOOKS
-
-    def _allows(self, number: int, record: dict[int, int]) -> bool:
-        self.looks -= len(self.reading.having(number))
-        return self.reading.allows(number, record)
-
-    def _evaded(self, number: int, entry: Entry, one: Condition) -> tuple[dict[int, int], dict[int, int]] | None:
-        """Arguments that are denied, and are allowed with a bit in the upper half."""
-        others = tuple(it for it in entry.conditions if it.index != one.index)
-        beside = record_of([others], []) or {}
-        for value in dict.fromkeys(edge & LOW for edge in one.edges()):
-            low, high = {**beside, one.index: value}, {**beside, one.index: value | UPPER}
-            if self.looks > 0 and not self._allows(number, low) and self._allows(number, high):
-                return low, high
-        return None
-
-    def _region(self, number: int, record: dict[int, int]) -> Region | None:
-        """That of a record with these arguments, and zeros as the others."""
-        given = {index: record.get(index, 0) for index in range(6)}
-        return next((it for it in self.numbers.of(self.reading.one.first + number) if it.has(given)), None)
-
-    def _evasion(self, name: str, number: int, one: Condition, pair: tuple[dict[int, int], dict[int, int]]) -> \
-            Evasion | None:
-        denied, allowed = (self._region(number, it) for it in pair)
-        if denied is None or allowed is None or not denied.answer.denies or not allowed.answer.allows:
-            return None
-        low, high = (it[one.index] for it in pair)
-        asked_of = {it.index for entry in self.reading.having(number) for it in entry.conditions}
-        others = tuple((at, pair[0].get(at, 0)) for at in sorted(asked_of - {one.index}))
-        return Evasion(name, one.index, low, high, others, denied.answer, allowed.entry)
-
-    def run(self, found: Sequence[Entry]) -> Iterator[Evasion]:
-        """The evaded denials, each syscall and argument once."""
-        known, seen, count = constants.kinds_on(self.reading.one.oci), set(), 0
-        for entry in found:
-            for one in entry.conditions:
-                for name in entry.names:
-                    number = self.reading.table.number_of(name)
-                    is_half = known.get(name, "")[one.index:one.index + 1] == constants.HALF
-                    if number is None or not is_half or (number, one.index) in seen or self.looks <= 0:
-                        continue
-                    pair = self._evaded(number, entry, one)
-                    evasion = self._evasion(name, number, one, pair) if pair and count < MOST else None
-                    if evasion:
-                        seen.add((number, one.index))
-                        count += 1
-                        yield evasion
+def _evading(sets: Sets, found: Sequence[Region], index: int) -> \
+        tuple[Region, tuple[int, ...], Region, tuple[int, ...]] | None:
+    """Of the regions of a syscall one that denies it, with arguments of which one has no bit in the upper half, and one
+    that allows it with such a bit and otherwise the same; None if there are none."""
+    has_upper = sets.union(sets.bits_of(index, 1))
+    for denied in (it for it in found if it.answer is not None and it.answer.denies):
+        low = sets.for_some_upper(sets.without(arguments_of(sets, denied), has_upper), index)
+        for allowed in (it for it in found if it.answer is not None and it.answer.allows):
+            evading = sets.both(arguments_of(sets, allowed), has_upper)
+            both = sets.both(low, sets.for_some_upper(evading, index))
+            if both:
+                arguments = sets.least(both)
+                for at, value in enumerate(arguments):
+                    evading = sets.both(evading, sets.cube(at, value, LOW if at == index else sets.most))
+                return denied, arguments, allowed, sets.least(evading)
+    return None
 
 
-def of_denials(judged: Tables, regions: Sequence[Region] | None, readings: Mapping[str, Reading],
-               found: Sequence[Entry]) -> Iterator[Finding]:
+def _evasions(one: Architecture, table: Table, regions: Sequence[Region], found: Sequence[Entry]) -> Iterator[Evasion]:
+    """The evaded denials of an architecture's syscalls, each syscall and argument once. Raises TooMany."""
+    sets, numbers, known = Sets(one.bits, Steps()), Numbers(regions, one), constants.kinds_on(one.oci)
+    tested: dict[tuple[int, str], set[int]] = {}
+    for entry in found:
+        for name in entry.names:
+            number = table.number_of(name)
+            if number is not None and entry.conditions:
+                tested.setdefault((number, name), set()).update(it.index for it in entry.conditions)
+    seen: set[tuple[int, int]] = set()
+    for (number, name), indices in tested.items():
+        for index in sorted(indices):
+            is_half = known.get(name, "")[index:index + 1] == constants.HALF
+            pair = _evading(sets, numbers.of(one.first + number), index) if is_half and (number, index) not in seen \
+                else None
+            if pair is not None and len(seen) < MOST:
+                seen.add((number, index))
+                denied, low, allowed, high = pair
+                others = tuple((at, low[at]) for at in sorted(indices - {index}))
+                yield Evasion(name, index, low[index], high[index], others, denied.answer, allowed.entry)
+
+
+def of_denials(judged: Tables, regions: Sequence[Region] | None, found: Sequence[Entry]) -> Iterator[Finding]:
     """The evaded denials on architectures whose arguments have an upper half."""
     evaded: dict[Evasion, list[str]] = {}
-    whole = [it for it in readings if JUDGED[it].greatest > LOW]
+    whole = [it for it in judged.of if JUDGED[it].greatest > LOW]
     for one in whole:
-        for evasion in Denials(Numbers(regions or (), JUDGED[one]), readings[one]).run(found):
+        for evasion in _evasions(JUDGED[one], judged.of[one], regions or (), found):
             evaded.setdefault(evasion, []).append(one)
     for evasion, on in evaded.items():
         numbers = judged.numbers_of(evasion.name)
