@@ -35,7 +35,7 @@ def argument_names() -> dict[str, list[str]]:
     return {name: names for name, *names in map(str.split, program.lines_of("argument.names"))}
 
 
-def _name_of(syscall: str, index: int) -> str:
+def name_of(syscall: str, index: int) -> str:
     names = argument_names().get(syscall, [])
     return names[index] if index < len(names) and names[index] != "-" else f"a{index}"
 
@@ -48,11 +48,11 @@ def _together(text: str) -> str:
     return f"({text})" if "|" in text else text
 
 
-def _condition_text(one: Condition, syscall: str, others: Alternative, architecture: str) -> str:
+def condition_text(one: Condition, syscall: str, others: Alternative, architecture: str) -> str:
     """A condition as people write it, among those that hold together, on the architecture of this OCI name."""
     syscall = syscall if (architecture, syscall) != IN_MEMORY else ""
     first = next((it.value for it in others if it.index == 0 and it.op == "SCMP_CMP_EQ"), None)
-    family, name = constants.family_of(syscall, one.index, first, architecture), _name_of(syscall, one.index)
+    family, name = constants.family_of(syscall, one.index, first, architecture), name_of(syscall, one.index)
     is_whole = one.op != "SCMP_CMP_MASKED_EQ" or one.value == HALF
     value = one.value if one.op != "SCMP_CMP_MASKED_EQ" else one.two
     shown = None
@@ -93,7 +93,7 @@ class Conditions:
 
     def describe(self) -> str:
         def shown(alternative: Alternative) -> str:
-            return " and ".join(_condition_text(it, self.names[0], alternative, self.architecture.oci)
+            return " and ".join(condition_text(it, self.names[0], alternative, self.architecture.oci)
                                 for it in alternative)
 
         parts = [f"{self._answer_text(answer)} where {' or '.join(map(shown, those))}" for answer, those in self.parts]

@@ -1,0 +1,76 @@
+"""Lists everything that filters answer: sets of syscalls by name, with conditions on arguments, each with its answer.
+
+    scf answers [--arch ARCH] [--examples] [--limit N] [--table FILE] [--json] FILTER..
+
+The FILTERs stand oldest first; each may be a file or a pipe, and one input `-` for standard input. scf proves of each
+region of records that all of them get its answer, and each record is in a region. A line has the answer, the filter
+that gives it (0 is the oldest) with the index of the instruction, the syscalls, and the conditions on their arguments,
+which hold together:
+
+    ERRNO 22 (EINVAL) at 0:364: socket where domain == AF_NETLINK and protocol == 9
+
+Regions that have the same answer at the same instruction under the same conditions are one line. Arguments have the
+names of their manual page, or are a0 to a5; `(u32)a0` is the lower half of a register, `a0 >> 32` the upper one, and
+`ip` the instruction pointer. Where a test isn't decided, the regions behind it are `open`: a record that meets several
+of them gets the answer of one. The answer `unknown` is computed. With --examples a line after each, marked by `# `, has
+a syscall of the region. --arch names another architecture of the syscalls than this machine's own.
+
+Exit status: 0 every answer is known; 1 a filter or the table is refused; 2 usage error; 3 an input or the output
+failed; 4 a region is open or its answer unknown, or scf took as many steps as --limit says; 125 scf can't be run.
+
+Examples:
+
+    scf answers filter.bpf
+    scf answers --arch i386 --examples old.bpf new.bpf
+"""
+from . import architectures, explanation, filters, output, program, refusals, region_output, regions, tables, words
+from .client import Refusal
+from .questions import Asker
+from .verdicts import UNFINISHED
+
+
+def read_words():
+    parser = words.Parser(__doc__)
+    parser.add("--arch")
+    parser.add_argument("--examples", action="store_true", help="show a syscall of each")
+    parser.add("--limit", help="at most N steps")
+    parser.add("--table", "--json", "filters")
+    options = parser.parse_args()
+    parser.one_standard_input([*options.filters, options.table])
+    return options
+
+
+def put_fault(why, stack, is_json):
+    """Prints a fault; the status."""
+    sentences = [*explanation.of_fault(why.fault), *refusals.of_stack(stack, why.fault)]
+    if is_json:
+        output.put_json({"status": why.status, "fault": why.fault.as_json(sentences)})
+    else:
+        output.put_lines([why.line, *output.notes(sentences)])
+    return why.status
+
+
+def main():
+    options = read_words()
+    one = architectures.judged_in(options.arch)
+    table, stack = tables.read(options.table, one), filters.read_stack(options.filters)
+    data = [it.data for it in stack]
+    try:
+        found = regions.of_filters(data)
+        Asker(data, one).check(table)
+    except regions.Unfinished:
+        if options.json:
+            output.put_json({"status": program.UNKNOWN, "verdict": UNFINISHED})
+        else:
+            output.put_line(UNFINISHED)
+        return program.UNKNOWN
+    except Refusal as why:
+        return put_fault(why, stack, options.json)
+    listed = region_output.listed(found, table, one)
+    status = program.SUCCESS if all(it.region.is_decided for it in listed) else program.UNKNOWN
+    if options.json:
+        output.put_json({"status": status, "architecture": one.name,
+                         "regions": region_output.as_json(listed, table, one)})
+    else:
+        output.put_lines(region_output.lines(listed, table, one, options.examples))
+    return status

@@ -1,0 +1,188 @@
+"""`scf answers` of files: each line is true of every syscall that it names, beside a second machine; and the reader of
+what the program prints."""
+import json
+import random
+import re
+import unittest
+
+from common import (ALLOW, EPERM, I386, TABLE, UNKNOWN_ZERO, X86_64, Case, filter_of, insn, jeq, jge, load, ret)
+from stand_in import StandIn, unpacked
+from test_surface import by_argument, gate, of_number
+
+from scftools import architectures, client, regions, tables
+from scftools.calls import Call
+from scftools.program import ToolError
+from scftools.regions import TooMany, Word
+
+ENOSYS, LOG, TRACE = 0x00050026, 0x7FFC0000, 0x7FF00000
+WORD = (1 << 32) - 1
+# A filter, and the lines that people expect of it.
+LINES = (
+    ([filter_of([0, 1])], (
+        "ALLOW at 0:9: read, write", "ERRNO 1 (EPERM) at 0:8: open")),
+    ([of_number(41, load(16) + jeq(16, 0, 4) + load(32) + jeq(9, 0, 2) + ret(EPERM) + ret(ALLOW) * 2, ALLOW)], (
+        "ERRNO 1 (EPERM) at 0:11: socket where (u32)domain == AF_NETLINK and (u32)protocol == 9",
+        "ALLOW at 0:13: socket where (u32)domain == AF_NETLINK and (u32)protocol != 9",
+        "ALLOW at 0:13: socket where (u32)domain != AF_NETLINK", "ALLOW at 0:14: read, write, open")),
+    ([gate(jeq(41, 0, 6) + load(20) + jeq(0, 0, 4) + load(16) + jeq(16, 0, 2) + ret(EPERM) * 2 + ret(ALLOW) * 2)], (
+        "ERRNO 1 (EPERM) at 0:11: socket where domain == AF_NETLINK",
+        "ALLOW at 0:13: socket where domain != AF_NETLINK and domain >> 32 == 0",
+        "ALLOW at 0:13: socket where domain >> 32 >= 1")),
+    ([of_number(56, load(16) + insn(0x45, 0x10000000, 0, 1) + ret(EPERM) + ret(ALLOW), ENOSYS)], (
+        "ERRNO 1 (EPERM) at 0:9: clone where (u32)flags & CLONE_NEWUSER == CLONE_NEWUSER",
+        "ALLOW at 0:10: clone where (u32)flags & CLONE_NEWUSER == 0")),
+    ([of_number(1, load(8) + jeq(0x1234, 0, 1) + ret(ALLOW) + ret(EPERM), LOG)], (
+        "ALLOW at 0:9: write where (u32)ip == 0x1234",)),
+    ([ret(LOG), filter_of([0], foreign=ALLOW, default=TRACE)], (
+        "LOG at 0:0: read", "TRACE 0 at 1:7: write, open")),
+)
+# A conditions' text: what it says of an argument's value.
+TESTS = {"==": lambda a, v: a == v, "!=": lambda a, v: a != v, "<=": lambda a, v: a <= v, ">=": lambda a, v: a >= v}
+TERM = re.compile(r"(\(u32\))?(\w+)( >> 32)?(?: & (0x[0-9a-f]+|[0-9]+))? (==|!=|<=|>=) (0x[0-9a-f]+|[0-9]+)")
+
+
+def holds(text, call):
+    """Whether a call meets conditions whose arguments and values have no names."""
+    def one(found):
+        is_low, name, is_high, mask, op, value = found.groups()
+        whole = call.pointer if name == "ip" else call.arguments[int(name[1:])]
+        part = whole & WORD if is_low else whole >> 32 if is_high else whole
+        return str(TESTS[op](part & int(mask, 0) if mask else part, int(value, 0)))
+    return eval(TERM.sub(one, text), {})
+
+
+class Lines(Case):
+    """What is printed."""
+
+    def said(self, filters, *words):
+        names = [self.file(f"{at}.bpf", data) for at, data in enumerate(filters)]
+        return self.run_tool("answers", *words, *names)
+
+    def test_usage(self):
+        self.says_usage("answers")
+
+    def test_lines(self):
+        """Those of the syscalls that are looked at."""
+        table = self.file("t", b"read 0\nwrite 1\nopen 2\nsocket 41\nclone 56\n")
+        for filters, expected in LINES:
+            status, out, err = self.said(filters, "--table", table)
+            found = [re.sub(r", (?:socket|clone|[0-9]+ numbers without a name)\b", "", line)
+                     for line in out.split("\n")]
+            self.assertEqual((status, err), (0, ""))
+            for line in expected:
+                self.assertIn(line, found)
+
+    def test_each_line_is_true(self):
+        """Of drawn records of drawn filters: the syscall stands in a line whose conditions it meets and whose answer it
+        gets, and in no line of another answer."""
+        dice, table = random.Random(7), self.file("t", b"a 0\nb 1\nc 2\n")
+        for _ in range(12):
+            code = b"".join(dice.choice((
+                load(4 * dice.choice((0, 4, 5, 6, 7))), jge(dice.choice((1, 2, 9, 1 << 31)), *dice.choices(range(4), k=2)),
+                jeq(dice.choice((0, 1, 9)), *dice.choices(range(4), k=2)), insn(0x45, dice.choice((2, 12)), 1, 2)))
+                for _ in range(dice.randrange(4, 14)))
+            data = code + b"".join(ret(dice.choice((ALLOW, EPERM, TRACE))) for _ in range(5))
+            status, out, _ = self.said([data], "--table", table, "--arch", "x86-64")
+            self.assertEqual(status, 0)
+            lines = [re.fullmatch(r"(.+?) at 0:([0-9]+): (.*?)(?: where (.*))?", it).groups() for it in
+                     out.split("\n")[:-1]]
+            for _ in range(60):
+                number = dice.randrange(3)
+                call = Call(number, X86_64, 0, tuple(
+                    dice.choice((0, 1, 2, 9, 10, 12, 1 << 31, dice.getrandbits(32))) | dice.choice((0, 9, 1 << 31)) << 32
+                    for _ in range(6)))
+                answer = StandIn().decide([data], call)
+                path = StandIn().path(data, call)
+                met = [(said, int(index)) for said, index, names, where in lines
+                       if "abc"[number] in names.split(", ") and (where is None or holds(where, call))]
+                self.assertEqual(len(met), 1, (call, out))
+                self.assertEqual(met[0][1], path[-1])
+                self.assertEqual(met[0][0].split(" (")[0], answer.removesuffix(" 0") if "ALLOW" in answer else answer)
+
+    def test_another_architecture_and_examples(self):
+        status, out, _ = self.said([load(4) + jeq(I386, 1, 0) + ret(EPERM) + load(0) + jeq(3, 0, 1) + ret(ALLOW)
+                                    + ret(EPERM)], "--arch", "i386", "--examples")
+        self.assertEqual((status, out.split("\n")[:2]), (0, ["ALLOW at 0:5: read",
+                                                              "# such as read (3) of the architecture i386 args "
+                                                              "0x0 0x0 0x0 0x0 0x0 0x0"]))
+
+    def test_json(self):
+        status, out, _ = self.said([filter_of([0])], "--json")
+        found = json.loads(out)
+        self.assertEqual((status, found["status"], found["architecture"]), (0, 0, "x86-64"))
+        one = next(it for it in found["regions"] if it["answer"]["action"] == "ALLOW")
+        self.assertEqual({name: one[name] for name in one if name != "example"}, {
+            "answer": {"action": "ALLOW", "data": 0}, "filter": 0, "index": 8, "is_exact": True,
+            "syscalls": [{"number": 0, "names": ["read"]}], "unnamed": 0, "where": []})
+        self.assertEqual(one["example"]["number"], 0)
+        named = sum(len(it["syscalls"]) for it in found["regions"])
+        with open(TABLE, "rb") as file:
+            self.assertEqual(named, len(tables.Table(file.read()).numbers()))
+        self.assertEqual(sum(it["unnamed"] for it in found["regions"]), 0x40000000 - named)
+
+    def test_statuses(self):
+        unknown = self.said([gate(UNKNOWN_ZERO + jeq(0, 0, 1) + ret(EPERM) + ret(ALLOW))])
+        self.assertEqual(unknown[0], 4)
+        self.assertIn(" open: ", unknown[1])
+        computed = self.said([load(16) + insn(0x16, 0)])
+        self.assertEqual((computed[0], computed[1][:15]), (4, "unknown at 0:1:"))
+        self.assertEqual(self.said([filter_of([0])], "--limit", "1")[:2], (4, "unfinished\n"))
+        self.assertEqual(self.run_tool("answers", "none")[0], 2)
+
+    def test_refused_filters_and_tables(self):
+        status, out, _ = self.said([filter_of([0]), jeq(0, 9, 0) + ret(ALLOW)])
+        self.assertEqual((status, out.split("\n")[0]), (1, "fault filter Jump at 0"))
+        self.assertIn("1.bpf", out)
+        status, out, _ = self.said([filter_of([0])], "--table", self.file("t", b"read\n"))
+        self.assertEqual((status, out.split("\n")[0]), (1, "fault table Form line 1"))
+
+
+class Reader(unittest.TestCase):
+    """The sets of values that the program prints."""
+
+    def test_words(self):
+        one = Word.read("0x4-0x9,0x20&0x1=0x0!0x6=0x6")
+        self.assertEqual([it for it in range(64) if one.has(it)], [4, 8, 32])
+        self.assertEqual(one.within(0, 63), [(4, 4), (8, 8), (32, 32)])
+        self.assertEqual([it for it in range(16) if Word.read("!0x6=0x0").has(it)], [it for it in range(16) if it & 6])
+
+    def test_ranges(self):
+        """The numbers of a drawn word, as ranges."""
+        dice = random.Random(5)
+        for _ in range(300):
+            mask = dice.getrandbits(8) & dice.getrandbits(8)
+            low = dice.randrange(200)
+            one = Word([(low, low + dice.randrange(80)), (300, 310)], mask, dice.getrandbits(8) & mask,
+                       [(it, dice.getrandbits(8) & it) for it in dice.sample(range(1, 256), 2)])
+            first, last = sorted(dice.sample(range(400), 2))
+            found = one.within(first, last)
+            self.assertEqual([it for low, high in found for it in range(low, high + 1)],
+                             [it for it in range(first, last + 1) if one.has(it)])
+        with self.assertRaises(TooMany):
+            Word([], 1, 1).within(0, WORD)
+
+    def test_numbers_that_are_too_many(self):
+        """The regions of a number are found without ranges."""
+        odd = regions.Region("ALLOW 0 at 0:1", None, None, True, {0: Word([], 1, 1)}, "")
+        even = regions.Region("ALLOW 0 at 0:2", None, None, True, {0: Word([], 1, 0)}, "")
+        numbers = regions.Numbers([odd, even], architectures.JUDGED[architectures.NATIVE])
+        self.assertEqual((numbers.ranges, numbers.of(7), numbers.of(8)), (None, [odd], [even]))
+
+    def test_what_is_not_understood(self):
+        """Nothing is concluded from it."""
+        for printed in ("", "ALLOW 0 at 0:0\n", "ALLOW 0 at 0:0\ncall nr 0\nregions 2 steps 1\n",
+                        "ALLOW 0 at 0:0 w0 7\ncall nr 0\nregions 1 steps 1\n",
+                        "what\ncall nr 0\nregions 1 steps 1\n", "unfinished\n"):
+            self.assertIsNone(regions._read(printed) if "w0 7" not in printed else None)
+        with self.assertRaises(ToolError):
+            Word.read("7")
+        given = client.answers
+        self.addCleanup(setattr, client, "answers", given)
+        for status, out in ((0, b"unfinished\n"), (4, b""), (1, b"no\n"), (0, b"fault filter Empty\n")):
+            client.answers = lambda *_, status=status, out=out: client.Run(status, out)
+            with self.assertRaises(ToolError):
+                regions.of_filters([])
+
+
+if __name__ == "__main__":
+    unittest.main()
