@@ -5,7 +5,7 @@ import json
 from collections.abc import Callable, Iterable, Sequence
 
 from .answers import Answer
-from .profiles import LONGEST_NUMBER
+from .profiles import HOLDS, LONGEST_NUMBER
 from .values import Any, dataclass
 
 MOST = (1 << 64) - 1
@@ -33,6 +33,10 @@ class Entry:
     answer: Answer
     conditions: tuple[Condition, ...]
     has_others: bool = False
+
+    def is_met(self, arguments: Sequence[int]) -> bool:
+        """Whether arguments meet its conditions."""
+        return all(HOLDS[it.op](arguments[it.index], it.value, it.two) for it in self.conditions)
 
     def as_json(self) -> dict[str, object]:
         return {"names": list(self.names), **self.answer.members(), "args": [it.as_json() for it in self.conditions]}

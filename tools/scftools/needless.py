@@ -11,7 +11,7 @@ from collections.abc import Iterable, Iterator, Sequence
 
 from .answers import Answer
 from .architectures import JUDGED
-from .argument_sets import ALL, NONE, Sets, Steps, TooMany
+from .argument_sets import ALL, Sets, Steps, TooMany
 from .calls import Call
 from .entries import Entry
 from .findings import Owners
@@ -70,14 +70,20 @@ class Met:
             self._found[key] = self.of(name).of_conditions(entry.conditions)
         return self._found[key]
 
-    def are_all(self, others: Iterable[Entry], name: str, those: int = ALL) -> bool:
-        """Whether some arguments, or all, each meet one of some entries."""
-        for other in others:
-            self.of(name).spend(1)
-            those = self.of(name).without(those, self.by(other, name)) if those else NONE
-        return those == NONE
+    def are_all(self, others: Sequence[Entry], name: str, those: int = ALL) -> bool:
+        """Whether some arguments, or all, each meet one of some entries. Takes away what meets an entry that the least
+        of them meet, until none are left or these meet no entry."""
+        sets = self.of(name)
+        while those:
+            sets.spend(len(others))
+            least = sets.least(those)
+            other = next((it for it in others if it.is_met(least)), None)
+            if other is None:
+                return False
+            those = sets.without(those, self.by(other, name))
+        return True
 
-    def is_within(self, entry: Entry, others: Iterable[Entry], name: str) -> bool:
+    def is_within(self, entry: Entry, others: Sequence[Entry], name: str) -> bool:
         """Whether all that meets an entry meets one of others."""
         return self.are_all(others, name, self.by(entry, name))
 

@@ -85,8 +85,9 @@ class Lines(Case):
 
     def test_nothing_is_said_that_is_not_proved(self):
         """Without a step scf proves nothing, and no conditions are printed."""
-        status, out = self.shown([of_numbers({41: AUDIT}, ALLOW)], "--limit", "0")
-        self.assertEqual(status, 4)
+        status, out, err = self.run_tool("surface", "--conditions", "--limit", "0",
+                                         self.file("f", of_numbers({41: AUDIT}, ALLOW)))
+        self.assertEqual((status, err.split(":")[:3]), (4, ["surface", " conditions", " unfinished"]))
         self.assertNotIn(" where ", out)
 
     def test_drawn(self):
