@@ -32,7 +32,7 @@ An argument is known from strace if it is printed as a number or by names of tab
 and CLONE_NEWUSER|SIGCHLD; `strace -X raw` prints numbers in place of names. A log of `record` has whole registers. Else
 strace prints of many arguments the lower half alone: if bit 31 is set, the upper half is tried both as zero and as the
 sign, otherwise it is taken as zero. Of the other logs only sys_enter has all arguments, and audit records of syscalls
-the first four. If a condition tests an argument that isn't known, scf compares over all of its values: `depends on arg
+the first four. If a condition tests an argument that isn't known, all of its values are judged: `depends on arg
 N` means that the syscall is allowed with some and not with others, and shows both. Of i386, x32 and arm conditions
 compare the lower half alone. Syscalls of an architecture that scf has no table of, names that a table doesn't have, and
 lines that can't be read aren't judged, and are reported so. sysdig has one name for some syscalls, such as pipe and

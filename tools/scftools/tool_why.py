@@ -24,8 +24,8 @@ it isn't under this profile. At the end stand changes of the profile that allow 
 known, but for addresses, and with all that the entry denies. scf has proved of each that no other answer to an x86-64
 syscall changes. With --native the profile is judged for x86-64 alone, otherwise for each architecture that it names.
 
-A record doesn't have the arguments. If the profile or the filters test them, scf compares over all of their values, and
-a call that is answered as the record says is shown as an example. Nor does it have the data of an action: an errno
+A record doesn't have the arguments. If the profile or the filters test them, all of their values are judged, and a call
+that is answered as the record says is shown as an example. Nor does it have the data of an action: an errno
 isn't known from it. The kernel logs KILL_THREAD, KILL_PROCESS, LOG and actions without a name; another action only if
 the filter was loaded with SECCOMP_FILTER_FLAG_LOG (`flags` of a profile); and each only if it is in
 /proc/sys/kernel/seccomp/actions_logged. The number -1 is what a tracer sets to skip a syscall.

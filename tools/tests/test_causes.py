@@ -18,7 +18,6 @@ sys.path.append(os.path.join(TOP, "tools"))
 # pylint: disable=wrong-import-position
 from scftools import audit_records, cores, events, filters, tables  # noqa: E402
 from scftools.diagnosis import Stack  # noqa: E402
-from scftools.trials import Trial  # noqa: E402
 
 TABLE = tables.read(None)
 SOCKET, AF_NETLINK, NETLINK_AUDIT = 41, 16, 9
@@ -739,19 +738,17 @@ class Words(Causes):
 
 
 class Exceptions(Causes):
-    """The filters by which scf is asked: an exception before a filter, and a filter for some calls alone."""
+    """The filters by which scf is asked: an exception before a filter."""
 
     def test_they_answer_so(self):
         conditions = ((0, (1 << 64) - 1, 0x100000010), (2, 0xFFFFFFFF, 9), (5, 0xF0, 0x37))
-        stack = [Stack([made(ret(ERRNO | 1), SOCKET, conditions, TRAP)], Trial(tables.native_alone(TABLE.data)))
-                 for made in (filters.with_exception, filters.only_on)]
+        stack = Stack.of_filters([filters.with_exception(ret(ERRNO | 1), SOCKET, conditions, TRAP)])
         for number, first, third, last in ((SOCKET, 0x100000010, 9, 0x30), (SOCKET, 0x100000010, 1 << 32 | 9, 0x13F),
                                            (SOCKET, 0x10, 9, 0x30), (SOCKET, 0x100000010, 8, 0x30),
                                            (SOCKET, 0x100000010, 9, 0x40), (42, 0x100000010, 9, 0x30)):
             meets = number == SOCKET and first == 0x100000010 and third & 0xFFFFFFFF == 9 and last & 0xF0 == 0x30
             call = events.Call(number, arguments=(first, 0, third, 0, 0, last))
-            expected = ["TRAP 0", "ERRNO 1"] if meets else ["ERRNO 1", "TRAP 0"]
-            self.assertEqual([str(it.answer(call)) for it in stack], expected)
+            self.assertEqual(str(stack.answer(call)), "TRAP 0" if meets else "ERRNO 1")
 
 
 if __name__ == "__main__":
