@@ -2,7 +2,7 @@
 """A second implementation of `scf answers`, which judges the first: everything that filters or a profile answer, as
 regions of records.
 
-    tools/tests/symbolic.py [--native | --nr-from F --nr-to L] [--limit N] [--examples] <bundle
+    tools/tests/symbolic.py [--native | --architectures | --nr-from F --nr-to L] [--limit N] [--examples] <bundle
 
 It is written from filter.h, seccomp(2) and the OCI specification, and takes nothing of scf's code. Filters are followed
 along each path, with what is known of each word of the record. A value is followed bit by bit, as bits of the record
@@ -498,7 +498,9 @@ def printed(data, words, limit=1 << 62):
         top = json.loads(parts["profile"][0])
         top = top if "defaultAction" in top else top["linux"]["seccomp"]
         tables = {kind: parts[kind][0] for kind in TABLES if kind in parts}
-        regions = ((answer, reason, its) for answer, reason, its in walk.of_profile(top, tables, facts))
+        # (the records of the architectures are all that isn't foreign)
+        regions = ((answer, reason, its) for answer, reason, its in walk.of_profile(top, tables, facts)
+                   if reason != "foreign" or not words.get("architectures"))
     else:
         programs = [unpacked(it) for it in parts.get("filter", ())]
         regions = ((answer, "at {}:{}".format(*at), its) for answer, at, its in walk.of_stack(programs, facts))
