@@ -19,21 +19,18 @@ from .verdicts import UNFINISHED
 
 LINE = Pattern(r"((unknown|\w+ \w+) (?:at [0-9]+:[0-9]+|entry ([0-9]+)|\w+))( open)?((?: w[0-9]+ \S+)*)")
 WORD = Pattern(r"((?:0x[0-9a-f]+[-,]?)*)(?:&(0x[0-9a-f]+)=(0x[0-9a-f]+))?((?:!0x[0-9a-f]+=0x[0-9a-f]+)*)")
-# Behind the words of the instruction pointer come those of the arguments.
+# The index of the instruction pointer, whose words stand before those of argument 0.
 POINTER = -1
-# The most intervals into which bits that are known divide the numbers of a region.
-MOST = 4096
+# The greatest value of a word, and the most intervals into which known bits may divide the numbers of a region.
+EVERY, MOST = (1 << 32) - 1, 4096
 
 
 class Unfinished(Exception):
     """scf took as many steps as it may."""
 
 
-class TooMany(Exception):
+class TooManyRanges(Exception):
     """Bits that are known divide numbers into more than MOST intervals."""
-
-
-EVERY = (1 << 32) - 1
 
 
 class Word:
@@ -63,7 +60,7 @@ class Word:
         return False
 
     def within(self, first: int, last: int) -> list[tuple[int, int]]:
-        """The possible values in a range, as intervals. Raises TooMany."""
+        """The possible values in a range, as intervals. Raises TooManyRanges."""
         found = [(max(low, first), min(high, last)) for low, high in self.intervals if low <= last and high >= first]
         return [it for part in found for it in self._split(*part)] if self.mask or self.refuted else found
 
@@ -81,7 +78,7 @@ class Word:
                 middle = high & same >> 1
                 left += (middle, high), (low, middle - 1)
             if len(found) + len(left) > MOST:
-                raise TooMany
+                raise TooManyRanges
         return found
 
 
@@ -176,7 +173,7 @@ class Numbers:
         self.ranges: list[tuple[int, int, list[Region]]] | None = None
         try:
             self.ranges = self._ranges()
-        except TooMany:
+        except TooManyRanges:
             pass
 
     def _ranges(self) -> list[tuple[int, int, list[Region]]]:

@@ -10,7 +10,7 @@ import json
 from collections.abc import Iterable, Iterator, Sequence
 
 from . import client, entries, output, profiles, program, reasons, regions, strace, tables, traces, verdicts
-from .answers import ALLOWED, Answer
+from .answers import ALLOWED, KILL_PROCESS, Answer
 from .architectures import JUDGED, NATIVE, Architecture, of_machine
 from .calls import Call
 from .engines import KEPT
@@ -33,7 +33,9 @@ TAKEN = ("a log that doesn't say its architecture is taken as {}'s, since the pr
          "another")
 # The most entries with conditions for one name, and the most syscalls to judge, each with each of its values.
 CONDITIONS, WAYS = 64, 2000
-EQUAL, FOREIGN = "SCMP_CMP_EQ", " foreign"
+EQUAL = "SCMP_CMP_EQ"
+# What a profile answers to a syscall of an architecture that it isn't judged for, and why, as scf prints it.
+FOREIGN = "KILL_PROCESS 0 foreign"
 # What each least profile allows where an architecture has it: a process calls these, which a log needn't show, to
 # continue after a stop or a signal, and to end.
 ALWAYS = ("restart_syscall", "rt_sigreturn", "exit", "exit_group", "sigreturn")
@@ -172,13 +174,15 @@ class Judge:
                 if it.answer is not None and it.has(values):
                     shown = it.call_of(number, one.number, values)
                     (allowed if it.answer.disposition == ALLOWED else denied).append((shown, it))
-        if not allowed and not denied:
+        if self._regions is None:
             return Judgement(traced, UNDECIDED, verdicts.UNFINISHED)
-        if not denied:
+        if denied:
+            call, by = denied[0]
+            return Judgement(traced, DEPENDS if allowed else ISNT_ALLOWED, by.line, allowed[0][0] if allowed else None,
+                             (call, by.answer), by.line == FOREIGN)
+        if allowed:
             return Judgement(traced, IS_ALLOWED, allowed=allowed[0][0])
-        call, by = denied[0]
-        return Judgement(traced, DEPENDS if allowed else ISNT_ALLOWED, by.line, allowed[0][0] if allowed else None,
-                         (call, by.answer), by.line.endswith(FOREIGN))
+        return Judgement(traced, ISNT_ALLOWED, FOREIGN, denied=(traced.call({}), KILL_PROCESS), is_foreign=True)
 
 
 class Judges:

@@ -12,7 +12,7 @@ from test_surface import by_argument, gate, of_number
 from scftools import architectures, client, regions, tables
 from scftools.calls import Call
 from scftools.program import ToolError
-from scftools.regions import TooMany, Word
+from scftools.regions import TooManyRanges, Word
 
 ENOSYS, LOG, TRACE = 0x00050026, 0x7FFC0000, 0x7FF00000
 WORD = (1 << 32) - 1
@@ -158,7 +158,7 @@ class Reader(unittest.TestCase):
             found = one.within(first, last)
             self.assertEqual([it for low, high in found for it in range(low, high + 1)],
                              [it for it in range(first, last + 1) if one.has(it)])
-        with self.assertRaises(TooMany):
+        with self.assertRaises(TooManyRanges):
             Word([], 1, 1).within(0, WORD)
 
     def test_numbers_that_are_too_many(self):
