@@ -21,6 +21,8 @@ from .tables import Table, Tables
 from .values import dataclass
 
 LOW = (1 << 32) - 1
+# A bit of the upper half, as an example for all of them.
+UPPER = 1 << 32
 
 
 def _always_holds(one: Condition, greatest: int) -> bool:
@@ -149,11 +151,11 @@ def _evading(sets: Sets, found: Sequence[Region], index: int) -> \
         tuple[Region, tuple[int, ...], Region, tuple[int, ...]] | None:
     """Of the regions of a syscall one that denies it, with arguments of which one has no bit in the upper half, and one
     that allows it with such a bit and otherwise the same; None if there are none."""
-    has_upper = sets.union(sets.bits_of(index, 1))
+    without_upper, with_upper = (sets.cube(index, value, LOW << 32) for value in (0, UPPER))
     for denied in (it for it in found if it.answer is not None and it.answer.denies):
-        low = sets.for_some_upper(sets.without(arguments_of(sets, denied), has_upper), index)
+        low = sets.for_some_upper(sets.both(arguments_of(sets, denied), without_upper), index)
         for allowed in (it for it in found if it.answer is not None and it.answer.allows):
-            evading = sets.both(arguments_of(sets, allowed), has_upper)
+            evading = sets.both(arguments_of(sets, allowed), with_upper)
             both = sets.both(low, sets.for_some_upper(evading, index))
             if both:
                 arguments = sets.least(both)
