@@ -475,8 +475,9 @@ def scope(words):
     free = [Possible()] * WORDS
     if words.get("native"):
         free[:2] = Possible(((0, 0x3FFFFFFF),)), Possible(((0xC000003E, 0xC000003E),))
-    elif "nr-from" in words:
-        free[:2] = Possible(((words["nr-from"], words["nr-to"]),)), Possible(((0xC000003E, 0xC000003E),))
+    elif "nr-from" in words or "nr-to" in words:
+        numbers = words.get("nr-from", 0), words.get("nr-to", 0x3FFFFFFF)
+        free[:2] = Possible((numbers,)), Possible(((0xC000003E, 0xC000003E),))
     return Facts(tuple(free))
 
 
@@ -513,7 +514,7 @@ def printed(data, words, limit=1 << 62):
         if words.get("examples"):
             record = [one.least() for one in its.words]
             pointer, *arguments = (record[at] | record[at + 1] << 32 for at in range(2, WORDS, 2))
-            lines.append(f"call nr {record[0]} arch {record[1]:#010x} ip {pointer:#x} args "
+            lines.append(f"call nr {record[0]} arch {record[1]:#x} ip {pointer:#x} args "
                          f"{' '.join(map(hex, arguments))}")
     return "".join(f"{line}\n" for line in (*lines, f"regions {count} steps {walk.steps}"))
 

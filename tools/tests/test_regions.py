@@ -174,6 +174,26 @@ class Regions(unittest.TestCase):
             for record in ([numbers[1] + 1, X86_64] + [0] * 14, [5, 0x40000003] + [0] * 14):
                 self.assertFalse(any(one.has(record) for one, _ in regions))
 
+    def test_by_hand(self):
+        """Flags of clone, a bit and an order, a sum and a product, and which filter answers."""
+        flags = load(0) + jeq(56, 0, 3) + load(16) + insn(0x54, 0x7E020000) + jeq(0, 1, 0) + ret(EPERM) + ret(ALLOW)
+        bit = load(16) + insn(0x45, 0x10, 0, 3) + load(20) + insn(0x25, 5, 1, 0) + ret(0x7FC00000) + ret(0x12345678)
+        total = load(16) + insn(0x07, 0) + load(24) + insn(0x0C, 0) + jeq(9, 0, 1) + ret(ALLOW) + ret(EPERM)
+        product = load(16) + insn(0x07, 0) + load(24) + insn(0x2C, 0) + insn(0x16, 0)
+        for filters, words, expected in (
+                ([], {}, ["ALLOW 0 at 0:0"]),
+                ([flags], {}, ["ALLOW 0 at 0:6 w0 0x38 w4 &0x7e020000=0x0",
+                               "ERRNO 1 at 0:5 w0 0x0-0x37,0x39-0xffffffff",
+                               "ERRNO 1 at 0:5 w0 0x38 w4 !0x7e020000=0x0"]),
+                ([flags], {"nr-from": 57, "nr-to": 58}, ["ERRNO 1 at 0:5 w0 0x39-0x3a w1 0xc000003e"]),
+                ([bit], {}, ["UNNAMED 0x12345678 at 0:5 w4 &0x10=0x0",
+                             "UNNAMED 0x12345678 at 0:5 w4 &0x10=0x10 w5 0x6-0xffffffff",
+                             "USER_NOTIF 0 at 0:4 w4 &0x10=0x10 w5 0x0-0x5"]),
+                ([total], {}, ["ALLOW 0 at 0:5 open", "ERRNO 1 at 0:6 open"]), ([product], {}, ["unknown at 0:4"]),
+                ([ret(ALLOW), ret(EPERM)], {}, ["ERRNO 1 at 1:0"]), ([ret(EPERM), ret(ALLOW)], {}, ["ERRNO 1 at 0:0"])):
+            text = self.printed(b"".join(part("filter", it) for it in filters), **words)
+            self.assertEqual(sorted(text.splitlines()[:-1:2]), expected)
+
     def test_intervals(self):
         """The words are printed as they are known."""
         text = self.printed(part("filter", load(0) + jge(10, 0, 2) + insn(0x45, 6, 1, 0) + ret(EPERM) + ret(ALLOW)))
