@@ -1,7 +1,7 @@
 """A tool that is given no file: the proved program answers standard input, and nothing is added to its lines.
 
-The program takes a filter, or a bundle of several inputs. In place of a bundle, `decide` also takes a filter alone, and
-`ask` and `compile` a profile alone, as they do a file.
+The program takes a filter, or a bundle of several inputs. In place of a bundle, `decide` and `answers` also take a
+filter alone, and `ask` and `compile` a profile alone, as they do a file.
 """
 from __future__ import annotations
 
@@ -15,11 +15,12 @@ RECORD = ("--nr", "--arch", "--ip", *(f"--a{index}" for index in range(6)))
 OF_BUNDLES = ("--architectures", "--total-limit", "--nr-from", "--nr-to")
 # The options of the program's commands, but for those that give a record.
 OF_PROGRAM = {
+    "answers": ("--native", "--examples", "--limit", "--architectures", "--nr-from", "--nr-to"),
     "ask": ("--architectures",), "check": (), "decide": (), "run": ("--path",), "compile": ("--architectures",),
     "compare": ("--native", "--calls", "--no-more", "--no-less", "--disposition", "--limit", "--splits", "--beside",
                 *OF_BUNDLES)}
 # The commands that also take one of the files of a bundle alone.
-OF_ONE_FILE = ("ask", "compile", "decide")
+OF_ONE_FILE = ("answers", "ask", "compile", "decide")
 
 
 def _given(parser: Any, options: Any) -> dict[str, list[str]]:

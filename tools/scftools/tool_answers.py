@@ -13,7 +13,8 @@ Regions that have the same answer at the same instruction under the same conditi
 names of their manual page, or are a0 to a5; `(u32)a0` is the lower half of a register, `a0 >> 32` the upper one, and
 `ip` the instruction pointer. Where a test isn't decided, the regions behind it are `open`: a record that meets several
 of them gets the answer of one. The answer `unknown` is computed. With --examples a line after each, marked by `# `, has
-a syscall of the region. --arch names another architecture of the syscalls than this machine's own.
+a syscall of the region. --arch names another architecture of the syscalls than this machine's own. Without a FILTER
+standard input is read, one filter or a bundle, of a profile too; of a bundle the program's own lines are printed.
 
 Exit status: 0 every answer is known; 1 a filter or the table is refused; 2 usage error; 3 an input or the output
 failed; 4 a region is open or its answer unknown, or scf took as many steps as --limit says; 125 scf can't be run.
@@ -30,11 +31,11 @@ from .verdicts import UNFINISHED
 
 
 def read_words():
-    parser = words.Parser(__doc__)
+    parser = words.Parser(__doc__, command="answers")
     parser.add("--arch")
     parser.add_argument("--examples", action="store_true", help="show a syscall of each")
     parser.add("--limit", help="at most N steps")
-    parser.add("--table", "--json", "filters")
+    parser.add("--table", "--json", "--architectures", "--nr-from", "--nr-to", "filters")
     options = parser.parse_args()
     parser.one_standard_input([*options.filters, options.table])
     return options

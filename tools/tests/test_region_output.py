@@ -5,7 +5,8 @@ import random
 import re
 import unittest
 
-from common import (ALLOW, EPERM, I386, TABLE, UNKNOWN_ZERO, X86_64, Case, filter_of, insn, jeq, jge, load, ret)
+from common import (ALLOW, EPERM, I386, TABLE, UNKNOWN_ZERO, X86_64, Case, filter_of, insn, jeq, jge, load, part,
+                    ret)
 from stand_in import StandIn, unpacked
 from test_surface import by_argument, gate, of_number
 
@@ -59,7 +60,18 @@ class Lines(Case):
         return self.run_tool("answers", *words, *names)
 
     def test_usage(self):
-        self.says_usage("answers")
+        status, out, err = self.run_tool("answers", "--help")
+        self.assertEqual((status, err), (0, ""))
+        self.assertIn("usage: ", out)
+        self.assertEqual(self.run_tool("answers", "--no-such-option")[:2], (2, ""))
+
+    def test_standard_input(self):
+        """A filter alone is a file; of a bundle the program's own lines are printed."""
+        data = filter_of([0])
+        self.assertEqual(self.run_tool("answers", given=data), self.said([data]))
+        status, out, err = self.run_tool("answers", given=part("filter", data))
+        self.assertEqual((status, err), (0, ""))
+        self.assertRegex(out, r"\nregions [0-9]+ steps [0-9]+\n\Z")
 
     def test_lines(self):
         """Those of the syscalls that are looked at."""
