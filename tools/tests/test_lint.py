@@ -1012,9 +1012,10 @@ class Several(Linted):
         halves = entry("read", args=[(0, "LT", 5)]), entry("read", args=[(0, "GE", 5)])
         self.assertEqual(self.effects(*halves, entry("read"), architectures=ENGINES), [(2, True, "together")])
         self.assertEqual(self.effects(entry("read", action=ERRNO), architectures=ENGINES), [(0, True, "default")])
-        # 500 is what a short search doesn't try, and the last entry alone has
+        # the last entry has all but 7, and what no other entry has, such as 500
         most = [("EQ", it) for it in range(6, 18)] + [("LE", 5), ("GE", 1000), ("NE", 7)]
-        self.assertEqual(self.effects(*(entry("read", args=[(0, *it)]) for it in most), architectures=ENGINES), [])
+        self.assertEqual(self.effects(*(entry("read", args=[(0, *it)]) for it in most), architectures=ENGINES),
+                         [(at, True, 14) for at in range(14) if most[at] != ("EQ", 7)])
 
     def test_a_dangerous_call_on_one_of_them(self):
         """By a table without ptrace, and for arguments that no call of 32 bits has."""
