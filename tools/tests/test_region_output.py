@@ -5,9 +5,9 @@ import random
 import re
 import unittest
 
-from common import (ALLOW, EPERM, I386, TABLE, UNKNOWN_ZERO, X86_64, Case, filter_of, insn, jeq, jge, load, part,
-                    ret)
-from stand_in import StandIn, unpacked
+from support.common import (ALLOW, EPERM, I386, TABLE, UNKNOWN_ZERO, X86_64, Case, filter_of, insn, jeq, jge, load,
+                            part, ret)
+from support.stand_in import StandIn, unpacked
 from test_surface import by_argument, gate, of_number
 
 from scftools import architectures, client, regions, tables

@@ -4,12 +4,12 @@ import random
 import re
 import unittest
 
-from common import ALLOW, EPERM, UNKNOWN_ZERO, X86_64, filter_of, insn, jeq, jge, load, part, ret
+from support.common import ALLOW, EPERM, UNKNOWN_ZERO, X86_64, filter_of, insn, jeq, jge, load, part, ret
 
 import kernel_programs
-import several
-import symbolic
-from stand_in import StandIn, unpacked
+from support import several
+from support import symbolic
+from support.stand_in import StandIn, unpacked
 
 WORD = (1 << 32) - 1
 LINE = re.compile(r"(unknown|[A-Z_]+ (?:0x[0-9a-f]{8}|[0-9]+)) (?:at ([0-9]+):([0-9]+)|(entry [0-9]+|default|foreign))"

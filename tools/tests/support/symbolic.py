@@ -1,8 +1,7 @@
-#!/usr/bin/env python3
 """A second implementation of `scf answers`, which judges the first: everything that filters or a profile answer, as
 regions of records.
 
-    tools/tests/symbolic.py [--native | --architectures | --nr-from F --nr-to L] [--limit N] [--examples] <bundle
+    python3 -m support.symbolic [--native | --architectures | --nr-from F --nr-to L] [--limit N] [--examples] <bundle
 
 It is written from filter.h, seccomp(2) and the OCI specification, and takes nothing of scf's code. Filters are followed
 along each path, with what is known of each word of the record. A value is followed bit by bit, as bits of the record
@@ -12,8 +11,8 @@ import json
 import struct
 import sys
 
-from several import ARCHITECTURES, KILLS, word_of
-from stand_in import StandIn, unpacked
+from .several import ARCHITECTURES, KILLS, word_of
+from .stand_in import StandIn, unpacked
 
 WORD = (1 << 32) - 1
 NUMBER, ARCHITECTURE, ARGUMENTS, WORDS = 0, 1, 4, 16
