@@ -3,7 +3,7 @@ from __future__ import annotations
 
 import json
 import re
-from collections.abc import Iterator, Sequence
+from collections.abc import Collection, Iterator, Sequence
 
 from .values import Pattern
 
@@ -31,10 +31,14 @@ def path_text(path: Path) -> str:
     return found
 
 
-def place(text: str, at: int) -> str:
+def line_and_column(text: str, at: int) -> tuple[int, int]:
     """The line and the column of a character, each from 1 on."""
-    line = text.count("\n", 0, at) + 1
-    return f"line {line}, column {at - (text.rfind(chr(10), 0, at) + 1) + 1}"
+    return text.count("\n", 0, at) + 1, at - (text.rfind("\n", 0, at) + 1) + 1
+
+
+def place(text: str, at: int) -> str:
+    """The line and the column of a character, in words."""
+    return "line {}, column {}".format(*line_and_column(text, at))
 
 
 class TooManyTokens(Exception):
@@ -100,16 +104,21 @@ def values(text: str) -> Iterator[tuple[int, list[str | int], str]]:
                 is_name = token == "{"
 
 
-def place_of(text: str, path: Path) -> str | None:
-    """The line and the column of the value at a path; of a member that is repeated, the last. None if it isn't
-    found."""
-    wanted, at = list(path), None
+def indexes_of(text: str, paths: Collection[Path]) -> dict[Path, int]:
+    """Where the values at some paths begin, as far as they are found; of a member that is repeated, the last."""
+    found = {}
     try:
         for begin, here, _ in values(text):
-            if here == wanted:
-                at = begin
+            if tuple(here) in paths:
+                found[tuple(here)] = begin
     except TooManyTokens:
-        return None
+        return {}
+    return found
+
+
+def place_of(text: str, path: Path) -> str | None:
+    """The line and the column of the value at a path, None if it isn't found."""
+    at = indexes_of(text, {tuple(path)}).get(tuple(path))
     return None if at is None else place(text, at)
 
 

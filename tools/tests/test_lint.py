@@ -13,7 +13,7 @@ from test_output import HOSTILE
 sys.path.append(os.path.join(TOP, "tools"))
 
 import kernel_profiles  # noqa: E402
-from scftools import client, constants, oddities, tables, watchlist  # noqa: E402
+from scftools import client, constants, lint, oddities, tables, watchlist  # noqa: E402
 
 ALLOW, ERRNO, TOP_OF = "SCMP_ACT_ALLOW", "SCMP_ACT_ERRNO", (1 << 64) - 1
 NATIVE, I386, X32, AARCH64, ARM = (f"SCMP_ARCH_{it}" for it in ("X86_64", "X86", "X32", "AARCH64", "ARM"))
@@ -1282,3 +1282,97 @@ class Container(Linted):
         self.assertEqual([(it["entry"], it["names"]) for it in self.found(given, kinds=("covered", "without-effect"))],
                          [*((it, ["personality"]) for it in range(1, 5)), (7, ["read"])])
         self.assertEqual(self.run_lint(profile_of("read"))[1], "# no findings\n")
+
+
+class Gate(Linted):
+    """What a CI job asks for: grades, what is ignored, SARIF."""
+
+    ODD = profile(entry("read", "reed"), entry("socket", args=((0, "NE", 40),)), entry("ptrace", action=ERRNO))
+
+    def kinds(self, given, *words, status=0, **settings):
+        ended, out, _ = self.run_lint(given, "--json", *words, **settings)
+        self.assertEqual(ended, status)
+        return [it["kind"] for it in json.loads(out)["findings"]]
+
+    def test_grades(self):
+        style, weak = profile(entry("read", "read")), profile(entry("ptrace"))
+        for given, statuses in ((profile(), (0, 0, 0)), (style, (0, 0, 1)), (weak, (1, 1, 1)),
+                                (profile(entry("reed")), (0, 1, 1))):
+            for grade, status in zip(("error", "warning", "note"), statuses):
+                self.assertEqual(self.run_lint(given, "--fail-on", grade)[0], status, (given, grade))
+            self.assertEqual(self.run_lint(given, "--strict")[0], statuses[-1])
+        self.assertIn("\n# findings: 2 (error: 1, warning: 1)\n", self.run_lint(profile(entry("ptrace", "reed")))[1])
+        self.assertEqual(self.run_lint(weak, "--strict", "--fail-on=error")[:2], (2, ""))
+
+    def test_what_is_ignored(self):
+        """What an earlier run printed leaves only what is new; a member that differs ignores nothing."""
+        before = self.file("before.json", self.run_lint(self.ODD, "--json")[1].encode())
+        self.assertGreater(len(self.kinds(self.ODD)), 1)
+        self.assertEqual(self.kinds(self.ODD, "--ignore", before, "--strict"), [])
+        status, out, _ = self.run_lint(self.ODD, "--ignore", before)
+        self.assertRegex(out, r"\n# no findings; ignored: [2-9]\n\Z")
+        newer = {**self.ODD, "syscalls": [*self.ODD["syscalls"], entry("mount")]}
+        self.assertEqual(self.kinds(newer, "--ignore", before), ["dangerous-call"])
+        one = self.file("one.json", b'{"findings": [{"kind": "unknown-name", "name": "rd", "comment": "none"}]}')
+        status, out, err = self.run_lint(self.ODD, "--ignore", one)
+        self.assertIn("unknown-name: ", out)
+        self.assertIn("lint: ignored, but not found: 1, first {", err)
+        self.file(".scf-lint.json", b'{"findings": [{"kind": "unknown-name", "name": "reed"}]}')
+        self.assertNotIn("unknown-name", self.kinds(self.ODD))
+        for bad in (b"", b"[]", b"{}", b'{"findings": [{}]}', b'{"findings": [{"kind": "no-such"}]}'):
+            self.assertEqual(self.run_lint(self.ODD, "--ignore", self.file("bad.json", bad))[:2], (2, ""))
+
+    def test_an_entry_says_what_to_ignore_of_it(self):
+        for comment, is_there in ((None, True), ("lint: ignore unknown-name", False), ("lint: ignore covered", True),
+                                  ("names of newer kernels; lint: ignore covered unknown-name", False)):
+            given = profile(entry("read", "reed", **({"comment": comment} if comment else {})))
+            self.assertEqual("unknown-name" in self.kinds(given), is_there, comment)
+
+    def test_sarif(self):
+        """Required members and levels as in section 3 of SARIF 2.1.0; a region is where the entry begins."""
+        text = json.dumps(self.ODD, indent=2).encode()
+        for data in (text, b'{"linux": {"seccomp": ' + text + b"}}"):
+            status, out, err = self.run_lint(data, "--sarif")
+            self.assertEqual((status, err), (0, ""))
+            log = json.loads(out)
+            run, = log["runs"]
+            self.assertEqual((set(log), log["version"]), ({"$schema", "version", "runs"}, "2.1.0"))
+            rules = {it["id"]: it for it in run["tool"]["driver"]["rules"]}
+            self.assertEqual(set(rules), set(lint.KINDS))
+            self.assertTrue(all(it["shortDescription"]["text"] for it in rules.values()))
+            lines = data.decode().split("\n")
+            places = {}
+            for result in run["results"]:
+                self.assertIn(result["level"], ("error", "warning", "note"))
+                region = result["locations"][0]["physicalLocation"]["region"]
+                places[result["ruleId"]] = lines[region["startLine"] - 1][region["startColumn"] - 1:]
+                self.assertEqual(result["level"], rules[result["ruleId"]]["defaultConfiguration"]["level"])
+            first = next(at for at, line in enumerate(lines) if "reed" in line)
+            self.assertEqual(places["unknown-name"], "{")
+            self.assertEqual(run["results"][[it["ruleId"] for it in run["results"]].index("unknown-name")]
+                             ["locations"][0]["physicalLocation"]["region"]["startLine"], first - 2)
+            self.assertEqual(places["high-half"][:1], "{")
+        log = json.loads(self.run_lint(b"{}", "--sarif")[1])
+        self.assertEqual(log["runs"][0]["invocations"][0]["executionSuccessful"], False)
+        self.assertIn("fault profile Missing", json.dumps(log))
+
+    def test_sarif_by_another_reader(self):
+        """Go structs of SARIF's schema take all members."""
+        folder = "/usr/share/gocode/src/github.com/haya14busa/go-sarif/sarif"
+        if not os.path.isdir(folder):
+            self.skipTest("golang-github-haya14busa-go-sarif-dev isn't installed")
+        source = """package main
+import ("encoding/json"; "os"; "github.com/haya14busa/go-sarif/sarif")
+func main() {
+	reader := json.NewDecoder(os.Stdin)
+	reader.DisallowUnknownFields()
+	var log sarif.Sarif
+	if err := reader.Decode(&log); err != nil { panic(err) }
+}
+"""
+        self.file("main.go", source.encode())
+        env = {**os.environ, "GOPATH": "/usr/share/gocode", "GO111MODULE": "off", "GOCACHE": self.folder}
+        out = self.run_lint(self.ODD, "--sarif")[1]
+        done = subprocess.run(["go", "run", "main.go"], input=out.encode(), cwd=self.folder, env=env,
+                              stderr=subprocess.PIPE, check=False)
+        self.assertEqual(done.returncode, 0, done.stderr)
