@@ -91,7 +91,7 @@ class Install(Case):
             _, out, err = self.run_installed("scf", *words)
             self.assertNotIn("stranger", out + err, words)
         os.remove(os.path.join(self.prefix, "lib/scf/program/scf"))
-        status, out, err = self.run_installed("scf", "--version")
+        status, out, err = self.run_installed("scf", "core", "--version")
         self.assertEqual((status, out), (125, ""), err)
 
     def test_the_unit_and_the_hook_name_what_is_installed(self):

@@ -200,7 +200,8 @@ class Interface(Built):
         for path, line in ((("rust", "Cargo.toml"), 'version = "{}"'), (("python", "pyproject.toml"), 'version = "{}"'),
                            (("scf-uninstalled.pc",), "Version: {}")):
             self.assertIn(line.format(version), read(LIBRARY, *path).splitlines())
-        self.assertEqual(self.runs(os.path.join(TOP, "scf"), "--version"), f"scf {version}\n")
+        for words in (["--version"], ["core", "--version"]):
+            self.assertEqual(self.runs(os.path.join(TOP, "scf"), *words), f"scf {version}\n")
         self.assertEqual(".".join(map(str, python_module().version())), version)
         # a call's symbol has a version up to this one
         for brought in BROUGHT:
