@@ -2,8 +2,7 @@
 those that need another one, as sleeps need restart_syscall, those that libc replaces only if they are ENOSYS, and those
 that do what a denied one does, whose denial is void.
 
-For each architecture scf compares the profile's filter with a profile that delegates these syscalls, with the arguments
-that are meant, and allows all else: what is more permissive than that is allowed.
+What is allowed, with which arguments and by which entry, is what the profile's regions say.
 """
 from __future__ import annotations
 
