@@ -61,7 +61,7 @@ def _is_bundle() -> bool:
 def take(parser: Any, options: Any) -> None:
     """If no file is given, becomes the program, or has the tool take standard input as the file."""
     files = [it for it in parser._actions if not it.option_strings]  # pylint: disable=protected-access
-    missing = [it for it in files if not getattr(options, it.dest)]
+    missing = [it for it in files if getattr(options, it.dest) in (None, [])]
     if not missing:
         for flag in _given(parser, options):
             if flag in OF_BUNDLES:
