@@ -53,10 +53,10 @@ def _loaded(text: str, begin: int, name: str) -> tuple[bytes, bool] | None:
         return None
     printed = PROGRAM.fullmatch(words[2])
     if not printed or printed[2] is None:
-        raise c_arrays.Malformed("it doesn't show the filters whole: strace does with -v")
+        raise c_arrays.NotAnArray("it doesn't show the filters whole: strace does with -v")
     data = _instructions(printed[2])
     if len(data) != 8 * int(printed[1]):
-        raise c_arrays.Malformed(f"it shows {len(data) // 8} of a filter's {printed[1]} instructions")
+        raise c_arrays.NotAnArray(f"it shows {len(data) // 8} of a filter's {printed[1]} instructions")
     return data, "TSYNC" in flags
 
 
@@ -98,7 +98,7 @@ class Reader:
                 self._loads += 1
                 event.filter, event.is_for_all = loaded
             if self._loads > MOST:
-                raise c_arrays.Malformed(f"it has more than {MOST} filters")
+                raise c_arrays.NotAnArray(f"it has more than {MOST} filters")
         else:
             result = strace.RESULT.match(text, text.rfind(")") + 1)
             if result and result[1].isdigit():
@@ -120,7 +120,7 @@ def _stacks(events: Iterable[Event]) -> Stacks:
     for event in events:
         who = event.who
         if who is None and current.keys() - {None} or who is not None and None in current:
-            raise c_arrays.Malformed("it doesn't number each process: strace -f -o LOG does")
+            raise c_arrays.NotAnArray("it doesn't number each process: strace -f -o LOG does")
         group.setdefault(who, who)
         current.setdefault(who, ())
         if event.filter is not None:
@@ -140,7 +140,7 @@ def _stacks(events: Iterable[Event]) -> Stacks:
 
 
 def stacks_in(lines: Iterable[str]) -> Stacks:
-    """The stacks of the processes of a log. Raises c_arrays.Malformed if a filter can't be read."""
+    """The stacks of the processes of a log. Raises c_arrays.NotAnArray if a filter can't be read."""
     reader = Reader()
     for line in lines:
         reader.add(line)

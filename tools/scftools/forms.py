@@ -144,7 +144,7 @@ def _of_log(text: str) -> bytes | None:
 
     filters = {data for stack in filter_loads.stacks_in(text.split("\n")) for data in stack}
     if len(filters) != 1:
-        raise c_arrays.Malformed(f"{len(filters)} filters are loaded in it, which `scf filters-of --log` writes")
+        raise c_arrays.NotAnArray(f"{len(filters)} filters are loaded in it, which `scf filters-of --log` writes")
     return filters.pop()
 
 

@@ -37,7 +37,8 @@ class Linted(Case):
     def found(self, kind, given, *words):
         status, out, err = self.run_tool("lint", "--json", *words, self.file("p.json", json.dumps(given)))
         self.assertEqual((status, err), (0, ""))
-        return [it for it in json.loads(out)["findings"] if it["kind"] == kind]
+        findings = [it for it in json.loads(out)["findings"] if it["kind"] == kind]
+        return [{name: value for name, value in it.items() if name != "grade"} for it in findings]
 
 
 class Wide(Linted):

@@ -34,7 +34,7 @@ SCOPES = {
     "": lambda call: True, "--native": lambda call: call.is_native,
     "--nr-from=2": lambda call: call.is_native and call.number >= 2,
     "--nr-to=41": lambda call: call.is_native and call.number <= 41,
-    "--nr-from=42 --nr-to=41": lambda call: False,
+    "--nr-from=41 --nr-to=42": lambda call: call.is_native and 41 <= call.number <= 42,
 }
 
 

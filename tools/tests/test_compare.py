@@ -33,7 +33,7 @@ class Compare(Case):
 
     def test_usage(self):
         self.says_usage("compare", "one.bpf")
-        self.says_usage("compare")
+        self.says_usage("compare", "one")
 
     def test_same(self):
         for words in ((), ("--native",), ("--all",), ("--calls",)):
@@ -162,7 +162,7 @@ class Compare(Case):
     def test_unfinished_and_limit(self):
         status, out, _ = self.run_tool("compare", "--limit", "0", self.same, self.profile)
         self.assertEqual(status, 4)
-        self.assertTrue(out.startswith("unfinished\n# The comparison took as many steps"), out)
+        self.assertTrue(out.startswith("unfinished\n# The comparison, or the walk of `answers`, took as many"), out)
         status, out, err = self.run_tool("compare", "--limit", "-1", self.same, self.profile)
         self.assertEqual((status, out.split("\n")[0], err), (2, "fault number limit", ""))
         status, out, _ = self.run_tool("compare", "--limit", "x", self.same, self.profile)
@@ -429,6 +429,7 @@ class OtherAbis(Case):
 FAKE = """#!/bin/sh
 case "$*" in
 'compare --help') echo ' --native ' ;;
+answers*) echo unfinished; exit 4 ;;
 *' --no-'*) echo "$@" >>"$KEPT.relations"; echo unfinished; exit 4 ;;
 'compare --calls'*) echo "$@" >"$KEPT.calls"; echo differs; echo 39 getpid unfinished; exit 1 ;;
 compare*) cat >"$KEPT"; echo "$@" >"$KEPT.words"; echo differs
@@ -457,15 +458,13 @@ class WithAnotherScf(Case):
         self.assertEqual(bundle, part("filter", b"AAAA") + part("filter", b"BB") + part("profile", b"{}")
                          + part("table", b"getpid 39\n"))
         self.assertEqual(words, "compare --native --limit=7\n")
-        self.assertTrue(done[1].endswith("without a verdict: 1\n# 39 getpid unfinished\n"), done)
+        self.assertIn("without a verdict: 1\n# 39 getpid unfinished\n", done[1])
         with open(os.path.join(self.folder, "kept.calls"), encoding="ascii") as handed:
             self.assertEqual(handed.read(), "compare --calls --limit=7\n")
         with open(os.path.join(self.folder, "kept.relations"), encoding="ascii") as handed:
             self.assertEqual(handed.read().split("\n"), [f"compare --native --no-{it} --limit=7"
                                                          for it in ("more", "less")]
-                             + ["compare --no-more --limit=7",
-                                *(f"compare --architectures --nr-from={first} --nr-to={0x7FFFFFFF} --no-more --limit=7"
-                                  for first in (0, 0x40000000)), ""])
+                             + [""])
         self.assertEqual(self.run_fake("--all", "--table", "t", "a.bpf", "p.json")[2], "compare\n")
 
 
@@ -475,7 +474,7 @@ class Decide(Case):
         self.filter = self.file("f.bpf", filter_of([READ]))
 
     def test_usage(self):
-        self.says_usage("decide")
+        self.says_usage("decide", "--nr")
 
     def test_by_number_and_by_name(self):
         for number in ("1", "0x1", "write"):

@@ -395,8 +395,8 @@ class Consoles(Page):
 
     def setUp(self):
         super().setUp()
-        adds = load(16) + insn(0x54, 0x7FF) + insn(0x07, 0) + load(24) + insn(0x54, 0x7FF) + insn(0x0C, 0)
-        turned = load(24) + insn(0x54, 0x7FF) + insn(0x07, 0) + load(16) + insn(0x54, 0x7FF) + insn(0x0C, 0)
+        adds = load(16) + insn(0x54, 0x3FFF) + insn(0x07, 0) + load(24) + insn(0x54, 0x3FFF) + insn(0x0C, 0)
+        turned = load(24) + insn(0x54, 0x3FFF) + insn(0x07, 0) + load(16) + insn(0x54, 0x3FFF) + insn(0x0C, 0)
         tests = jeq(2047, 0, 1) + ret(ALLOW) + ret(0x00050001)
         for name, data in (("sum", adds + tests), ("other-sum", turned + tests), ("sandbox", filter_of([0])),
                            ("old", filter_of([0])), ("new", filter_of([0, 1])), ("0", filter_of([0, 1])),

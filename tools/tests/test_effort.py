@@ -43,14 +43,12 @@ class Slow(Case):
                 self.assertEqual((status, out.split("\n")[0], err), (*expected, ""))
 
     def test_surface(self):
-        """What few steps tell is told, of calls whose comparison takes long that it is unfinished."""
+        """A filter whose regions take more steps than the limit is unfinished as a whole, in time."""
         name = self.file("f.bpf", GATE + jge(100, 4, 0) + jeq(0, 0, 1) + ret(ALLOW) + ret(EPERM) + ret(EPERM)
                          + ORDERS[len(GATE):])
         status, out, err = self.ends("surface", "--json", name)
         found = {row["number"]: row["disposition"] for row in json.loads(out)["calls"]}
-        self.assertEqual((status, found[0], found[1], found[99]), (4, "allowed", "denied", "denied"))
-        self.assertEqual({said for number, said in found.items() if number >= 100}, {"unfinished"})
-        self.assertEqual(err, f"surface: {TOLD}\n")
+        self.assertEqual((status, set(found.values()), err), (4, {"unfinished"}, ""))
 
     def test_a_limit_that_is_given_is_the_only_one(self):
         status, out, err = self.run_tool("compare", "--calls", "--limit", "20000", self.file("f.bpf", BITS),

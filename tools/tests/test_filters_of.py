@@ -450,7 +450,8 @@ class VerifyProcess(Confined):
         self.do(child, "import signal; library.prctl(15, b'before'); "
                        "signal.signal(signal.SIGUSR1, lambda *_: library.prctl(15, b'behind')); print(1, flush=True)")
         self.assertEqual(child.stdout.readline(), "1\n")
-        tree = self.made_tree(f"#!/bin/sh\ncat >/dev/null\nkill -USR1 {child.pid}\n"
+        tree = self.made_tree("#!/bin/sh\n[ $1 != answers ] || { echo unfinished; exit 4; }\n"
+                              f"cat >/dev/null\nkill -USR1 {child.pid}\n"
                               f"while [ \"$(cat /proc/{child.pid}/comm)\" = before ]; do sleep 0.01; done\necho same\n")
         status, out, _ = self.run_words([f"{tree}/tools/verify-process", str(child.pid), self.file("p", ALLOWS_ALL)])
         self.assertEqual((status, comments(out)[-1]),

@@ -57,7 +57,9 @@ class Linted(Case):
         """The findings of some kinds."""
         ended, out, err = self.run_lint(given, "--json", *words)
         self.assertEqual((ended, err), (status, ""))
-        return [it for it in json.loads(out)["findings"] if it["kind"] in kinds]
+        findings = [it for it in json.loads(out)["findings"] if it["kind"] in kinds]
+        self.assertEqual([it.pop("grade") for it in findings], [lint.KINDS[it["kind"]] for it in findings])
+        return findings
 
     def effects(self, *entries, default=ERRNO, **members):
         """Each entry that is covered or without effect, as its place, whether all of it is, and why."""
@@ -79,7 +81,7 @@ class Usage(Linted):
         odd = profile(entry("umont2"), default=ALLOW)
         self.assertEqual(self.run_lint(odd, "--except", "dangerous-call"), (0, (
             "unknown-name: entry 0: no known syscall is named umont2; the nearest name in the table is "
-            "umount2\ndefault-allows: SCMP_ACT_ALLOW: a syscall that no entry names is allowed\n# findings: 2\n"), ""))
+            "umount2\ndefault-allows: SCMP_ACT_ALLOW: a syscall that no entry names is allowed\n# findings: 2 (warning: 2)\n"), ""))
         self.assertEqual(self.run_lint(odd, "--strict")[0], 1)
         without = ("--except", "unknown-name", "--except=default-allows", "--except=dangerous-call")
         self.assertEqual(self.run_lint(odd, "--strict", *without), (0, "# no findings\n", ""))
@@ -1295,13 +1297,14 @@ class Gate(Linted):
         return [it["kind"] for it in json.loads(out)["findings"]]
 
     def test_grades(self):
-        style, weak = profile(entry("read", "read")), profile(entry("ptrace"))
+        style, weak = profile(entry("read", "read")), profile(entry("socket", args=((0, "NE", 40),)))
         for given, statuses in ((profile(), (0, 0, 0)), (style, (0, 0, 1)), (weak, (1, 1, 1)),
                                 (profile(entry("reed")), (0, 1, 1))):
             for grade, status in zip(("error", "warning", "note"), statuses):
                 self.assertEqual(self.run_lint(given, "--fail-on", grade)[0], status, (given, grade))
             self.assertEqual(self.run_lint(given, "--strict")[0], statuses[-1])
-        self.assertIn("\n# findings: 2 (error: 1, warning: 1)\n", self.run_lint(profile(entry("ptrace", "reed")))[1])
+        weak["syscalls"].append(entry("reed"))
+        self.assertIn("\n# findings: 2 (error: 1, warning: 1)\n", self.run_lint(weak)[1])
         self.assertEqual(self.run_lint(weak, "--strict", "--fail-on=error")[:2], (2, ""))
 
     def test_what_is_ignored(self):

@@ -381,7 +381,7 @@ class Profiles(Case):
         said = "unfinished: it takes too many steps to follow the filters: --limit N gives more than 524288\n"
         status, out, err = self.run_tool("profile-of", name, seconds=20)
         self.assertEqual(status, 4)
-        self.assertIn(f"# {said}", out + err)
+        self.assertIn(said, out + err)
         status, out, err = self.run_tool("surface", "--conditions", name, seconds=20)
         self.assertEqual(status, 4)
         self.assertIn(f"surface: conditions: {said}", err)

@@ -35,7 +35,7 @@ LOST = "# the profile's default allows syscalls: the rules for these names are l
 
 class Check(Case):
     def test_usage(self):
-        self.says_usage("check")
+        self.says_usage("check", "--json=1")
 
     def test_one_and_several(self):
         good, bad, cut = (self.file(name, data) for name, data in (
@@ -59,7 +59,7 @@ class Compile(Case):
         return done.returncode, done.stdout, done.stderr.decode()
 
     def test_usage(self):
-        self.says_usage("compile")
+        self.says_usage("compile", "one", "two")
 
     def test_it_is_the_filter_of_scf(self):
         with open(TABLE, "rb") as file:
@@ -124,7 +124,7 @@ class Run(Case):
         self.filter = self.file("f.bpf", filter_of([0]))
 
     def test_usage(self):
-        self.says_usage("run")
+        self.says_usage("run", "one", "two")
 
     def test_one_call(self):
         self.assertEqual(self.run_tool("run", "--nr", "write", self.filter),

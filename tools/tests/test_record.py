@@ -161,9 +161,9 @@ made.load()
         self.assertEqual(filter_loads.stacks_in([loads]), {(ret(ALLOW),): [""]})
         self.assertEqual(filter_loads.stacks_in([loads.replace(" = 0", " = -1 EINVAL (Invalid argument)")]), {})
         self.assertEqual(filter_loads.stacks_in([loads.replace(" = 0", " = 7")]), {})
-        with self.assertRaisesRegex(c_arrays.Malformed, "1 of a filter's 2 instructions"):
+        with self.assertRaisesRegex(c_arrays.NotAnArray, "1 of a filter's 2 instructions"):
             filter_loads.stacks_in([loads.replace("len=1", "len=2")])
-        with self.assertRaisesRegex(c_arrays.Malformed, "doesn't number each process"):
+        with self.assertRaisesRegex(c_arrays.NotAnArray, "doesn't number each process"):
             filter_loads.stacks_in([loads, f"[pid 7] {loads}"])
         superseded = ["1 clone(child_stack=0, flags=CLONE_VM|CLONE_THREAD <unfinished ...>", f"2 {loads}",
                       "1 <... clone resumed>) = 2", "1 +++ superseded by execve in pid 2 +++",

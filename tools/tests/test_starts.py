@@ -43,17 +43,17 @@ class Starts(Counting):
         by_argument = load(4) + jeq(0xC000003E, 1, 0) + ret(0) + load(0) + jeq(41, 0, 3) + load(16) + \
             jeq(1, 0, 1) + ret(ALLOW) + ret(EPERM)
         for data in (filter_of([0, 1, 41]), by_argument):
-            self.assertEqual(self.starts("surface", self.file("f.bpf", data)), 3)
-        # a syscall of i386 that is allowed is an answer, too; x32 and the greater numbers are asked by themselves
+            self.assertEqual(self.starts("surface", self.file("f.bpf", data)), 1)
+        # a syscall of i386 that is allowed is an answer, too
         for_i386 = load(4) + jeq(I386, 0, 1) + ret(ALLOW) + filter_of([0, 1])
-        self.assertEqual(self.starts("surface", self.file("f.bpf", for_i386)), 8)
-        # what a list of denied syscalls allows is asked by itself
+        self.assertEqual(self.starts("surface", self.file("f.bpf", for_i386)), 1)
+        # and so is what a list of denied syscalls allows
         denies = filter_of([], default=ALLOW).replace(load(0), load(0) + jeq(101, 0, 1) + ret(EPERM), 1)
-        self.assertEqual(self.starts("surface", self.file("f.bpf", denies)), 4)
+        self.assertEqual(self.starts("surface", self.file("f.bpf", denies)), 1)
 
     def test_surface_beside_another_form(self):
         one, other = (self.file(name, filter_of(numbers)) for name, numbers in (("1", [0, 1]), ("2", [1, 0])))
-        self.assertEqual(self.starts("surface", one, "--beside", other), 4)
+        self.assertEqual(self.starts("surface", one, "--beside", other), 2)
 
     def test_lint(self):
         self.assertEqual(self.starts("lint", self.file("p.json", profile_of(*NAMES))), 3)
@@ -61,7 +61,7 @@ class Starts(Counting):
         listed = [f"SCMP_ARCH_{it}" for it in ("X86_64", "X86", "X32")]
         several = {"defaultAction": "SCMP_ACT_ERRNO", "architectures": listed, "syscalls": [
             {"names": [*NAMES, "sigreturn", "ptrace"], "action": "SCMP_ACT_ALLOW"}]}
-        self.assertEqual(self.starts("lint", self.file("p.json", json.dumps(several))), 5)
+        self.assertEqual(self.starts("lint", self.file("p.json", json.dumps(several))), 3)
 
     def test_compare_profiles(self):
         one, other = (self.file(f"{at}.json", profile_of(*names)) for at, names in enumerate((NAMES, NAMES[::-1])))

@@ -191,7 +191,7 @@ class Ask(Case):
         return status, out.split("\n")[:-1]
 
     def test_usage(self):
-        self.says_usage("ask")
+        self.says_usage("ask", "one", "two")
 
     def test_an_entry_and_its_conditions(self):
         self.assertEqual(self.asked("--nr", "socket", "--a0", "16", "--a1", "0xf01"), (0, [

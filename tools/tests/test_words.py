@@ -69,7 +69,7 @@ WORDS = (
     (["--version"], "scf 0.1.0\n", 0),
     ([],
      "error: 'scf' requires a subcommand but one was not provided\n"
-     "  [subcommands: check, run, decide, dis, asm, compile, compare, ask, help]\n"
+     "  [subcommands: check, run, decide, dis, asm, compile, compare, ask, answers, help]\n"
      "\n"
      "Usage: scf <COMMAND>\n"
      "\n"
