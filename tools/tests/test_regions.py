@@ -2,9 +2,10 @@
 record lies in exactly one region, or only in open ones, and gets the answer that stands there."""
 import random
 import re
+import subprocess
 import unittest
 
-from support.common import ALLOW, EPERM, UNKNOWN_ZERO, X86_64, filter_of, insn, jeq, jge, load, part, ret
+from support.common import ALLOW, CORE, EPERM, UNKNOWN_ZERO, X86_64, filter_of, insn, jeq, jge, load, part, ret
 
 import kernel_programs
 from support import several
@@ -76,6 +77,9 @@ def drawn_records(dice, programs, count):
 
 class Regions(unittest.TestCase):
     """Those of the second implementation."""
+
+    # what is known of an answer of two low bits
+    OF_LOW_BITS = {f"ERRNO {it}" for it in range(4)}
 
     def printed(self, bundle, **words):
         """What is printed of a bundle with examples; None if it is unfinished."""
@@ -158,8 +162,7 @@ class Regions(unittest.TestCase):
         self.of_stack([UNKNOWN_ZERO + jeq(0, 0, 1) + ret(ALLOW) + ret(EPERM)],
                       list(drawn_records(random.Random(1), [], 9)))
         low_bits = load(16) + insn(0x54, 0x3) + insn(0x44, 0x50000) + insn(0x16, 0)
-        self.assertEqual({one.answer for one, _ in regions_of(self.printed(part("filter", low_bits)))},
-                         {f"ERRNO {it}" for it in range(4)})
+        self.assertEqual({one.answer for one, _ in regions_of(self.printed(part("filter", low_bits)))}, self.OF_LOW_BITS)
         self.assertEqual({one.answer for one, _ in regions_of(self.printed(part("filter", load(16) + insn(0x16, 0))))},
                          {"unknown"})
 
@@ -200,6 +203,22 @@ class Regions(unittest.TestCase):
         self.assertEqual(sorted(line for line in text.splitlines() if line.startswith(("ALLOW", "ERRNO"))), [
             "ALLOW 0 at 0:4 w0 0x0-0x9", "ALLOW 0 at 0:4 w0 0xa-0xffffffff!0x6=0x0",
             "ERRNO 1 at 0:3 w0 0xa-0xffffffff&0x6=0x0"])
+
+
+class OfProgram(Regions):
+    """Those of the proved program, by the same judges."""
+
+    OF_LOW_BITS = {"unknown"}
+
+    def printed(self, bundle, **words):
+        flags = [f"--{name}" if value is True else f"--{name}={value}" for name, value in words.items()]
+        done = subprocess.run([*CORE, "answers", "--examples", f"--limit={100 * STEPS}", *flags], input=bundle,
+                              stdout=subprocess.PIPE, check=False)
+        if done.returncode == 4:
+            self.assertEqual(done.stdout, b"unfinished\n")
+            return None
+        self.assertEqual(done.returncode, 0, done.stdout[:99])
+        return done.stdout.decode()
 
 
 if __name__ == "__main__":
