@@ -281,7 +281,12 @@ class FiltersOf(Confined):
 
 class VerifyProcess(Confined):
     def verify(self, child, profile, *words):
-        status, out, err = self.run_tool("verify-process", *words, str(child.pid), self.file("p", profile))
+        """Asked again while an audit of the machine, which another test may run, traces the process."""
+        for _ in range(PATIENCE):
+            status, out, err = self.run_tool("verify-process", *words, str(child.pid), self.file("p", profile))
+            if "is already traced by process" not in err:
+                break
+            time.sleep(1)
         self.assertEqual(err, "")
         return status, out
 
