@@ -19,7 +19,7 @@ BIN = $(TO)/bin
 LIB = $(TO)/lib/scf
 MAN = $(TO)/share/man/man1
 DOC = $(TO)/share/doc/scf
-PAGES = TUTORIAL RECIPES OPERATIONS JSON LICENCES
+PAGES = TUTORIAL RECIPES RUNTIMES OPERATIONS JSON LICENCES
 # (units, which systemd finds there, a hook for podman and alerts for Prometheus; none of them is enabled by this)
 UNITS = $(TO)/lib/systemd/system
 SHARE = $(TO)/share/scf
@@ -62,6 +62,7 @@ install: $(PROGRAM) uninstall
 	install -m 644 docs/FAULTS.md "$(LIB)/docs"
 	install -m 644 docs/scf.1 "$(MAN)"
 	umask 022; dev/manual "$(MAN)" && dev/completion "$(BASH)/scf" "$(ZSH)/_scf" "$(FISH)/scf.fish"
+	for tool in $(TOOLS); do ln -sf scf "$(BASH)/scf-$$tool" && ln -sf scf.fish "$(FISH)/scf-$$tool.fish" || exit 1; done
 	install -m 644 LICENSE README.md $(PAGES:%=docs/%.md) docs/scf.schema.json "$(DOC)"
 	install -m 644 contrib/systemd/scf-audit.timer "$(UNITS)"
 	install -m 644 contrib/prometheus/scf.rules.yml "$(SHARE)/prometheus"
@@ -74,7 +75,8 @@ install: $(PROGRAM) uninstall
 	for tool in $(TOOLS); do ln -sf "../lib/scf/tools/$$tool" "$(BIN)/scf-$$tool" || exit 1; done
 
 uninstall:
-	for tool in "$(LIB)"/tools/*; do rm -f "$(BIN)/scf-$${tool##*/}" "$(MAN)/scf-$${tool##*/}.1"; done
+	for tool in "$(LIB)"/tools/*; do rm -f "$(BIN)/scf-$${tool##*/}" "$(MAN)/scf-$${tool##*/}.1" \
+	    "$(BASH)/scf-$${tool##*/}" "$(FISH)/scf-$${tool##*/}.fish"; done
 	rm -f "$(BIN)/scf" "$(MAN)/scf.1" "$(BASH)/scf" "$(ZSH)/_scf" "$(FISH)/scf.fish"
 	rm -f "$(UNITS)/scf-audit.service" "$(UNITS)/scf-audit.timer"
 	rm -rf "$(LIB)" "$(DOC)" "$(SHARE)"
@@ -94,7 +96,7 @@ install-lib: $(LIBSCF) uninstall-lib
 	umask 022; sed -e 's|@PREFIX@|$(call FOR_SED,$(PREFIX))|' -e 's|@LIBDIR@|$(call FOR_SED,$(PC_LIBDIR))|' \
 	    -e 's|@VERSION@|$(VERSION)|' library/scf.pc.in >"$(DESTDIR)$(LIBDIR)/pkgconfig/scf.pc"
 	install -m 644 library/python/scf/__init__.py library/python/scf/py.typed "$(DESTDIR)$(PYTHON_DIR)/scf"
-	install -m 644 LICENSE docs/LICENCES.md docs/LIBRARY.md docs/FAULTS.md library/example/engine.c "$(DOC_OF_LIB)"
+	install -m 644 LICENSE docs/LICENCES.md docs/LIBRARY.md docs/FAULTS.md library/example/runtime.c "$(DOC_OF_LIB)"
 
 uninstall-lib:
 	rm -f "$(TO)/include/scf.h" "$(TO)/include/scf.hpp" "$(DESTDIR)$(LIBDIR)/libscf.a" "$(DESTDIR)$(LIBDIR)/libscf.so" \

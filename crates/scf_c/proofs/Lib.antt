@@ -1,1 +1,4 @@
+mod AnswerLemmas
+mod CallLemmas
 mod ComparisonLemmas
+mod RecordLemmas

@@ -1,126 +1,161 @@
 -- Comparisons from the caller's bytes: what they come to, and what is handed out of it.
-use Rattle.std.specs.Prelude.{◌≡◌, ℕ, List, [], ◌∷◌, Some, Ok, Err, map}
+use Rattle.std.specs.Prelude.{◌≡◌, ◌*◌, ◌⊎◌, ℕ, Bool, true, false, not, List, [], ◌∷◌, Option, Some, None, find, map, min}
+use Rattle.std.specs.Option.{option_map_or, option_or}
 use Rattle.scf_profile.specs.declared.relation.Relation.{Relation}
-use Rattle.scf_profile.specs.declared.scope.Scope.TheVariants.{All}
+use Rattle.scf_profile.specs.declared.scope.Scope.{Scope}
+use Rattle.scf_compare.specs.declared.budget.Limit.{Limit}
 use Rattle.scf_compare.specs.declared.finding.Finding.{Finding}
 use Rattle.scf_compare.specs.declared.finding.Finding.TheVariants.{Holds, Fails, Undecided, Unfinished}
 use Rattle.scf_compare.specs.declared.finding.Which.{Which}
 use Rattle.scf_compare.specs.declared.finding.Which.TheVariants.{Left, Right}
-use Rattle.scf_request.specs.declared.request.Comparison.{Comparison as Question}
-use Rattle.scf_request.specs.declared.request.Scopes.TheVariants as scopes
-use Rattle.scf_tool.specs.Commands.{NoReadFailed, known_text}
+use Rattle.scf_compare.specs.Findings.{AllRelated, IsFindingDecided, IsFindingWithin, IsTrueFinding, LeavesFindingSteps, compared_in}
+use Rattle.scf_compare.specs.Sides.{Behavior}
 use Rattle.scf_tool.specs.Reports.{report_text}
-use Rattle.scf_tool.specs.VerifyingArchitectures.{VerifiesArchitectures}
-use Rattle.scf_tool.specs.VerifyingBeside.{VerifiesBeside}
-use Rattle.scf_tool.specs.VerifyingStacks.{VerifiesBy}
-use Rattle.scf_tool.specs.declared.findings.CallFinding.{CallFinding}
-use Rattle.scf_tool.specs.declared.findings.ComparisonOutcome.{ComparisonOutcome}
-use Rattle.scf_tool.specs.declared.findings.Findings.{Findings}
-use Rattle.scf_tool.specs.declared.findings.Findings.TheVariants.{AtOnce, EachCall}
-use Rattle.scf_tool.specs.declared.verify_fault.BesideFault.TheVariants as besides
+use Rattle.scf_tool.specs.declared.findings.Findings.TheVariants.{AtOnce}
+use Rattle.scf_tool.specs.declared.left_out.LeftOut.{LeftOut}
 use Rattle.scf_tool.specs.declared.verify_fault.VerifyFault.TheVariants.{Memory}
-use Rattle.scf_c.specs.declared.layout.Bytes.{Bytes}
-use Rattle.scf_c.specs.declared.layout.CallComparison.{CallComparison}
+use Rattle.scf_c.specs.declared.comparing.Compared.{Compared}
 use Rattle.scf_c.specs.declared.layout.Comparison.{Comparison}
-use Rattle.scf_c.specs.declared.layout.RightSide.{RightSide}
+use Rattle.scf_c.specs.declared.layout.FindingNumbers.{FindingNumbers}
+use Rattle.scf_c.specs.declared.layout.Question.{Question}
+use Rattle.scf_c.specs.declared.layout.RecordsComparison.{RecordsComparison}
+use Rattle.scf_c.specs.declared.layout.SideInput.{SideInput}
 use Rattle.scf_c.specs.declared.layout.Table.{Table}
-use Rattle.scf_c.specs.declared.question.RightKind.{RightKind}
-use Rattle.scf_c.specs.declared.question.RightKind.TheVariants.{Profile, Filters}
+use Rattle.scf_c.specs.declared.question.Asked.{Asked}
+use Rattle.scf_c.specs.declared.records.Records.{Records}
 use Rattle.scf_c.specs.declared.refusal.Refusal.{Refusal}
-use Rattle.scf_c.specs.declared.refusal.Refusal.TheVariants.{Verify, Beside}
-use Rattle.scf_c.specs.Architectures.{texts_of}
-use Rattle.scf_c.specs.Layout.{call_of, known, no_call}
+use Rattle.scf_c.specs.declared.refusal.Refusal.TheVariants.{Verify}
+use Rattle.scf_c.specs.declared.side.ReadSide.{ReadSide}
+use Rattle.scf_c.specs.declared.side.ReadSide.TheVariants as sides
+use Rattle.scf_c.specs.Layout.{call_of, no_call}
+use Rattle.scf_c.specs.Profiles.{nothing_left_out}
+use Rattle.scf_c.specs.Questions.{limit_of}
+use Rattle.scf_c.specs.Records.{AreRecords, AreRecordsRefused}
+use Rattle.scf_c.specs.Sides.{IsRead, IsSideRefused, are_same_kind, behavior_of_read, left_out_of_side, refusal_of_right, tables_in_scope}
 
--- ---- findings as numbers
+-- ---- findings
 
-abbrev pub no_comparison : Comparison
-no_comparison = record { verdict = 0; left = 0; right = 0; side = 0; at = 0; call = no_call }
+-- A finding is true of two sides over the records of a scope, and within the limit and the effort. It decides between
+-- plain sides.
+pub record IsFound (relation : Relation) (left right : Behavior) (scope : Scope) (limit : Limit) (finding : Finding)
+    : Type 0 where
+  pub holds : IsTrueFinding (compared_in relation scope left right) finding
+  pub within : IsFindingWithin limit.steps (left.size * right.size) finding
+  pub decided : left.is_plain → right.is_plain
+      → IsFindingDecided (AllRelated (compared_in relation scope left right)) limit.steps (left.size * right.size)
+      finding
+
+-- The finding over some records, in no more steps than remain for all. Those that it takes are subtracted.
+pub record IsFoundOf (relation : Relation) (left right : Behavior) (limit : Limit) (remaining : ℕ) (records : Records)
+    (finding : Finding) (after : ℕ) : Type 0 where
+  pub found : IsFound relation left right records.scope (record limit { steps = min limit.steps remaining }) finding
+  pub spent : LeavesFindingSteps (min limit.steps remaining) (left.size * right.size) remaining finding after
+
+-- Each of several has its finding, one after another, where so many steps remain before them and so many after.
+abbrev pub AreFound : Relation → Behavior → Behavior → Limit → ℕ → List Records → List Finding → ℕ → Type 0
+AreFound relation left right limit remaining [] [] after = after ≡ remaining
+AreFound relation left right limit remaining (first ∷ records) (finding ∷ findings) after = (between : ℕ)
+    × IsFoundOf relation left right limit remaining first finding between
+    × AreFound relation left right limit between records findings after
+AreFound relation left right limit remaining records findings after = ⊥
+
+abbrev pub is_holding : Finding → Bool
+is_holding (Holds steps) = true
+is_holding finding = false
+
+abbrev pub is_failure : Finding → Bool
+is_failure (Fails call left right) = true
+is_failure finding = false
+
+-- The finding that speaks for several: the first that fails, else the first that doesn't hold, else the first that
+-- does. None if there is none.
+abbrev pub joint_finding : List Finding → Option Finding
+joint_finding findings =
+    option_or (option_or (find is_failure findings) (find (λ finding. not (is_holding finding)) findings))
+    (find is_holding findings)
+
+-- ---- as numbers
+
+abbrev pub no_finding : FindingNumbers
+no_finding = record { verdict = 0; left = 0; right = 0; side = 0; at = 0; call = no_call }
 
 abbrev pub side_number : Which → ℕ
 side_number Left = 1
 side_number Right = 2
 
 -- what is handed out of a finding: the verdict, and of the others what they show
-abbrev pub comparison_of : Finding → Comparison
-comparison_of (Holds steps) = record { verdict = 1; left = 0; right = 0; side = 0; at = 0; call = no_call }
-comparison_of (Fails call left right) =
+abbrev pub numbers_of : Finding → FindingNumbers
+numbers_of (Holds steps) = record { verdict = 1; left = 0; right = 0; side = 0; at = 0; call = no_call }
+numbers_of (Fails call left right) =
     record { verdict = 2; left = left.0; right = right.0; side = 0; at = 0; call = call_of call }
-comparison_of (Undecided side at) =
+numbers_of (Undecided side at) =
     record { verdict = 3; left = 0; right = 0; side = side_number side; at = at; call = no_call }
-comparison_of Unfinished = record { verdict = 4; left = 0; right = 0; side = 0; at = 0; call = no_call }
+numbers_of Unfinished = record { verdict = 4; left = 0; right = 0; side = 0; at = 0; call = no_call }
 
-abbrev pub call_comparison_of : CallFinding → CallComparison
-call_comparison_of call = record { nr = call.number; reserved = 0; comparison = comparison_of call.finding }
+abbrev pub of_records : Records → Finding → RecordsComparison
+of_records records finding = record {
+  architecture = records.architecture;
+  nr = records.nr;
+  finding = numbers_of finding;
+  reserved = 0 ∷ 0 ∷ 0 ∷ 0 ∷ [];
+}
+
+-- of each
+abbrev pub of_each : List Records → List Finding → List RecordsComparison
+of_each (records ∷ later) (finding ∷ findings) = of_records records finding ∷ of_each later findings
+of_each records findings = []
+
+-- of all
+abbrev pub comparison_of : List Finding → ReadSide → ReadSide → Comparison
+comparison_of findings left right = record {
+  finding = option_map_or numbers_of (joint_finding findings) no_finding;
+  left_out_of_left = left_out_of_side left;
+  left_out_of_right = left_out_of_side right;
+}
+
+abbrev pub no_comparison : Comparison
+no_comparison =
+    record { finding = no_finding; left_out_of_left = nothing_left_out; left_out_of_right = nothing_left_out }
+
+-- what is printed as left out: that of the right side
+abbrev pub printed_left_out : ReadSide → Option LeftOut
+printed_left_out (sides.Profiles loaded) =
+    Some (record { skipped = loaded.skipped; other_architectures = loaded.other_architectures })
+printed_left_out (sides.Filters stack) = None
+
+-- the printed lines of a finding on filters and a right side
+abbrev pub text_of : Relation → ReadSide → Option Finding → List ℕ
+text_of relation right None = []
+text_of relation right (Some finding) =
+    report_text relation (record { findings = AtOnce finding; left_out = printed_left_out right })
 
 -- ---- a comparison
 
--- The filters and the right side, from their bytes, come to this outcome of the comparison.
-abbrev pub ComesTo : RightKind → Question → List Bytes → RightSide → ComparisonOutcome → Type 0
-ComesTo Profile comparison filters right outcome =
-    VerifiesBy comparison (known filters) (Some right.table.now) (Some right.profile.now) (Ok outcome)
-ComesTo Filters comparison filters right outcome =
-    VerifiesBeside comparison (known filters) (known right.filters.now) (Some right.table.now ∷ []) (Ok outcome)
+-- Both sides are read, and compared over the records that are asked for; this is handed out.
+pub record IsCompared (question : Question) (left right : SideInput) (tables : List Table) (asked : Asked)
+    (compared : Compared) : Type 0 where
+  pub left_side : ReadSide
+  pub right_side : ReadSide
+  pub records : List Records
+  pub findings : List Finding
+  pub remaining : ℕ
+  pub is_left : IsRead left asked.left tables left_side
+  pub is_right : IsRead right asked.right tables right_side
+  pub are_records : AreRecords asked.over (tables_in_scope left_side right_side tables) records
+  pub are_found : AreFound asked.relation (behavior_of_read left_side) (behavior_of_read right_side)
+      (limit_of question) question.total_limit records findings remaining
+  pub comparison_is : compared.comparison ≡ comparison_of findings left_side right_side
+  pub each_is : compared.each.items ≡ of_each records findings
+  pub text_is : compared.text.items ≡ text_of asked.relation right_side (joint_finding findings)
 
--- They come to an outcome with this finding over the records of a scope, and these are the printed lines of it.
-pub record IsCompared (kind : RightKind) (comparison : Question) (filters : List Bytes) (right : RightSide)
-    (finding : Finding) (text : List ℕ) : Type 0 where
-  pub outcome : ComparisonOutcome
-  pub comes_to : ComesTo kind comparison filters right outcome
-  pub finding_is : outcome.findings ≡ AtOnce finding
-  pub text_is : text ≡ report_text comparison.relation outcome
-
--- these are the findings on calls
-abbrev pub AreCalls : Findings → List CallFinding → Type 0
-AreCalls (EachCall own) calls = own.items ≡ calls
-AreCalls (AtOnce finding) calls = ⊥
-
--- The same of the calls of the table, each with its finding.
-pub record AreCompared (kind : RightKind) (comparison : Question) (filters : List Bytes) (right : RightSide)
-    (calls : List CallFinding) (text : List ℕ) : Type 0 where
-  pub outcome : ComparisonOutcome
-  pub comes_to : ComesTo kind comparison filters right outcome
-  pub are_calls : AreCalls outcome.findings calls
-  pub text_is : text ≡ report_text comparison.relation outcome
-
--- Why they aren't compared: for the first fault of an input, or out of memory, which may come at any time. It isn't
--- that they can't be read.
-abbrev pub IsComparisonRefused : RightKind → Question → List Bytes → RightSide → Refusal → Type 0
-IsComparisonRefused kind comparison filters right (Verify Memory) = Unit {0}
-IsComparisonRefused Profile comparison filters right (Verify why) =
-    VerifiesBy comparison (known filters) (Some right.table.now) (Some right.profile.now) (Err why) × NoReadFailed why
-IsComparisonRefused Filters comparison filters right (Verify why) =
-    VerifiesBeside comparison (known filters) (known right.filters.now) (Some right.table.now ∷ [])
-    (Err (besides.Verify why))
-    × NoReadFailed why
-IsComparisonRefused Filters comparison filters right (Beside why) =
-    VerifiesBeside comparison (known filters) (known right.filters.now) (Some right.table.now ∷ [])
-    (Err (besides.Beside why))
-    × NoReadFailed why
-IsComparisonRefused kind comparison filters right why = ⊥
-
--- ---- a comparison for several architectures
-
--- over all records of each, with the default number of splits
-abbrev pub comparison_of_each : Relation → ℕ → Question
-comparison_of_each relation limit = record {
-  limits = record { each = limit; total = limit; splits = 10000 };
-  scopes = scopes.AtOnce All;
-  relation = relation;
-}
-
--- The filters and the profile, from their bytes, come to this finding, and these are the printed lines of it.
-pub record IsComparedEach (comparison : Question) (filters : List Bytes) (profile : List ℕ) (tables : List Table)
-    (finding : Finding) (text : List ℕ) : Type 0 where
-  pub outcome : ComparisonOutcome
-  pub comes_to : VerifiesArchitectures comparison (known filters) (map known_text (texts_of tables)) (Some profile)
-      (Ok outcome)
-  pub finding_is : outcome.findings ≡ AtOnce finding
-  pub text_is : text ≡ report_text comparison.relation outcome
-
--- why they aren't compared
-abbrev pub IsEachRefused : Question → List Bytes → List ℕ → List Table → Refusal → Type 0
-IsEachRefused comparison filters profile tables (Verify Memory) = Unit {0}
-IsEachRefused comparison filters profile tables (Verify why) =
-    VerifiesArchitectures comparison (known filters) (map known_text (texts_of tables)) (Some profile) (Err why)
-    × NoReadFailed why
-IsEachRefused comparison filters profile tables why = ⊥
+-- Why they aren't compared: the first fault of the left side, of the right one, or of a table; or out of memory, which
+-- may come at any time.
+abbrev pub IsComparisonRefused : SideInput → SideInput → List Table → Asked → Refusal → Type 0
+IsComparisonRefused left right tables asked why =
+    (why ≡ Verify Memory)
+    ⊎ (IsSideRefused left asked.left tables why
+    ⊎ ((left_side : ReadSide) × IsRead left asked.left tables left_side
+    × (((of_right : Refusal) × IsSideRefused right asked.right tables of_right
+    × (why ≡ refusal_of_right (are_same_kind asked.left asked.right) of_right))
+    ⊎ ((right_side : ReadSide) × IsRead right asked.right tables right_side
+    × AreRecordsRefused (tables_in_scope left_side right_side tables) why))))

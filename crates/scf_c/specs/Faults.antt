@@ -1,6 +1,6 @@
 -- Faults as numbers: what is refused, why, and the numbers that say where. These are those of scf.h and never change;
 -- new ones come behind them.
-use Rattle.std.specs.Prelude.{◌≡◌, ◌==◌, ◌-◌, ◌^◌, ℕ, [], ◌∷◌, Option, Some, None, if◌then◌else◌}
+use Rattle.std.specs.Prelude.{◌≡◌, ◌==◌, ◌-◌, ◌^◌, ℕ, List, [], ◌∷◌, Option, Some, None, if◌then◌else◌}
 use Rattle.scf_insn.specs.declared.input.InputFault.{InputFault}
 use Rattle.scf_insn.specs.declared.input.InputFault.TheVariants as inputs
 use Rattle.scf_insn.specs.declared.encoding.ReadFault.{ReadFault}
@@ -52,16 +52,21 @@ of_compare = 8
 
 -- ---- faults
 
+-- the words behind a fault's numbers
+abbrev pub unused_words : List ℕ
+unused_words = 0 ∷ 0 ∷ 0 ∷ 0 ∷ []
+
 abbrev pub no_fault : Fault
-no_fault = record { source = 0; kind = 0; numbers = 0 ∷ 0 ∷ 0 ∷ [] }
+no_fault = record { source = 0; kind = 0; numbers = 0 ∷ 0 ∷ 0 ∷ []; reserved = unused_words }
 
 -- a fault of this source and kind without numbers
 abbrev pub plain : ℕ → ℕ → Fault
-plain source kind = record { source = source; kind = kind; numbers = 0 ∷ 0 ∷ 0 ∷ [] }
+plain source kind = record { source = source; kind = kind; numbers = 0 ∷ 0 ∷ 0 ∷ []; reserved = unused_words }
 
 -- with one number
 abbrev pub at_index : ℕ → ℕ → ℕ → Fault
-at_index source kind index = record { source = source; kind = kind; numbers = index ∷ 0 ∷ 0 ∷ [] }
+at_index source kind index =
+    record { source = source; kind = kind; numbers = index ∷ 0 ∷ 0 ∷ []; reserved = unused_words }
 
 -- the number for no entry
 abbrev pub no_entry : ℕ
@@ -107,7 +112,8 @@ check_fault (checks.Divisor at) = at_index of_filter 9 at
 check_fault (checks.Shift at) = at_index of_filter 10 at
 check_fault (checks.Jump at) = at_index of_filter 11 at
 check_fault checks.LastNotReturn = plain of_filter 12
-check_fault (checks.Unset at word) = record { source = of_filter; kind = 13; numbers = at ∷ word ∷ 0 ∷ [] }
+check_fault (checks.Unset at word) =
+    record { source = of_filter; kind = 13; numbers = at ∷ word ∷ 0 ∷ []; reserved = unused_words }
 check_fault checks.Memory = plain of_filter memory_kind
 
 abbrev pub text_fault : TextFault → Fault
@@ -143,7 +149,7 @@ load_fault (loads.NotListed table) = at_index of_profile 39 table
 load_fault (loads.EngineForm entry) = in_entry 35 entry
 load_fault loads.TooMany = plain of_profile too_many_kind
 load_fault (loads.Conflict number first second) =
-    record { source = of_profile; kind = 37; numbers = number ∷ first ∷ second ∷ [] }
+    record { source = of_profile; kind = 37; numbers = number ∷ first ∷ second ∷ []; reserved = unused_words }
 load_fault loads.Memory = plain of_profile memory_kind
 
 abbrev pub compile_fault : CompileFault → Fault
@@ -164,10 +170,14 @@ verify_fault (verifies.ProfileRead fault) = input_fault of_profile fault
 verify_fault (verifies.Profile fault) = load_fault fault
 verify_fault verifies.Memory = plain of_compare memory_kind
 
--- a fault of a filter of the stack beside another, and of that stack
+-- a fault of the right side, where the left one is of the same kind
 abbrev pub beside_fault : VerifyFault → Fault
-beside_fault why =
-    record { source = of_beside; kind = (verify_fault why).kind; numbers = (verify_fault why).numbers }
+beside_fault why = record {
+  source = of_beside;
+  kind = (verify_fault why).kind;
+  numbers = (verify_fault why).numbers;
+  reserved = unused_words;
+}
 
 abbrev pub fault_of : Refusal → Fault
 fault_of (Verify why) = verify_fault why

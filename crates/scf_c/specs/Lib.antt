@@ -1,3 +1,4 @@
+pub mod Answers
 pub mod Architectures
 pub mod Comparisons
 pub mod Faults
@@ -6,5 +7,7 @@ pub mod HandingOut
 pub mod Layout
 pub mod Profiles
 pub mod Questions
+pub mod Records
+pub mod Sides
 pub mod Statuses
 pub mod internal

@@ -1,30 +1,42 @@
 -- What is asked of a comparison.
-use Rattle.std.specs.Prelude.{◌≡◌, ℕ, [], ◌∷◌}
+use Rattle.std.specs.Prelude.{◌≡◌, ◌≤◌, ℕ, Bool, true, false, List, [], ◌∷◌, Some, length}
+use Rattle.scf_insn.specs.Architectures.{row_of}
+use Rattle.scf_insn.specs.declared.architecture.Architecture.{Architecture}
 use Rattle.scf_profile.specs.declared.relation.Relation.{Relation}
 use Rattle.scf_profile.specs.declared.relation.Relation.TheVariants.{Same, NoMore, NoLess, SameDisposition}
-use Rattle.scf_profile.specs.declared.scope.Scope.{Scope}
-use Rattle.scf_profile.specs.declared.scope.Scope.TheVariants.{All, Native, Call, Numbers, Of, NumbersOf}
-use Rattle.scf_request.specs.declared.request.Comparison.{Comparison}
-use Rattle.scf_request.specs.declared.request.Limits.{Limits}
-use Rattle.scf_request.specs.declared.request.Scopes.{Scopes}
+use Rattle.scf_compare.specs.declared.budget.Limit.{Limit}
+use Rattle.scf_compare.specs.declared.budget.Splits.TheVariants.{AtMost}
 use Rattle.scf_c.specs.declared.layout.Question.{Question}
-use Rattle.scf_c.specs.declared.layout.RightSide.{RightSide}
+use Rattle.scf_c.specs.declared.layout.SideInput.{SideInput}
+use Rattle.scf_c.specs.declared.layout.Table.{Table}
 use Rattle.scf_c.specs.declared.question.Asked.{Asked}
-use Rattle.scf_c.specs.declared.question.RightKind.{RightKind}
-use Rattle.scf_c.specs.declared.question.RightKind.TheVariants.{Profile, Filters}
+use Rattle.scf_c.specs.declared.question.NumberRange.{NumberRange}
+use Rattle.scf_c.specs.declared.question.Over.{Over}
+use Rattle.scf_c.specs.declared.question.Over.TheVariants.{All, Numbers, EachArchitecture, EachCall}
+use Rattle.scf_c.specs.declared.side.SideKind.{SideKind}
+use Rattle.scf_c.specs.declared.side.SideKind.TheVariants.{Profile, Filters}
+use Rattle.scf_c.specs.Architectures.{AreMeant, architecture_of}
+use Rattle.scf_c.specs.Sides.{IsKind}
 
-abbrev pub native_calls : ℕ
-native_calls = 1
+-- An architecture has a number from the first to the last, so there is a record with it.
+pub record HasNumber (architecture : Architecture) (first last : ℕ) : Type 0 where
+  pub rising : first ≤ last
+  pub begins : first ≤ (row_of architecture).last
+  pub ends : (row_of architecture).first ≤ last
 
--- A question is over the records of a scope: all, the x86-64 ones, those with one number, or with a number of a range.
--- It is never over those of one other architecture.
-abbrev pub IsOver : Question → Scope → Type 0
+-- A question names an architecture and a range of its numbers.
+pub record IsRange (question : Question) (range : NumberRange) : Type 0 where
+  pub architecture : architecture_of question.architecture ≡ Some range.architecture
+  pub first : question.first ≡ range.first
+  pub last : question.last ≡ range.last
+  pub has : HasNumber range.architecture range.first range.last
+
+-- A question is over these records. Without a range, nothing of it is looked at.
+abbrev pub IsOver : Question → Over → Type 0
 IsOver question All = question.scope ≡ 0
-IsOver question Native = question.scope ≡ native_calls
-IsOver question (Call number) = (question.scope ≡ 2) × (question.first ≡ number)
-IsOver question (Numbers first last) = (question.scope ≡ 3) × (question.first ≡ first) × (question.last ≡ last)
-IsOver question (Of architecture) = ⊥
-IsOver question (NumbersOf architecture first last) = ⊥
+IsOver question (Numbers range) = (question.scope ≡ 1) × IsRange question range
+IsOver question EachArchitecture = question.scope ≡ 2
+IsOver question EachCall = question.scope ≡ 3
 
 abbrev pub relation_number : Relation → ℕ
 relation_number Same = 0
@@ -32,35 +44,27 @@ relation_number NoMore = 1
 relation_number NoLess = 2
 relation_number SameDisposition = 3
 
-abbrev pub right_number : RightKind → ℕ
-right_number Profile = 1
-right_number Filters = 2
+-- one of the sides is a profile
+abbrev pub needs_tables : SideKind → SideKind → Bool
+needs_tables Filters Filters = false
+needs_tables left right = true
 
--- The numbers of a question and of a right side ask for this, and the reserved ones are 0. The limits may be any, and
--- so may `first` and `last` where the scope has no such number.
-pub record IsAsked (question : Question) (right : RightSide) (asked : Asked) : Type 0 where
-  pub scope : IsOver question asked.scope
+-- The numbers of a question, of both sides and of tables ask for this, and the reserved ones are 0. The limits may be
+-- any.
+pub record IsAsked (question : Question) (left right : SideInput) (tables : List Table) (asked : Asked) : Type 0 where
+  pub over : IsOver question asked.over
   pub relation : question.relation ≡ relation_number asked.relation
-  pub right_is : right.kind ≡ right_number asked.right
+  pub unused : question.unused ≡ 0
   pub reserved : question.reserved ≡ 0 ∷ 0 ∷ []
-  pub right_reserved : right.reserved ≡ 0
+  pub left_is : IsKind left asked.left
+  pub right_is : IsKind right asked.right
+  pub tables_are : AreMeant tables
+  pub tables_some : needs_tables asked.left asked.right ≡ true → 1 ≤ length tables
 
 -- they ask for nothing
-abbrev pub IsNothingAsked : Question → RightSide → Type 0
-IsNothingAsked question right = (asked : Asked) → IsAsked question right asked → ⊥
+abbrev pub IsNothingAsked : Question → SideInput → SideInput → List Table → Type 0
+IsNothingAsked question left right tables = (asked : Asked) → IsAsked question left right tables asked → ⊥
 
--- They ask for a comparison call by call, which is one of x86-64 calls.
-pub record AreCallsAsked (question : Question) (right : RightSide) (asked : Asked) : Type 0 where
-  pub asked_is : IsAsked question right asked
-  pub native : question.scope ≡ native_calls
-
-abbrev pub AreNoCallsAsked : Question → RightSide → Type 0
-AreNoCallsAsked question right = (asked : Asked) → AreCallsAsked question right asked → ⊥
-
--- how many steps comparisons may take, with the default number of splits
-abbrev pub limits_of : Question → Limits
-limits_of question = record { each = question.limit; total = question.total_limit; splits = 10000 }
-
--- the comparison over scopes that a question asks for
-abbrev pub asked_over : Scopes → Question → Asked → Comparison
-asked_over over question asked = record { limits = limits_of question; scopes = over; relation = asked.relation }
+-- how many steps each comparison may take, with the default number of splits
+abbrev pub limit_of : Question → Limit
+limit_of question = record { steps = question.limit; splits = AtMost 10000 }

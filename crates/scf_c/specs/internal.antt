@@ -1,2 +1,2 @@
+pub mod CallRecords
 pub mod Reading
-pub mod Refusals

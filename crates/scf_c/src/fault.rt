@@ -62,6 +62,7 @@ fn numbered(source: u32, kind: u32, number: u64) -> Fault
         source,
         kind,
         numbers: [number, 0, 0],
+        reserved: [0; 4],
     }
 }
 
@@ -118,6 +119,7 @@ fn check_fault(fault: CheckFault) -> Fault
             source: OF_FILTER,
             kind: 13,
             numbers: [at as u64, u64::from(word), 0],
+            reserved: [0; 4],
         },
         CheckFault::Memory => plain(OF_FILTER, MEMORY),
     }
@@ -176,6 +178,7 @@ fn load_fault(fault: LoadFault) -> Fault
             source: OF_PROFILE,
             kind: 37,
             numbers: [u64::from(number), u64::from(first), u64::from(second)],
+            reserved: [0; 4],
         },
         LoadFault::Memory => plain(OF_PROFILE, MEMORY),
     }
@@ -214,7 +217,7 @@ fn verify_fault(why: VerifyFault) -> Fault
     }
 }
 
-/// The same of a filter beside others, or of their stack.
+/// The same of the right side, where the left one is of the same kind.
 fn beside_fault(why: VerifyFault) -> Fault
     ensures { result ≡ table.beside_fault why }
 {
@@ -225,6 +228,7 @@ fn beside_fault(why: VerifyFault) -> Fault
         source: OF_BESIDE,
         kind,
         numbers,
+        reserved: [0; 4],
     }
 }
 

@@ -5,34 +5,32 @@
 //! ends: where the status isn't OK, the fault says why, and everything else is 0.
 #![tactic(auto)]
 
-mod architecture_comparison;
-mod call_comparison;
+mod answers;
+mod comparing;
 mod comparison;
 mod fault;
 mod filter;
 mod layout;
 mod memory;
-mod outcome;
 mod profile;
-mod profiles;
 mod question;
+mod records;
 mod refusal;
-mod right_side;
+mod side;
 mod stack;
 mod status;
 mod tables;
 mod text;
 mod version;
 
-pub use architecture_comparison::scf_compare_architectures;
-pub use call_comparison::scf_compare_calls;
+pub use answers::scf_answers;
 pub use comparison::scf_compare;
 pub use filter::{scf_check, scf_run, scf_trace};
 pub use layout::{
-    Bytes, Call, CallComparison, Comparison, Fault, ProfileReason, Question, RightSide, Table,
+    Bytes, Call, Comparison, Fault, FindingNumbers, LeftOutCounts, Listing, ProfileAnswer,
+    ProfileInput, Question, RecordsComparison, RegionNumbers, SideInput, Table, WordFact,
 };
 pub use profile::{scf_ask, scf_compile};
-pub use profiles::{scf_ask_architectures, scf_compile_architectures};
 pub use stack::scf_decide;
 pub use text::{scf_assemble, scf_list};
 pub use version::scf_version;

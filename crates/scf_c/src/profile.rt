@@ -1,111 +1,302 @@
 //! A profile by itself.
 
-ghost use Rattle.std.specs.Prelude.{◌≡◌, ◌≢◌, ℕ, List, IfErr, IfOk};
-ghost use Rattle.scf_profile.specs.ProfileAnswers.{ProfileAnswers};
-ghost use Rattle.scf_profile.specs.Reasons.{IsReason};
-ghost use Rattle.scf_profile.specs.declared.loaded.Loaded.{Loaded};
+ghost use Rattle.std.specs.Prelude.{◌≡◌, ◌≢◌, ℕ, List, MatchOption, IfErr, IfOk};
+ghost use Rattle.scf_profile.specs.ProfileAnswers.{ProfilesAnswer};
+ghost use Rattle.scf_profile.specs.Reasons.{IsReasonAmong};
+ghost use Rattle.scf_profile.specs.declared.loaded.LoadedProfiles.{LoadedProfiles};
+ghost use Rattle.scf_profile.specs.declared.reading.Reading.{Reading};
 ghost use Rattle.scf_profile.specs.declared.reason.Reason.{Reason};
-ghost use Rattle.scf_tool.specs.Commands.{IsFilterOf, IsStated};
+ghost use Rattle.scf_tool.specs.Commands.{AreStated, CantLoadEach, IsFilterOfEach};
+ghost use Rattle.scf_c.specs.Architectures.{texts_of};
 ghost use Rattle.scf_c.specs.Faults.{IsRefusal, no_fault};
 ghost use Rattle.scf_c.specs.Layout.{record_of};
 ghost use Rattle.scf_c.specs.HandingOut.{IsHandedOut, IsNothingHandedOut};
-ghost use Rattle.scf_c.specs.Profiles.{IsCompilationRefused, IsProfileRefused, no_reason, reason_of};
-ghost use Rattle.scf_c.specs.Statuses.{ok};
+ghost use Rattle.scf_c.specs.Profiles.{
+  IsCompilationRefused,
+  IsLoaded,
+  IsNotRead,
+  IsProfileRefused,
+  IsReadBy,
+  IsReadUnder,
+  answer_of,
+  entry_of,
+  interpretation_of,
+  left_out_of,
+  no_answer,
+  nothing_left_out,
+  reading_number,
+  reason_number,
+};
+ghost use Rattle.scf_c.specs.Statuses.{ok, wrong_argument};
 
 use crate::fault::{no_fault, refuse};
-use crate::layout::{Call, Fault, ProfileReason};
+use crate::layout::{Call, Fault, LeftOutCounts, ProfileAnswer, ProfileInput, Table};
 use crate::memory::hand_out;
 use crate::refusal::Refusal;
-use crate::status::OK;
-use scf_profile::Reason;
-use scf_tool::{filter_of, load_with_table};
-use std::alloc::Global;
+use crate::status::{OK, WRONG_ARGUMENT};
+use crate::tables::{has_tables, listed_of, stubs_of, table_readers_of};
+use scf_insn::CallRecord;
+use scf_profile::{LoadedProfiles, Reading, Reason, TableFault};
+use scf_tool::{Interpretation, VerifyFault, filter_of_each, load_with_tables};
+use std::alloc::{AllocError, Global};
 
-/// The bytes of the filter of a profile and a table.
-fn filter_bytes(alloc: Global, profile: &[u8], table: &[u8]) -> Result<Vec<u8>, Refusal>
-    ensures filter { IfOk result (λ bytes. (loaded : Loaded) × IsStated profile.now table.now loaded
-        × IsFilterOf loaded.profile bytes.items) }
-    ensures refused { IfErr result (IsCompilationRefused profile.now table.now) }
+/// The reading with this number.
+fn reading_numbered(number: u32) -> Option<Reading>
+    ensures { MatchOption result ((reading : Reading) → number ≢ reading_number reading)
+        (λ reading. number ≡ reading_number reading) }
 {
-    let loaded = load_with_table(alloc, profile, table)?;
-    match filter_of(alloc, &loaded.profile) {
-        Ok(bytes) => Ok(bytes),
+    match number {
+        0 => Some(Reading::Strict),
+        1 => Some(Reading::Runc),
+        2 => Some(Reading::Crun),
+        _ => None,
+    }
+}
+
+/// The reading that the numbers of a profile ask for, if each has a meaning.
+pub(crate) fn reading_of(profile: &ProfileInput) -> Option<Reading>
+    ensures { MatchOption result ((reading : Reading) → IsReadBy profile.now reading → ⊥) (IsReadBy profile.now) }
+{
+    let [first, second] = profile.reserved;
+    if profile.flags > 1 || first != 0 || second != 0 {
+        return None;
+    }
+    reading_numbered(profile.reading)
+}
+
+/// The same, if there are tables whose numbers have a meaning.
+fn reading_under(profile: &ProfileInput, tables: &[Table]) -> Option<Reading>
+    ensures { MatchOption result (IsNotRead profile.now tables.now) (IsReadUnder profile.now tables.now) }
+{
+    if has_tables(tables) {
+        reading_of(profile)
+    } else {
+        None
+    }
+}
+
+/// A reading, with the stubs of tables.
+fn interpretation_of(
+    alloc: Global,
+    reading: Reading,
+    tables: &[Table],
+) -> Result<Interpretation, AllocError>
+    ensures { IfOk result (λ by. by ≡ interpretation_of reading tables.now) }
+{
+    let stubs = stubs_of(alloc, tables)?;
+    Ok(Interpretation::new(reading, stubs))
+}
+
+/// What a profile and tables state, all of which are used.
+fn loaded_under(
+    alloc: Global,
+    by: &Interpretation,
+    text: &[u8],
+    tables: &[Table],
+) -> Result<LoadedProfiles, VerifyFault>
+    ensures stated { IfOk result (AreStated by.now text.now (texts_of tables.now)) }
+    ensures refused { IfErr result (CantLoadEach by.now text.now (texts_of tables.now)) }
+{
+    let Ok(readers) = table_readers_of(alloc, tables) else {
+        return Err(VerifyFault::Table(TableFault::Memory));
+    };
+    load_with_tables(alloc, by, text, &readers)
+}
+
+/// What a profile and the tables that are used state.
+pub(crate) fn loaded(
+    alloc: Global,
+    profile: &ProfileInput,
+    tables: &[Table],
+    reading: Reading,
+) -> Result<LoadedProfiles, Refusal>
+    ensures stated { IfOk result (IsLoaded profile.now tables.now reading) }
+    ensures refused { IfErr result (IsProfileRefused profile.now tables.now reading) }
+{
+    let Ok(by) = interpretation_of(alloc, reading, tables) else {
+        return Err(Refusal::Verify(VerifyFault::Table(TableFault::Memory)));
+    };
+    if profile.flags == 0 {
+        return Ok(loaded_under(alloc, &by, profile.text, tables)?);
+    }
+    let listed = loaded_under(alloc, &by, profile.text, &[])?;
+    let names = listed.other_architectures.as_slice();
+    let Ok(used) = listed_of(alloc, reading, names, tables) else {
+        return Err(Refusal::Verify(VerifyFault::Table(TableFault::Memory)));
+    };
+    Ok(loaded_under(alloc, &by, profile.text, &used)?)
+}
+
+/// How much of a profile has no table.
+pub(crate) fn left_out_of(loaded: &LoadedProfiles) -> LeftOutCounts
+    ensures { result ≡ left_out_of loaded.now }
+{
+    LeftOutCounts {
+        not_looked_at: loaded.other_architectures.as_slice().len() as u64,
+        skipped: loaded.skipped.as_slice().len() as u64,
+        reserved: [0; 4],
+    }
+}
+
+pub(crate) fn nothing_left_out() -> LeftOutCounts
+    ensures { result ≡ nothing_left_out }
+{
+    LeftOutCounts {
+        not_looked_at: 0,
+        skipped: 0,
+        reserved: [0; 4],
+    }
+}
+
+/// The bytes of a filter, and how much of its profile has no table.
+#[derive(Drop)]
+struct Compiled {
+    bytes: Vec<u8>,
+    left_out: LeftOutCounts,
+}
+
+/// The filter of a profile and tables.
+fn filter_of(
+    alloc: Global,
+    profile: &ProfileInput,
+    tables: &[Table],
+    reading: Reading,
+) -> Result<Compiled, Refusal>
+    ensures filter { IfOk result (λ compiled. (loaded : LoadedProfiles)
+        × IsLoaded profile.now tables.now reading loaded × IsFilterOfEach loaded.profiles compiled.bytes.items
+        × (compiled.left_out ≡ left_out_of loaded)) }
+    ensures refused { IfErr result (IsCompilationRefused profile.now tables.now reading) }
+{
+    let loaded = loaded(alloc, profile, tables, reading)?;
+    match filter_of_each(alloc, &loaded.profiles) {
+        Ok(bytes) => Ok(Compiled {
+            bytes,
+            left_out: left_out_of(&loaded),
+        }),
         Err(fault) => Err(Refusal::Compile(fault)),
     }
 }
 
-/// The filter that answers as a profile does. The table gives the profile's names their numbers.
+/// The filter that answers as a profile does for each architecture that has a table.
 #[unsafe(no_mangle)]
 pub extern "C" fn scf_compile(
     alloc: Global,
-    profile: &[u8],
-    table: &[u8],
+    profile: &ProfileInput,
+    tables: &[Table],
     filter: &mut [u8],
     needed: &mut usize,
+    left_out: &mut LeftOutCounts,
     fault: &mut Fault,
 ) -> u32
-    ensures compiled { result ≡ ok → (loaded : Loaded) × IsStated profile.now table.now loaded
-        × (bytes : List ℕ) × IsFilterOf loaded.profile bytes
-        × IsHandedOut bytes filter.old filter.new needed.new × (fault.new ≡ no_fault) }
-    ensures refused { result ≢ ok → IsRefusal (IsCompilationRefused profile.now table.now) result fault.new
-        × IsNothingHandedOut filter.old filter.new needed.new }
+    ensures compiled { result ≡ ok → (reading : Reading) × IsReadUnder profile.now tables.now reading
+        × (loaded : LoadedProfiles) × IsLoaded profile.now tables.now reading loaded
+        × (bytes : List ℕ) × IsFilterOfEach loaded.profiles bytes
+        × IsHandedOut bytes filter.old filter.new needed.new × (left_out.new ≡ left_out_of loaded)
+        × (fault.new ≡ no_fault) }
+    ensures wrong { result ≡ wrong_argument → IsNotRead profile.now tables.now × (fault.new ≡ no_fault) }
+    ensures refused { result ≢ ok → result ≢ wrong_argument → (reading : Reading)
+        × IsReadUnder profile.now tables.now reading
+        × IsRefusal (IsCompilationRefused profile.now tables.now reading) result fault.new }
+    ensures nothing { result ≢ ok → IsNothingHandedOut filter.old filter.new needed.new
+        × (left_out.new ≡ nothing_left_out) }
 {
     *needed = 0;
+    *left_out = nothing_left_out();
     *fault = no_fault();
-    match filter_bytes(alloc, profile, table) {
-        Ok(bytes) => {
-            hand_out(bytes.as_slice(), filter, needed);
+    let Some(reading) = reading_under(profile, tables) else {
+        return WRONG_ARGUMENT;
+    };
+    match filter_of(alloc, profile, tables, reading) {
+        Ok(own) => {
+            hand_out(own.bytes.as_slice(), filter, needed);
+            *left_out = own.left_out;
             OK
         }
         Err(why) => refuse(why, fault),
     }
 }
 
-/// What is handed out where nothing is answered.
-pub(crate) fn no_reason() -> ProfileReason
-    ensures { result ≡ no_reason }
-{
-    ProfileReason { kind: 0, entry: 0 }
-}
-
-pub(crate) fn numbered(reason: Reason) -> ProfileReason
-    ensures { result ≡ reason_of reason }
+pub(crate) fn reason_number(reason: Reason) -> u32
+    ensures { result ≡ reason_number reason }
 {
     match reason {
-        Reason::Default => ProfileReason { kind: 1, entry: 0 },
-        Reason::Entry(entry) => ProfileReason { kind: 2, entry },
-        Reason::Foreign => ProfileReason { kind: 3, entry: 0 },
+        Reason::Default => 1,
+        Reason::Entry(_) => 2,
+        Reason::Foreign => 3,
+        Reason::Stub => 4,
     }
 }
 
-/// What a profile answers to a call, and why. The table gives the profile's names their numbers.
+pub(crate) fn entry_of(reason: Reason) -> u32
+    ensures { result ≡ entry_of reason }
+{
+    match reason {
+        Reason::Entry(entry) => entry,
+        _ => 0,
+    }
+}
+
+/// What is handed out where nothing is answered.
+fn no_answer() -> ProfileAnswer
+    ensures { result ≡ no_answer }
+{
+    ProfileAnswer {
+        answer: 0,
+        reason: 0,
+        entry: 0,
+        unused: 0,
+        left_out: nothing_left_out(),
+    }
+}
+
+/// What the profile of a call's architecture answers to it, and why.
+fn answer_to(loaded: &LoadedProfiles, call: &CallRecord) -> ProfileAnswer
+    ensures { (answer : ℕ) × ProfilesAnswer loaded.now.profiles call.now answer
+        × (reason : Reason) × IsReasonAmong loaded.now.profiles call.now reason
+        × (result ≡ answer_of answer reason loaded.now) }
+{
+    let reason = loaded.profiles.reason(call);
+    ProfileAnswer {
+        answer: loaded.profiles.answer(call).0,
+        reason: reason_number(reason),
+        entry: entry_of(reason),
+        unused: 0,
+        left_out: left_out_of(loaded),
+    }
+}
+
+/// What the profile of a call's architecture answers to it, and why. An architecture without a table counts as another
+/// ABI.
 #[unsafe(no_mangle)]
 pub extern "C" fn scf_ask(
     alloc: Global,
-    profile: &[u8],
-    table: &[u8],
+    profile: &ProfileInput,
+    tables: &[Table],
     call: &Call,
-    answer: &mut u32,
-    reason: &mut ProfileReason,
+    answer: &mut ProfileAnswer,
     fault: &mut Fault,
 ) -> u32
-    ensures answered { result ≡ ok → (loaded : Loaded) × IsStated profile.now table.now loaded
-        × ProfileAnswers loaded.profile (record_of call.now) answer.new
-        × (own : Reason) × IsReason loaded.profile (record_of call.now) own × (reason.new ≡ reason_of own)
-        × (fault.new ≡ no_fault) }
-    ensures refused { result ≢ ok → IsRefusal (IsProfileRefused profile.now table.now) result fault.new
-        × (answer.new ≡ 0) × (reason.new ≡ no_reason) }
+    ensures answered { result ≡ ok → (reading : Reading) × IsReadUnder profile.now tables.now reading
+        × (loaded : LoadedProfiles) × IsLoaded profile.now tables.now reading loaded
+        × (own : ℕ) × ProfilesAnswer loaded.profiles (record_of call.now) own
+        × (reason : Reason) × IsReasonAmong loaded.profiles (record_of call.now) reason
+        × (answer.new ≡ answer_of own reason loaded) × (fault.new ≡ no_fault) }
+    ensures wrong { result ≡ wrong_argument → IsNotRead profile.now tables.now × (fault.new ≡ no_fault) }
+    ensures refused { result ≢ ok → result ≢ wrong_argument → (reading : Reading)
+        × IsReadUnder profile.now tables.now reading
+        × IsRefusal (IsProfileRefused profile.now tables.now reading) result fault.new }
+    ensures nothing { result ≢ ok → answer.new ≡ no_answer }
 {
-    *answer = 0;
-    *reason = no_reason();
+    *answer = no_answer();
     *fault = no_fault();
-    match load_with_table(alloc, profile, table) {
+    let Some(reading) = reading_under(profile, tables) else {
+        return WRONG_ARGUMENT;
+    };
+    match loaded(alloc, profile, tables, reading) {
         Ok(loaded) => {
-            let asked = call.record();
-            *answer = loaded.profile.answer(&asked).0;
-            *reason = numbered(loaded.profile.reason(&asked));
+            *answer = answer_to(&loaded, &call.record());
             OK
         }
-        Err(why) => refuse(Refusal::Verify(why), fault),
+        Err(why) => refuse(why, fault),
     }
 }

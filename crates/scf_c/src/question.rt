@@ -1,60 +1,96 @@
 //! What is asked of a comparison.
 
-ghost use Rattle.std.specs.Prelude.{◌≡◌, ◌≢◌, ◌∷◌, [], MatchOption};
+ghost use Rattle.std.specs.Prelude.{◌≡◌, ◌≢◌, ◌↔◌, IsTrue, MatchOption};
 ghost use Rattle.scf_profile.specs.declared.relation.Relation.{Relation};
-ghost use Rattle.scf_profile.specs.declared.scope.Scope.{Scope};
 ghost use Rattle.scf_c.specs.Questions.{
-  AreCallsAsked,
-  AreNoCallsAsked,
+  HasNumber,
   IsAsked,
   IsNothingAsked,
   IsOver,
-  asked_over,
-  limits_of,
+  IsRange,
+  limit_of,
+  needs_tables,
   relation_number,
-  right_number,
 };
-ghost use Rattle.scf_c.specs.declared.question.RightKind.{RightKind};
+ghost use Rattle.scf_c.specs.declared.question.NumberRange.{NumberRange};
+ghost use Rattle.scf_c.specs.declared.question.Over.{Over};
 
-use crate::layout::{Question, RightSide};
-use scf_profile::{Relation, Scope};
-use scf_tool::{Comparison, Limits, Scopes};
+use crate::layout::{Question, SideInput, Table};
+use crate::side::{SideKind, kind_of};
+use crate::tables::{architecture_of, are_meant};
+use scf_compare::{Limit, Splits};
+use scf_insn::Architecture;
+use scf_profile::Relation;
 
-/// The scope of x86-64 calls.
-const NATIVE_CALLS: u32 = 1;
-
-/// Of which kind the right side of a comparison is.
+/// Some numbers of an architecture, from `first` to `last`.
 #[derive(Clone, Copy)]
-pub(crate) enum RightKind {
-    Profile,
-    Filters,
+pub(crate) struct NumberRange {
+    pub architecture: Architecture,
+    pub first: u32,
+    pub last: u32,
+}
+
+/// Over which records sides are compared.
+#[derive(Clone, Copy)]
+pub(crate) enum Over {
+    /// All, at once.
+    All,
+    /// Those of an architecture with a number of a range, at once.
+    Numbers(NumberRange),
+    /// Those of each architecture that has a table.
+    EachArchitecture,
+    /// Those of each syscall of each table.
+    EachCall,
 }
 
 /// What a question asks for.
 #[derive(Clone, Copy)]
 pub(crate) struct Asked {
-    pub scope: Scope,
+    pub over: Over,
     pub relation: Relation,
-    pub right: RightKind,
+    pub left: SideKind,
+    pub right: SideKind,
 }
 
-fn scope_of(question: &Question) -> Option<Scope>
-    ensures { MatchOption result ((scope : Scope) → IsOver question.now scope → ⊥) (IsOver question.now) }
+/// Whether an architecture has a number from `first` to `last`.
+fn has_number(architecture: Architecture, first: u32, last: u32) -> bool
+    ensures { IsTrue result ↔ HasNumber architecture first last }
+{
+    first <= last && first <= architecture.last() && architecture.first() <= last
+}
+
+/// The range of a question, if its architecture has a number of it.
+fn range_of(question: &Question) -> Option<NumberRange>
+    ensures { MatchOption result ((range : NumberRange) → IsRange question.now range → ⊥) (IsRange question.now) }
+{
+    let architecture = architecture_of(question.architecture)?;
+    let first = question.first;
+    let last = question.last;
+    if has_number(architecture, first, last) {
+        Some(NumberRange {
+            architecture,
+            first,
+            last,
+        })
+    } else {
+        None
+    }
+}
+
+fn over_of(question: &Question) -> Option<Over>
+    ensures { MatchOption result ((over : Over) → IsOver question.now over → ⊥) (IsOver question.now) }
 {
     match question.scope {
-        0 => Some(Scope::All),
-        NATIVE_CALLS => Some(Scope::Native),
-        2 => Some(Scope::Call(question.first)),
-        3 => Some(Scope::Numbers {
-            first: question.first,
-            last: question.last,
-        }),
+        0 => Some(Over::All),
+        1 => Some(Over::Numbers(range_of(question)?)),
+        2 => Some(Over::EachArchitecture),
+        3 => Some(Over::EachCall),
         _ => None,
     }
 }
 
 /// The relation with this number.
-pub(crate) fn relation_of(number: u32) -> Option<Relation>
+fn relation_of(number: u32) -> Option<Relation>
     ensures { MatchOption result ((relation : Relation) → number ≢ relation_number relation)
         (λ relation. number ≡ relation_number relation) }
 {
@@ -67,61 +103,49 @@ pub(crate) fn relation_of(number: u32) -> Option<Relation>
     }
 }
 
-fn kind_of(number: u32) -> Option<RightKind>
-    ensures { MatchOption result ((kind : RightKind) → number ≢ right_number kind)
-        (λ kind. number ≡ right_number kind) }
+/// Whether one of the sides is a profile, which has to have a table.
+fn needs_tables(left: SideKind, right: SideKind) -> bool
+    ensures { result ≡ needs_tables left right }
 {
-    match number {
-        1 => Some(RightKind::Profile),
-        2 => Some(RightKind::Filters),
-        _ => None,
+    match (left, right) {
+        (SideKind::Filters, SideKind::Filters) => false,
+        _ => true,
     }
 }
 
-/// What the numbers of a question and a right side ask for, if each has a meaning.
-pub(crate) fn asked_of(question: &Question, right: &RightSide) -> Option<Asked>
-    ensures { MatchOption result (IsNothingAsked question.now right.now) (IsAsked question.now right.now) }
+/// What the numbers of a question, of both sides and of tables ask for, if each has a meaning.
+pub(crate) fn asked_of<'a>(
+    question: &Question,
+    left: &SideInput<'a>,
+    right: &SideInput<'a>,
+    tables: &[Table],
+) -> Option<Asked>
+    ensures { MatchOption result (IsNothingAsked question.now left.now right.now tables.now)
+        (IsAsked question.now left.now right.now tables.now) }
 {
     let [first, second] = question.reserved;
-    if first != 0 || second != 0 || right.reserved != 0 {
+    if question.unused != 0 || first != 0 || second != 0 || !are_meant(tables) {
+        return None;
+    }
+    let left = kind_of(left)?;
+    let right = kind_of(right)?;
+    if tables.is_empty() && needs_tables(left, right) {
         return None;
     }
     Some(Asked {
-        scope: scope_of(question)?,
+        over: over_of(question)?,
         relation: relation_of(question.relation)?,
-        right: kind_of(right.kind)?,
+        left,
+        right,
     })
 }
 
-/// What they ask for call by call.
-pub(crate) fn calls_asked_of(question: &Question, right: &RightSide) -> Option<Asked>
-    ensures { MatchOption result (AreNoCallsAsked question.now right.now) (AreCallsAsked question.now right.now) }
+/// How many steps each comparison may take, with the default number of splits.
+pub(crate) fn limit_of(question: &Question) -> Limit
+    ensures { result ≡ limit_of question.now }
 {
-    if question.scope == NATIVE_CALLS {
-        asked_of(question, right)
-    } else {
-        None
-    }
-}
-
-/// How many steps comparisons may take, with the default number of splits.
-fn limits_of(question: &Question) -> Limits
-    ensures { result ≡ limits_of question.now }
-{
-    Limits {
-        each: question.limit,
-        total: question.total_limit,
-        splits: 10_000,
-    }
-}
-
-/// The comparison over scopes that a question asks for.
-pub(crate) fn asked_over(scopes: Scopes, question: &Question, asked: Asked) -> Comparison
-    ensures { result ≡ asked_over scopes question.now asked }
-{
-    Comparison {
-        limits: limits_of(question),
-        scopes,
-        relation: asked.relation,
+    Limit {
+        steps: question.limit,
+        splits: Splits::AtMost(10_000),
     }
 }

@@ -1,9 +1,12 @@
 //! Why a call has no result.
 
+ghost use Rattle.std.specs.Prelude.{◌≡◌};
+ghost use Rattle.scf_c.specs.Sides.{refusal_of_right};
+
 use scf_compile::CompileFault;
 use scf_insn::{Memory, ReadFault};
 use scf_text::TextFault;
-use scf_tool::{BesideFault, VerifyFault};
+use scf_tool::VerifyFault;
 use std::alloc::AllocError;
 
 /// Why a call has no result.
@@ -11,7 +14,7 @@ use std::alloc::AllocError;
 pub(crate) enum Refusal {
     /// A filter, a stack, a table or a profile is refused, or memory ran out during their comparison.
     Verify(VerifyFault),
-    /// A filter of the stack beside another is refused.
+    /// The same of the right side, where the left one is of the same kind.
     Beside(VerifyFault),
     Text(TextFault),
     Compile(CompileFault),
@@ -64,16 +67,14 @@ impl From<AllocError> for Refusal {
     }
 }
 
-impl From<BesideFault> for Refusal {
-    ghost use Rattle.std.specs.Prelude.{◌≡◌};
-    ghost use Rattle.scf_c.specs.internal.Refusals.{refusal_of};
-
-    ghost from_gives = { λ why e. e ≡ refusal_of why };
-
-    fn from(why: BesideFault) -> Refusal {
-        match why {
-            BesideFault::Verify(why) => Refusal::Verify(why),
-            BesideFault::Beside(why) => Refusal::Beside(why),
+impl Refusal {
+    /// The same of the right side, if it is of the same kind as the left one.
+    pub(crate) fn of_right(self, is_same_kind: bool) -> Refusal
+        ensures { result ≡ refusal_of_right is_same_kind self }
+    {
+        match self {
+            Refusal::Verify(why) if is_same_kind => Refusal::Beside(why),
+            why => why,
         }
     }
 }

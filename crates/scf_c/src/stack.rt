@@ -1,6 +1,6 @@
 //! A stack of filters.
 
-ghost use Rattle.std.specs.Prelude.{◌≡◌, ◌≢◌, List, IfErr, IfOk};
+ghost use Rattle.std.specs.Prelude.{◌≡◌, ◌≢◌, List, Some, map, IfErr, IfOk};
 ghost use Rattle.scf_insn.specs.Words.{words_of};
 ghost use Rattle.scf_insn.specs.declared.insn.Insn.{Insn};
 ghost use Rattle.scf_machine.specs.Precedence.{StackAnswers};
@@ -9,18 +9,30 @@ ghost use Rattle.scf_c.specs.Faults.{IsRefusal, no_fault};
 ghost use Rattle.scf_c.specs.Filters.{IsStackRefused};
 ghost use Rattle.scf_c.specs.Layout.{known, record_of};
 ghost use Rattle.scf_c.specs.Statuses.{ok};
+ghost use Rattle.scf_c.specs.internal.Reading.{rest_of};
 
 use crate::fault::{no_fault, refuse};
 use crate::layout::{Bytes, Call, Fault};
+use crate::memory::Reader;
 use crate::refusal::Refusal;
-use crate::right_side::readers_of;
 use crate::status::OK;
 use scf_machine::FilterStack;
 use scf_tool::read_stack;
-use std::alloc::Global;
+use std::alloc::{AllocError, Global};
+
+/// Readers of filters, in their order.
+fn readers_of<'a>(alloc: Global, filters: &[Bytes<'a>]) -> Result<Vec<Reader<'a>>, AllocError>
+    ensures { IfOk result (λ readers. map (λ reader. Some (rest_of reader)) readers.items ≡ known filters.now) }
+{
+    let mut readers = Vec::new(alloc);
+    for filter in filters {
+        readers.push(Reader::new(filter.bytes))?;
+    }
+    Ok(readers)
+}
 
 /// The stack of the filters with these bytes, the oldest first.
-fn stack_of(alloc: Global, filters: &[Bytes]) -> Result<FilterStack, Refusal>
+pub(crate) fn stack_of(alloc: Global, filters: &[Bytes]) -> Result<FilterStack, Refusal>
     ensures stack { IfOk result (HasStack (known filters.now)) }
     ensures refused { IfErr result (IsStackRefused filters.now) }
 {

@@ -1,24 +1,18 @@
-//! The syscall tables of several architectures.
+//! The syscall tables of architectures, and the stubs of their syscalls.
 
-ghost use Rattle.std.specs.Prelude.{◌≡◌, ◌≤◌, ◌↔◌, All, IsTrue, MatchOption, map, IfOk};
-ghost use Rattle.scf_profile.specs.declared.relation.Relation.{Relation};
+ghost use Rattle.std.specs.Prelude.{◌≡◌, ◌≤◌, ◌↔◌, All, IsTrue, map, string_bytes, IfOk};
+ghost use Rattle.std.specs.List.{list_any};
+ghost use Rattle.scf_profile.specs.StatedProfile.{is_named};
 ghost use Rattle.scf_tool.specs.VerifyingArchitectures.{table_text};
-ghost use Rattle.scf_c.specs.Architectures.{
-  AreMeant,
-  IsAskedUnder,
-  IsMeant,
-  architecture_of,
-  count_for,
-  texts_of,
-};
+ghost use Rattle.scf_c.specs.Architectures.{AreMeant, HasTables, IsMeant, architecture_of, count_for, texts_of};
+ghost use Rattle.scf_c.specs.Architectures as spec;
 ghost use Rattle.scf_c.specs.internal.Reading.{rest_of};
 
 use crate::layout::Table;
 use crate::memory::Reader;
-use crate::question::relation_of;
 use scf_insn::Architecture;
-use scf_profile::Relation;
-use scf_tool::TableReader;
+use scf_profile::{Profile, Reading};
+use scf_tool::{Stub, TableReader};
 use std::alloc::{AllocError, Global};
 
 /// The architecture with this number.
@@ -35,11 +29,23 @@ pub(crate) fn architecture_of(number: u32) -> Option<Architecture>
     }
 }
 
+pub(crate) fn architecture_number(architecture: Architecture) -> u32
+    ensures { result ≡ spec.architecture_number architecture }
+{
+    match architecture {
+        Architecture::X8664 => 1,
+        Architecture::X86 => 2,
+        Architecture::X32 => 3,
+        Architecture::Aarch64 => 4,
+        Architecture::Arm => 5,
+    }
+}
+
 /// Whether the numbers of a table have a meaning.
 fn is_meant(table: &Table) -> bool
     ensures { IsTrue result ↔ IsMeant table.now }
 {
-    table.reserved == 0 && architecture_of(table.architecture).is_some()
+    table.reserved == 0 && table.has_stub <= 1 && architecture_of(table.architecture).is_some()
 }
 
 /// How many tables have an architecture with this number.
@@ -78,26 +84,18 @@ fn have_meaning(tables: &[Table]) -> bool
     tables.iter().all(|table| is_meant(table))
 }
 
-/// Whether there is a table, the numbers of each have a meaning, and no two are for one architecture.
+/// Whether the numbers of all tables have a meaning, and no two are for one architecture.
 pub(crate) fn are_meant(tables: &[Table]) -> bool
     ensures { IsTrue result ↔ AreMeant tables.now }
 {
-    if tables.is_empty() {
-        return false;
-    }
     have_meaning(tables) && are_single(tables)
 }
 
-/// The relation that a number asks for, where it and those of the tables have a meaning.
-pub(crate) fn relation_under(tables: &[Table], number: u32) -> Option<Relation>
-    ensures { MatchOption result ((relation : Relation) → IsAskedUnder tables.now number relation → ⊥)
-        (IsAskedUnder tables.now number) }
+/// Whether there is such a table.
+pub(crate) fn has_tables(tables: &[Table]) -> bool
+    ensures { IsTrue result ↔ HasTables tables.now }
 {
-    if are_meant(tables) {
-        relation_of(number)
-    } else {
-        None
-    }
+    !tables.is_empty() && are_meant(tables)
 }
 
 /// Readers of the tables whose numbers have a meaning, in their order.
@@ -118,4 +116,111 @@ pub(crate) fn table_readers_of<'a>(
         }
     }
     Ok(readers)
+}
+
+/// The stub of the syscalls that a table numbers.
+fn stub_of(table: &Table) -> Option<Stub>
+    ensures { result ≡ spec.stub_of table.now }
+{
+    if table.has_stub == 0 {
+        return None;
+    }
+    let architecture = architecture_of(table.architecture)?;
+    Some(Stub {
+        architecture,
+        first: table.stub,
+    })
+}
+
+/// The stubs of tables, in their order.
+pub(crate) fn stubs_of(alloc: Global, tables: &[Table]) -> Result<Vec<Stub>, AllocError>
+    ensures { IfOk result (λ stubs. stubs.items ≡ spec.stubs_of tables.now) }
+{
+    let mut stubs = Vec::new(alloc);
+    for table in tables {
+        if let Some(stub) = stub_of(table) {
+            stubs.push(stub)?;
+        }
+    }
+    Ok(stubs)
+}
+
+/// Whether an architecture has one of these names.
+fn is_among(names: &[String], architecture: Architecture) -> bool
+    ensures { result ≡ list_any (λ name. is_named name architecture) (map string_bytes names.now) }
+{
+    let Some((name, later)) = names.split_first() else {
+        return false;
+    };
+    architecture.name() == name.as_str() || is_among(later, architecture)
+}
+
+/// Whether a table is that of an architecture with one of these names.
+fn has_name(names: &[String], table: &Table) -> bool
+    ensures { result ≡ spec.has_name (map string_bytes names.now) table.now }
+{
+    match architecture_of(table.architecture) {
+        Some(architecture) => is_among(names, architecture),
+        None => false,
+    }
+}
+
+/// The number of the machine's own architecture: x86-64 if it has a table, and else aarch64.
+fn own_number(tables: &[Table]) -> u32
+    ensures { result ≡ spec.own_number tables.now }
+{
+    if count_for(tables, 1) == 0 { 4 } else { 1 }
+}
+
+/// Whether a table is that of the machine's own architecture, which a runtime adds to the names, and for which no names
+/// stand.
+fn is_own(reading: Reading, names: &[String], tables: &[Table], table: &Table) -> bool
+    ensures { result ≡ spec.is_own reading (map string_bytes names.now) tables.now table.now }
+{
+    match reading {
+        Reading::Strict if !names.is_empty() => false,
+        _ => table.architecture == own_number(tables),
+    }
+}
+
+/// The tables of the architectures that a profile with these names lists.
+pub(crate) fn listed_of<'a>(
+    alloc: Global,
+    reading: Reading,
+    names: &[String],
+    tables: &[Table<'a>],
+) -> Result<Vec<Table<'a>>, AllocError>
+    ensures { IfOk result (λ listed. listed.items ≡ spec.listed_of reading (map string_bytes names.now) tables.now) }
+{
+    let mut listed = Vec::new(alloc);
+    for table in tables {
+        if is_own(reading, names, tables, table) || has_name(names, table) {
+            listed.push(*table)?;
+        }
+    }
+    Ok(listed)
+}
+
+/// Whether a table is that of an architecture that has one of these profiles.
+fn has_profile(profiles: &[Profile], table: &Table) -> bool
+    ensures { result ≡ spec.has_profile profiles.now table.now }
+{
+    profiles.iter().any(|profile| architecture_number(profile.architecture()) == table.architecture)
+}
+
+/// The tables of architectures that have one of these profiles.
+pub(crate) fn tables_of<'a>(
+    alloc: Global,
+    profiles: &[Profile],
+    tables: &[Table<'a>],
+) -> Result<Vec<Table<'a>>, AllocError>
+    ensures { IfOk result (λ used. used.items ≡ spec.tables_of profiles.now tables.now) }
+{
+    let mut used = Vec::new(alloc);
+    for table in tables {
+        if has_profile(profiles, table) {
+            used.push(*table)?;
+        }
+    }
+    Ok(used)
 }

@@ -1,14 +1,14 @@
 -- Regions, as one more is added.
-use Rattle.std.specs.Prelude.{AllPairs, IsSome}
+use Rattle.std.specs.Prelude.{AllPairs}
 use Rattle.std.proofs.lemmas.List.Elements.{Contains-append_left, Contains-push}
 use Rattle.std.proofs.lemmas.List.Quantifiers.{all_pairs_push}
-use Rattle.scf_insn.proofs.Common.{IsRecord, words_of}
+use Rattle.scf_insn.proofs.Common.{words_of}
 use Rattle.scf_facts.specs.WordSets.{AllowsWords}
-use Rattle.scf_compare.proofs.Common.{[], ◌∷◌, ◌++◌, ◌≡◌, ◌<◌, ◌⊎◌, ℕ, List, Bool, Option, None, IsTrue, IfSome, IfSome_then, inl, inr, arith, common_steps, length, All, All-push, AreWordsIn, CallRecord, Compared, Contains, Frontier, IsSideLeaf, SideLeaf, Store, Tree}
+use Rattle.scf_compare.proofs.Common.{[], ◌∷◌, ◌++◌, ◌≡◌, ℕ, List, Bool, Option, None, IsTrue, IfSome_then, inl, inr, length, All, All-push, AreWordsIn, CallRecord, Compared, Frontier, IsSideLeaf, SideLeaf, Store, Tree}
 use Rattle.scf_compare.specs.declared.frontier.Stage.{Stage}
 use Rattle.scf_compare.specs.declared.frontier.Stage.TheVariants.{At, AllSeen, Found}
 use Rattle.scf_compare.specs.declared.region.Region.{Region}
-use Rattle.scf_compare.specs.Regions.{AreDisjoint, IsAnswered, IsCovered, IsRegion}
+use Rattle.scf_compare.specs.Regions.{AreDisjoint, IsCovered, IsRegion}
 use Rattle.scf_compare.specs.Sides.{AnswersFrom, Behavior}
 use Rattle.scf_compare.specs.internal.Frontier.{IsWhollyAhead, first_open_left}
 use Rattle.scf_compare.specs.internal.Leaves.{SideTells}

@@ -13,6 +13,7 @@ pub mod Numbered
 pub mod Relations
 pub mod Rules
 pub mod Saturated
+pub mod SeveralProfiles
 pub mod Weights
 pub mod SplitLaws
 pub mod Stacks

@@ -1,9 +1,18 @@
 -- A profile's numbers: which rules a call can still meet, and how many steps the numbers take.
-use Rattle.scf_compare.proofs.Common.{drop-drop, ◌-◌, ◌≡◌, ◌≢◌, ℕ, ◌+◌, ◌<◌, ◌≤◌, false, true, eqb, List, [], Some, length, map, drop, get_or, refl, sym, ap, arith, inl, inr, slice_get, slice_get-get_or, slice_get-map, slice_get_within, get_or_from_slice_get, get_or-take, length-take, take_all, eqb-true, All, All-contains, All-contains_itself, All-filter, filter_passes, contains_filtered, Contains, CallRecord, Condition, NotEqual, NumberRules, Rule, IsOf, ProfileAnswers, by_rule, by_default, meets, rules_of, AreNumbersOf, number_among, numbers_rise, sum_of_own, sum_by-drop_more, sum_by-take-drop, conditions_size, rules_size, numbers_size, own_conditions, own_rules, size_behind, IsAtCondition, IsAtRule, IsFrom, ConditionPosition, IsNumbered, NumberedProfile}
-use Rattle.scf_compare.specs.Effort.{spread}
+use Rattle.scf_compare.proofs.Common.{drop-drop, ◌-◌, ◌≡◌, ◌≢◌, ℕ, ◌+◌, ◌<◌, ◌≤◌, false, true, eqb, List, [], Some, length, map, drop, get_or, refl, sym, ap, arith, inl, inr, slice_get, slice_get-get_or, slice_get-map, slice_get_within, get_or_from_slice_get, get_or-take, length-take, take_all, eqb-true, All, All-contains, All-contains_itself, All-filter, filter_passes, contains_filtered, Contains, CallRecord, Condition, NotEqual, NumberRules, Rule, ProfileAnswers, by_rule, by_default, meets, rules_of, AreNumbersOf, number_among, numbers_rise, sum_of_own, sum_by-drop_more, sum_by-take-drop, conditions_size, rules_size, numbers_size, own_conditions, own_rules, size_behind, IsAtCondition, IsAtRule, IsFrom, ConditionPosition, IsNumbered, NumberedProfile}
+use Rattle.scf_profile.specs.Profile.{Profile}
+use Rattle.scf_compare.specs.Effort.{spread, stub_size}
 use Rattle.scf_compare.specs.Sides.{HasReason}
-use Rattle.scf_profile.specs.declared.reason.Reason.TheVariants.{Default, Entry}
+use Rattle.scf_profile.specs.declared.reason.Reason.{Reason}
+use Rattle.scf_profile.specs.declared.reason.Reason.TheVariants.{Default, Entry, Foreign, Stub}
+use Rattle.scf_compare.specs.declared.origin.Origin.TheVariants.{Profile as OfReason}
+use Rattle.scf_compare.specs.declared.profile.ProfileNode.TheVariants.{Answer as Answers}
 use Rattle.scf_compare.proofs.Rules.{contains_here, rules_more, unmet_apart}
+use Rattle.scf_insn.specs.declared.answer.Answer.{Answer}
+use Rattle.scf_compare.specs.internal.Laws.{profile_node_counts}
+use Rattle.scf_compare.specs.internal.Profiles.{IsLeftToRules, profile_size}
+use Rattle.scf_compare.proofs.Bits.{word_answers}
+use Rattle.scf_profile.specs.ProfileAnswers.{by_stub, foreign}
 
 -- ---- what is read
 
@@ -63,33 +72,44 @@ module _ (s : NumberedProfile) (call : CallRecord) where
       (rw is.at_rule.own (contains_here (own_rules s.numbers at.number) at.rule r here)) in
       let held = rw (conditions_read s.numbers at r here, take_all at.condition r.conditions all) at is.held in
       let met : meets s.profile.architecture r call ≡ true = grind arith in
-      (by_rule r is.at_rule.is_of own.0 met, (r, is.at_rule.is_of, own.0, met, refl))
+      let left = is.at_rule.by_rules in
+      (by_rule r left.is_of left.not_stubbed own.0 met, (r, left.is_of, left.not_stubbed, own.0, met, refl))
 
-  -- a call of the architecture that meets none of the rules of its number
-  unmet_own : IsOf s.profile.architecture call
+  -- a call that meets none of the rules of its number
+  unmet_own : IsLeftToRules s.profile call
       → All (λ r. meets s.profile.architecture r call ≡ false) (rules_of call.nr s.profile.rules)
       → ProfileAnswers s.profile call s.profile.default_answer.0 × HasReason s.profile call Default
-  unmet_own is_of unmet =
+  unmet_own left unmet =
       let none = λ (r : Rule) (has : Contains s.profile.rules r).
       let among = contains_filtered (λ (q : Rule). eqb q.number call.nr) s.profile.rules r in
       let unmet_one = All-contains (λ q. meets s.profile.architecture q call ≡ false)
       (rules_of call.nr s.profile.rules) r unmet in
       let unmet_r : meets s.profile.architecture r call ≡ false = grind (arith, among, unmet_one, unmet_apart) in
       unmet_r in
-      (by_default is_of none, (is_of, none))
+      (by_default left.is_of left.not_stubbed none, (left.is_of, left.not_stubbed, none))
 
   -- a call past the last rule of its number
   pub past_rules : (number rule : ℕ) → IsAtRule s number rule call → length (own_rules s.numbers number) ≤ rule
       → ProfileAnswers s.profile call s.profile.default_answer.0 × HasReason s.profile call Default
-  past_rules number rule is past = unmet_own is.is_of (grind (arith, take_all))
+  past_rules number rule is past = unmet_own is.by_rules (grind (arith, take_all))
 
   -- a call with none of the numbers
-  pub of_no_number : IsNumbered s → IsOf s.profile.architecture call → All (λ own. call.nr ≢ own.number) s.numbers
+  pub of_no_number : IsNumbered s → IsLeftToRules s.profile call → All (λ own. call.nr ≢ own.number) s.numbers
       → ProfileAnswers s.profile call s.profile.default_answer.0 × HasReason s.profile call Default
-  of_no_number numbered is_of apart = elim (number_among s.numbers s.profile.rules numbered.numbers call.nr) [
+  of_no_number numbered left apart = elim (number_among s.numbers s.profile.rules numbered.numbers call.nr) [
     | inl (own, has, same) ↦ absurd (All-contains (λ o. call.nr ≢ o.number) s.numbers own apart has (sym same))
-    | inr none ↦ unmet_own is_of (rw none (λ k d lt. absurd (omega arith)))
+    | inr none ↦ unmet_own left (rw none (λ k d lt. absurd (omega arith)))
   ]
+
+-- ---- answers to calls of other architectures
+
+-- an answer node is foreign where its reason is, and has the size of what is asked of those calls
+pub foreign_size : (s : NumberedProfile) (answer : Answer) (reason : Reason) (others : ℕ)
+    → OfReason reason ≡ OfReason Foreign → others ≤ profile_size s others (Answers answer reason)
+foreign_size s answer Foreign others e = omega arith
+foreign_size s answer Stub others e = cc
+foreign_size s answer (Entry index) others e = cc
+foreign_size s answer Default others e = cc
 
 -- ---- which numbers a call can still have
 
@@ -113,10 +133,10 @@ module _ (numbers : List NumberRules) (rules : List Rule) (are : AreNumbersOf nu
 -- ---- how many steps the numbers take
 
 -- what the numbers add to the spread
-pub numbers_spread : (numbers : List NumberRules) (rules : List Rule) → AreNumbersOf numbers rules
-    → 8 + numbers_size numbers ≡ spread rules
-numbers_spread numbers rules are =
-    ap (λ n. 8 + n) (sum_of_own numbers rules are (λ (own : List Rule). 1 + rules_size own))
+pub numbers_spread : (numbers : List NumberRules) (p : Profile) → AreNumbersOf numbers p.rules
+    → 8 + stub_size p.stub + numbers_size numbers ≡ spread p
+numbers_spread numbers p are =
+    ap (λ n. 8 + stub_size p.stub + n) (sum_of_own numbers p.rules are (λ (own : List Rule). 1 + rules_size own))
 
 -- the rules of a number from one on
 pub rule_size : (numbers : List NumberRules) (at : ConditionPosition) → at.rule < length (own_rules numbers at.number)
@@ -141,3 +161,6 @@ sizes_from numbers index from own le here =
     let f = λ (o : NumberRules). 1 + rules_size o.rules.items in
     let more = sum_by-drop_more f numbers from own (slice_get_within numbers from own here) in
     grind (arith, own_read, get_or_from_slice_get numbers from own own here, sizes_fewer numbers index from le, more)
+
+-- what the steps of a profile's tree rest on
+pub ruleset steps_of_profile = (word_answers, foreign, by_stub, foreign_size, profile_node_counts)

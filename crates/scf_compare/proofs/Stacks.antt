@@ -5,7 +5,7 @@ use Rattle.scf_compare.specs.declared.origin.Origin.{Origin}
 use Rattle.scf_compare.specs.declared.origin.Origin.TheVariants.{Filter, Profile as OfReason}
 use Rattle.scf_compare.specs.internal.Leaves.{SideTells}
 use Rattle.scf_compare.specs.internal.Stacks.{FirstAnswer, IsEndAt, NextAnswers}
-use Rattle.scf_compare.proofs.Common.{EndsWith, Contains, FilterLeaf, None, Some, IsSideLeaf, Operation, SideLeaf, control_flow_at, refl, stack_behavior, ◌≡◌, ◌⊎◌, ℕ, ◌+◌, ◌*◌, ◌-◌, ◌<◌, ◌≤◌, List, [], ◌∷◌, length, take, drop, arith, Option, IfSome, slice_get-get_or, Answer, Insn, RunAnswers, StackAnswers, one_answers, stack_paths, tree_size, IsFilterEnd, IsStackLeaf, filter_at}
+use Rattle.scf_compare.proofs.Common.{EndsWith, Contains, FilterLeaf, None, Some, IsSideLeaf, Operation, SideLeaf, control_flow_at, refl, stack_behavior, ◌≡◌, ◌⊎◌, ℕ, ◌+◌, ◌*◌, ◌-◌, ◌<◌, ◌≤◌, List, [], ◌∷◌, length, drop, arith, Option, IfSome, slice_get-get_or, Answer, Insn, RunAnswers, one_answers, stack_paths, tree_size, IsFilterEnd, IsStackLeaf, filter_at}
 use Rattle.scf_compare.proofs.Rules.{contains_here, drop_here}
 use Rattle.scf_insn.specs.declared.operation.Arithmetic.TheVariants.{Div}
 use Rattle.scf_insn.specs.declared.operation.Operand.TheVariants.{Index}

@@ -1,16 +1,54 @@
--- Two steps as one.
-use Rattle.scf_compare.proofs.Common.{ℕ, List, arith, Step, Tree}
-use Rattle.scf_compare.specs.internal.Trees.{IsDecidedNext, IsStep, Leaves}
+-- Several steps as one.
+use Rattle.scf_compare.proofs.Common.{◌+◌, ◌≤◌, ℕ, List, arith, Step, Tree}
+use Rattle.scf_compare.specs.declared.step.Step.TheVariants.{Next, Branch, Leaf}
+use Rattle.scf_compare.specs.internal.Trees.{IsLaterNode, IsStep, Leaves, pending_size, pending_tree, step_size}
+
+-- a step is pending after it was taken
+pending_within : {N E : Type 0} (tree : Tree N) (step : Step N E) (size : ℕ) → step_size tree step + 1 ≤ size
+    → pending_size tree step ≤ size
+pending_within tree (Next next) size costs = omega arith
+pending_within tree (Branch atom if_true if_false) size costs = costs
+pending_within tree (Leaf leaf) size costs = omega arith
 
 pub followed : {N E : Type 0} (leaves : Leaves E) (given : List ℕ → Type 0) (here between there : Tree N) (from next : N)
     (first second : Step N E)
     → IsStep leaves given here from between first
-    → IsDecidedNext leaves given between first next
+    → IsLaterNode given (pending_tree leaves between) first (pending_tree leaves between) (Next next)
     → IsStep leaves given between next there second
     → IsStep leaves given here from there second
-followed leaves given here between there from next first second one decided other = record {
+followed leaves given here between there from next first second one decided other =
+    let within = pending_within between first (here.size from) one.costs in
+    record {
+      proper = other.proper;
+      leads = λ words is reached. other.leads words is (decided.reached words is (one.leads words is reached));
+      costs = omega (arith, other.costs, decided.size, within);
+      plain = λ plain. other.plain (decided.plain (one.plain plain));
+    }
+
+pub followed_pending : {N E : Type 0} (leaves : Leaves E) (given : List ℕ → Type 0) (here there : Tree N) (pending : Step N E)
+    (next : N) (second : Step N E)
+    → IsLaterNode given (pending_tree leaves here) pending (pending_tree leaves here) (Next next)
+    → IsStep leaves given here next there second
+    → IsStep leaves given (pending_tree leaves here) pending there second
+followed_pending leaves given here there pending next second decided other = record {
   proper = other.proper;
-  leads = λ words is reached. other.leads words is (decided.reached words is (one.leads words is reached));
-  costs = omega (arith, other.costs, decided.size, one.costs);
-  plain = λ plain. other.plain (decided.plain (one.plain plain));
+  leads = λ words is reached. other.leads words is (decided.reached words is reached);
+  costs = omega (arith, other.costs, decided.size);
+  plain = λ plain. other.plain (decided.plain plain);
 }
+
+pub later : {N E : Type 0} (leaves : Leaves E) (given : List ℕ → Type 0) (first : Tree (Step N E)) (here there : Tree N)
+    (from between : Step N E) (next : N) (to : Step N E)
+    → IsLaterNode given first from (pending_tree leaves here) between
+    → IsLaterNode given (pending_tree leaves here) between (pending_tree leaves here) (Next next)
+    → IsStep leaves given here next there to
+    → IsLaterNode given first from (pending_tree leaves there) to
+later leaves given first here there from between next to one decided other =
+    let within = pending_within there to (here.size next) other.costs in
+    record {
+      node = other.proper;
+      reached = λ words is reached.
+          other.leads words is (decided.reached words is (one.reached words is reached));
+      size = omega (arith, within, decided.size, one.size);
+      plain = λ plain. other.plain (decided.plain (one.plain plain));
+    }

@@ -1,5 +1,5 @@
 -- The effort of a comparison: how many steps its whole tree takes.
-use Rattle.std.specs.Prelude.{◌+◌, ◌*◌, ◌-◌, ◌^◌, ℕ, List, [], ◌∷◌, min, sum_by}
+use Rattle.std.specs.Prelude.{◌+◌, ◌*◌, ◌-◌, ◌^◌, ℕ, List, [], ◌∷◌, Option, None, Some, min, sum_by}
 use Rattle.scf_insn.specs.declared.insn.Insn.{Insn}
 use Rattle.scf_profile.specs.declared.condition.Condition.{Condition}
 use Rattle.scf_profile.specs.declared.rule.Rule.{Rule}
@@ -17,13 +17,25 @@ abbrev pub rules_size : List Rule → ℕ
 rules_size [] = 1
 rules_size (r ∷ rest) = conditions_size r.conditions (rules_size rest)
 
--- the spread of a profile: 8, and for each distinct number 1 and the size of its rules
-abbrev pub spread : List Rule → ℕ
-spread rules = 8 + sum_by (λ number. 1 + rules_size (rules_of number rules)) (numbers_of rules)
+-- the question whether the stub answers a syscall number, and its answer
+abbrev pub stub_size : Option ℕ → ℕ
+stub_size None = 0
+stub_size (Some first) = 2
+
+-- the spread of a profile: 8, 2 if it has a stub, and for each distinct number 1 and the size of its rules
+abbrev pub spread : Profile → ℕ
+spread p =
+    8 + stub_size p.stub + sum_by (λ number. 1 + rules_size (rules_of number p.rules)) (numbers_of p.rules)
+
+-- the spread of several profiles: three questions of each may tell that a call is of another architecture, and then the
+-- later ones are asked
+abbrev pub spread_of_all : List Profile → ℕ
+spread_of_all [] = 1
+spread_of_all (p ∷ later) = spread p + 3 * spread_of_all later
 
 -- the effort: the size of the filter's tree of paths from its first index on, times the spread
 abbrev pub effort_of : List Insn → Profile → ℕ
-effort_of insns p = tree_size insns 0 * spread p.rules
+effort_of insns p = tree_size insns 0 * spread p
 
 -- the product of the sizes of the trees of paths of filters, 1 for none
 abbrev pub stack_paths : List (List Insn) → ℕ
@@ -32,7 +44,7 @@ stack_paths (filter ∷ filters) = tree_size filter 0 * stack_paths filters
 
 -- the effort of a stack: that product times the spread
 abbrev pub effort_of_stack : List (List Insn) → Profile → ℕ
-effort_of_stack filters p = stack_paths filters * spread p.rules
+effort_of_stack filters p = stack_paths filters * spread p
 
 -- the number, or 2^64-1 where it is larger
 abbrev pub saturated : ℕ → ℕ

@@ -14,16 +14,17 @@ use Rattle.scf_machine.specs.Precedence.{StackAnswers}
 use Rattle.scf_machine.specs.Rules.{Stands}
 use Rattle.scf_profile.specs.PlainProfile.{IsPlainProfile}
 use Rattle.scf_profile.specs.Profile.{Profile}
-use Rattle.scf_profile.specs.ProfileAnswers.{ProfileAnswers}
+use Rattle.scf_profile.specs.ProfileAnswers.{IsOfNone, ProfileAnswers, ProfilesAnswer}
 use Rattle.scf_profile.specs.Rule.{meets}
+use Rattle.scf_profile.specs.Stub.{is_stubbed}
 use Rattle.scf_profile.specs.declared.reason.Reason.{Reason}
-use Rattle.scf_profile.specs.declared.reason.Reason.TheVariants.{Foreign, Entry, Default}
+use Rattle.scf_profile.specs.declared.reason.Reason.TheVariants.{Foreign, Stub, Entry, Default}
 use Rattle.scf_profile.specs.declared.rule.Rule.{Rule}
 use Rattle.scf_compare.specs.declared.origin.Origin.{Origin}
 use Rattle.scf_compare.specs.declared.origin.Origin.TheVariants.{Filter, Profile as OfReason}
 use Rattle.scf_compare.specs.declared.side.Side.{Side}
-use Rattle.scf_compare.specs.declared.side.Side.TheVariants.{Stack, Profile as OfProfile}
-use Rattle.scf_compare.specs.Effort.{spread, stack_paths}
+use Rattle.scf_compare.specs.declared.side.Side.TheVariants.{Stack, Profile as OfProfile, Profiles as OfProfiles}
+use Rattle.scf_compare.specs.Effort.{spread, spread_of_all, stack_paths}
 
 -- A run of the program can end at this instruction: a return, or a division by the index register, which may be 0.
 pub record CanEndAt (insns : List Insn) (at : ℕ) : Type 0 where
@@ -68,18 +69,30 @@ abbrev pub StackGives : List (List Insn) → Origin → List ℕ → ℕ → Typ
 StackGives [] origin words answer = origin ≡ Filter 0 0
 StackGives (oldest ∷ newer) origin words answer = FilterGives (oldest ∷ newer) origin words answer
 
--- The call is of another architecture, meets a rule of this entry, or meets no rule.
+-- The call is of another architecture, the stub answers it, it meets a rule of this entry, or it meets no rule.
 abbrev pub HasReason : Profile → CallRecord → Reason → Type 0
 HasReason p call Foreign = IsOf p.architecture call → ⊥
-HasReason p call (Entry index) = (r : Rule) × IsOf p.architecture call × Contains p.rules r
-    × (meets p.architecture r call ≡ true) × (r.entry ≡ index)
-HasReason p call Default =
-    IsOf p.architecture call × ((r : Rule) → Contains p.rules r → meets p.architecture r call ≡ false)
+HasReason p call Stub = IsOf p.architecture call × (is_stubbed p.stub call.nr ≡ true)
+HasReason p call (Entry index) = (r : Rule) × IsOf p.architecture call × (is_stubbed p.stub call.nr ≡ false)
+    × Contains p.rules r × (meets p.architecture r call ≡ true) × (r.entry ≡ index)
+HasReason p call Default = IsOf p.architecture call × (is_stubbed p.stub call.nr ≡ false)
+    × ((r : Rule) → Contains p.rules r → meets p.architecture r call ≡ false)
 
 -- the words of a call have the reason of an origin
 abbrev pub ProfileGives : Profile → Origin → List ℕ → Type 0
 ProfileGives p (Filter filter index) words = ⊥
 ProfileGives p (OfReason reason) words = HasReason p (call_of words) reason
+
+-- the reason among several profiles: that of the one of the call's architecture
+abbrev pub HasReasonAmong : List Profile → CallRecord → Reason → Type 0
+HasReasonAmong profiles call Foreign = IsOfNone profiles call
+HasReasonAmong profiles call reason =
+    (p : Profile) × Contains profiles p × IsOf p.architecture call × HasReason p call reason
+
+-- the words of a call have the reason of an origin among several profiles
+abbrev pub ProfilesGive : List Profile → Origin → List ℕ → Type 0
+ProfilesGive profiles (Filter filter index) words = ⊥
+ProfilesGive profiles (OfReason reason) words = HasReasonAmong profiles (call_of words) reason
 
 -- What a side is to a comparison: what it answers to the words of a call, from which origin it gives them an answer, at
 -- which instructions it ends, and at which of them its answer may be unknown, how many steps its whole tree takes, and
@@ -110,8 +123,19 @@ profile_behavior p = record {
   gives = λ origin words answer. ProfileGives p origin words;
   ends_at = λ at. at ≡ 0;
   is_open_at = λ at. ⊥;
-  size = spread p.rules;
+  size = spread p;
   is_plain = IsPlainProfile p;
+}
+
+-- several profiles, each for an architecture: they are plain where each is
+abbrev pub profiles_behavior : List Profile → Behavior
+profiles_behavior profiles = record {
+  answers = λ words answer. ProfilesAnswer profiles (call_of words) answer;
+  gives = λ origin words answer. ProfilesGive profiles origin words;
+  ends_at = λ at. at ≡ 0;
+  is_open_at = λ at. ⊥;
+  size = spread_of_all profiles;
+  is_plain = All IsPlainProfile profiles;
 }
 
 -- a side answers the words so, from this origin
@@ -121,6 +145,7 @@ AnswersFrom behavior origin words answer = behavior.answers words answer × beha
 abbrev pub behavior_of : Side → Behavior
 behavior_of (Stack filters) = stack_behavior filters.now
 behavior_of (OfProfile p) = profile_behavior p.now
+behavior_of (OfProfiles profiles) = profiles_behavior profiles.now
 
 -- both sides are stacks of the same filters, in the same order
 abbrev pub AreOneStack : Side → Side → Type 0

@@ -16,6 +16,7 @@ pub mod Pairs
 pub mod Profiles
 pub mod Regions
 pub mod Settling
+pub mod SeveralProfiles
 pub mod Stacks
 pub mod Stages
 pub mod Trees

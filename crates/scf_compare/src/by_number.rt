@@ -23,6 +23,7 @@ impl<'a> Model for ByNumber<'a> {
 }
 
 impl<'a> ByNumber<'a> {
+    ghost use Rattle.scf_profile.specs.NumberRules.{AreNumbersOf};
     ghost use Rattle.scf_compare.specs.internal.NumberedProfiles.{IsNumbered};
 
     /// The profile with its numbers.
@@ -34,6 +35,16 @@ impl<'a> ByNumber<'a> {
             profile,
             numbers: profile.numbers(),
         }
+    }
+
+    /// The profile with these numbers, which are its own.
+    pub(crate) fn with_numbers(profile: &'a Profile, numbers: &'a [NumberRules]) -> ByNumber<'a>
+        requires { AreNumbersOf numbers.now profile.now.rules }
+        ensures profile { result ≡ record { profile = profile.now; numbers = numbers.now } }
+        ensures numbered { IsNumbered result }
+    {
+        let _rules = profile.rules();
+        ByNumber { profile, numbers }
     }
 
     /// The profile.

@@ -29,7 +29,8 @@ use crate::budget::{Limit, Splits};
 use crate::by_number::ByNumber;
 use crate::explore::explore;
 use crate::finding::Finding;
-use crate::pair::{Pair, PairKnown, PairNode};
+use crate::pair::Pair;
+use crate::profiles::ProfilesSide;
 use crate::scope::facts_of;
 use crate::settle::settle;
 use crate::side::Side;
@@ -172,6 +173,12 @@ fn compare_counted<F: WordFacts>(
                 alloc, left, right, is_same, over, by, limit, budget, taken,
             )
         }
+        Side::Profiles(profiles) => {
+            let left = ProfilesSide { profiles };
+            compare_with::<F, ProfilesSide<'_>>(
+                alloc, left, right, is_same, over, by, limit, budget, taken,
+            )
+        }
     }
 }
 
@@ -241,6 +248,16 @@ fn compare_with<F: WordFacts, L: SideTree + Drop>(
             };
             compare_pair::<F, L, ByNumber<'_>>(alloc, &pair, is_same, limit, budget, taken)
         }
+        Side::Profiles(profiles) => {
+            let right = ProfilesSide { profiles };
+            let pair = Pair {
+                left,
+                right,
+                over,
+                by,
+            };
+            compare_pair::<F, L, ProfilesSide<'_>>(alloc, &pair, is_same, limit, budget, taken)
+        }
     }
 }
 
@@ -265,10 +282,7 @@ fn compare_pair<F: WordFacts, L: SideTree, R: SideTree>(
         IfOk result (λ finding. IfUndecided finding (WasGivenUp F.WordFacts compared tree budget.old)) }
 {
     let facts: F = facts_of(alloc, pair.over)?;
-    let (left, start) = pair.left.start();
-    let (right, _) = pair.right.start();
-    let known = PairKnown { left, right };
-    let root = PairNode::AtLeft(start);
+    let (known, root) = pair.start();
     let finding = explore(alloc, pair, facts, known, root, limit, taken)?;
     match finding {
         Finding::Undecided { .. } if is_same => Ok(Finding::Holds { steps: *taken }),

@@ -1,9 +1,10 @@
 //! Several steps of a side at once, where the store decides them.
 
-ghost use Rattle.std.specs.Prelude.{IfSome};
+ghost use Rattle.std.specs.Prelude.{IfNone, IfSome};
 ghost use Rattle.scf_insn.specs.Words.{IsWords};
 ghost use Rattle.scf_compare.specs.internal.Leaves.{IsSideLeaf, side_leaves};
-ghost use Rattle.scf_compare.specs.internal.Trees.{IsDecidedNext, IsProper, IsStep};
+ghost use Rattle.scf_compare.specs.declared.step.Step.{Step};
+ghost use Rattle.scf_compare.specs.internal.Trees.{Costs, IsLaterNode, IsProper, IsStep, pending_size, pending_tree};
 
 use crate::side_tree::{SideLeaf, SideTree};
 use crate::step::Step;
@@ -36,6 +37,52 @@ pub(crate) fn decided_step<T: SideTree, F: WordFacts>(
     step
 }
 
+/// The step behind a pending one, or that one itself if it is a leaf or asks what the store doesn't decide.
+#[tactic(auto, using(crate::proofs::Steps::followed_pending))]
+pub(crate) fn follow<T: SideTree, F: WordFacts>(
+    side: &T,
+    facts: &F,
+    known: &mut T::Known,
+    pending: Step<T::Node, SideLeaf>,
+) -> Step<T::Node, SideLeaf>
+    requires { IsProper (T.tree side.now known.old) (IsSideLeaf (T.behavior side.now)) pending }
+    ensures { let leaves = side_leaves (T.behavior side.now) in IsStep leaves
+        (λ words. IsWords words × F.allows facts.now (F.level facts.now) words)
+        (pending_tree leaves (T.tree side.now known.old)) pending (T.tree side.now known.new) result }
+{
+    match decided_next(side, facts, known, pending) {
+        Some(next) => decided_step(side, facts, known, next),
+        None => pending,
+    }
+}
+
+/// Goes on from a pending step as far as the store decides it now, up to a node at which the side waits.
+#[tactic(auto, using(crate::proofs::Steps::later))]
+pub(crate) fn go_ahead<T: SideTree, F: WordFacts>(
+    side: &T,
+    facts: &F,
+    known: &mut T::Known,
+    pending: Step<T::Node, SideLeaf>,
+) -> Step<T::Node, SideLeaf>
+    requires { IsProper (T.tree side.now known.old) (IsSideLeaf (T.behavior side.now)) pending }
+    ensures { let leaves = side_leaves (T.behavior side.now) in
+        IsLaterNode (λ words. IsWords words × F.allows facts.now (F.level facts.now) words)
+        (pending_tree leaves (T.tree side.now known.old)) pending
+        (pending_tree leaves (T.tree side.now known.new)) result }
+{
+    let mut step = pending;
+    for _count in 0..MOST_AT_ONCE {
+        let Some(next) = decided_next(side, facts, known, step) else {
+            return step;
+        };
+        if side.waits_at(known, next) {
+            return Step::Next(next);
+        }
+        step = side.step(facts, known, next);
+    }
+    step
+}
+
 /// The node after a step, if the store decides which one it is.
 fn decided_next<T: SideTree, F: WordFacts>(
     side: &T,
@@ -44,8 +91,11 @@ fn decided_next<T: SideTree, F: WordFacts>(
     step: Step<T::Node, SideLeaf>,
 ) -> Option<T::Node>
     requires { IsProper (T.tree side.now known.now) (IsSideLeaf (T.behavior side.now)) step }
-    ensures { IfSome result (IsDecidedNext (side_leaves (T.behavior side.now))
-        (λ words. IsWords words × F.allows facts.now (F.level facts.now) words) (T.tree side.now known.now) step) }
+    ensures decided { let tree = pending_tree (side_leaves (T.behavior side.now)) (T.tree side.now known.now) in
+        IfSome result (λ next. IsLaterNode (λ words. IsWords words × F.allows facts.now (F.level facts.now) words)
+        tree step tree (Step.Next next)) }
+    ensures undecided { let tree = T.tree side.now known.now in
+        IfNone result (Costs tree step (pending_size tree step)) }
 {
     let _ = side;
     let _ = known;

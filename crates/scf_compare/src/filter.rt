@@ -14,7 +14,7 @@ use crate::sources::OpenTest;
 use crate::step::Step;
 use crate::value::{Decision, Value};
 use scf_facts::WordFacts;
-use scf_insn::{Answer, Test};
+use scf_insn::{Answer, Operand, Operation, Test};
 use scf_machine::Program;
 
 /// An instruction index, or the leaf of a division by 0.
@@ -98,6 +98,30 @@ pub(crate) fn step_in_filter<F: WordFacts>(
             answer: Some(answer),
             at,
         }),
+    }
+}
+
+/// Whether the instruction at a node computes, or tests or returns a computed value.
+pub(crate) fn waits_in_filter(
+    program: &Program,
+    registers: &KnownRegisters,
+    node: FilterNode,
+) -> bool
+    requires { filter_is_node program.now registers.now node }
+{
+    let FilterNode::At(index) = node else {
+        return false;
+    };
+    let (_, operation, control_flow) = ControlFlow::at(program.insns(), index);
+    match control_flow {
+        ControlFlow::FallThrough(_) => {
+            matches!(operation, Operation::Compute(..) | Operation::Negate)
+        }
+        ControlFlow::Jump(_) | ControlFlow::ReturnConstant => false,
+        ControlFlow::ConditionalJump(_, operand, ..) => {
+            operand == Operand::Index || matches!(registers.a, Value::Computed(_))
+        }
+        ControlFlow::DivideByIndex(_) | ControlFlow::ReturnAccumulator => true,
     }
 }
 

@@ -1,4 +1,5 @@
-//! Compares two sides, each a stack of filters or a profile, over every call record of a scope.
+//! Compares two sides, each a stack of filters, a profile or the profiles of several architectures, over every call
+//! record of a scope.
 //!
 //! # How it works
 //!
@@ -11,16 +12,17 @@
 //!    answer (`Step::Leaf`).
 //! 2. The walk (`explore`) puts the question to the store of facts (`scf_facts`). It doesn't know the answer, so a
 //!    branch for "no" stays open behind a mark of the store (`frontier`), and "yes" is learned: word 0 is 41.
-//! 3. At the leaf `ret ERRNO` the tree of the right side begins (`pair`). Is the architecture x86-64? Unknown, so
-//!    another branch is opened and "yes" is learned. Is the number below 0x40000000, is it 41? Both are known. The
-//!    profile's leaf has ERRNO: the answers are related.
+//! 3. At the leaf `ret ERRNO` the right side is asked (`pair`). Is the architecture x86-64? Unknown, so another branch
+//!    is opened and "yes" is learned. Is the number below 0x40000000, is it 41? Both are known. The profile's leaf has
+//!    ERRNO: the answers are related.
 //! 4. The newest open branch is taken: the store is undone to its mark, and "no" is learned. For other architectures
 //!    the profile answers KILL_PROCESS and the filter ERRNO. The store gives a record that comes to this leaf (`pick`),
 //!    the filter is run on it, the profile is asked, and the finding is `Fails`. Over x86-64 alone the walk goes on
 //!    with the first branch and ends with `Holds`.
 //!
-//! With a filter on the right, too, nothing else changes: the same filter on both sides, and the walk asks `jeq #41` a
-//! second time behind each leaf of the first. The store knows the answer by then.
+//! The right side doesn't begin at its root then: at each question of the left one that the store doesn't decide it goes
+//! on as far as the store decides its own (`decided`), and each branch keeps how far it came. So two filters of the same
+//! tests, one after another, are walked once, side by side.
 //!
 //! A value that the filter computes stays known while it is a bit slice of a word (`bit_slice`). Of everything else
 //! only single bits are known (`computed`): those that follow from the operands' known bits (`known_bits`). Where
@@ -40,8 +42,10 @@
 //! filters, whose tree is one leaf, and at each leaf what the store knows is kept as a region (`region`), with the
 //! answer, its origin (`origin`) and a record.
 //!
-//! A stack of filters is walked oldest first (`stack`). The proofs of the walk speak of trees (`comparison`), and
-//! neither of instructions nor of rules. `Verdict` is the finding on a filter, on the left, and a profile (`comparer`).
+//! A stack of filters is walked oldest first (`stack`). Of the profiles of several architectures each is asked in turn
+//! whether the call is its architecture's, and the later ones where it isn't (`profiles`). The proofs of the walk speak
+//! of trees (`comparison`), and neither of instructions nor of rules. `Verdict` is the finding on a filter, on the left,
+//! and a profile (`comparer`).
 #![tactic(auto)]
 
 mod affine_term;
@@ -65,6 +69,7 @@ mod origin;
 mod pair;
 mod plain;
 mod profile;
+mod profiles;
 mod question;
 mod region;
 mod regions;

@@ -1,12 +1,17 @@
-//! Two sides as one tree of questions: the left side is asked first, and the right one at each leaf of its tree.
+//! Two sides as one tree of questions: the left side is asked first, and the right one at each leaf of its tree, from
+//! where it has come by what is known before.
 
+ghost use Rattle.std.specs.Prelude.{◌≡◌, ◌*◌, ℕ, List};
+ghost use Rattle.scf_insn.specs.Words.{IsWords};
 ghost use Rattle.scf_compare.specs.Findings.{compared_in};
+ghost use Rattle.scf_compare.specs.declared.side_tree.SideLeaf.{SideLeaf};
+ghost use Rattle.scf_compare.specs.declared.step.Step.{Step};
 ghost use Rattle.scf_compare.specs.internal.Leaves.{IsSideLeaf, pair_leaves};
-ghost use Rattle.scf_compare.specs.internal.Pairs.{pair_tree};
-ghost use Rattle.scf_compare.specs.internal.Trees.{IsStep};
+ghost use Rattle.scf_compare.specs.internal.Pairs.{pair_tree, tree_behind};
+ghost use Rattle.scf_compare.specs.internal.Trees.{IsProper, IsStep};
 
 use crate::comparison::{Comparison, PairLeaf};
-use crate::decided::decided_step;
+use crate::decided::{follow, go_ahead};
 use crate::scope::is_in_scope;
 use crate::side_tree::{SideLeaf, SideTree};
 use crate::sources::OpenTest;
@@ -15,11 +20,12 @@ use scf_facts::WordFacts;
 use scf_insn::{Answer, CallRecord};
 use scf_profile::{Relation, Scope};
 
-/// What is known of each side. Of the right one it counts only behind a leaf of the left side's tree.
+/// What is known of each side, and the pending step to which the right one has come while the left one is asked.
 #[derive(Clone, Copy)]
-pub(crate) struct PairKnown<K, M> {
+pub(crate) struct PairKnown<K, M, B> {
     pub(crate) left: K,
     pub(crate) right: M,
+    pub(crate) ahead: Step<B, SideLeaf>,
 }
 
 /// A node of the left side's tree, or one of the right side's tree behind a leaf of the left side's.
@@ -39,7 +45,7 @@ pub(crate) struct Pair<L, R> {
 }
 
 impl<L: SideTree, R: SideTree> Comparison for Pair<L, R> {
-    type Known = PairKnown<L::Known, R::Known>;
+    type Known = PairKnown<L::Known, R::Known, R::Node>;
 
     type Node = PairNode<L::Node, R::Node>;
 
@@ -51,28 +57,25 @@ impl<L: SideTree, R: SideTree> Comparison for Pair<L, R> {
     fn step<F: WordFacts>(
         &self,
         facts: &F,
-        known: &mut PairKnown<L::Known, R::Known>,
+        known: &mut PairKnown<L::Known, R::Known, R::Node>,
         node: &PairNode<L::Node, R::Node>,
     ) -> Step<PairNode<L::Node, R::Node>, PairLeaf> {
         match *node {
             PairNode::AtLeft(node) => match self.left.step(facts, &mut known.left, node) {
                 Step::Next(next) => Step::Next(PairNode::AtLeft(next)),
-                Step::Branch(atom, if_true, if_false) => Step::Branch(
-                    atom,
-                    PairNode::AtLeft(if_true),
-                    PairNode::AtLeft(if_false),
-                ),
-                Step::Leaf(leaf) => {
-                    let (start_known, start) = self.right.start();
-                    known.right = start_known;
-                    self.ask_right(facts, &mut known.right, leaf, start)
+                Step::Branch(atom, if_true, if_false) => {
+                    known.ahead = go_ahead(&self.right, facts, &mut known.right, known.ahead);
+                    Step::Branch(atom, PairNode::AtLeft(if_true), PairNode::AtLeft(if_false))
                 }
+                Step::Leaf(leaf) => self.ask_right(facts, &mut known.right, leaf, known.ahead),
             },
-            PairNode::AtRight(leaf, node) => self.ask_right(facts, &mut known.right, leaf, node),
+            PairNode::AtRight(leaf, node) => {
+                self.ask_right(facts, &mut known.right, leaf, Step::Next(node))
+            }
         }
     }
 
-    fn open_test(&self, known: &PairKnown<L::Known, R::Known>) -> Option<OpenTest> {
+    fn open_test(&self, known: &PairKnown<L::Known, R::Known, R::Node>) -> Option<OpenTest> {
         match self.left.open_test(&known.left) {
             None => self.right.open_test(&known.right),
             open => open,
@@ -95,28 +98,57 @@ impl<L: SideTree, R: SideTree> Comparison for Pair<L, R> {
 
     ghost counts = { λ pair. pair_counts
         (compared_in pair.by pair.over (L.behavior pair.left) (R.behavior pair.right))
-        (L.tree pair.left) (R.tree pair.right) (L.counts pair.left) (R.counts pair.right) (R.size_counts pair.right) };
+        (L.tree pair.left) (R.tree pair.right) (L.counts pair.left) (R.counts pair.right) };
 }
 
 impl<L: SideTree, R: SideTree> Pair<L, R> {
+    /// What is known at the root, and the root.
+    pub(crate) fn start(
+        &self,
+    ) -> (
+        PairKnown<L::Known, R::Known, R::Node>,
+        PairNode<L::Node, R::Node>,
+    )
+        ensures node { let pair = self.now in
+            let compared = compared_in pair.by pair.over (L.behavior pair.left) (R.behavior pair.right) in
+            (pair_tree compared (L.tree pair.left) (R.tree pair.right) result.0).is_node result.1 }
+        ensures reached { let pair = self.now in
+            let compared = compared_in pair.by pair.over (L.behavior pair.left) (R.behavior pair.right) in
+            (words : List ℕ) → IsWords words
+            → (pair_tree compared (L.tree pair.left) (R.tree pair.right) result.0).reaches result.1 words }
+        ensures size { let pair = self.now in
+            let compared = compared_in pair.by pair.over (L.behavior pair.left) (R.behavior pair.right) in
+            (pair_tree compared (L.tree pair.left) (R.tree pair.right) result.0).size result.1
+            ≡ (L.behavior pair.left).size * (R.behavior pair.right).size }
+        ensures plain { let pair = self.now in
+            let compared = compared_in pair.by pair.over (L.behavior pair.left) (R.behavior pair.right) in
+            (L.behavior pair.left).is_plain → (R.behavior pair.right).is_plain
+            → (pair_tree compared (L.tree pair.left) (R.tree pair.right) result.0).is_plain result.1 }
+    {
+        let (left, start) = self.left.start();
+        let (right, right_start) = self.right.start();
+        let ahead = Step::Next(right_start);
+        (PairKnown { left, right, ahead }, PairNode::AtLeft(start))
+    }
+
     /// The right side's step, behind a leaf of the left side's tree.
     fn ask_right<F: WordFacts>(
         &self,
         facts: &F,
         known: &mut R::Known,
         leaf: SideLeaf,
-        node: R::Node,
+        pending: Step<R::Node, SideLeaf>,
     ) -> Step<PairNode<L::Node, R::Node>, PairLeaf>
-        requires node { (R.tree self.now.right known.old).is_node node }
+        requires step { IsProper (R.tree self.now.right known.old) (IsSideLeaf (R.behavior self.now.right)) pending }
         requires leaf { IsSideLeaf (L.behavior self.now.left) leaf }
-        ensures { (left : L.Known) → let pair = self.now in
+        ensures { (left : L.Known) (ahead : Step R.Node SideLeaf) → let pair = self.now in
             let compared = compared_in pair.by pair.over (L.behavior pair.left) (R.behavior pair.right) in
             let tree = pair_tree compared (L.tree pair.left) (R.tree pair.right) in
             IsStep (pair_leaves compared) (F.allows facts.now (F.level facts.now))
-            (tree (record { left = left; right = known.old })) (PairNode.AtRight leaf node)
-            (tree (record { left = left; right = known.new })) result }
+            (tree_behind compared (R.tree pair.right) known.old leaf) pending
+            (tree (record { left = left; right = known.new; ahead = ahead })) result }
     {
-        match decided_step(&self.right, facts, known, node) {
+        match follow(&self.right, facts, known, pending) {
             Step::Next(next) => Step::Next(PairNode::AtRight(leaf, next)),
             Step::Branch(atom, if_true, if_false) => Step::Branch(
                 atom,

@@ -2,7 +2,7 @@
 
 ghost use Rattle.std.specs.Prelude.{◌≡◌, ◌≢◌, ◌<◌, ◌≤◌, ℕ, List, All, Contains, Some, length, take, drop};
 ghost use Rattle.std.specs.Prelude.{slice_get};
-ghost use Rattle.scf_insn.specs.Architectures.{argument_in};
+ghost use Rattle.scf_insn.specs.Architectures.{IsOf, argument_in};
 ghost use Rattle.scf_insn.specs.Words.{IsWords, call_of};
 ghost use Rattle.scf_profile.specs.declared.condition.Condition.{Condition};
 ghost use Rattle.scf_profile.specs.NumberTests.{test_of};
@@ -12,7 +12,8 @@ ghost use Rattle.scf_compare.specs.Effort.{conditions_size, rules_size};
 ghost use Rattle.scf_compare.specs.Sides.{profile_behavior};
 ghost use Rattle.scf_compare.specs.internal.Leaves.{side_leaves};
 ghost use Rattle.scf_compare.specs.internal.Profiles.{IsAtCondition, IsAtRule, IsFrom, StandsAt};
-ghost use Rattle.scf_compare.specs.internal.Profiles.{own_conditions, own_rules, profile_is_node, profile_reaches};
+ghost use Rattle.scf_compare.specs.internal.Profiles.{EndsForeign, calls_size, own_conditions, own_rules};
+ghost use Rattle.scf_compare.specs.internal.Profiles.{profile_is_node, profile_reaches};
 ghost use Rattle.scf_compare.specs.internal.Profiles.{profile_size, profile_tree, size_behind, size_of_rest};
 ghost use Rattle.scf_compare.specs.internal.Trees.{IsStep};
 
@@ -25,7 +26,7 @@ use crate::sources::OpenTest;
 use crate::step::Step;
 use scf_facts::{Tell, WordFacts};
 use scf_insn::{Answer, CallRecord};
-use scf_profile::{FOREIGN_ANSWER, Reason, Rule};
+use scf_profile::{FOREIGN_ANSWER, Reason, Rule, STUB_ANSWER};
 
 /// Where a condition stands, by indices.
 #[derive(Clone, Copy)]
@@ -47,6 +48,8 @@ pub(crate) enum ProfileNode {
     First,
     /// Is the syscall number past the architecture's last?
     Last,
+    /// Is the syscall number the stub's first one or a greater one?
+    Stub(u32),
     /// Is the syscall number the one at this index, or one behind it?
     Number(usize),
     /// Does this part of a condition hold?
@@ -56,7 +59,7 @@ pub(crate) enum ProfileNode {
 }
 
 /// A leaf of a profile's tree.
-fn leaf_by(answer: Answer, reason: Reason) -> SideLeaf
+pub(crate) fn leaf_by(answer: Answer, reason: Reason) -> SideLeaf
     ensures { result ≡ record { answer = Some answer; origin = Origin.Profile reason } }
 {
     SideLeaf {
@@ -72,9 +75,8 @@ impl SideTree for ByNumber<'_> {
 
     ghost behavior = { λ s. profile_behavior s.profile };
 
-    ghost tree = { λ s _. profile_tree s };
+    ghost tree = { λ s _. profile_tree s 1 };
 
-    #[tactic(auto, using(crate::proofs::Numbered::numbers_spread))]
     fn start(&self) -> ((), ProfileNode) {
         let _numbers = self.numbers();
         ((), ProfileNode::Architecture)
@@ -103,21 +105,24 @@ impl SideTree for ByNumber<'_> {
         profile.answer(call)
     }
 
-    ghost use Rattle.scf_compare.specs.internal.Laws.{profile_node_counts, spread_counts};
+    ghost use Rattle.scf_compare.specs.internal.Laws.{profile_node_counts_alone};
 
-    ghost counts = { λ s _. profile_node_counts s };
-
-    ghost size_counts = { λ s. spread_counts s.profile.rules };
+    ghost counts = { λ s _. profile_node_counts_alone s };
 }
 
 impl ByNumber<'_> {
     /// The step from a node, for the words that the store allows.
-    #[tactic(auto, using(crate::proofs::Bits::word_answers, scf_profile::specs::ProfileAnswers::foreign))]
-    fn step_from<F: WordFacts>(&self, facts: &F, node: ProfileNode) -> Step<ProfileNode, SideLeaf>
+    #[tactic(auto, using(crate::proofs::Numbered::steps_of_profile))]
+    pub(crate) fn step_from<F: WordFacts>(
+        &self,
+        facts: &F,
+        node: ProfileNode,
+    ) -> Step<ProfileNode, SideLeaf>
         requires { profile_is_node self.now node }
-        ensures { IsStep (side_leaves (profile_behavior self.now.profile))
+        ensures step { (others : ℕ) → 0 < others → IsStep (side_leaves (profile_behavior self.now.profile))
             (λ words. IsWords words × F.allows facts.now (F.level facts.now) words)
-            (profile_tree self.now) node (profile_tree self.now) result }
+            (profile_tree self.now others) node (profile_tree self.now others) result }
+        ensures foreign { EndsForeign result → (others : ℕ) → others ≤ profile_size self.now others node }
     {
         let architecture = self.profile().architecture();
         match node {
@@ -134,6 +139,11 @@ impl ByNumber<'_> {
             ProfileNode::Last => Step::Branch(
                 Some(number_from(architecture.last() + 1)),
                 ProfileNode::Answer(FOREIGN_ANSWER, Reason::Foreign),
+                self.at_stub(),
+            ),
+            ProfileNode::Stub(first) => Step::Branch(
+                Some(number_from(first)),
+                ProfileNode::Answer(STUB_ANSWER, Reason::Stub),
                 ProfileNode::Number(0),
             ),
             ProfileNode::Number(index) => self.ask_number(facts, index),
@@ -147,7 +157,8 @@ impl ByNumber<'_> {
         ensures node { profile_is_node self.now result }
         ensures reached { (words : List ℕ) → IsWords words → profile_reaches self.now ProfileNode.First words
             → profile_reaches self.now result words }
-        ensures size { profile_size self.now result ≤ profile_size self.now ProfileNode.First }
+        ensures size { (others : ℕ) → profile_size self.now others result
+            ≤ profile_size self.now others ProfileNode.First }
     {
         if self.profile().architecture().first() > 0 {
             ProfileNode::First
@@ -161,12 +172,26 @@ impl ByNumber<'_> {
         ensures node { profile_is_node self.now result }
         ensures reached { (words : List ℕ) → IsWords words → profile_reaches self.now ProfileNode.Last words
             → profile_reaches self.now result words }
-        ensures size { profile_size self.now result ≤ profile_size self.now ProfileNode.Last }
+        ensures size { (others : ℕ) → profile_size self.now others result
+            ≤ profile_size self.now others ProfileNode.Last }
     {
         if self.profile().architecture().last() < u32::MAX {
             ProfileNode::Last
         } else {
-            ProfileNode::Number(0)
+            self.at_stub()
+        }
+    }
+
+    /// `Stub`, or the node behind it if the profile has no stub, given that the call is of the architecture.
+    fn at_stub(&self) -> ProfileNode
+        ensures node { profile_is_node self.now result }
+        ensures reached { (words : List ℕ) → IsOf self.now.profile.architecture (call_of words)
+            → profile_reaches self.now result words }
+        ensures size { (others : ℕ) → profile_size self.now others result ≤ calls_size self.now }
+    {
+        match self.profile().stub() {
+            Some(first) => ProfileNode::Stub(first),
+            None => ProfileNode::Number(0),
         }
     }
 
@@ -175,9 +200,10 @@ impl ByNumber<'_> {
     /// Numbers that the store knows to be too low or too high aren't asked. If it knows the number, that one is asked
     /// at once.
     fn ask_number<F: WordFacts>(&self, facts: &F, index: usize) -> Step<ProfileNode, SideLeaf>
-        ensures { IsStep (side_leaves (profile_behavior self.now.profile))
+        ensures step { (others : ℕ) → IsStep (side_leaves (profile_behavior self.now.profile))
             (λ words. IsWords words × F.allows facts.now (F.level facts.now) words)
-            (profile_tree self.now) (ProfileNode.Number index) (profile_tree self.now) result }
+            (profile_tree self.now others) (ProfileNode.Number index) (profile_tree self.now others) result }
+        ensures rules { EndsForeign result → ⊥ }
     {
         let default_answer = self.profile().default_answer();
         let numbers = self.numbers();
@@ -196,8 +222,9 @@ impl ByNumber<'_> {
         }
     }
 
-    /// Index of the first syscall number that the record may still have, given that none before `index` is its number.
-    /// From 0 on that is the greatest number that the record's is known to be at least, by binary search, or 0.
+    /// Index of the first syscall number that the record may still have, given that none before `index` is its number:
+    /// the last one from `index` on that the record's is known to be at least. From 0 on it is found by binary search,
+    /// from a later index, which is seldom far from it, by a gallop.
     fn first_possible<F: WordFacts>(&self, facts: &F, index: usize) -> usize
         ensures later { index ≤ result }
         ensures possible { (words : List ℕ) → IsWords words
@@ -205,22 +232,27 @@ impl ByNumber<'_> {
             → IsFrom index self.now.numbers (call_of words)
             → IsFrom result self.now.numbers (call_of words) }
     {
-        if index > 0 {
+        let numbers = self.numbers();
+        if index >= numbers.len() {
             return index;
         }
-        let numbers = self.numbers();
-        let mut least = 0;
-        let mut first = 0;
+        let mut least = index;
+        let mut first = index + 1;
         let mut last = numbers.len();
+        let mut reach = if index == 0 { usize::MAX } else { 0 };
         while first < last {
-            let middle = first + (last - first) / 2;
+            let middle = middle_of(first, last, reach);
             let own = &numbers[middle];
             match facts.tell(number_from(own.number)) {
                 Tell::Always => {
                     least = middle;
                     first = middle + 1;
+                    reach = reach.saturating_mul(2).saturating_add(1);
                 }
-                Tell::Never | Tell::Maybe => last = middle,
+                Tell::Never | Tell::Maybe => {
+                    last = middle;
+                    reach = usize::MAX;
+                }
             }
         }
         least
@@ -257,7 +289,8 @@ impl ByNumber<'_> {
         ensures node { profile_is_node self.now result }
         ensures reached { (words : List ℕ) → IsAtRule self.now number rule (call_of words)
             → profile_reaches self.now result words }
-        ensures size { profile_size self.now result ≤ rules_size (drop rule (own_rules self.now.numbers number)) }
+        ensures size { (others : ℕ) → profile_size self.now others result
+            ≤ rules_size (drop rule (own_rules self.now.numbers number)) }
     {
         if rule < self.rules_at(number).len() {
             self.next_condition(ConditionPosition {
@@ -278,7 +311,7 @@ impl ByNumber<'_> {
         ensures node { profile_is_node self.now result }
         ensures reached { (words : List ℕ) → IsAtCondition self.now at (call_of words)
             → profile_reaches self.now result words }
-        ensures size { profile_size self.now result
+        ensures size { (others : ℕ) → profile_size self.now others result
             ≤ conditions_size (drop at.condition (own_conditions self.now.numbers at))
             (size_behind self.now.numbers at) }
     {
@@ -297,8 +330,9 @@ impl ByNumber<'_> {
         part: ConditionPart,
     ) -> Step<ProfileNode, SideLeaf>
         requires { StandsAt self.now.numbers at }
-        ensures { IsStep (side_leaves (profile_behavior self.now.profile)) IsWords
-            (profile_tree self.now) (ProfileNode.Condition at part) (profile_tree self.now) result }
+        ensures step { (others : ℕ) → IsStep (side_leaves (profile_behavior self.now.profile)) IsWords
+            (profile_tree self.now others) (ProfileNode.Condition at part) (profile_tree self.now others) result }
+        ensures rules { EndsForeign result → ⊥ }
     {
         let conditions = self.rule_at(at).conditions.as_slice();
         let question = question_of(conditions[at.condition], part);
@@ -326,7 +360,7 @@ impl ByNumber<'_> {
             → LeadsTo (test_of condition) successor
             (argument_in self.now.profile.architecture (call_of words) condition.index)
             → profile_reaches self.now result words }
-        ensures size { profile_size self.now result
+        ensures size { (others : ℕ) → profile_size self.now others result
             ≤ successor_size successor (size_of_rest self.now.numbers at) (size_behind self.now.numbers at) }
     {
         match successor {
@@ -337,5 +371,18 @@ impl ByNumber<'_> {
             Successor::Decided(false) => self.next_rule(at.number, at.rule + 1),
             Successor::Then(part) => ProfileNode::Condition(at, part),
         }
+    }
+}
+
+/// The index that is `reach` behind the first one, or the one halfway to the last if that is nearer.
+fn middle_of(first: usize, last: usize, reach: usize) -> usize
+    requires { first < last }
+    ensures from { first ≤ result }
+    ensures below { result < last }
+{
+    if reach < last - first {
+        first + reach
+    } else {
+        first + (last - first) / 2
     }
 }

@@ -13,7 +13,8 @@ ghost use Rattle.scf_compare.specs.internal.Stages.{FindsNothing, IsStageAfter};
 use crate::by_number::ByNumber;
 use crate::comparison::Comparison;
 use crate::frontier::{Frontier, Stage, ask, take_branch};
-use crate::pair::{Pair, PairKnown, PairNode};
+use crate::pair::Pair;
+use crate::profiles::ProfilesSide;
 use crate::region::{Region, region_of};
 use crate::scope::facts_of;
 use crate::side::Side;
@@ -57,6 +58,10 @@ pub fn regions_of<F: Snapshots>(
             let tree = ByNumber::new(profile);
             regions_of_tree::<F, ByNumber<'_>>(alloc, tree, scope, limit)
         }
+        Side::Profiles(profiles) => {
+            let tree = ProfilesSide { profiles };
+            regions_of_tree::<F, ProfilesSide<'_>>(alloc, tree, scope, limit)
+        }
     }
 }
 
@@ -81,13 +86,8 @@ fn regions_of_tree<F: Snapshots, L: SideTree + Drop>(
         by: Relation::Same,
     };
     let facts: F = facts_of(alloc, over)?;
-    let (left_known, start) = pair.left.start();
-    let (right_known, _) = pair.right.start();
-    let known = PairKnown {
-        left: left_known,
-        right: right_known,
-    };
-    regions_of_pair(alloc, &pair, facts, known, PairNode::AtLeft(start), limit)
+    let (known, root) = pair.start();
+    regions_of_pair(alloc, &pair, facts, known, root, limit)
 }
 
 /// The regions of the left side, by a walk of the whole tree from a node.
@@ -214,8 +214,8 @@ fn add_region<F: Snapshots>(
 ) -> Result<(), Memory>
     ensures added { OnOk result (IsAdded (F.allows facts.now (F.level facts.now)) leaf is_whole
         regions.old.items regions.new.items) }
-    ensures decided { OnOk result (IsTrue (F.is_exact facts.now (F.level facts.now)) → IsTrue is_whole → IsSome leaf.answer
-        → All IsDecidedRegion regions.old.items → All IsDecidedRegion regions.new.items) }
+    ensures decided { OnOk result (IsTrue (F.is_exact facts.now (F.level facts.now)) → IsTrue is_whole
+        → IsSome leaf.answer → All IsDecidedRegion regions.old.items → All IsDecidedRegion regions.new.items) }
 {
     if let Some(region) = region_of(facts, leaf, is_whole)? {
         regions.push(region)?;

@@ -50,6 +50,15 @@ pub(crate) trait SideTree {
             (λ words. IsWords words × F.allows facts.now (F.level facts.now) words)
             (tree self.now known.old) node (tree self.now known.new) result };
 
+    /// Whether the step from a node wants all that will be known there: it computes, or tests a computed value.
+    fn waits_at(&self, known: &Self::Known, node: Self::Node) -> bool
+        requires { (tree self.now known.now).is_node node }
+    {
+        let _ = known;
+        let _ = node;
+        false
+    }
+
     /// The first test on the path to a node that nothing known decides, given what is known there.
     fn open_test(&self, known: &Self::Known) -> Option<OpenTest>;
 
@@ -60,6 +69,4 @@ pub(crate) trait SideTree {
 
     /// Each node has a size above 0.
     ghost counts: { (side : Self) (known : Self.Known) (node : Self.Node) → 0 < (tree side known).size node };
-
-    ghost size_counts: { (side : Self) → 0 < (behavior side).size };
 }

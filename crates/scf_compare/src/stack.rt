@@ -9,7 +9,7 @@ ghost use Rattle.scf_compare.specs.internal.Stacks.{FirstAnswer, IsOlder, IsStac
 ghost use Rattle.scf_compare.specs.internal.Stacks.{stack_is_node, stack_tree};
 ghost use Rattle.scf_compare.specs.internal.Trees.{IsStep};
 
-use crate::filter::{FilterNode, start_in_filter, step_in_filter};
+use crate::filter::{FilterNode, start_in_filter, step_in_filter, waits_in_filter};
 use crate::origin::Origin;
 use crate::registers::KnownRegisters;
 use crate::side_tree::{SideLeaf, SideTree};
@@ -70,6 +70,13 @@ impl SideTree for StackSide<'_> {
         }
     }
 
+    fn waits_at(&self, known: &KnownRegisters, node: StackNode) -> bool {
+        match node {
+            Empty => false,
+            At(index, _, node) => waits_in_filter(filter_of(self.filters, index), known, node),
+        }
+    }
+
     fn open_test(&self, known: &KnownRegisters) -> Option<OpenTest> {
         known.open
     }
@@ -79,11 +86,9 @@ impl SideTree for StackSide<'_> {
         decide(self.filters, call)
     }
 
-    ghost use Rattle.scf_compare.specs.internal.Laws.{paths_count, stack_node_counts};
+    ghost use Rattle.scf_compare.specs.internal.Laws.{stack_node_counts};
 
     ghost counts = { λ side. stack_node_counts side.filters.now };
-
-    ghost size_counts = { λ side. paths_count side.filters.now };
 }
 
 /// The filter at an index.

@@ -3,7 +3,7 @@
 ghost use Rattle.std.specs.Prelude.{◌≡◌, ◌<◌, ◌≤◌, ℕ, length, slice_index};
 ghost use Rattle.scf_machine.specs.Rules.{IsValidList};
 ghost use Rattle.scf_compare.specs.Effort.{conditions_size, rules_size, spread, stack_paths, effort_of};
-ghost use Rattle.scf_compare.specs.Effort.{effort_of_stack, saturated};
+ghost use Rattle.scf_compare.specs.Effort.{effort_of_stack, saturated, spread_of_all as several_spread};
 ghost use Rattle.scf_compare.specs.Paths.{tree_size};
 ghost use Rattle.scf_compare.specs.Sides.{behavior_of, effort_of_sides};
 
@@ -35,7 +35,7 @@ pub fn effort_stack(stack: &FilterStack, profile: &Profile) -> u64
 }
 
 /// The effort of a comparison of two sides, or 2^64-1 if it is more: the product of their sizes. That of a stack is the
-/// product of the sizes of its filters' trees of paths, that of a profile its spread.
+/// product of the sizes of its filters' trees of paths, that of profiles their spread.
 #[tactic(auto, using(crate::proofs::Saturated::products))]
 pub fn effort_sides(left: &Side<'_>, right: &Side<'_>) -> u64
     ensures { result ≡ saturated (effort_of_sides left.now right.now) }
@@ -51,6 +51,7 @@ fn size_of_side(side: &Side<'_>) -> u64
     match *side {
         Side::Stack(filters) => paths_of_all(filters),
         Side::Profile(profile) => spread_of(profile),
+        Side::Profiles(profiles) => spread_of_all(profiles.as_slice()),
     }
 }
 
@@ -103,16 +104,28 @@ fn size_at(insns: &[Insn], index: usize, sizes: &[u64]) -> u64
     }
 }
 
-/// The spread of a profile: 8, and for each of its numbers 1 and the size of its rules.
-#[tactic(auto, using(crate::proofs::Numbered::numbers_spread, crate::proofs::Common::take_all))]
+/// The spread of a profile: 8, 2 if it has a stub, and for each of its numbers 1 and the size of its rules.
 fn spread_of(profile: &Profile) -> u64
-    ensures { result ≡ saturated (spread profile.now.rules) }
+    ensures { result ≡ saturated (spread profile.now) }
 {
-    let mut sum: u64 = 8;
+    let mut sum: u64 = if profile.stub().is_some() { 10 } else { 8 };
     for own in profile.numbers() {
         sum = sum
             .saturating_add(size_of_rules(&own.rules))
             .saturating_add(1);
+    }
+    sum
+}
+
+/// The spread of several profiles, the last one first.
+#[tactic(auto, using(crate::proofs::Saturated::spreads_before, crate::proofs::Saturated::spreads_step))]
+fn spread_of_all(profiles: &[Profile]) -> u64
+    ensures { result ≡ saturated (several_spread profiles.now) }
+{
+    let mut sum: u64 = 1;
+    for index in (0..profiles.len()).rev() {
+        let spread = spread_of(&profiles[index]);
+        sum = sum.saturating_mul(3).saturating_add(spread);
     }
     sum
 }

@@ -1,8 +1,9 @@
 -- The distinct numbers of a profile's rules: how many there are, and the bounds that their search keeps.
-use Rattle.scf_compile.proofs.Common.{◌≡◌, ℕ, zero, suc, ◌+◌, ◌/◌, ◌^◌, ◌<◌, ◌≤◌, List, [], ◌∷◌, length, map, All, ap, arith, inl, inr, sum_by, Contains, cases_eq, eq-eqb, ne_eqb, All-contains, row_of, refl, sum_by-cons, All-head, All-tail, Rule, IsPlainRule, IsPlainProfile, Profile, IsProfile, IsRule, numbers_of, number_there, rules_of, Answer, NrRange, digits_within, binary_digits, greatest, rule_bound, AllRules, AreServed, AreRangesOf, AreSearched, AreSearchesOf, IsSearchOf, IsSearchPut, Insn, Position, Search, code_from, MayBePut, most_ranges, size_bound_of}
+use Rattle.scf_compile.proofs.Common.{◌≡◌, ℕ, zero, suc, ◌+◌, ◌*◌, ◌/◌, ◌^◌, ◌<◌, ◌≤◌, List, [], ◌∷◌, length, map, All, ap, arith, inl, inr, sum_by, Contains, cases_eq, eq-eqb, ne_eqb, cases_Bool, max, row_of, refl, sum_by-cons, All-head, All-tail, Rule, IsPlainRule, IsPlainProfile, Profile, IsProfile, IsRule, numbers_of, number_there, rules_of, Answer, NrRange, digits_within, binary_digits, greatest, rule_bound, stub_count, number_count, stub_answer, is_stubbed, AllRules, AreServed, AreRangesOf, AreSearched, AreSearchesOf, IsSearchOf, IsSearchPut, Insn, Position, Search, code_from, MayBePut, most_ranges, size_bound_of}
 use Rattle.scf_insn.proofs.Architectures.{some_number}
 use Rattle.scf_compile.proofs.Runs.{more}
 use Rattle.scf_compile.proofs.Sizes.{rules_valid, size_small}
+use Rattle.scf_compile.proofs.Stubs.{own_bounded, own_first, own_rules, own_served, own_wanted, stub_bound, stub_there}
 
 -- ---- binary digits
 
@@ -62,20 +63,25 @@ searches_stay before after longer stays (p ∷ ps) (s ∷ ss) each =
       searches_stay before after longer stays ps ss each.1,
     )
 
-module _ (p : Profile) (valid : IsProfile p) (ss : List NrRange)
-    (laid : AreRangesOf p.architecture p.default_answer ss p.rules) where
-  abbrev count : ℕ
-  count = length (numbers_of p.rules)
+-- the steps for the rules of a number, or for the stub's rule
+pub own_steps : (p : Profile) (s : Rule) → s.conditions ≡ [] → (nr : ℕ)
+    → sum_by rule_bound (own_wanted p s nr) ≤ max (2 * stub_count p.stub) (greatest (map (sum_of p.rules) (numbers_of p.rules)))
+own_steps p s always nr = elim (cases_Bool (is_stubbed p.stub nr)) [
+  | inl stubbed ↦ rw stubbed (omega (arith, stub_bound p s always, stub_there p.stub nr stubbed))
+  | inr unstubbed ↦ rw unstubbed (omega (arith, sum_at_most p.rules nr))
+]
 
-  pub of_profile : (P : Rule → Type 0) → All P p.rules → AllRules P ss
-  of_profile P all k d lt j r inside = All-contains P p.rules _ all (laid.own k d lt j r inside)
+module _ (p : Profile) (valid : IsProfile p) (s : Rule) (rule : IsRule p.architecture s) (always : s.conditions ≡ [])
+    (answers : s.answer.0 ≡ stub_answer) (ss : List NrRange) (laid : AreRangesOf p (s ∷ []) ss) where
+  abbrev count : ℕ
+  count = number_count p
 
   pub may_be_put : MayBePut p ss
   may_be_put = record {
-    some = some_served _ _ _ _ ss (omega (arith, some_number p.architecture)) laid.serve;
-    few = omega (arith, laid.few);
-    rules = of_profile (IsRule p.architecture) (rules_valid p valid);
-    small = omega (arith, laid.small, size_small p valid);
+    some = some_served _ _ _ _ ss (omega (arith, some_number p.architecture)) (own_served p s always laid);
+    few = omega (arith, own_bounded p s always laid);
+    rules = own_rules p s always laid (IsRule p.architecture) (rules_valid p valid) rule;
+    small = omega (arith, own_bounded p s always laid, size_small p valid);
   }
 
   -- The search of the ranges is that of the profile.
@@ -88,9 +94,9 @@ module _ (p : Profile) (valid : IsProfile p) (ss : List NrRange)
     stands = found.put.near.stands;
     ends = λ call fits own.
         let few = below_digits count in
-        more (found.ends call (λ nr. rules_of nr p.rules) (row_of p.architecture).first
-        ((row_of p.architecture).last + 1) (suc (binary_digits count)) fits laid.serve own.first
-        (omega (arith, own.last)) (omega (arith, few))) (omega (arith, sum_at_most p.rules call.nr));
+        more (rw (own_first p s always call answers) at (found.ends call (own_wanted p s) (row_of p.architecture).first
+        ((row_of p.architecture).last + 1) (suc (binary_digits count)) fits (own_served p s always laid) own.first
+        (omega (arith, own.last)) (omega (arith, few)))) (omega (arith, own_steps p s always call.nr));
   }
 
   -- It is put before those of other profiles.
@@ -103,11 +109,14 @@ module _ (p : Profile) (valid : IsProfile p) (ss : List NrRange)
     small = omega (
       arith,
       found.small,
-      laid.small,
+      own_bounded p s always laid,
       before.small,
       sum_by-cons size_bound_of p others,
     );
     sound = λ asked is.
-        found.put.sound asked (λ e. of_profile IsPlainRule (All-head IsPlainProfile p others (is e)))
+        found.put.sound asked
+        (λ e. own_rules p s always laid IsPlainRule (All-head IsPlainProfile p others (is e)) plain)
         (before.sound asked (λ e. All-tail IsPlainProfile p others (is e)));
-  }
+  } where
+    plain : IsPlainRule s
+    plain = record { conditions = rw always (λ k d lt. absurd (omega arith)) }

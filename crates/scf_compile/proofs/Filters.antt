@@ -1,11 +1,11 @@
 -- What is put before the searches of profiles makes them a filter.
-use Rattle.scf_compile.proofs.Common.{◌≡◌, ℕ, zero, suc, ◌+◌, ◌<◌, ◌≤◌, map, List, [], ◌∷◌, length, refl, sym, ap, ◌∙◌, arith, inl, inr, find, cases_Bool, cases_eq, eq-eqb, ne_eqb, subst, All, AllByRecursion, All-tail, Contains, Insn, CallRecord, IsRecord, IsOf, AreApart, Architecture, Answer, Rule, meets, all_hold, rules_of, Profile, AreOfApart, ProfilesAnswer, by_profile, by_none, Position, Search, greatest, rules_steps, size_bound_of_each, load_word, AreSearchesOf, AreSearched, IsFilterOf, IsSearched, IsDispatchPut, AllStand, first_answer}
+use Rattle.scf_compile.proofs.Common.{◌≡◌, ℕ, zero, suc, ◌+◌, ◌<◌, ◌≤◌, map, List, [], ◌∷◌, length, refl, sym, ap, ◌∙◌, arith, inl, inr, find, cases_Bool, cases_eq, eq-eqb, ne_eqb, subst, All, AllByRecursion, All-tail, Contains, Insn, CallRecord, IsRecord, IsOf, AreApart, Architecture, Answer, Rule, meets, all_hold, rules_of, Profile, AreOfApart, ProfileAnswers, ProfilesAnswer, by_profile, by_none, by_stub, is_stubbed, own_answer, Position, Search, greatest, rules_steps, size_bound_of_each, load_word, AreSearchesOf, AreSearched, IsFilterOf, IsSearched, IsDispatchPut, AllStand, first_answer}
 use Rattle.std.specs.Option.{option_map_or}
 use Rattle.scf_profile.proofs.Answering.{answered as profile_answers, own_or_foreign}
 use Rattle.scf_compile.proofs.Runs.{more, loads, load_sound}
 
 -- the first of the rules with its number that a call meets is the first of all
-pub first_met : (a : Architecture) (default : Answer) (call : CallRecord) (rs : List Rule)
+first_met : (a : Architecture) (default : Answer) (call : CallRecord) (rs : List Rule)
     → first_answer a call default (rules_of call.nr rs)
     ≡ option_map_or (λ (r : Rule). r.answer.0) (find (λ r. meets a r call) rs) default.0
 first_met a default call [] = refl
@@ -16,6 +16,15 @@ first_met a default call (x ∷ xs) =
       | inl same ↦ rw (eq-eqb x.number call.nr same, eq-eqb call.nr x.number (sym same))
           (elim (cases_Bool (all_hold a call x.conditions)) [ inl met ↦ rw met refl | inr unmet ↦ rw unmet rest ])
     ]
+
+-- what a profile answers to a call of its architecture
+pub own_answered : (p : Profile) (call : CallRecord) → IsOf p.architecture call
+    → ProfileAnswers p call (own_answer p call)
+own_answered p call own = elim (cases_Bool (is_stubbed p.stub call.nr)) [
+  | inl stubbed ↦ rw stubbed (by_stub own stubbed)
+  | inr unstubbed ↦ rw (unstubbed, first_met p.architecture p.default_answer call p.rules)
+      (profile_answers p call own unstubbed _ refl)
+]
 
 -- ---- the searches of profiles
 
@@ -77,14 +86,13 @@ module _ (call : CallRecord) (fits : IsRecord call) (code : List Insn) (most : �
       elim (own_or_foreign p.architecture call) [
         | inl own ↦
             let later = none_apart p own ps ss each.1 (λ k d lt. apart 0 (suc k) d (omega arith) (omega arith)) in (
-              first_answer p.architecture call p.default_answer (rules_of call.nr p.rules),
+              own_answer p call,
               record {
                 each = (λ its. more (first.ends call fits own) few.0, absent _ ss later);
                 none = λ all. absurd (all.0 (subst (λ (a : Architecture). IsOf a call) (sym same) own));
                 some = some;
               },
-              by_profile p (0, omega arith, refl) own _
-                  (rw (first_met p.architecture p.default_answer call p.rules) (profile_answers p call own _ refl)),
+              by_profile p (0, omega arith, refl) own _ (own_answered p call own),
             )
         | inr other ↦
             let found = answer_found ps ss each.1

@@ -1,8 +1,8 @@
 -- What is put before searches leads each call to the one of its architecture.
-use Rattle.scf_compile.proofs.Common.{◌≡◌, ◌≢◌, ℕ, suc, ◌+◌, ◌-◌, ◌*◌, ◌<◌, ◌≤◌, ◌^◌, Bool, true, eqb, not, filter, List, [], ◌∷◌, ◌++◌, length, refl, sym, ap, ◌∙◌, arith, inl, inr, cases_eq, cases_Bool, eq-eqb, ne_eqb, eqb-true, eqb-false, nil_from_length, le-leb, nat_tests, length-append, length-filter_both, AllByRecursion, Insn, CallRecord, Test, Equal, GreaterOrEqual, JumpIf, Constant, IsPlainOperation, words_of, IsOf, row_of, seccomp_ret_kill_process as kill, Position, Search, load_word, jump_if, return_with, branch_code, skip_code, code_from, IsFirst, IsPut, ArePut, EndsWithin, audit_of, AllStand, IsSearched, AreTestsPut, IsGatePut, IsGated, IsDispatchPut}
+use Rattle.scf_compile.proofs.Common.{Answers, ◌≡◌, ◌≢◌, ℕ, suc, ◌+◌, ◌-◌, ◌*◌, ◌<◌, ◌≤◌, ◌^◌, Bool, true, eqb, not, filter, List, [], ◌∷◌, ◌++◌, length, refl, sym, ap, ◌∙◌, arith, inl, inr, cases_eq, cases_Bool, eq-eqb, ne_eqb, eqb-true, eqb-false, nil_from_length, le-leb, nat_tests, length-append, length-filter_both, AllByRecursion, Insn, CallRecord, Test, Equal, GreaterOrEqual, JumpIf, Constant, IsPlainOperation, words_of, IsOf, row_of, seccomp_ret_kill_process as kill, Position, Search, load_word, jump_if, return_with, branch_code, skip_code, code_from, IsFirst, IsPut, ArePut, EndsWithin, audit_of, AllStand, IsSearched, AreTestsPut, IsGatePut, IsGated, IsDispatchPut}
 use Rattle.scf_insn.proofs.Architectures.{reach}
-use Rattle.scf_compile.proofs.Runs.{more, loads, passes, load_sound, pass_sound}
-use Rattle.scf_compile.proofs.RuleCode.{Answers, return_answers, answers_put, answers_there, from_behind, from_first}
+use Rattle.scf_compile.proofs.Runs.{answers, more, loads, passes, load_sound, pass_sound, return_sound}
+use Rattle.scf_compile.proofs.RuleCode.{return_answers, answers_put, answers_there, from_behind, from_first}
 use Rattle.scf_compile.proofs.RuleCode.{branch_ends, branch_sound, branch_stays}
 
 -- ---- what is put before some code, and then more
@@ -360,12 +360,12 @@ dispatch_none {before} {after} {index} whole here =
         stays = λ p le. ap (code_from p) whole ∙ from_behind (return_with kill ∷ []) before p le;
         some = omega arith;
         near = record { stands = omega arith; near = omega arith };
-        sound = λ asked is s. rw whole (kill_answers.sound asked before (λ _. tt) s);
+        sound = λ asked is s. rw whole (return_sound kill, s);
       };
       front = here;
       small = omega arith;
       ends = λ call answer most fits is.
-          rw (whole, is.none tt) (more (kill_answers.ends call fits before call.arch) (omega (arith, is.some)));
+          rw (whole, is.none tt) (more {m = 1} (answers kill call.arch) (omega (arith, is.some)));
     }
 
 -- the first search has its own value of `arch`

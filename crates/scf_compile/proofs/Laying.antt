@@ -1,5 +1,5 @@
 -- Ranges are put one behind another until each number has its rules.
-use Rattle.scf_compile.proofs.Common.{◌≡◌, ℕ, get_or, take, ◌+◌, ◌-◌, ◌*◌, ◌<◌, ◌≤◌, All, List, [], ◌∷◌, ◌++◌, length, map, refl, sym, ap, ◌∙◌, subst, arith, inl, inr, eqb, length-append, length-map, get_or-map, get_or_default, sum_by, Contains, cases_eq, cases_lt, take_all, take_more, All-contains_itself, All-filter, All-push, sum_by-cons, sum_by-append, Answer, Architecture, row_of, All-map, Rule, numbers_of, rules_of, NumberRules, AreNumbersOf, NrRange, AllRules, rule_bound, StandsFor, AreEffective, rules_bound, range_bound, IsServed, AreServed, IsLaid, begins, continues, AreRangesUpTo, AreRangesOf, Contains-permutation, sum_by_more, number_there, number_in, own_some, rises, count_of_numbers, sum_of_rules}
+use Rattle.scf_compile.proofs.Common.{◌≡◌, ℕ, get_or, take, ◌+◌, ◌-◌, ◌*◌, ◌<◌, ◌≤◌, All, List, [], ◌∷◌, ◌++◌, length, map, refl, sym, ap, ◌∙◌, subst, arith, inl, inr, eqb, length-append, length-map, get_or-map, get_or_default, sum_by, Contains, cases_eq, cases_lt, take_all, take_more, All-contains_itself, All-filter, All-push, sum_by-cons, sum_by-append, Answer, Architecture, row_of, All-map, Rule, numbers_of, rules_of, NumberRules, AreNumbersOf, NrRange, AllRules, rule_bound, StandsFor, AreEffective, rules_bound, range_bound, IsServed, AreServed, IsLaid, begins, continues, AreRangesUpTo, AreRangesOfRules, Contains-permutation, sum_by_more, number_there, number_in, own_some, rises, count_of_numbers, sum_of_rules}
 use Rattle.scf_insn.proofs.Architectures.{some_number}
 
 -- ---- one range more
@@ -196,7 +196,7 @@ module _ (numbers : List NumberRules) (rules : List Rule) (are : AreNumbersOf nu
 
     pub laid_all : {after : List NrRange} → k ≡ length numbers
         → (next < (row_of a).last + 1 → IsLaid ss next [] after) → ((row_of a).last + 1 ≤ next → after ≡ ss)
-        → AreRangesOf a default after rules
+        → AreRangesOfRules a default after rules
     laid_all all some none =
         let sums : sum_by own_bound (take k numbers) ≡ sum_by rule_bound rules =
         ap (sum_by own_bound) (take_all k numbers (omega arith)) ∙ sum_of_rules numbers rules are rule_bound in

@@ -7,6 +7,8 @@ pub mod RuleCode
 pub mod Runs
 pub mod Searches
 pub mod Sizes
+pub mod Stubs
 pub mod Tests
 pub mod Valid
+pub mod ValueSearches
 pub mod Whole

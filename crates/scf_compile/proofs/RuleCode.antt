@@ -1,24 +1,56 @@
 -- The code of rules, and what is put before some code.
-use Rattle.scf_compile.proofs.Common.{◌≡◌, ℕ, ◌+◌, ◌-◌, ◌*◌, ◌<◌, ◌≤◌, Bool, true, false, cond, leb, List, [], ◌∷◌, ◌++◌, drop, length, ap, ◌∙◌, arith, inl, inr, length-append, append_assoc, sum_by, length-drop, IsTrue, AllByRecursion, cases_Bool, recursion_from_All, sum_by-cons, drop-append-add, Insn, Answer, Architecture, CallRecord, Test, JumpIf, Constant, words_of, IsRecord, test_holds, IsPlainOperation, Condition, Rule, IsPlainCondition, IsPlainRule, all_hold, IsCondition, IsRule, Position, rule_bound, jump_if, jump_over, return_with, branch_code, code_from, IsFirst, IsPut, conditions_code, behind_rule, rules_code, ArePut, EndsWithin, AreSound, first_answer, rules_bound}
+use Rattle.scf_compile.proofs.Common.{◌≡◌, ℕ, ◌+◌, ◌-◌, ◌*◌, ◌<◌, ◌≤◌, Bool, true, false, cond, leb, List, [], ◌∷◌, ◌++◌, drop, length, ap, ◌∙◌, arith, inl, inr, length-append, append_assoc, sum_by, length-drop, IsTrue, AllByRecursion, cases_Bool, recursion_from_All, sum_by-cons, drop-append-add, Insn, Answer, Architecture, CallRecord, Test, JumpIf, Constant, words_of, IsRecord, test_holds, IsPlainOperation, Condition, Rule, IsPlainCondition, IsPlainRule, all_hold, IsCondition, IsRule, Position, rule_bound, jump_if, jump_over, return_with, branch_code, code_from, IsFirst, IsPut, conditions_code, behind_rule, rule_code, Answers, AnswersRules, ArePut, Operation, Keeps, IsPart, moved, at, map, length-map, chain_of_part, answer_of_part, part_between, EndsWithin, AreSound, first_answer, rules_bound}
 use Rattle.scf_compile.proofs.Runs.{more, past, answers, jumps, passes, jump_sound, pass_sound, return_sound}
 use Rattle.scf_compile.proofs.Tests.{conditions_tests}
 
--- The code answers each call, in no more than so many steps.
-pub record Answers (code : List Insn) (most : ℕ) (plain : Type 0) (answer : CallRecord → ℕ) : Type 0 where
-  pub some : 0 < length code
-  pub len : length code ≤ most
-  pub sound : (asked : Bool) (rest : List Insn) → (IsTrue asked → plain) → AreSound asked rest
-      → AreSound asked (code ++ rest)
-  pub ends : (call : CallRecord) → IsRecord call → (rest : List Insn) (a : ℕ)
-      → EndsWithin (words_of call) (code ++ rest) a (answer call) most
+-- ---- more code behind
+
+-- what an instruction keeps, it keeps with more behind it
+keeps_more : (operation : Operation) (i : Insn) (behind more : ℕ) → behind ≤ more → Keeps operation i behind
+    → Keeps operation i more
+keeps_more operation i behind more le h = grind arith
+
+sound_before : (asked : Bool) (code rest : List Insn) → AreSound asked code → AreSound asked rest
+    → AreSound asked (code ++ rest)
+sound_before asked [] rest s t = t
+sound_before asked (i ∷ is) rest s t =
+    let own = s.0 in (
+      record {
+        operation = own.operation;
+        known = own.known;
+        keeps = keeps_more own.operation i _ _ (omega (arith, length-append is rest)) own.keeps;
+        is_plain = own.is_plain;
+      },
+      sound_before asked is rest s.1 t,
+    )
+
+-- code that ends is the same with more behind it
+ends_before : {words : List ℕ} {code : List Insn} {a answer most : ℕ} (rest : List Insn)
+    → EndsWithin words code a answer most → EndsWithin words (code ++ rest) a answer most
+ends_before {words} {code} {a} {answer} rest e =
+    let is : IsPart code 0 (code ++ rest) = part_between [] code rest in
+    let run = e.run in
+    record {
+      steps = e.steps;
+      run = record {
+        last = moved 0 run.last;
+        earlier = map (moved 0) run.earlier;
+        chain = chain_of_part (code ++ rest) code 0 words (at 0 a) run.last run.earlier is run.chain;
+        answers = answer_of_part (code ++ rest) code 0 words run.last answer is run.answers;
+        count = let e = run.count in omega (arith, length-map run.earlier (moved 0));
+      };
+      few = e.few;
+    }
+
+-- ---- rules
 
 pub return_answers : (answer most : ℕ) (plain : Type 0) → 0 < most
     → Answers (return_with answer ∷ []) most plain (λ _. answer)
 return_answers answer most plain lt = record {
   some = omega arith;
   len = omega arith;
-  sound = λ asked rest is s. (return_sound answer, s);
-  ends = λ call fits rest a. more {m = 1} (answers answer a) lt;
+  sound = λ asked is. (return_sound answer, tt);
+  ends = λ call fits a. more {m = 1} (answers answer a) lt;
 }
 
 -- A rule answers where its conditions hold, and else what stands behind it: nothing behind one without conditions.
@@ -38,32 +70,29 @@ rule_answers a (c ∷ cs) answer n most others p plain f fine next parts le =
     record {
       some = omega (arith, next.some, whole);
       len = omega (arith, t.len, next.len, whole, length-append conditions own);
-      sound = λ asked rest is s.
-          rw (append_assoc (conditions ++ own) others rest, append_assoc conditions own (others ++ rest))
-          (t.sound asked (own ++ (others ++ rest)) (λ e. (parts (is e)).0) (omega arith)
-          (omega (arith, next.some, length-append others rest))
-          (return_sound answer, next.sound asked rest (λ e. (parts (is e)).1) s));
-      ends = λ call fits rest acc.
-          rw (append_assoc (conditions ++ own) others rest, append_assoc conditions own (others ++ rest))
-          (more (t.ends call fits (own ++ (others ++ rest)) _ (1 + n) acc
+      sound = λ asked is.
+          rw (append_assoc conditions own others)
+          (t.sound asked (own ++ others) (λ e. (parts (is e)).0) (omega arith) (omega (arith, next.some))
+          (return_sound answer, next.sound asked (λ e. (parts (is e)).1)));
+      ends = λ call fits acc.
+          rw (append_assoc conditions own others)
+          (more (t.ends call fits (own ++ others) _ (1 + n) acc
           (λ e b. rw e (more {m = 1} (answers answer b) (omega arith)))
-          (λ e b. rw e (more (next.ends call fits rest b) (omega arith)))) (omega arith));
+          (λ e b. rw e (more (next.ends call fits b) (omega arith)))) (omega arith));
     }
 
 pub rules_bounded : (rs : List Rule) → (3 ≤ rules_bound rs) × (rules_bound rs ≤ 3 + sum_by rule_bound rs)
 rules_bounded [] = (omega arith, omega arith)
 rules_bounded (r ∷ rs) = (omega (arith, sum_by-cons rule_bound r rs), omega arith)
 
--- The code of rules answers as the first of them whose conditions hold. It is fewer instructions than the bound, since
--- nothing stands behind a rule without conditions.
-pub rules_answer : (a : Architecture) (default : Answer) (rs : List Rule) → AllByRecursion (IsRule a) rs
-    → Answers (rules_code a default rs) (rules_bound rs - 2) (AllByRecursion IsPlainRule rs)
-    (λ call. first_answer a call default rs)
-rules_answer a default [] fine = return_answers default.0 _ _ (omega arith)
-rules_answer a default (r ∷ rs) fine =
+-- One rule more is fewer instructions than its bound, since nothing stands behind a rule without conditions.
+pub rule_more : (a : Architecture) (default : Answer) (r : Rule) (rs : List Rule) (code : List Insn) → IsRule a r
+    → AnswersRules a default rs code
+    → AnswersRules a default (r ∷ rs) (rule_code a r ++ behind_rule r.conditions code)
+rule_more a default r rs code fine next =
     let sum = sum_by-cons rule_bound r rs in
     let bounded = rules_bounded rs in
-    rule_answers a r.conditions r.answer.0 _ _ _ _ _ _ fine.0.conditions.each (rules_answer a default rs fine.1)
+    rule_answers a r.conditions r.answer.0 _ _ _ _ _ _ fine.conditions.each next
     (λ plain. (recursion_from_All IsPlainCondition r.conditions plain.0.conditions, plain.1)) (omega arith)
 
 -- ---- what is put before some code
@@ -95,14 +124,14 @@ answers_put {block} {before} {after} {index} plain is simple put =
       near = put.near;
       sound = λ asked e s. rw put.whole (elim put.put [
         | inl none ↦ rw none s
-        | inr all ↦ rw all (is.sound asked before (λ h. simple (e h)) s)
+        | inr all ↦ rw all (sound_before asked block before (is.sound asked (λ h. simple (e h))) s)
       ]);
     }
 
 pub answers_there : {block before after : List Insn} {index : Position} {most : ℕ} {p : Type 0} {f : CallRecord → ℕ}
     → Answers block most p f → IsPut block before after index → (call : CallRecord) → IsRecord call → (a : ℕ)
     → EndsWithin (words_of call) (code_from index after) a (f call) most
-answers_there is put call fits a = rw put.there (is.ends call fits put.behind a)
+answers_there is put call fits a = rw put.there (ends_before put.behind (is.ends call fits a))
 
 -- ---- a branch that is put before some code
 

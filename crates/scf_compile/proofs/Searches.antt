@@ -1,8 +1,8 @@
 -- The search of ranges finds that of each number.
-use Rattle.scf_compile.proofs.Common.{◌≡◌, ℕ, zero, suc, ◌+◌, ◌-◌, ◌*◌, ◌^◌, ◌<◌, ◌≤◌, List, [], ◌∷◌, ◌++◌, length, get_or, get_or-append-add, get_or_append_left, sym, ap, ◌∙◌, arith, length-append, sum_by, nat_tests, inl, inr, length-drop, recursion_from_All, sum_by-cons, sum_by-append, Answer, Architecture, Insn, CallRecord, IsRecord, GreaterOrEqual, words_of, Rule, IsPlainRule, IsRule, Position, NrRange, rule_bound, branch_code, IsFirst, IsPut, rules_code, IsSearchPut, EndsWithin, AllRules, AreServed, first_answer, range_bound}
+use Rattle.scf_compile.proofs.Common.{◌≡◌, ℕ, zero, suc, ◌+◌, ◌-◌, ◌*◌, ◌^◌, ◌<◌, ◌≤◌, List, [], ◌∷◌, ◌++◌, length, get_or, get_or-append-add, get_or_append_left, sym, ap, ◌∙◌, arith, length-append, sum_by, nat_tests, inl, inr, length-drop, recursion_from_All, sum_by-cons, sum_by-append, Answer, Architecture, Insn, CallRecord, IsRecord, GreaterOrEqual, words_of, Rule, IsPlainRule, IsRule, Position, NrRange, rule_bound, branch_code, IsFirst, IsPut, AnswersRules, IsSearchPut, EndsWithin, AllRules, AreServed, first_answer, range_bound}
 use Rattle.scf_compile.proofs.Laying.{served_parts}
 use Rattle.scf_compile.proofs.Runs.{more}
-use Rattle.scf_compile.proofs.RuleCode.{rules_answer, rules_bounded, branch_ends, branch_sound, branch_stays}
+use Rattle.scf_compile.proofs.RuleCode.{rules_bounded, branch_ends, branch_sound, branch_stays}
 use Rattle.scf_compile.proofs.RuleCode.{from_first, answers_put, answers_there}
 
 -- the first of some ranges begins at their lower bound
@@ -84,15 +84,13 @@ begins_code {block} {before} {after} {index} put some none =
       | inr all ↦ omega (arith, ap (λ (l : List Insn). length l) all, put.near.stands)
     ]
 
-pub search_one : (a : Architecture) (default : Answer) (most : ℕ) (s : NrRange) (before after : List Insn)
+pub search_one : (a : Architecture) (default : Answer) (most : ℕ) (s : NrRange) (block before after : List Insn)
     (index : Position)
-    → AllRules (IsRule a) (s ∷ []) → IsPut (rules_code a default s.rules.now) before after index
+    → AnswersRules a default s.rules.now block → IsPut block before after index
     → IsSearchPut a default most (s ∷ []) before after index
-search_one a default most s before after index fine put =
+search_one a default most s block before after index code put =
     let rs = s.rules.now in
-    let own = recursion_from_All (IsRule a) rs (fine 0 s (omega arith)) in
     let bounded = rules_bounded rs in
-    let code = rules_answer a default rs own in
     record {
       small = omega (arith, code.len, put.few, sum_by-cons range_bound s []);
       put = answers_put (AllRules IsPlainRule (s ∷ [])) code

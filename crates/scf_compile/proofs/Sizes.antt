@@ -1,5 +1,5 @@
 -- How long the code of a filter is.
-use Rattle.scf_compile.proofs.Common.{◌≡◌, ℕ, ◌<◌, ◌≤◌, ◌^◌, Bool, true, false, not, eqb, List, [], ◌∷◌, length, map, get_or, refl, arith, inl, inr, All, AllByRecursion, list_any, cases_eq, ne_eqb, ◌≢◌, All-from_recursion, All-map, recursion_from_All, length-map, length-le_from_distinct_below, length-filter_both, sum_by-le, Condition, Rule, IsRule, IsCondition, AreConditions, HaveDistinctIndices, numbers_of, rule_bound, Profile, IsProfile, size_bound_of, size_bound_of_each, sum_by-cons}
+use Rattle.scf_compile.proofs.Common.{◌≡◌, ℕ, ◌<◌, ◌≤◌, ◌^◌, Bool, true, false, not, eqb, List, [], ◌∷◌, length, map, get_or, refl, arith, inl, inr, All, AllByRecursion, list_any, cases_eq, ne_eqb, ◌≢◌, All-from_recursion, All-map, recursion_from_All, length-map, length-le_from_distinct_below, length-filter_both, sum_by-le, Condition, Rule, IsRule, IsCondition, AreConditions, HaveDistinctIndices, Option, None, Some, numbers_of, rule_bound, number_count, stub_count, Profile, IsProfile, size_bound_of, size_bound_of_each, sum_by-cons}
 use Rattle.std.specs.List.{IsDistinct}
 
 -- ---- no more than six conditions
@@ -41,11 +41,18 @@ few_numbers (r ∷ rs) =
 pub rules_valid : (p : Profile) → IsProfile p → All (IsRule p.architecture) p.rules
 rules_valid p valid = All-from_recursion (IsRule p.architecture) p.rules valid.each
 
+stub_few : (stub : Option ℕ) → stub_count stub ≤ 1
+stub_few None = omega arith
+stub_few (Some first) = omega arith
+
+pub count_small : (p : Profile) → IsProfile p → number_count p < 2 ^ 32
+count_small p valid = omega (arith, few_numbers p.rules, stub_few p.stub, valid.few)
+
 pub size_small : (p : Profile) → IsProfile p → size_bound_of p < 2 ^ 18
 size_small p valid =
     let most = sum_by-le rule_bound 50 p.rules (λ k d lt.
     omega (arith, few_conditions (get_or p.rules k d).conditions (rules_valid p valid k d lt).conditions)) in
-    omega (arith, few_numbers p.rules, valid.few)
+    omega (arith, few_numbers p.rules, stub_few p.stub, valid.few)
 
 -- each profile's bound is more than one
 pub at_least_each : (ps : List Profile) → length ps ≤ size_bound_of_each ps

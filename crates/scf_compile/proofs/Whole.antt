@@ -1,78 +1,90 @@
 -- The filter of one profile: the numbers behind its architecture's are one more range of its search.
-use Rattle.scf_compile.proofs.Common.{◌≡◌, ℕ, zero, suc, ◌+◌, ◌*◌, ◌<◌, ◌≤◌, ◌^◌, List, [], ◌∷◌, length, cond, leb, All, Contains, refl, sym, ap, arith, inl, inr, subst, cases_eq, cases_lt, le-leb, sum_by, sum_by-cons, CallRecord, IsRecord, words_of, Insn, IsOf, row_of, seccomp_ret_kill_process as kill, Rule, IsRule, IsPlainRule, IsPlainProfile, rules_of, numbers_of, Profile, IsProfile, by_profile, by_none, Position, NrRange, rule_bound, binary_digits, size_bound_of, AllRules, AreServed, AreAllRanges, AreRangesOf, IsSearchPut, IsGated, IsFilterOf, AnswersCall, EndsWithin, first_answer, MayBePut, most_ranges, range_bound}
+use Rattle.scf_compile.proofs.Common.{◌≡◌, ℕ, zero, suc, ◌+◌, ◌*◌, ◌<◌, ◌≤◌, ◌^◌, List, [], ◌∷◌, length, cond, leb, All, Contains, refl, sym, ap, arith, inl, inr, subst, cases_eq, cases_lt, le-leb, sum_by, sum_by-cons, CallRecord, IsRecord, words_of, Insn, IsOf, row_of, seccomp_ret_kill_process as kill, Rule, IsRule, IsPlainRule, IsPlainProfile, Architecture, stub_answer, stub_count, number_count, own_answer, Profile, IsProfile, by_profile, by_none, Position, NrRange, rule_bound, binary_digits, size_bound_of, AllRules, AreServed, AreAllRanges, AreRangesOf, IsSearchPut, IsGated, IsFilterOf, AnswersCall, EndsWithin, first_answer, MayBePut, most_ranges, range_bound}
 use Rattle.std.proofs.lemmas.Bool.{lt-leb}
 use Rattle.std.proofs.lemmas.List.Elements.{All-head, All-cons}
 use Rattle.scf_insn.proofs.Architectures.{reach}
-use Rattle.scf_profile.proofs.Answering.{answered as profile_answers, own_or_foreign}
-use Rattle.scf_compile.proofs.Counts.{below_digits, of_profile, some_served, sum_at_most}
-use Rattle.scf_compile.proofs.Filters.{first_met}
+use Rattle.scf_profile.proofs.Answering.{own_or_foreign}
+use Rattle.scf_compile.proofs.Counts.{below_digits, own_steps, some_served}
+use Rattle.scf_compile.proofs.Filters.{own_answered}
 use Rattle.scf_compile.proofs.Laying.{laid_few, laid_rules, laid_served, served_as}
 use Rattle.scf_compile.proofs.RuleCode.{from_first}
 use Rattle.scf_compile.proofs.Runs.{more}
 use Rattle.scf_compile.proofs.Sizes.{rules_valid, size_small}
+use Rattle.scf_compile.proofs.Stubs.{own_bounded, own_first, own_rules, own_served, own_wanted}
 
-module _ (p : Profile) (valid : IsProfile p) (from_zero : (row_of p.architecture).first ≡ 0) (r : Rule)
-    (rule : IsRule p.architecture r) (always : r.conditions ≡ []) (kills : r.answer.0 ≡ kill) {whole : List NrRange}
-    (ranges : AreAllRanges p.architecture p.default_answer p.rules (r ∷ []) whole) where
+-- a rule without conditions, and its answer
+pub record IsConstant (a : Architecture) (r : Rule) (given : ℕ) : Type 0 where
+  pub rule : IsRule a r
+  pub always : r.conditions ≡ []
+  pub answer : r.answer.0 ≡ given
+
+module _ (p : Profile) (valid : IsProfile p) (from_zero : (row_of p.architecture).first ≡ 0) (s r : Rule)
+    (stub : IsConstant p.architecture s stub_answer) (foreign_rule : IsConstant p.architecture r kill)
+    {whole : List NrRange} (ranges : AreAllRanges p (s ∷ []) (r ∷ []) whole) where
+  abbrev always : r.conditions ≡ []
+  always = foreign_rule.always
+
   abbrev ss : List NrRange
   ss = ranges.first
 
-  abbrev laid : AreRangesOf p.architecture p.default_answer ss p.rules
+  abbrev laid : AreRangesOf p (s ∷ []) ss
   laid = ranges.laid
 
   abbrev last : ℕ
   last = (row_of p.architecture).last
 
   abbrev count : ℕ
-  count = length (numbers_of p.rules)
+  count = number_count p
 
-  -- the profile's rules for a number of its architecture, and else the one behind them
+  -- the rules for a number of the profile's architecture, and else the one behind them
   abbrev wanted : ℕ → List Rule
-  wanted nr = cond (leb nr last) (rules_of nr p.rules) (r ∷ [])
+  wanted nr = cond (leb nr last) (own_wanted p s nr) (r ∷ [])
 
-  within : (nr : ℕ) → nr ≤ last → wanted nr ≡ rules_of nr p.rules
+  within : (nr : ℕ) → nr ≤ last → wanted nr ≡ own_wanted p s nr
   within nr le = rw (le-leb nr last le) refl
 
   behind : (nr : ℕ) → last < nr → wanted nr ≡ r ∷ []
   behind nr lt = rw (lt-leb nr last lt) refl
 
-  own_served : AreServed p.default_answer wanted 0 ss (last + 1)
-  own_served =
-      rw from_zero at (served_as p.default_answer (λ nr. rules_of nr p.rules) wanted (row_of p.architecture).first
-      (last + 1) ss laid.serve (λ nr from below. sym (within nr (omega arith))))
+  ss_served : AreServed p.default_answer wanted 0 ss (last + 1)
+  ss_served =
+      rw from_zero at (served_as p.default_answer (own_wanted p s) wanted (row_of p.architecture).first (last + 1) ss
+      (own_served p s stub.always laid) (λ nr from below. sym (within nr (omega arith))))
 
   whole_served : AreServed p.default_answer wanted 0 whole (2 ^ 32)
   whole_served = elim (cases_lt (last + 1) (2 ^ 32)) [
-    | inl lt ↦ laid_served p.default_answer wanted 0 (2 ^ 32) (ranges.some (omega arith)) own_served lt
+    | inl lt ↦ laid_served p.default_answer wanted 0 (2 ^ 32) (ranges.some (omega arith)) ss_served lt
         (λ nr from below. rw (behind nr (omega arith)) (record { answers = λ a call. refl; small = omega arith }))
     | inr past ↦
         let end : last + 1 ≡ 2 ^ 32 = omega (arith, (reach p.architecture).small) in
-        rw (ranges.none (omega (arith, (reach p.architecture).small)), ← end) own_served
+        rw (ranges.none (omega (arith, (reach p.architecture).small)), ← end) ss_served
   ]
 
-  bounded : (length whole ≤ 2 + 2 * count) × (sum_by range_bound whole ≤ 6 + 4 * count + sum_by rule_bound p.rules)
+  bounded : (length whole ≤ 2 + 2 * count)
+      × (sum_by range_bound whole ≤ 6 + 4 * count + (sum_by rule_bound p.rules + 2 * stub_count p.stub))
   bounded = elim (cases_lt (last + 1) (2 ^ 32)) [
     | inl lt ↦
         let more = laid_few (ranges.some (omega arith)) in
         let bound = sum_by-cons rule_bound r [] in
         let conditions = ap (λ (l : List _). length l) always in
-        (omega (arith, laid.few), omega (arith, laid.small))
+        (omega (arith, own_bounded p s stub.always laid), omega (arith, own_bounded p s stub.always laid))
     | inr past ↦ rw (ranges.none (omega (arith, (reach p.architecture).small)))
-        (omega (arith, laid.few), omega (arith, laid.small))
+        (omega (arith, own_bounded p s stub.always laid), omega (arith, own_bounded p s stub.always laid))
   ]
 
-  whole_rules : (P : Rule → Type 0) → All P p.rules → P r → AllRules P whole
-  whole_rules P all its = elim (cases_lt (last + 1) (2 ^ 32)) [
-    | inl lt ↦ laid_rules P (ranges.some (omega arith)) (of_profile p valid ss laid P all)
+  whole_rules : (P : Rule → Type 0) → All P p.rules → P s → P r → AllRules P whole
+  whole_rules P all stubs its = elim (cases_lt (last + 1) (2 ^ 32)) [
+    | inl lt ↦ laid_rules P (ranges.some (omega arith)) (own_rules p s stub.always laid P all stubs)
         (All-cons P r [] its (λ k d lt. absurd (omega arith)))
-    | inr past ↦ rw (ranges.none (omega (arith, (reach p.architecture).small))) (of_profile p valid ss laid P all)
+    | inr past ↦ rw (ranges.none (omega (arith, (reach p.architecture).small)))
+        (own_rules p s stub.always laid P all stubs)
   ]
 
   pub whole_may_be_put : MayBePut p whole
   whole_may_be_put = record {
     some = some_served _ _ _ _ whole (omega arith) whole_served;
     few = omega (arith, bounded);
-    rules = whole_rules (IsRule p.architecture) (rules_valid p valid) rule;
+    rules = whole_rules (IsRule p.architecture) (rules_valid p valid) stub.rule foreign_rule.rule;
     small = omega (arith, bounded, size_small p valid);
   }
 
@@ -96,7 +108,7 @@ module _ (p : Profile) (valid : IsProfile p) (from_zero : (row_of p.architecture
       | inl same ↦ elim (cases_lt last call.nr) [
         | inr within ↦ absurd (other (record { arch = same; first = omega arith; last = within }))
         | inl past ↦
-            let answer : first_answer p.architecture call p.default_answer (r ∷ []) ≡ kill = rw always kills in
+            let answer : first_answer p.architecture call p.default_answer (r ∷ []) ≡ kill = rw always foreign_rule.answer in
             let bound = sum_by-cons rule_bound r [] in
             let conditions = ap (λ (l : List _). length l) always in
             let ends = rw answer at (rw (behind call.nr past) at (search_ends call fits)) in
@@ -114,10 +126,10 @@ module _ (p : Profile) (valid : IsProfile p) (from_zero : (row_of p.architecture
     answers call fits = elim (own_or_foreign p.architecture call) [
       | inl own ↦
           let ends = rw (within call.nr own.last) at (search_ends call fits) in record {
-            answer = first_answer p.architecture call p.default_answer (rules_of call.nr p.rules);
-            of_words = more (gated.own call _ _ fits own.arch ends) (omega (arith, sum_at_most p.rules call.nr));
-            of_profiles = by_profile p (0, omega arith, refl) own _
-                (rw (first_met p.architecture p.default_answer call p.rules) (profile_answers p call own _ refl));
+            answer = own_answer p call;
+            of_words = more (gated.own call _ _ fits own.arch (rw (own_first p s stub.always call stub.answer) at ends))
+                (omega (arith, own_steps p s stub.always call.nr));
+            of_profiles = by_profile p (0, omega arith, refl) own _ (own_answered p call own);
           }
       | inr other ↦ record {
         answer = kill;
@@ -132,8 +144,9 @@ module _ (p : Profile) (valid : IsProfile p) (from_zero : (row_of p.architecture
       some = gated.some;
       sized = omega (arith, gated.small, found.small, bounded, sum_by-cons size_bound_of p []);
       sound = λ asked is. gated.sound asked
-          (found.put.sound asked (λ e. whole_rules IsPlainRule (All-head IsPlainProfile p [] (is e)) plain) tt);
+          (found.put.sound asked (λ e. whole_rules IsPlainRule (All-head IsPlainProfile p [] (is e))
+          (plain s stub.always) (plain r always)) tt);
       answered = answers;
     } where
-      plain : IsPlainRule r
-      plain = record { conditions = rw always (λ k d lt. absurd (omega arith)) }
+      plain : (q : Rule) → q.conditions ≡ [] → IsPlainRule q
+      plain q none = record { conditions = rw none (λ k d lt. absurd (omega arith)) }

@@ -7,7 +7,7 @@ use Rattle.scf_insn.specs.Words.{IsRecord, words_of}
 use Rattle.scf_machine.specs.Machine.{IsRun}
 use Rattle.scf_profile.specs.Profile.{Profile}
 use Rattle.scf_profile.specs.RulesByNumber.{numbers_of, rules_of}
-use Rattle.scf_compile.specs.SizeBound.{rule_bound}
+use Rattle.scf_compile.specs.SizeBound.{number_count, rule_bound, stub_count}
 
 -- the binary digits of a number, of which no more than this many are counted
 abbrev pub digits_within : ℕ → ℕ → ℕ
@@ -24,11 +24,13 @@ greatest [] = 0
 greatest (n ∷ ns) = max n (greatest ns)
 
 -- the steps for the rules of a profile: 2 for each binary digit of the count of distinct numbers, and the greatest sum
--- over the rules of one number of 2 and 8 for each condition
+-- over the rules of one number of 2 and 8 for each condition; a stub counts as one number more, with a rule that has no
+-- condition
 abbrev pub rules_steps : Profile → ℕ
 rules_steps p =
-    2 * binary_digits (length (numbers_of p.rules))
-    + greatest (map (λ number. sum_by rule_bound (rules_of number p.rules)) (numbers_of p.rules))
+    2 * binary_digits (number_count p)
+    + max (2 * stub_count p.stub)
+    (greatest (map (λ number. sum_by rule_bound (rules_of number p.rules)) (numbers_of p.rules)))
 
 -- 8, and the steps for its rules
 abbrev pub search_bound_of : Profile → ℕ

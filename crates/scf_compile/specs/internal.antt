@@ -5,4 +5,5 @@ pub mod Placing
 pub mod Runs
 pub mod Sound
 pub mod Filters
+pub mod Values
 pub mod Dispatch

@@ -11,27 +11,28 @@ ghost use Rattle.scf_profile.specs.SameAnswers.{SameAnswers, SameAnswersAsEach};
 ghost use Rattle.scf_compile.specs.SearchBound.{AnswersWithin, search_bound_of, search_bound_of_each};
 ghost use Rattle.scf_compile.specs.SizeBound.{size_bound_of, size_bound_of_each};
 ghost use Rattle.scf_compile.specs.internal.Filters.{AreSearched, IsFilterOf, IsSearchPut, MayBePut, most_ranges};
-ghost use Rattle.scf_compile.specs.internal.NrRanges.{AreAllRanges, AreRangesOf};
+ghost use Rattle.scf_compile.specs.internal.NrRanges.{AreAllRanges, AreRangesOf, AreRangesOfRules, IsStubStart};
 
 use crate::dispatch::{Search, put_dispatch, put_only_gate};
 use crate::fault::CompileFault;
 use crate::insns::load_word;
 use crate::placing::Position;
-use crate::ranges::{NrRange, NrWeight, equal_weights, fill, range_weights, ranges_of};
-use crate::rules::foreign_rule;
+use crate::ranges::{NrRange, NrWeight, cut, equal_weights, fill, range_weights, ranges_of};
+use crate::rules::constant_rule;
 use crate::search::put_search;
+use crate::size::number_count;
 use scf_insn::kernel::BPF_MAXINSNS;
 use scf_insn::{Insn, Memory};
 use scf_machine::{CheckFault, Program, check};
-use scf_profile::{Profile, Profiles, Rule};
+use scf_profile::{FOREIGN_ANSWER, Profile, Profiles, Rule, STUB_ANSWER};
 use std::alloc::{AllocError, Global};
 use std::collections::VecDeque;
 
-/// The ranges of a profile's syscall numbers.
-fn own_ranges<'a>(alloc: Global, profile: &'a Profile) -> Result<Vec<NrRange<'a>>, AllocError>
+/// The ranges of a profile's syscall numbers, by its rules.
+fn rule_ranges<'a>(alloc: Global, profile: &'a Profile) -> Result<Vec<NrRange<'a>>, AllocError>
     ensures profile { IsProfile profile.now }
-    ensures ranges { IfOk result (λ ranges. AreRangesOf profile.now.architecture profile.now.default_answer ranges.items
-        profile.now.rules) }
+    ensures ranges { IfOk result (λ ranges. AreRangesOfRules profile.now.architecture profile.now.default_answer
+        ranges.items profile.now.rules) }
 {
     ranges_of(
         alloc,
@@ -39,6 +40,37 @@ fn own_ranges<'a>(alloc: Global, profile: &'a Profile) -> Result<Vec<NrRange<'a>
         profile.numbers(),
         profile.default_answer(),
     )
+}
+
+/// The first number of a profile's architecture that its stub answers; without one, the number behind the last.
+fn stub_start(profile: &Profile) -> u64
+    ensures { IsStubStart profile.now result }
+{
+    let (first, last) = (
+        profile.architecture().first(),
+        profile.architecture().last(),
+    );
+    match profile.stub() {
+        Some(stub) if stub <= last => u64::from(stub.max(first)),
+        _ => u64::from(last) + 1,
+    }
+}
+
+/// The ranges of a profile's syscall numbers: those of its rules, and from its stub on those of the stub's rules.
+fn own_ranges<'a>(
+    alloc: Global,
+    profile: &'a Profile,
+    stub: &'a [Rule],
+) -> Result<Vec<NrRange<'a>>, AllocError>
+    ensures profile { IsProfile profile.now }
+    ensures ranges { IfOk result (λ ranges. AreRangesOf profile.now stub.now ranges.items) }
+{
+    let mut ranges = rule_ranges(alloc, profile)?;
+    let start = stub_start(profile);
+    cut(&mut ranges, start);
+    let end = u64::from(profile.architecture().last()) + 1;
+    fill(&mut ranges, start, end, stub)?;
+    Ok(ranges)
 }
 
 /// Puts the binary search over ranges of a profile's rules, cut by weights of syscall numbers, in front of the code.
@@ -55,8 +87,8 @@ fn put_ranges(
         ranges.now code.old.items code.new.items) }
 {
     let weights = range_weights(alloc, ranges, weights)?;
-    // Two for each number with rules, its own and the gap in front of it, and two behind all of them.
-    let most = 2 * profile.numbers().len() + 2;
+    // Two for each number with rules, its own and the gap in front of it, as many for the stub, and two behind them.
+    let most = 2 * number_count(profile) + 2;
     let earlier = Position(code.len());
     let default = profile.default_answer();
     let index = put_search(
@@ -84,7 +116,8 @@ fn put_profile(
         → AreSearched (profile.now ∷ ps) code.new.items searches.new.items) }
     ensures small { OnOk result (length code.new.items ≤ length code.old.items + 2 ^ 18) }
 {
-    let ranges = own_ranges(alloc, profile)?;
+    let stub = constant_rule(alloc, profile.architecture(), STUB_ANSWER);
+    let ranges = own_ranges(alloc, profile, std::slice::from_ref(&stub))?;
     let weights = equal_weights(alloc, profile.numbers())?;
     let index = put_ranges(alloc, code, profile, &ranges, &weights)?;
     searches.push_front(Search {
@@ -113,13 +146,13 @@ fn searches_of(alloc: Global, profiles: &[Profile]) -> Result<(VecDeque<Insn>, V
 fn all_ranges<'a>(
     alloc: Global,
     profile: &'a Profile,
+    stub: &'a [Rule],
     others: &'a [Rule],
 ) -> Result<Vec<NrRange<'a>>, AllocError>
     ensures profile { IsProfile profile.now }
-    ensures ranges { IfOk result (λ ranges. AreAllRanges profile.now.architecture profile.now.default_answer
-        profile.now.rules others.now ranges.items) }
+    ensures ranges { IfOk result (λ ranges. AreAllRanges profile.now stub.now others.now ranges.items) }
 {
-    let mut ranges = own_ranges(alloc, profile)?;
+    let mut ranges = own_ranges(alloc, profile, stub)?;
     fill(
         &mut ranges,
         u64::from(profile.architecture().last()) + 1,
@@ -140,8 +173,14 @@ fn filter_of_one(
     ensures { IfOk result (λ code. IsFilterOf (profile.now ∷ []) code.items) }
 {
     let architecture = profile.architecture();
-    let foreign = foreign_rule(alloc, architecture);
-    let ranges = all_ranges(alloc, profile, std::slice::from_ref(&foreign))?;
+    let stub = constant_rule(alloc, architecture, STUB_ANSWER);
+    let foreign = constant_rule(alloc, architecture, FOREIGN_ANSWER);
+    let ranges = all_ranges(
+        alloc,
+        profile,
+        std::slice::from_ref(&stub),
+        std::slice::from_ref(&foreign),
+    )?;
     let mut code = VecDeque::new(alloc);
     put_ranges(alloc, &mut code, profile, &ranges, weights)?;
     put_only_gate(&mut code, architecture.audit())?;
@@ -203,9 +242,9 @@ fn program_of(alloc: Global, profiles: &[Profile]) -> Result<Program, CompileFau
 
 /// Compiles a profile to a filter that answers every call record as the profile does, in all 32 bits; also those of
 /// other architectures. Each run takes at most 8 steps, plus 2 for each binary digit of the count of distinct syscall
-/// numbers, plus, for the rules of one number, 2 for each rule and 8 for each condition. A plain profile gives a plain
-/// program. It has at most `size_bound` instructions. `TooLarge` comes only if that exceeds `BPF_MAXINSNS`, and
-/// `Memory` only if an allocation failed.
+/// numbers, plus, for the rules of one number, 2 for each rule and 8 for each condition; a stub counts as one more
+/// number, with one rule. A plain profile gives a plain program. It has at most `size_bound` instructions. `TooLarge`
+/// comes only if that exceeds `BPF_MAXINSNS`, and `Memory` only if an allocation failed.
 pub fn compile(alloc: Global, profile: &Profile) -> Result<Program, CompileFault>
     ensures same { IfOk result (λ program. SameAnswers (RunAnswers program) profile.now) }
     ensures searched { IfOk result (λ program. AnswersWithin program (search_bound_of profile.now)) }

@@ -11,6 +11,7 @@ mod ranges;
 mod rules;
 mod search;
 mod size;
+mod values;
 
 pub use compiler::{compile, compile_profiles};
 pub use fault::CompileFault;

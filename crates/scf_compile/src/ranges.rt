@@ -5,7 +5,7 @@ ghost use Rattle.scf_insn.specs.Architectures.{row_of};
 ghost use Rattle.scf_insn.specs.declared.answer.Answer.{Answer};
 ghost use Rattle.scf_profile.specs.declared.rule.Rule.{Rule};
 ghost use Rattle.scf_profile.specs.NumberRules.{AreNumbersOf};
-ghost use Rattle.scf_compile.specs.internal.NrRanges.{AreRangesOf, AreEffective, IsLaid, StandsFor};
+ghost use Rattle.scf_compile.specs.internal.NrRanges.{AreRangesOfRules, AreEffective, IsLaid, StandsFor, ranges_below};
 
 use scf_insn::{Answer, Architecture};
 use scf_profile::{NumberRules, Rule};
@@ -92,7 +92,7 @@ pub(crate) fn ranges_of<'a>(
     requires first { All (λ own. (row_of architecture).first ≤ own.number) numbers.now }
     requires last { All (λ own. own.number ≤ (row_of architecture).last) numbers.now }
     ensures { IfOk result (λ ranges. (rules : List Rule) → AreNumbersOf numbers.now rules
-        → AreRangesOf architecture default ranges.items rules) }
+        → AreRangesOfRules architecture default ranges.items rules) }
 {
     let mut ranges = Vec::new(alloc);
     let mut next = u64::from(architecture.first());
@@ -104,6 +104,13 @@ pub(crate) fn ranges_of<'a>(
     }
     fill(&mut ranges, next, u64::from(architecture.last()) + 1, &[])?;
     Ok(ranges)
+}
+
+/// Drops the ranges that begin at a number or above it.
+pub(crate) fn cut(ranges: &mut Vec<NrRange>, start: u64)
+    ensures { ranges.new.items ≡ ranges_below start ranges.old.items }
+{
+    ranges.retain(|range| u64::from(range.first) < start);
 }
 
 /// A weight of 1 for each number that has rules.

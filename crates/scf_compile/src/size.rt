@@ -1,9 +1,28 @@
 //! The size bounds of compiled filters.
 
 ghost use Rattle.std.specs.Prelude.{◌≡◌, ◌<◌, ◌^◌, min, sum_by};
-ghost use Rattle.scf_compile.specs.SizeBound.{rule_bound, size_bound_of, size_bound_of_each};
+ghost use Rattle.scf_compile.specs.SizeBound.{number_count, rule_bound, size_bound_of, size_bound_of_each, stub_count};
 
 use scf_profile::{Profile, Profiles, Rule};
+
+/// 1 for a profile with a stub, else 0.
+fn stub_count(profile: &Profile) -> usize
+    ensures { result ≡ stub_count profile.now.stub }
+{
+    match profile.stub() {
+        Some(_) => 1,
+        None => 0,
+    }
+}
+
+/// The count of distinct syscall numbers of a profile's rules. A stub counts as one more.
+#[tactic(auto, using(crate::proofs::Sizes::count_small, crate::proofs::Common::count_of_numbers))]
+pub(crate) fn number_count(profile: &Profile) -> usize
+    ensures count { result ≡ number_count profile.now }
+    ensures few { result < 2 ^ 32 }
+{
+    profile.numbers().len() + stub_count(profile)
+}
 
 /// 2 for each of the rules, and 8 for each of its conditions.
 fn bound_of_rules(rules: &[Rule]) -> u64
@@ -17,13 +36,14 @@ fn bound_of_rules(rules: &[Rule]) -> u64
 }
 
 /// The size bound of a profile's filter, in instructions: 8, plus 4 for each distinct syscall number, plus 2 for each
-/// rule, plus 8 for each condition. `compile` answers `TooLarge` only if this exceeds `BPF_MAXINSNS` (4096). Never
-/// allocates.
+/// rule, plus 8 for each condition; a stub counts as one more number, with one rule. `compile` answers `TooLarge` only
+/// if this exceeds `BPF_MAXINSNS` (4096). Never allocates.
 #[tactic(auto, using(crate::proofs::Sizes::size_small, crate::proofs::Common::count_of_numbers))]
 pub fn size_bound(profile: &Profile) -> u64
     ensures { result ≡ size_bound_of profile.now }
 {
-    8 + 4 * profile.numbers().len() as u64 + bound_of_rules(profile.rules())
+    let rules = bound_of_rules(profile.rules()) + 2 * stub_count(profile) as u64;
+    8 + 4 * number_count(profile) as u64 + rules
 }
 
 /// The size bound of the filter of several profiles, in instructions: the sum of their size bounds, or `u64::MAX` if

@@ -142,12 +142,25 @@ impl WordSet {
         ensures both { result ≡ Tell.Maybe → IsTrue (is_exact_set self.now)
             → SomeNumber self.now (λ x. answer_at atom x ≡ true) × SomeNumber self.now (λ x. answer_at atom x ≡ false) }
     {
+        if let Some(only) = self.only_value() {
+            return Tell::of(atom.answer(only));
+        }
         if self.excludes(atom, true) {
             Tell::Never
         } else if self.excludes(atom, false) {
             Tell::Always
         } else {
             Tell::Maybe
+        }
+    }
+
+    /// The only value that the intervals leave, if they leave just one.
+    fn only_value(&self) -> Option<u32>
+        ensures { IfSome result (λ only. EachNumber self.now (λ x. x ≡ only)) }
+    {
+        match self.intervals.as_slice() {
+            [only] if only.low == only.high => Some(only.low),
+            _ => None,
         }
     }
 

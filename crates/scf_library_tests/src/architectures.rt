@@ -12,7 +12,7 @@ const X86_64: &str = "read 0\npersonality 135\n";
 
 const I386: &str = "read 3\npersonality 136\n";
 
-const WORKED: &str = r#"{"defaultAction":"SCMP_ACT_ERRNO",
+pub(crate) const WORKED: &str = r#"{"defaultAction":"SCMP_ACT_ERRNO",
     "architectures":["SCMP_ARCH_X86_64","SCMP_ARCH_X86","SCMP_ARCH_X32","SCMP_ARCH_ARM"],"syscalls":[
     {"names":["read","waitpid"],"action":"SCMP_ACT_ALLOW"},
     {"names":["personality"],"action":"SCMP_ACT_ALLOW","args":[{"index":0,"value":8,"op":"SCMP_CMP_EQ"}]}]}"#;
@@ -28,7 +28,11 @@ const BEYOND: &str =
 const UNLISTED: &str = r#"{"defaultAction":"SCMP_ACT_ERRNO","architectures":[]}"#;
 
 /// What is loaded under the tables of x86-64, i386 and x32, of which x86-64's stands last.
-fn load_three(rt: &impl Abort, alloc: Global, text: &str) -> Result<LoadedProfiles, LoadFault> {
+pub(crate) fn load_three(
+    rt: &impl Abort,
+    alloc: Global,
+    text: &str,
+) -> Result<LoadedProfiles, LoadFault> {
     let names = table(alloc, X86_64).expect(rt, "no fault");
     let of_i386 = table(alloc, I386).expect(rt, "no fault");
     let tables = [

@@ -1,17 +1,18 @@
 //! Two sides beside each other: stacks of filters and profiles, on either side.
 
+use crate::architectures::{WORKED, load_three};
 use crate::fixtures::filters::{ALLOW_ALL, GATE, WITHOUT_READ, WITHOUT_WRITE};
 use crate::fixtures::kernel::{ALLOW, ERRNO_1, KILL_PROCESS};
 use crate::fixtures::profiles::{DEFAULT_ALLOW, ONE_CALL, READ_TABLE};
 use crate::fixtures::{holds_at, holds_of_both, profile_of, stack_of};
 use scf_compare::Relation::{NoLess, NoMore, Same};
-use scf_compare::Scope::{All, Call, Native};
+use scf_compare::Scope::{All, Call, Native, NumbersOf, Of};
 use scf_compare::Which::{Left, Right};
 use scf_compare::{
     Finding, Limit, Relation, Scope, Side, Which, compare_sides, compare_sides_within, effort_sides,
 };
 use scf_facts::WordSets;
-use scf_insn::{Answer, CallRecord};
+use scf_insn::{Answer, Architecture, CallRecord};
 use scf_machine::decide;
 use std::alloc::Global;
 use std::process::Abort;
@@ -124,6 +125,7 @@ fn answer_of(side: Side<'_>, call: &CallRecord) -> Answer {
     match side {
         Side::Stack(filters) => decide(filters, call),
         Side::Profile(profile) => profile.answer(call),
+        Side::Profiles(profiles) => profiles.answer(call),
     }
 }
 
@@ -224,4 +226,28 @@ fn profiles_beside_stacks_and_profiles(rt: HostRuntime) {
         (All, NoLess, Outcome::Holds),
     ];
     finds_each(&rt, alloc, left, Side::Profile(&one_call), of_profile);
+}
+
+/// The profiles of three architectures as one side, beside that of x86-64 alone, which kills the calls of the others.
+#[test]
+fn profiles_of_architectures(rt: HostRuntime) {
+    let alloc = rt.alloc();
+    let loaded = load_three(&rt, alloc, WORKED).expect(&rt, "no fault");
+    let profiles = loaded.profiles.as_slice();
+    assert!(rt; profiles.len() == 3);
+    let three = Side::Profiles(&loaded.profiles);
+    let first = Side::Profile(&profiles[0]);
+    let read_of_i386 = NumbersOf {
+        architecture: Architecture::X86,
+        first: 3,
+        last: 3,
+    };
+    let outcomes = &[
+        (Native, Same, Outcome::Holds),
+        (Of(Architecture::Arm), Same, Outcome::Holds),
+        (read_of_i386, Same, Outcome::Fails(ALLOW, KILL_PROCESS)),
+        (All, NoLess, Outcome::Holds),
+    ];
+    finds_each(&rt, alloc, three, first, outcomes);
+    finds_each(&rt, alloc, three, three, &[(All, Same, Outcome::Holds); 1]);
 }

@@ -79,12 +79,12 @@ fn bounds_of_many_rules(rt: HostRuntime) {
     assert!(rt; is_bound_of_rules(&rt, rt.alloc(), 4095, 8204));
 }
 
-/// As many rules of one number that test an argument for a value, and as many that test it for a greater one; and one
-/// of each for the number before it.
-fn tested(rt: &impl Abort, alloc: Global, equal: usize, greater: usize) -> Profile {
-    let is_one = r#"{"index":0,"value":1,"op":"SCMP_CMP_EQ"}"#;
+/// So many rules of one number that test an argument for another value than 5, and so many that test it for a greater
+/// one than 7; and one of each for the number before it.
+fn tested(rt: &impl Abort, alloc: Global, other: usize, greater: usize) -> Profile {
+    let is_other = r#"{"index":0,"value":5,"op":"SCMP_CMP_NE"}"#;
     let is_more = r#"{"index":0,"value":7,"op":"SCMP_CMP_GT"}"#;
-    let mut entries = entry(rt, alloc, "\"write\",", equal, is_one);
+    let mut entries = entry(rt, alloc, "\"write\",", other, is_other);
     let second = entry(rt, alloc, "\"write\",", greater, is_more);
     entries.push_str(",").expect(rt, "no fault");
     entries.push_str(second.as_str()).expect(rt, "no fault");
@@ -95,10 +95,10 @@ fn tested(rt: &impl Abort, alloc: Global, equal: usize, greater: usize) -> Profi
 const TESTED: &[(u32, u64, u32)] = &[
     (0, 1, ALLOW),
     (0, 8, ALLOW),
-    (0, 7, ERRNO_1),
+    (0, 5, ERRNO_1),
     (1, 1, ALLOW),
     (1, 8, ALLOW),
-    (1, 0, ERRNO_1),
+    (1, 5, ERRNO_1),
     (2, 1, ERRNO_1),
 ];
 
@@ -119,8 +119,8 @@ fn answers_each(rt: &impl Abort, program: &Program, rows: &[(u32, u64, u32)]) {
     }
 }
 
-/// The tests in front take 5 instructions, those of the two numbers 2 and 1, each test for a value 5 with its answer,
-/// each for a greater one 6, and the default answers 3.
+/// The tests in front take 5 instructions, those of the two numbers 2 and 1, each test for another value 5 with its
+/// answer, each for a greater one 6, and the default answers 3.
 #[test]
 fn largest_filter(rt: HostRuntime) {
     let profile = tested(&rt, rt.alloc(), 810, 4);

@@ -40,6 +40,8 @@ mod messages;
 #[cfg(test)]
 mod profile;
 #[cfg(test)]
+mod readings;
+#[cfg(test)]
 mod script;
 #[cfg(test)]
 mod streams;

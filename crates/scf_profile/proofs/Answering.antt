@@ -1,5 +1,5 @@
 -- A profile has an answer to every call, and one only.
-use Rattle.scf_profile.proofs.Common.{◌<◌, ◌≡◌, ◌≢◌, ℕ, suc, ◌⊎◌, Bool, true, false, cond, List, [], ◌∷◌, All, refl, Option, Some, None, sym, ap, arith, inl, inr, Contains, find, option_map_or, cases_eq, cases_lt, cases_order, both_ways, get_or, get_or_default, length, AreOfApart, ◌∙◌, All-contains, All-nil, All-cons, Answer, Architecture, CallRecord, IsOf, row_of, seccomp_ret_kill_process, IsRecord, Rule, meets, Conflicts, Profile, HaveNoConflict, ProfileAnswers, ProfilesAnswer, by_none, by_profile, foreign, by_rule, by_default}
+use Rattle.scf_profile.proofs.Common.{◌<◌, ◌≡◌, ◌≢◌, ℕ, suc, ◌⊎◌, Bool, true, false, cond, List, [], ◌∷◌, All, refl, Option, Some, None, sym, ap, arith, inl, inr, Contains, find, option_map_or, cases_eq, cases_lt, cases_order, both_ways, get_or, get_or_default, length, AreOfApart, ◌∙◌, All-contains, All-nil, All-cons, Answer, Architecture, CallRecord, IsOf, row_of, seccomp_ret_kill_process, IsRecord, Rule, meets, Conflicts, Profile, HaveNoConflict, ProfileAnswers, ProfilesAnswer, by_none, by_profile, foreign, by_stub, by_rule, by_default, is_stubbed, stub_answer, cases_Bool}
 
 pub conflicts_both_ways : (a : Architecture) (r s : Rule) → Conflicts a r s → Conflicts a s r
 conflicts_both_ways a r s h =
@@ -54,39 +54,70 @@ first_is_found a (r ∷ rs) call =
       one_more false unmet (Some s) h = ((suc h.0.0, omega (arith, h.0.1), h.0.2), h.1)
 
 -- the answer to a call of its architecture by the first rule that it meets
-pub answered : (p : Profile) (call : CallRecord) → IsOf p.architecture call → (found : Option Rule)
-    → found ≡ find (λ r. meets p.architecture r call) p.rules
+pub answered : (p : Profile) (call : CallRecord) → IsOf p.architecture call → is_stubbed p.stub call.nr ≡ false
+    → (found : Option Rule) → found ≡ find (λ r. meets p.architecture r call) p.rules
     → ProfileAnswers p call (option_map_or (λ (r : Rule). r.answer.0) found p.default_answer.0)
-answered p call native found is = by_found found (rw is (first_is_found p.architecture p.rules call)) where
+answered p call native unstubbed found is = by_found found (rw is (first_is_found p.architecture p.rules call)) where
   by_found : (o : Option Rule) → IsFound p.architecture p.rules call o
       → ProfileAnswers p call (option_map_or (λ (r : Rule). r.answer.0) o p.default_answer.0)
   by_found None none =
-      by_default native (λ r among. All-contains (λ s. meets p.architecture s call ≡ false) p.rules r none among)
-  by_found (Some r) h = by_rule r native h.0 h.1
+      by_default native unstubbed
+      (λ r among. All-contains (λ s. meets p.architecture s call ≡ false) p.rules r none among)
+  by_found (Some r) h = by_rule r native unstubbed h.0 h.1
 
 -- every call has an answer
 pub some_answer : (p : Profile) (call : CallRecord) → (answer : ℕ) × ProfileAnswers p call answer
 some_answer p call =
     elim (own_or_foreign p.architecture call) [
-      | inl native ↦ (_, answered p call native (find (λ r. meets p.architecture r call) p.rules) refl)
       | inr not_native ↦ (seccomp_ret_kill_process, foreign not_native)
+      | inl native ↦ elim (cases_Bool (is_stubbed p.stub call.nr)) [
+        | inl stubbed ↦ (stub_answer, by_stub native stubbed)
+        | inr unstubbed ↦ (_, answered p call native unstubbed (find (λ r. meets p.architecture r call) p.rules) refl)
+      ]
     ]
+
+-- ---- each way to an answer leads to one answer only
+
+module _ (p : Profile) (call : CallRecord) where
+  pub only_foreign : (IsOf p.architecture call → ⊥) → {a : ℕ} → ProfileAnswers p call a → a ≡ seccomp_ret_kill_process
+  only_foreign not_native (foreign h) = refl
+  only_foreign not_native (by_stub native stubbed) = absurd (not_native native)
+  only_foreign not_native (by_rule r native unstubbed among met) = absurd (not_native native)
+  only_foreign not_native (by_default native unstubbed unmet) = absurd (not_native native)
+
+  module _ (native : IsOf p.architecture call) where
+    pub only_stub : is_stubbed p.stub call.nr ≡ true → {a : ℕ} → ProfileAnswers p call a → a ≡ stub_answer
+    only_stub stubbed (foreign h) = absurd (h native)
+    only_stub stubbed (by_stub native_too stubbed_too) = refl
+    only_stub stubbed (by_rule r native_too unstubbed among met) = absurd (both_ways _ unstubbed stubbed)
+    only_stub stubbed (by_default native_too unstubbed unmet) = absurd (both_ways _ unstubbed stubbed)
+
+    module _ (unstubbed : is_stubbed p.stub call.nr ≡ false) where
+      pub only_default : ((r : Rule) → Contains p.rules r → meets p.architecture r call ≡ false) → {a : ℕ}
+          → ProfileAnswers p call a → a ≡ p.default_answer.0
+      only_default unmet (foreign h) = absurd (h native)
+      only_default unmet (by_stub native_too stubbed) = absurd (both_ways _ unstubbed stubbed)
+      only_default unmet (by_rule r native_too unstubbed_too among met) = absurd (both_ways _ (unmet r among) met)
+      only_default unmet (by_default native_too unstubbed_too unmet_too) = refl
+
+      pub only_rule : HaveNoConflict p.architecture p.rules → IsRecord call → (r : Rule) → Contains p.rules r
+          → meets p.architecture r call ≡ true → {a : ℕ} → ProfileAnswers p call a → a ≡ r.answer.0
+      only_rule none fits r among met (foreign h) = absurd (h native)
+      only_rule none fits r among met (by_stub native_too stubbed) = absurd (both_ways _ unstubbed stubbed)
+      only_rule none fits r among met (by_rule s native_too unstubbed_too among_too met_too) =
+          same_answer p.architecture s r call (none s r among_too among) fits met_too met
+      only_rule none fits r among met (by_default native_too unstubbed_too unmet) =
+          absurd (both_ways _ (unmet r among) met)
 
 -- where no two rules conflict, a call record has one answer only
 pub one_answer : (p : Profile) (call : CallRecord) → HaveNoConflict p.architecture p.rules → IsRecord call → {a b : ℕ}
     → ProfileAnswers p call a → ProfileAnswers p call b → a ≡ b
-one_answer p call none fits (foreign h) (foreign k) = refl
-one_answer p call none fits (foreign h) (by_rule s native among met) = absurd (h native)
-one_answer p call none fits (foreign h) (by_default native unmet) = absurd (h native)
-one_answer p call none fits (by_rule r native among met) (foreign k) = absurd (k native)
-one_answer p call none fits (by_rule r native among met) (by_rule s native_too among_too met_too) =
-    same_answer p.architecture r s call (none r s among among_too) fits met met_too
-one_answer p call none fits (by_rule r native among met) (by_default native_too unmet) =
-    absurd (both_ways _ (unmet r among) met)
-one_answer p call none fits (by_default native unmet) (foreign k) = absurd (k native)
-one_answer p call none fits (by_default native unmet) (by_rule s native_too among met) =
-    absurd (both_ways _ (unmet s among) met)
-one_answer p call none fits (by_default native unmet) (by_default native_too unmet_too) = refl
+one_answer p call none fits (foreign h) other = sym (only_foreign p call h other)
+one_answer p call none fits (by_stub native stubbed) other = sym (only_stub p call native stubbed other)
+one_answer p call none fits (by_rule r native unstubbed among met) other =
+    sym (only_rule p call native unstubbed none fits r among met other)
+one_answer p call none fits (by_default native unstubbed unmet) other =
+    sym (only_default p call native unstubbed unmet other)
 
 -- ---- several profiles
 

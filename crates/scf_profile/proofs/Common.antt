@@ -5,12 +5,13 @@ pub use Rattle.serde_json.specs.Events.{items_len, members_len}
 pub use Rattle.serde_json.specs.Find.{as_str}
 pub use Rattle.serde_json.specs.View.{items_view, members_view, view}
 pub use Rattle.serde_json.specs.declared.value.Value.{Value}
-pub use Rattle.std.proofs.lemmas.Bool.{both_ways, cases_Bool, cases_order, false≢true, le-leb, le-ltb, not_from_false, or_parts}
+pub use Rattle.std.proofs.lemmas.Bool.{both_ways, cases_Bool, cases_order, false_from_ne_true, false≢true, le-leb, le-ltb, not_from_false, or_parts}
 pub use Rattle.std.proofs.lemmas.Bool.Decides.{Decides-eqb}
 pub use Rattle.std.proofs.lemmas.Cmp.{nat_cmp_total}
 pub use Rattle.std.proofs.lemmas.Iterator.{YieldsList-from_slice, cases_from_all}
 pub use Rattle.std.proofs.lemmas.Iterator.Search.{all_from_yields_List, any_from_yields_List, true_from_All}
 pub use Rattle.std.proofs.lemmas.List.{get_or_default, get_or-map, get_or-take, get_or_past, length-map, length-take, map-append}
+pub use Rattle.std.proofs.lemmas.List.Edits.{map_over_more}
 pub use Rattle.std.proofs.lemmas.List.Elements.{All-append, All-cons, All-contains, All-contains_itself, All-filter, All-from_recursion, All-head, All-map, All-more, All-nil, All-push, All-same, All-tail, All-weaker, Contains-append_right, Contains-get_or, filter-append, filter_map-append, filter_passes, recursion_from_All}
 pub use Rattle.std.proofs.lemmas.List.Concat.{flat_map-cons}
 pub use Rattle.std.proofs.lemmas.List.Folds.{list_all-map, list_any-append}
@@ -61,16 +62,17 @@ pub use Rattle.scf_profile.specs.Names.{named, names_of}
 pub use Rattle.scf_profile.specs.NumberRules.{AreNumbersOf}
 pub use Rattle.scf_profile.specs.PlainProfile.{IsPlainCondition, IsPlainProfile, IsPlainRule}
 pub use Rattle.scf_profile.specs.Profile.{Profile as Answering, AreOfApart, HaveNoConflict, IsNative, IsProfile, Profile}
-pub use Rattle.scf_profile.specs.ProfileAnswers.{ProfileAnswers, ProfilesAnswer, by_none, by_profile, by_default, by_rule, foreign}
+pub use Rattle.scf_profile.specs.ProfileAnswers.{ProfileAnswers, ProfilesAnswer, by_none, by_profile, by_default, by_rule, by_stub, foreign}
 pub use Rattle.scf_profile.specs.Readings.{alternatives, compares_nothing, conditions_read, has_repeated_index, effective_profile, effective_rules, first_unconditional, is_effective, is_unconditional}
 pub use Rattle.scf_profile.specs.Reasons.{IsAnswerOf, IsReason, entries_met}
 pub use Rattle.scf_profile.specs.References.{texts_at}
 pub use Rattle.scf_profile.specs.Rule.{AreConditions, Conflicts, HaveDistinctIndices, IsCondition, IsRule, all_hold, meets}
 pub use Rattle.scf_profile.specs.RulesByNumber.{numbers_of, rules_of}
 pub use Rattle.scf_profile.specs.SameAnswers.{AnswersRelated, SameAnswers}
-pub use Rattle.scf_profile.specs.StatedProfile.{Head, Tables, is_named, rules_by_each, rules_of_entry, profile_for, listed_names, own_architecture, other_names, profiles_from, rules_from, rules_named, skipped_names, strings_of, table_for, tables_of}
+pub use Rattle.scf_profile.specs.StatedProfile.{Head, Tables, is_named, rules_by_each, rules_of_entry, profile_for, listed_names, own_architecture, other_names, profiles_from, rules_from, rules_named, skipped_names, strings_of, table_for, tables_of, with_stub}
 unfoldable pub use Rattle.scf_profile.specs.StatedProfile.{answer_in, condition_of, condition_of as condition_stated, entry_of, errno_of, no_engine_form, all_listed, entries_of, head_of, profile_of, profiles_of, seccomp_of}
 pub use Rattle.scf_profile.specs.Steps.{◌>>=◌}
+pub use Rattle.scf_profile.specs.Stub.{is_stubbed, stub_answer}
 pub use Rattle.scf_profile.specs.Table.{AreCallNumbers, BeginWithCall, Names, entry_in, fields, is_separator, is_in_name, is_call_name, table_of, with_entry}
 unfoldable pub use Rattle.scf_profile.specs.Table.{with_lines}
 pub use Rattle.scf_profile.specs.declared.condition.Condition.{Condition}
@@ -85,7 +87,7 @@ pub use Rattle.scf_profile.specs.declared.number_rules.NumberRules.{NumberRules}
 pub use Rattle.scf_profile.specs.declared.number_set.NumberSet.TheVariants.{Masked}
 pub use Rattle.scf_profile.specs.declared.reading.Reading.{Reading}
 pub use Rattle.scf_profile.specs.declared.reason.Reason.{Reason}
-pub use Rattle.scf_profile.specs.declared.reason.Reason.TheVariants.{Default, Entry, Foreign}
+pub use Rattle.scf_profile.specs.declared.reason.Reason.TheVariants.{Default, Entry, Foreign, Stub}
 pub use Rattle.scf_profile.specs.declared.rule.Rule.{Rule}
 pub use Rattle.scf_profile.specs.declared.table_fault.TableFault.{TableFault}
 pub use Rattle.scf_profile.specs.internal.Clashes.{IsBoundedBy, IsClashBounded, IsClashOf, IsLeastClash}

@@ -1,6 +1,6 @@
 -- The reason of an answer.
-use Rattle.scf_profile.proofs.Common.{◌≡◌, ℕ, zero, suc, ◌≤◌, ◌<◌, inl, inr, true, List, [], ◌∷◌, Some, refl, ap, arith, min, All, length, Contains, filter, fold, reduce, AllByRecursion, Architecture, cases_lt, both_ways, length-map, All-from_recursion, CallRecord, IsRecord, Reason, Foreign, Entry, Default, Rule, meets, Profile, HaveNoConflict, ProfileAnswers, foreign, by_rule, by_default, entries_met, IsReason, IsAnswerOf}
-use Rattle.scf_profile.proofs.Answering.{same_answer}
+use Rattle.scf_profile.proofs.Common.{◌≡◌, ℕ, zero, suc, ◌≤◌, ◌<◌, inl, inr, List, [], ◌∷◌, Some, refl, ap, arith, min, All, length, Contains, filter, fold, reduce, AllByRecursion, Architecture, cases_lt, false, false_from_ne_true, length-map, All-from_recursion, CallRecord, IsRecord, Reason, Foreign, Stub, Entry, Default, Rule, meets, Profile, HaveNoConflict, ProfileAnswers, entries_met, IsReason, IsAnswerOf}
+use Rattle.scf_profile.proofs.Answering.{only_default, only_foreign, only_rule, only_stub}
 use Rattle.scf_profile.proofs.Numbers.{contains_filtered}
 
 least_of_fold : (n : ℕ) (numbers : List ℕ) → Contains (n ∷ numbers) (fold min n numbers)
@@ -27,27 +27,23 @@ least_of (n ∷ numbers) least e =
     let found = least_of_fold n numbers in
     rw (← same) (found.0, All-from_recursion (λ other. fold min n numbers ≤ other) (n ∷ numbers) found.1)
 
--- a rule that is met has its entry among those that are
-met_by_none : (a : Architecture) (rules : List Rule) (call : CallRecord) (r : Rule) → entries_met a rules call ≡ []
-    → Contains rules r → meets a r call ≡ true → ⊥
-met_by_none a rules call r none has met =
+-- where no entry has a rule that is met, no rule is
+unmet_by_none : (a : Architecture) (rules : List Rule) (call : CallRecord) → entries_met a rules call ≡ []
+    → (r : Rule) → Contains rules r → meets a r call ≡ false
+unmet_by_none a rules call none r has = false_from_ne_true _ (λ met.
     let among = contains_filtered (λ s. meets a s call) rules r met has in
     let inside : among.0 < length (filter (λ s. meets a s call) rules) = among.1 in
     let empty = simp length-map at (ap length none) in
-    omega arith
+    omega arith)
 
 -- the answer is that of its reason
-pub answer_of_reason : (p : Profile) (call : CallRecord) (reason : Reason) (answer : ℕ) → HaveNoConflict p.architecture p.rules
-    → IsRecord call → IsReason p call reason → ProfileAnswers p call answer → IsAnswerOf p call reason answer
-answer_of_reason p call Foreign answer none fits reason (foreign h) = refl
-answer_of_reason p call Foreign answer none fits reason (by_rule s native has met) = absurd (reason native)
-answer_of_reason p call Foreign answer none fits reason (by_default native no_rule) = absurd (reason native)
-answer_of_reason p call (Entry index) answer none fits reason (foreign h) = absurd (h reason.0)
-answer_of_reason p call (Entry index) answer none fits reason (by_rule s native has_too met_too) =
-    λ r has stated met. same_answer p.architecture s r call (none s r has_too has) fits met_too met
-answer_of_reason p call (Entry index) answer none fits reason (by_default native no_rule) =
-    λ r has stated met. absurd (both_ways _ (no_rule r has) met)
-answer_of_reason p call Default answer none fits reason (foreign h) = absurd (h reason.0)
-answer_of_reason p call Default answer none fits reason (by_rule s native has met) =
-    absurd (met_by_none p.architecture p.rules call s reason.1 has met)
-answer_of_reason p call Default answer none fits reason (by_default native no_rule) = refl
+pub answer_of_reason : (p : Profile) (call : CallRecord) (reason : Reason) (answer : ℕ)
+    → HaveNoConflict p.architecture p.rules → IsRecord call → IsReason p call reason → ProfileAnswers p call answer
+    → IsAnswerOf p call reason answer
+answer_of_reason p call Foreign answer none fits reason answered = only_foreign p call reason answered
+answer_of_reason p call Stub answer none fits reason answered = only_stub p call reason.0 reason.1 answered
+answer_of_reason p call (Entry index) answer none fits reason answered =
+    λ r has stated met. only_rule p call reason.0 reason.1 none fits r has met answered
+answer_of_reason p call Default answer none fits reason answered =
+    only_default p call reason.0 reason.1
+    (unmet_by_none p.architecture p.rules call reason.2) answered

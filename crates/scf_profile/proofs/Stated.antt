@@ -1,5 +1,5 @@
 -- Profiles that are stated one after another.
-use Rattle.scf_profile.proofs.Common.{◌≡◌, ℕ, ◌+◌, ◌<◌, ◌∙◌, Bool, true, false, ◌||◌, List, [], ◌∷◌, ◌++◌, Option, Some, None, All, option_map, cons_option, filter_map, list_any, map, drop, get_or, length, ltb, refl, arith, add-one, drop-cons, le-ltb, length-map, get_or-map, map-append, append_assoc, list_any-append, false≢true, AllPairs-cons, All-head, All-tail, All-contains, All-cons, All-nil, AllByRecursion, Contains-append_right, Answer, Architecture, AreApart, AreOfApart, X8664, Profile, HaveNoConflict, LoadFault, AreStatedRules, TellsOneTooMany, max_rules, architectures, profile_for, profiles_from, table_for, Tables, Names, stated_profile, effective_of, effective_rules, Reading, NamesLeastConflict, NamesFirstConflict, rules_from}
+use Rattle.scf_profile.proofs.Common.{◌≡◌, ℕ, ◌+◌, ◌<◌, ◌∙◌, Bool, true, false, ◌||◌, List, [], ◌∷◌, ◌++◌, Option, Some, None, All, option_map, cons_option, filter_map, list_any, map, drop, get_or, length, ltb, refl, arith, add-one, drop-cons, le-ltb, length-map, get_or-map, map-append, append_assoc, list_any-append, false≢true, AllPairs-cons, All-head, All-tail, All-contains, All-cons, All-nil, AllByRecursion, Contains-append_right, Answer, Architecture, AreApart, AreOfApart, X8664, Profile, HaveNoConflict, LoadFault, AreStatedRules, TellsOneTooMany, max_rules, architectures, profile_for, profiles_from, table_for, Tables, Names, stated_profile, effective_of, effective_rules, Reading, NamesLeastConflict, NamesFirstConflict, rules_from, with_stub, is_named, row_of, cond}
 use Rattle.scf_insn.proofs.Architectures.{EachApart, each_apart}
 use Rattle.scf_profile.specs.declared.entry.Entry.{Entry}
 use Rattle.scf_profile.specs.declared.load_fault.LoadFault.TheVariants as faults
@@ -76,7 +76,7 @@ none_too_many default (s ∷ stated) all =
 module _ (out : Option Answer) (tables : Tables) (default : Answer) (entries : List Entry) where
   abbrev profile_of : Architecture → Names → Profile
   profile_of a table =
-      record { architecture = a; default_answer = default; rules = rules_from out a table 0 entries }
+      record { architecture = a; default_answer = default; rules = rules_from out a table 0 entries; stub = None }
 
   later_apart : (a : Architecture) (all : List Architecture) → AllByRecursion (AreApart a) all
       → All (λ p. AreApart a p.architecture) (filter_map (profile_for out tables default entries) all)
@@ -104,18 +104,27 @@ module _ (out : Option Answer) (tables : Tables) (default : Answer) (entries : L
   pub profiles_apart : AreOfApart (profiles_from out tables default entries)
   profiles_apart = all_apart architectures each_apart
 
--- what a reading changes of profiles leaves them apart
-pub effective_apart : (reading : Reading) (default : Answer) (stated : List StatedRules)
-    → AreOfApart (map (stated_profile default) stated) → AreOfApart (map (effective_of reading default) stated)
-effective_apart reading default [] apart i j d lt within = absurd (omega arith)
-effective_apart reading default (s ∷ stated) apart i j d lt within =
-    let all = s ∷ stated in
-    let f = effective_of reading default in
-    let g = stated_profile default in
-    let inside : j < length all = rw (length-map all f) at within in
-    let held = apart i j (g s) lt (rw (length-map all g) inside) in
-    rw (get_or-map f all i s d (omega (arith, lt, inside)), get_or-map f all j s d inside)
-    (rw (get_or-map g all i s (g s) (omega (arith, lt, inside)), get_or-map g all j s (g s) inside) at held)
+-- what leaves profiles their architectures leaves them apart
+pub still_apart : (change : Profile → Profile) (profiles : List Profile)
+    → ((p : Profile) → (change p).architecture ≡ p.architecture) → AreOfApart profiles
+    → AreOfApart (map change profiles)
+still_apart change profiles same apart i j d lt within =
+    let inside : j < length profiles = rw (length-map profiles change) at within in
+    let before : i < length profiles = omega (arith, lt, inside) in
+    rw (
+      get_or-map change profiles i d d before,
+      get_or-map change profiles j d d inside,
+      same (get_or profiles i d),
+      same (get_or profiles j d),
+    )
+    (apart i j d lt inside)
+
+pub with_stub_keeps_architecture : (a : Architecture) (first : Option ℕ) (p : Profile)
+    → (with_stub a first p).architecture ≡ p.architecture
+with_stub_keeps_architecture a first p = keeps (is_named (row_of a).name p.architecture) where
+  keeps : (b : Bool) → (cond b (record p { stub = first }) p).architecture ≡ p.architecture
+  keeps true = refl
+  keeps false = refl
 
 -- ---- conflicts of one profile after another
 

@@ -195,7 +195,7 @@ have_no_conflict a rules stated none r s has_r has_s conflict =
 
 pub profile_of_rules : (a : Architecture) (default_answer : Answer) (rules : List Rule) → default_answer.0 < 2 ^ 32
     → AreStatedRules a rules → ((first second number : ℕ) → EntriesConflict a rules first second number → ⊥)
-    → IsProfile (record { architecture = a; default_answer = default_answer; rules = rules })
+    → IsProfile (record { architecture = a; default_answer = default_answer; rules = rules; stub = None })
 profile_of_rules a default_answer rules fits stated none =
     record {
       default_answer = fits;

@@ -20,5 +20,6 @@ pub mod SameAnswers
 pub mod Scope
 pub mod StatedProfile
 pub mod Steps
+pub mod Stub
 pub mod Table
 pub mod internal

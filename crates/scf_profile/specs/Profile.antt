@@ -1,5 +1,5 @@
 -- What a profile holds.
-use Rattle.std.specs.Prelude.{◌<◌, ◌≤◌, ◌^◌, List, length, AllPairs, Contains}
+use Rattle.std.specs.Prelude.{◌<◌, ◌≤◌, ◌^◌, ℕ, List, Option, length, AllPairs, Contains}
 use Rattle.std.specs.List.{AllByRecursion}
 use Rattle.scf_insn.specs.declared.answer.Answer.{Answer}
 use Rattle.scf_insn.specs.Architectures.{AreApart, IsOf}
@@ -10,11 +10,12 @@ use Rattle.scf_profile.specs.declared.rule.Rule.{Rule}
 use Rattle.scf_profile.specs.Limits.{max_rules}
 use Rattle.scf_profile.specs.Rule.{Conflicts, IsRule}
 
--- an architecture, a default answer, and rules in the order of the text
+-- an architecture, a default answer, rules in the order of the text, and the first number of the stub, if it has one
 pub record Profile : Type 0 where
   pub architecture : Architecture
   pub default_answer : Answer
   pub rules : List Rule
+  pub stub : Option ℕ
 
 -- no call record of the architecture meets two rules that answer it differently
 abbrev pub HaveNoConflict : Architecture → List Rule → Type 0

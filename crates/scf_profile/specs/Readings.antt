@@ -82,8 +82,4 @@ effective_rules Strict architecture rules = rules
 effective_rules reading architecture rules = filter (is_effective architecture rules) rules
 
 abbrev pub effective_profile : Reading → Profile → Profile
-effective_profile reading p = record {
-  architecture = p.architecture;
-  default_answer = p.default_answer;
-  rules = effective_rules reading p.architecture p.rules;
-}
+effective_profile reading p = record p { rules = effective_rules reading p.architecture p.rules }

@@ -222,6 +222,7 @@ profile_for left_out tables default_answer entries architecture = option_map (λ
   architecture = architecture;
   default_answer = default_answer;
   rules = rules_from left_out architecture table 0 entries;
+  stub = None;
 }) (table_for tables architecture)
 
 -- those of all architectures, in their order
@@ -266,6 +267,7 @@ profile_of reading table root = do
       architecture = X8664;
       default_answer = head.default_answer;
       rules = rules_from (left_out reading head.default_answer) X8664 table 0 entries;
+      stub = None;
     });
     skipped = skipped_names ((X8664, table) ∷ []) entries;
     other_architectures = other_names ((X8664, table) ∷ []) head.architectures;
@@ -287,3 +289,10 @@ profiles_of reading tables root = do
     skipped = skipped_names tables entries;
     other_architectures = other_names tables head.architectures;
   })
+
+-- ---- the stub, which no text states
+
+-- the profile with this stub, if it is of the architecture
+abbrev pub with_stub : Architecture → Option ℕ → Profile → Profile
+with_stub architecture first p =
+    if is_named (row_of architecture).name p.architecture then record p { stub = first } else p

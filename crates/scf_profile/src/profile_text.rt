@@ -56,7 +56,7 @@ fn parse(alloc: Global, text: &[u8]) -> Result<Value, LoadFault>
     }
 }
 
-/// What stands before the test of the architectures.
+/// The members that are read before the architectures are checked.
 #[derive(Drop)]
 struct Head<'v> {
     object: &'v Value,

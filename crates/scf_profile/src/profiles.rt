@@ -1,14 +1,15 @@
 //! The profiles of several architectures.
 
-ghost use Rattle.std.specs.Prelude.{◌≡◌, Contains, IfNone, IfSome};
+ghost use Rattle.std.specs.Prelude.{◌≡◌, map, Contains, IfNone, IfSome};
 ghost use Rattle.scf_insn.specs.Architectures.{IsOf};
 ghost use Rattle.scf_profile.specs.Profile.{AreOfApart};
 ghost use Rattle.scf_profile.specs.ProfileAnswers.{IsOfNone, ProfilesAnswer};
 ghost use Rattle.scf_profile.specs.Reasons.{IsReasonAmong};
+ghost use Rattle.scf_profile.specs.StatedProfile.{with_stub as stated_with_stub};
 
 use crate::profile::{FOREIGN_ANSWER, Profile};
 use crate::reason::Reason;
-use scf_insn::{Answer, CallRecord};
+use scf_insn::{Answer, Architecture, CallRecord};
 use std::marker::Model;
 
 /// Profiles of several architectures, one for each. No record is of two of them.
@@ -35,6 +36,13 @@ impl Profiles {
         ensures { result ≡ list.items }
     {
         Profiles { list }
+    }
+
+    /// The profiles, of which that of an architecture, if there is one, has a stub, or none (`Profile::with_stub`).
+    pub fn with_stub(self, architecture: Architecture, first: Option<u32>) -> Profiles
+        ensures { result ≡ map (stated_with_stub architecture first) self }
+    {
+        Profiles::from_vec(all_with_stub(self.list, architecture, first))
     }
 
     /// The profile of the record's architecture, if there is one.
@@ -80,4 +88,18 @@ impl Profiles {
     {
         &self.list
     }
+}
+
+/// The profiles, of which those of an architecture have a stub, or none.
+fn all_with_stub(
+    mut profiles: Vec<Profile>,
+    architecture: Architecture,
+    first: Option<u32>,
+) -> Vec<Profile>
+    ensures { result.items ≡ map (stated_with_stub architecture first) profiles.items }
+{
+    for profile in profiles.iter_mut() {
+        profile.set_stub(architecture, first);
+    }
+    profiles
 }

@@ -19,7 +19,7 @@ pub enum Relation {
 }
 
 impl Relation {
-    /// Whether it holds of the answers of the left and the right side.
+    /// Whether the relation holds of the answers of the left and the right side.
     pub fn relates(self, left: Answer, right: Answer) -> bool
         ensures { IsTrue result ↔ IsRelated self left.0 right.0 }
     {

@@ -1,14 +1,9 @@
-//! The comparison of a stack of filters with another one: the printed lines, the faults of either stack, and readers
-//! that fail.
+//! The comparison of a stack of filters with another one, and of two profiles: the printed lines, and the faults of
+//! either side.
 
-use crate::fixtures::ALLOW_ALL;
-use crate::parts::{ALLOW, NO_TABLE, Part, WITHOUT_WRITE, bundle, filter_of, long_filter};
+use crate::fixtures::{ALLOW_ALL, DEFAULT_ALLOW, ONE_CALL, READ_TABLE};
+use crate::parts::{ALL, ALLOW, NO_TABLE, Part, WITHOUT_WRITE, add, bundle, long_filter};
 use crate::runs::run;
-use scf_compare::{Relation, Scope};
-use scf_insn::ReadFault;
-use scf_insn::faults::{Failing, Reader};
-use scf_machine::PushFault;
-use scf_tool::{BesideFault, Comparison, Limits, Scopes, VerifyFault, verify_beside};
 use std::alloc::Global;
 use std::process::Abort;
 
@@ -31,6 +26,18 @@ const ENOSYS: &str = "ret #0x50026";
 /// One that allows everything, since three times a word, less that word three times, is 0: few splits don't show it.
 const ZERO: &str =
     "ld [16]; tax; mul #3; sub x; sub x; sub x; jeq #0, 0, 1; ret #0x7fff0000; ret #0";
+
+/// The table of the profiles.
+const READ: Part = Part::Table(READ_TABLE);
+
+/// A profile of two architectures that allows everything, and one that denies `write`; each has a name that is skipped.
+const BOTH_ALLOWED: &str =
+    r#"{"defaultAction":"SCMP_ACT_ALLOW","architectures":["SCMP_ARCH_X86_64","SCMP_ARCH_X86"],
+    "syscalls":[{"names":["gone"],"action":"SCMP_ACT_ERRNO"}]}"#;
+
+const BOTH_DENIED: &str =
+    r#"{"defaultAction":"SCMP_ACT_ALLOW","architectures":["SCMP_ARCH_X86_64","SCMP_ARCH_X86"],
+    "syscalls":[{"names":["lost","write"],"action":"SCMP_ACT_ERRNO"}]}"#;
 
 /// Two that allow where a masked word is at least 5, told by different tests.
 const FROM_FIVE: &str = "ld [16]; and #0xff; jge #5, 0, 1; ret #0x7fff0000; ret #0x50001";
@@ -205,6 +212,111 @@ const ROWS: &[Row] = &[
         end: "",
         status: 1,
     },
+    // A profile and another one beside it: over all records, by a relation, call by call, for several architectures.
+    Row {
+        words: &["scf", "compare"],
+        parts: &[Part::BesideProfile(ONE_CALL), READ, Part::Profile(ONE_CALL)],
+        begin: "same\n",
+        end: "same\n",
+        status: 0,
+    },
+    Row {
+        words: &["scf", "compare"],
+        parts: &[
+            Part::Profile(ONE_CALL),
+            Part::BesideProfile(DEFAULT_ALLOW),
+            READ,
+        ],
+        begin: "differs\ncall nr ",
+        end: "\nprofile ERRNO 1\nbeside ALLOW 0\n",
+        status: 1,
+    },
+    Row {
+        words: &["scf", "compare", "--no-more", "--native"],
+        parts: &[
+            Part::Profile(ONE_CALL),
+            Part::BesideProfile(DEFAULT_ALLOW),
+            READ,
+        ],
+        begin: "no more\n",
+        end: "no more\n",
+        status: 0,
+    },
+    Row {
+        words: &["scf", "compare", "--no-less"],
+        parts: &[
+            Part::Profile(ONE_CALL),
+            Part::BesideProfile(DEFAULT_ALLOW),
+            READ,
+        ],
+        begin: "less\ncall nr ",
+        end: "\nprofile ERRNO 1\nbeside ALLOW 0\n",
+        status: 1,
+    },
+    Row {
+        words: &["scf", "compare", "--calls"],
+        parts: &[
+            Part::Profile(DEFAULT_ALLOW),
+            Part::BesideProfile(ONE_CALL),
+            Part::Table("write 1\nread 0\n"),
+        ],
+        begin: "differs\n1 write differs args ",
+        end: " profile ALLOW 0 beside ERRNO 1\n",
+        status: 1,
+    },
+    Row {
+        words: &["scf", "compare", "--architectures"],
+        parts: &[
+            Part::Profile(BOTH_ALLOWED),
+            Part::BesideProfile(BOTH_DENIED),
+            READ,
+            Part::TableX86("write 4\n"),
+        ],
+        begin: "differs\ncall nr 4 arch 0x40000003 ",
+        end: "\nprofile ALLOW 0\nbeside ERRNO 1\nskipped gone\nbeside-skipped lost\n",
+        status: 1,
+    },
+    Row {
+        words: &["scf", "compare", "--architectures", "--nr-to", "3"],
+        parts: &[
+            Part::Profile(BOTH_ALLOWED),
+            Part::BesideProfile(BOTH_DENIED),
+            READ,
+            Part::TableX86("write 4\n"),
+        ],
+        begin: "same\nskipped gone\nbeside-skipped lost\n",
+        end: "same\nskipped gone\nbeside-skipped lost\n",
+        status: 0,
+    },
+    // Faults of either profile, and other parts.
+    Row {
+        words: &["scf", "compare"],
+        parts: &[Part::BesideProfile("["), Part::Profile("["), READ],
+        begin: "fault profile Json\n",
+        end: "",
+        status: 1,
+    },
+    Row {
+        words: &["scf", "compare"],
+        parts: &[Part::BesideProfile("["), ALL, READ],
+        begin: "fault beside Json\n",
+        end: "",
+        status: 1,
+    },
+    Row {
+        words: &["scf", "compare"],
+        parts: &[ALLOW, ALL, Part::BesideProfile(ONE_CALL), READ],
+        begin: "fault bundle Parts\n",
+        end: "",
+        status: 3,
+    },
+    Row {
+        words: &["scf", "compile"],
+        parts: &[ALL, Part::BesideProfile(ONE_CALL), READ],
+        begin: "fault bundle Parts\n",
+        end: "",
+        status: 3,
+    },
     // Options that exclude each other.
     Row {
         words: &["scf", "compare", "--beside", "--calls", "--nr-from", "1"],
@@ -248,98 +360,31 @@ fn printed_lines(rt: HostRuntime) {
     }
 }
 
-/// Why the stacks of these filters aren't compared over all records in so many steps.
-fn fault_of(
-    alloc: Global,
-    filters: &mut [Reader<'_>],
-    beside: &mut [Reader<'_>],
-    steps: u64,
-) -> Option<BesideFault> {
-    let mut no_tables: [Reader<'_>; 0] = [];
-    let comparison = Comparison {
-        limits: Limits {
-            each: steps,
-            total: steps,
-            splits: 0,
-        },
-        scopes: Scopes::AtOnce(Scope::All),
-        relation: Relation::Same,
-    };
-    verify_beside(alloc, filters, beside, &mut no_tables, comparison).err()
-}
-
-/// What two readers on each side come to, of which one fails.
-fn found(alloc: Global, filter: &[u8], failing: &[Failing; 4]) -> (Option<BesideFault>, [u64; 4]) {
-    let [first, second, third, fourth] = failing;
-    let mut filters = [
-        Reader::new(filter, 1, *first),
-        Reader::new(filter, 1, *second),
-    ];
-    let mut beside = [
-        Reader::new(filter, 1, *third),
-        Reader::new(filter, 1, *fourth),
-    ];
-    let found = fault_of(alloc, &mut filters, &mut beside, 1_000);
-    let [first, second] = &filters;
-    let [third, fourth] = &beside;
-    (
-        found,
-        [first.asks(), second.asks(), third.asks(), fourth.asks()],
-    )
-}
-
-/// The readers of both stacks fail at an index after so many bytes: those before it were read to their ends, and none
-/// behind it is asked.
-fn fail_reader(rt: &impl Abort, alloc: Global, filter: &[u8], index: usize, share: usize) {
-    let mut failing = [Failing::Never; 4];
-    *failing.get_mut(index).expect(rt, "a reader") = Failing::After(share);
-    let (found, asks) = found(alloc, filter, &failing);
-    let fault = VerifyFault::FilterRead(ReadFault::Read);
-    let wanted = if index < 2 {
-        BesideFault::Verify(fault)
-    } else {
-        BesideFault::Beside(fault)
-    };
-    assert!(rt; found == Some(wanted), "{index} after {share}");
-    for (at, count) in asks.iter().enumerate() {
-        let is_so = (*count > 0) == (at <= index);
-        assert!(rt; is_so, "{index} after {share}: {asks:?}");
-    }
-}
-
-#[test]
-fn failing_readers_of_both_stacks(rt: HostRuntime) {
-    let filter = filter_of(&rt, rt.alloc(), "ret a");
-    for index in 0..4 {
-        for share in 0..=filter.len() {
-            fail_reader(&rt, rt.alloc(), &filter, index, share);
-        }
-    }
-}
-
-/// So many readers of a filter.
-fn readers_of<'a>(
+/// The bundle of so many filters of a stack and so many beside them, all the same.
+fn bundle_of_stacks(
     rt: &impl Abort,
     alloc: Global,
-    filter: &'a [u8],
+    filter: &[u8],
     count: usize,
-) -> Vec<Reader<'a>> {
-    let mut readers = Vec::new(alloc);
+    beside: usize,
+) -> Vec<u8> {
+    let mut bundle = Vec::new(alloc);
     for _ in 0..count {
-        readers
-            .push(Reader::new(filter, usize::MAX, Failing::Never))
-            .expect(rt, "no fault");
+        add(rt, alloc, &mut bundle, "filter", filter);
     }
-    readers
+    for _ in 0..beside {
+        add(rt, alloc, &mut bundle, "beside", filter);
+    }
+    bundle
 }
 
 /// Each side has its own room: seven of these filters fit on either, and the eighth is refused of its own side.
 #[test]
 fn room_of_each_side(rt: HostRuntime) {
     let filter = long_filter(&rt, rt.alloc(), 4095);
-    let mut filters = readers_of(&rt, rt.alloc(), &filter, 7);
-    let mut beside = readers_of(&rt, rt.alloc(), &filter, 8);
-    let fault = VerifyFault::Stack(PushFault::TooMany { total: 32796 });
-    let found = fault_of(rt.alloc(), &mut filters, &mut beside, 1);
-    assert!(rt; found == Some(BesideFault::Beside(fault)));
+    let bundle = bundle_of_stacks(&rt, rt.alloc(), &filter, 7, 8);
+    let words = ["scf", "compare", "--beside"];
+    let ended = run(rt.alloc(), &words, &bundle, usize::MAX);
+    let is_so = ended.is(b"fault beside TooMany total 32796\n", 1, 0);
+    assert!(rt; is_so, "{ended:?}");
 }

@@ -1,46 +1,18 @@
-//! The comparison of a stack of filters with a profile, call by call, from their bytes: its verdicts, and its faults,
-//! which are those of the comparison of the whole stack.
+//! The comparison of a stack of filters with a profile: what is printed call by call, and the faults of one from
+//! readers.
 
-use crate::fixtures::{ALLOW, DEFAULT_ALLOW, ERRNO, ERRNO_1, READ_TABLE, X86_64, are};
-use crate::parts::{filter_of, long_filter};
+use crate::fixtures::{DEFAULT_ALLOW, READ_TABLE};
+use crate::parts::{add, filter_of, long_filter};
+use crate::runs::run;
 use crate::verification::failing_at;
-use scf_compare::{Finding, Relation, Scope};
+use scf_compare::Scope;
 use scf_insn::faults::{Failing, Reader};
-use scf_insn::{Answer, InputFault, ReadFault};
+use scf_insn::{InputFault, ReadFault};
 use scf_machine::{CheckFault, PushFault};
 use scf_profile::{LoadFault, TableFault};
-use scf_tool::{
-    CallFinding, Comparison, ComparisonOutcome, Findings, Limits, Scopes, VerifyFault, verify_by,
-    verify_stack,
-};
+use scf_tool::{VerifyFault, verify_stack};
 use std::alloc::Global;
 use std::process::Abort;
-
-/// What is wanted of a call.
-#[derive(Clone, Copy, Debug)]
-enum Wanted {
-    Same,
-    /// A record of the call, which the stack and the profile answer so.
-    Differs(u32, u32),
-    /// An index of one of the filters.
-    Undecided(&'static [usize]),
-    Unfinished,
-}
-
-fn is_wanted(told: &CallFinding, wanted: Wanted) -> bool {
-    match (told.finding, wanted) {
-        (Finding::Holds { .. }, Wanted::Same) => true,
-        (Finding::Fails { call, left, right }, Wanted::Differs(of_stack, of_profile)) => {
-            call.nr == told.number
-                && call.arch == X86_64
-                && left == Answer(of_stack)
-                && right == Answer(of_profile)
-        }
-        (Finding::Undecided { at, .. }, Wanted::Undecided(indices)) => indices.contains(&at),
-        (Finding::Unfinished, Wanted::Unfinished) => true,
-        _ => false,
-    }
-}
 
 /// One call is answered behind more than 64 steps, one by a difference that is always 0, which few splits don't show,
 /// and one by an errno; the others are allowed. Their numbers are 1, 2 and 3, and 7, 6 and 5.
@@ -62,153 +34,107 @@ const PROFILE: &str =
     r#"{"defaultAction":"SCMP_ACT_ALLOW","architectures":["SCMP_ARCH_X86_64","SCMP_ARCH_X86"],
     "syscalls":[{"names":["c","gone"],"action":"SCMP_ACT_ERRNO"}]}"#;
 
-/// A number of the table, its names, and what is wanted with ample steps and with 64.
-type Call = (u32, &'static [&'static str], Wanted, Wanted);
-
-const CALLS: &[Call] = &[
-    (0, &["same"], Wanted::Same, Wanted::Same),
-    (1, &["a"], Wanted::Same, Wanted::Unfinished),
-    // The one filter comes to its `ret #0` at 14, and the other to its last return.
-    (
-        2,
-        &["b"],
-        Wanted::Undecided(&[14, 3]),
-        Wanted::Undecided(&[14, 3]),
-    ),
-    (3, &["c"], Wanted::Same, Wanted::Same),
-    (
-        4,
-        &["e"],
-        Wanted::Differs(ERRNO | 9, ALLOW),
-        Wanted::Differs(ERRNO | 9, ALLOW),
-    ),
-    (
-        5,
-        &["five", "two"],
-        Wanted::Differs(ERRNO_1, ALLOW),
-        Wanted::Differs(ERRNO_1, ALLOW),
-    ),
-];
-
 /// The bytes of an older and a newer filter, of a table and of a profile.
 fn given<'a>(older: &'a [u8], newer: &'a [u8], table: &'a str, profile: &'a str) -> [&'a [u8]; 4] {
     [older, newer, table.as_bytes(), profile.as_bytes()]
 }
 
-/// A comparison call by call, in so many steps for each call and as many as are wanted for all together, and in few
-/// splits.
-fn each(limit: u64) -> Comparison {
-    Comparison {
-        limits: Limits {
-            each: limit,
-            total: u64::MAX,
-            splits: 5,
-        },
-        scopes: Scopes::EachCall,
-        relation: Relation::Same,
-    }
+/// The bundle of an older and a newer filter, a table and a profile.
+fn bundle_of_two(rt: &impl Abort, alloc: Global) -> Vec<u8> {
+    let mut bundle = Vec::new(alloc);
+    add(
+        rt,
+        alloc,
+        &mut bundle,
+        "filter",
+        &filter_of(rt, alloc, MIXED),
+    );
+    add(
+        rt,
+        alloc,
+        &mut bundle,
+        "filter",
+        &filter_of(rt, alloc, NEWER),
+    );
+    add(rt, alloc, &mut bundle, "table", TABLE.as_bytes());
+    add(rt, alloc, &mut bundle, "profile", PROFILE.as_bytes());
+    bundle
 }
 
-/// What an older and a newer filter, a table and a profile come to, call by call.
-fn verified(
-    alloc: Global,
-    given: &[&[u8]; 4],
-    limit: u64,
-) -> Result<ComparisonOutcome, VerifyFault> {
-    let [older, newer, table, profile] = given;
-    let mut filters = [
-        Reader::new(*older, 1, Failing::Never),
-        Reader::new(*newer, 1, Failing::Never),
-    ];
-    let mut table = Reader::new(*table, 1, Failing::Never);
-    let mut profile = Reader::new(*profile, 1, Failing::Never);
-    verify_by(alloc, &mut filters, &mut profile, &mut table, each(limit))
+/// How a line of what is printed begins and ends.
+#[derive(Clone, Copy)]
+struct Line {
+    begin: &'static str,
+    end: &'static str,
 }
 
-/// Whether this is told of a call of the table.
-fn is_told(told: &CallFinding, call: &Call, is_ample: bool) -> bool {
-    let (number, names, ample, few) = call;
-    let wanted = if is_ample { *ample } else { *few };
-    told.number == *number && are(told.names.as_slice(), names) && is_wanted(told, wanted)
+fn line_of(begin: &'static str, end: &'static str) -> Line {
+    Line { begin, end }
 }
 
-/// That the verdict at an index is that on a call.
-fn tells(rt: &impl Abort, told: &[CallFinding], index: usize, call: &Call, is_ample: bool) {
-    let told = told.get(index).expect(rt, "a verdict");
-    let is_so = is_told(told, call, is_ample);
-    assert!(rt; is_so, "{told:?}, {is_ample}");
+/// What is printed in ample steps, and in 64 for each call, where the first call with a line is unfinished.
+fn lines_within(is_ample: bool) -> [Line; 7] {
+    let first = if is_ample { "" } else { "1 a unfinished" };
+    [
+        line_of("differs", "differs"),
+        line_of(first, first),
+        line_of("2 b undecided at ", ""),
+        line_of("4 e differs args ", " filter ERRNO 9 profile ALLOW 0"),
+        line_of(
+            "5 five,two differs args ",
+            " filter ERRNO 1 profile ALLOW 0",
+        ),
+        line_of("skipped gone", "skipped gone"),
+        line_of("other SCMP_ARCH_X86", "other SCMP_ARCH_X86"),
+    ]
 }
 
-/// That these are the verdicts on the calls of the table.
-fn tells_of_each(rt: &impl Abort, told: &[CallFinding], is_ample: bool) {
-    for (index, call) in calls().iter().enumerate() {
-        tells(rt, told, index, call, is_ample);
-    }
-}
-
-fn calls() -> &'static [Call] {
-    CALLS
-}
-
-/// The findings on calls.
-fn calls_of(outcome: &ComparisonOutcome) -> &[CallFinding] {
-    match &outcome.findings {
-        Findings::AtOnce(_) => &[],
-        Findings::EachCall(calls) => calls,
-    }
-}
-
-/// Whether each call of the table is there, and the names and architectures that are left out.
-fn is_whole(outcome: &ComparisonOutcome) -> bool {
-    match &outcome.left_out {
-        Some(own) => {
-            calls_of(outcome).len() == calls().len()
-                && are(own.skipped.as_slice(), &["gone"])
-                && are(own.other_architectures.as_slice(), &["SCMP_ARCH_X86"])
+/// That the text has these lines, one behind the other.
+fn has_lines(rt: &impl Abort, text: &str, is_ample: bool) {
+    let mut printed = text.lines();
+    for line in &lines_within(is_ample) {
+        if line.begin.is_empty() {
+            continue;
         }
-        None => false,
+        let own = printed.next().expect(rt, "a line");
+        let is_so = own.starts_with(line.begin) && own.ends_with(line.end);
+        assert!(rt; is_so, "{own}");
     }
+    assert!(rt; printed.next().is_none(), "{text}");
 }
 
-/// What is told within ample steps, or within 64.
-fn verdicts_within(rt: &impl Abort, alloc: Global, given: &[&[u8]; 4], is_ample: bool) {
-    let limit = if is_ample { 1_000_000 } else { 64 };
-    let outcome = verified(alloc, given, limit).expect(rt, "no fault");
-    assert!(rt; is_whole(&outcome));
-    tells_of_each(rt, calls_of(&outcome), is_ample);
+/// What is printed within so many steps for each call, and few splits.
+fn prints_calls(rt: &impl Abort, alloc: Global, limit: &str, is_ample: bool) {
+    let most = "18446744073709551615";
+    let words = [
+        "scf",
+        "compare",
+        "--calls",
+        "--splits",
+        "5",
+        "--total-limit",
+        most,
+        "--limit",
+        limit,
+    ];
+    let ended = run(alloc, &words, &bundle_of_two(rt, alloc), usize::MAX);
+    assert!(rt; ended.status == 1, "{ended:?}");
+    let text = str::from_utf8(ended.text()).expect(rt, "UTF-8");
+    has_lines(rt, text, is_ample);
 }
 
 #[test]
-fn verdict_of_each_call(rt: HostRuntime) {
-    let older = filter_of(&rt, rt.alloc(), MIXED);
-    let newer = filter_of(&rt, rt.alloc(), NEWER);
-    let given = given(&older, &newer, TABLE, PROFILE);
-    verdicts_within(&rt, rt.alloc(), &given, true);
-    verdicts_within(&rt, rt.alloc(), &given, false);
+fn lines_of_each_call(rt: HostRuntime) {
+    prints_calls(&rt, rt.alloc(), "1000000", true);
+    prints_calls(&rt, rt.alloc(), "64", false);
 }
 
-/// The fault of a comparison by calls, or of the whole stack.
-fn fault_by(
-    alloc: Global,
-    filters: &mut [Reader<'_>],
-    table: &mut Reader<'_>,
-    profile: &mut Reader<'_>,
-    by_calls: bool,
-) -> Option<VerifyFault> {
-    if by_calls {
-        verify_by(alloc, filters, profile, table, each(1_000)).err()
-    } else {
-        verify_stack(alloc, filters, profile, table, Scope::All, 1_000).err()
-    }
-}
-
-/// The fault of a comparison by calls, or of the whole stack, and how often each reader was asked: those of an older
-/// and a newer filter, of a table and of a profile, which fail there.
+/// The fault of a comparison, and how often each reader was asked: those of an older and a newer filter, of a table and
+/// of a profile, which fail there.
 fn fault_of(
     alloc: Global,
     given: &[&[u8]; 4],
     failing: &[Failing; 4],
-    by_calls: bool,
 ) -> (Option<VerifyFault>, [u64; 4]) {
     let [older, newer, table, profile] = given;
     let [of_older, of_newer, of_table, of_profile] = failing;
@@ -218,7 +144,15 @@ fn fault_of(
     ];
     let mut table = Reader::new(*table, 1, *of_table);
     let mut profile = Reader::new(*profile, 1, *of_profile);
-    let fault = fault_by(alloc, &mut filters, &mut table, &mut profile, by_calls);
+    let fault = verify_stack(
+        alloc,
+        &mut filters,
+        &mut profile,
+        &mut table,
+        Scope::All,
+        1_000,
+    )
+    .err();
     let [older, newer] = &filters;
     (
         fault,
@@ -226,7 +160,7 @@ fn fault_of(
     )
 }
 
-/// That both comparisons answer this fault, and ask the readers as often.
+/// That a comparison answers this fault. The answer is how often the readers were asked.
 fn is_fault(
     rt: &impl Abort,
     alloc: Global,
@@ -234,10 +168,8 @@ fn is_fault(
     failing: &[Failing; 4],
     wanted: VerifyFault,
 ) -> [u64; 4] {
-    let (fault, asks) = fault_of(alloc, given, failing, true);
-    let (fault_of_stack, asks_of_stack) = fault_of(alloc, given, failing, false);
-    let are_wanted = fault == Some(wanted) && fault_of_stack == Some(wanted);
-    assert!(rt; are_wanted && asks_of_stack == asks, "{wanted:?}");
+    let (fault, asks) = fault_of(alloc, given, failing);
+    assert!(rt; fault == Some(wanted), "{wanted:?}");
     asks
 }
 
@@ -351,7 +283,7 @@ fn nine_readers<'a>(rt: &impl Abort, alloc: Global, filter: &'a [u8]) -> Vec<Rea
 fn are_too_many(rt: &impl Abort, alloc: Global, filters: &mut [Reader<'_>], total: usize) {
     let mut table = Reader::new(b"read", 1, Failing::Never);
     let mut profile = Reader::new(b"[", 1, Failing::Never);
-    let answer = verify_by(alloc, filters, &mut profile, &mut table, each(1_000));
+    let answer = verify_stack(alloc, filters, &mut profile, &mut table, Scope::All, 1_000);
     let wanted = VerifyFault::Stack(PushFault::TooMany { total });
     assert!(rt; answer.err() == Some(wanted));
     assert!(rt; (table.asks(), profile.asks()) == (0, 0));

@@ -1,5 +1,5 @@
 -- Parts of a bundle: one list of them at most is spelled, and a fault stands where none is.
-use Rattle.scf_request.proofs.Common.{◌≡◌, ◌≢◌, ℕ, zero, suc, get_or, Option, ◌+◌, ◌-◌, ◌<◌, ◌≤◌, List, [], ◌∷◌, ◌++◌, length, take, drop, refl, sym, ap, ◌∙◌, append_assoc, append-nil, arith, length-append, length-drop, append_cancel_left, take_all, take-append-drop, length-take-le, take-append_seam, take-add, IfNone, Part, BundleFault, Header, Short, Memory, IsHeader, PartKind, Contains, IsBundlePart, SpellsParts, IsPartFault, AreNoParts, kind_word, profile_kinds}
+use Rattle.scf_request.proofs.Common.{◌≡◌, ◌≢◌, ℕ, zero, suc, get_or, Option, ◌+◌, ◌-◌, ◌<◌, ◌≤◌, List, [], ◌∷◌, ◌++◌, length, take, drop, refl, sym, ap, ◌∙◌, append_assoc, append-nil, arith, length-append, length-drop, append_cancel_left, take_all, take-append-drop, length-take-le, take-append_seam, take-add, IfNone, Part, BundleFault, Header, Short, Memory, IsHeader, PartKind, Contains, IsBundlePart, SpellsParts, IsPartFault, AreNoParts, kind_word, split_kinds}
 use Rattle.scf_request.proofs.HeaderLemmas.{same_header, header_some}
 
 same_front : (a b r s : List ℕ) → length a ≡ length b → a ++ r ≡ b ++ s → a ≡ b
@@ -29,8 +29,8 @@ tail o bs = take_all (length bs - o) (drop o bs) (omega (arith, length-drop o bs
 abbrev pub AreToldApart : List PartKind → Type 0
 AreToldApart kinds = (k l : PartKind) → Contains kinds k → Contains kinds l → kind_word k ≡ kind_word l → k ≡ l
 
-pub profile_kinds_told_apart : AreToldApart profile_kinds
-profile_kinds_told_apart k l of_k of_l same = grind arith
+pub split_kinds_told_apart : AreToldApart split_kinds
+split_kinds_told_apart k l of_k of_l same = grind arith
 
 module _ (kinds : List PartKind) where
   -- ---- one part

@@ -28,19 +28,19 @@ pub use Rattle.scf_insn.specs.declared.architecture.Architecture.{Architecture}
 pub use Rattle.scf_insn.specs.declared.architecture.Architecture.TheVariants.{X8664, X86, X32, Aarch64, Arm}
 pub use Rattle.scf_insn.specs.declared.number.NumeralFault.{NumeralFault}
 pub use Rattle.scf_profile.proofs.Common.{All-contains, All-more, IfOk-weaker, err_from_is_err_and, false≢true, filter_map-append, map-append, option_map_or, nat_tests}
-pub use Rattle.scf_request.specs.Bundle.{AreNoParts, HasHeader, IsBundlePart, IsHeader, IsPartFault, SpellsParts, architecture_of, content_of, contents_of, is_of, kind_word, profile_kinds, contents_of_tables}
+pub use Rattle.scf_request.specs.Bundle.{AreNoParts, HasHeader, Held, IsBundlePart, IsHeader, IsPartFault, SpellsParts, content_of, contents_by, contents_of, held_of, is_beside, is_beside_profile, is_filter, is_profile, kind_word, split_kinds, stub_architecture, table_architecture}
 pub use Rattle.scf_request.specs.Options.{NumberOption, choice_in, first_wrong, chosen_of, is_given, number_by, number_in, one_of}
 pub use Rattle.scf_request.specs.Requests.{Command as Asked, command_word}
 pub use Rattle.scf_request.specs.Requests.Command.{Answers, Ask, Asm, Check, Compare, Compile, Decide, Dis, Run}
-pub use Rattle.scf_request.specs.CommandLine.{option_rule, scf, scf_shape, shape_for, shape_with}
+pub use Rattle.scf_request.specs.CommandLine.{option_rule, profile_shape, scf, scf_shape, shape_for, shape_with}
 pub use Rattle.scf_request.specs.declared.bundle.BundleFault.{BundleFault}
 pub use Rattle.scf_request.specs.declared.bundle.BundleFault.TheVariants.{Header, Memory, Short}
 pub use Rattle.scf_request.specs.declared.bundle.Part.{Part}
 pub use Rattle.scf_request.specs.declared.bundle.PartKind.{PartKind}
-pub use Rattle.scf_request.specs.declared.bundle.PartKind.TheVariants.{Beside, Filter, Profile, Table, TableOf}
+pub use Rattle.scf_request.specs.declared.bundle.PartKind.TheVariants.{Beside, BesideProfile, Filter, Profile, StubOf, Table, TableOf}
 pub use Rattle.scf_request.specs.declared.options.NumberOption.{NumberOption as Kept}
-pub use Rattle.scf_request.specs.Contents.{of_architectures, of_kind, rest_of_table, texts_for}
-pub use Rattle.scf_request.specs.declared.contents.Contents.{Contents}
-pub use Rattle.scf_profile.specs.StatedProfile.{is_named}
-pub use Rattle.scf_request.specs.internal.Contents.{HasAdded, with_one, with_table}
+pub use Rattle.scf_request.specs.Contents.{held_by, rest_of_table}
+pub use Rattle.scf_request.specs.declared.contents.PartReader.{PartReader}
+pub use Rattle.scf_request.specs.declared.contents.TableReader.{TableReader}
+pub use Rattle.scf_request.specs.internal.Contents.{with_part}
 pub use Rattle.scf_request.specs.internal.Parsing.{MakesNamed, ReadsAsProgram, flags_in, option_of, options_kept, scf_with}

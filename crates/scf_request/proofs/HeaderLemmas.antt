@@ -1,5 +1,5 @@
 -- A header ends at the first line end, so bytes begin with at most one.
-use Rattle.scf_request.proofs.Common.{nat_tests, ◌≡◌, ◌≢◌, ℕ, zero, suc, ◌+◌, ◌<◌, ◌≤◌, ◌^◌, true, List, [], ◌∷◌, ◌++◌, not, eqb, length, get_or, take, drop, codes, Option, Some, Err, refl, sym, ap, ◌∙◌, append_assoc, arith, length-append, list_all, MatchOption, list_all-append, is_digit, digits_value, AllDigits, and_from, and_parts, ltb-true, ne_eqb, cond_some, append_cancel_left, append_cancel_right, drop_more, take-append-drop, digits_value-lt, pow-le-pow_right, numeral, ReadsNumber, NumeralFault, PartKind, Beside, Filter, Profile, Table, TableOf, Architecture, X8664, X86, X32, Aarch64, Arm, row_of, kind_word, IsHeader, HasHeader}
+use Rattle.scf_request.proofs.Common.{nat_tests, ◌≡◌, ◌≢◌, ℕ, zero, suc, ◌+◌, ◌<◌, ◌≤◌, ◌^◌, true, List, [], ◌∷◌, ◌++◌, not, eqb, length, get_or, take, drop, Bor, codes, Option, None, Some, Err, refl, sym, ap, ◌∙◌, append_assoc, arith, length-append, list_all, MatchOption, list_all-append, is_digit, digits_value, AllDigits, and_from, and_parts, ltb-true, ne_eqb, cond_some, append_cancel_left, append_cancel_right, drop_more, take-append-drop, digits_value-lt, pow-le-pow_right, numeral, ReadsNumber, NumeralFault, PartKind, Beside, BesideProfile, Filter, Profile, StubOf, Table, TableOf, Architecture, X8664, X86, X32, Aarch64, Arm, row_of, kind_word, IsHeader, HasHeader}
 
 -- ---- the digits of a header
 
@@ -43,13 +43,23 @@ part_has_no X32 = (refl, refl)
 part_has_no Aarch64 = (refl, refl)
 part_has_no Arm = (refl, refl)
 
+stub_has_no : (architecture : Architecture)
+    → IsLine (kind_word (StubOf architecture)) × HasNo 32 (kind_word (StubOf architecture))
+stub_has_no X8664 = (refl, refl)
+stub_has_no X86 = (refl, refl)
+stub_has_no X32 = (refl, refl)
+stub_has_no Aarch64 = (refl, refl)
+stub_has_no Arm = (refl, refl)
+
 -- a kind's word has no line end and no blank
 word_has_no : (kind : PartKind) → IsLine (kind_word kind) × HasNo 32 (kind_word kind)
 word_has_no Filter = (refl, refl)
 word_has_no Profile = (refl, refl)
 word_has_no Table = (refl, refl)
 word_has_no Beside = (refl, refl)
+word_has_no BesideProfile = (refl, refl)
 word_has_no (TableOf architecture) = part_has_no architecture
+word_has_no (StubOf architecture) = stub_has_no architecture
 
 header_is_line : (kind : PartKind) (digits : List ℕ) (n : ℕ) → IsCount digits n
     → IsLine (kind_word kind ++ (codes " " ++ digits))
@@ -134,6 +144,21 @@ header_by_line bs k n end inside here before found =
 pub after_both : (line word first digits : List ℕ) (whole : line ≡ word ++ first) → first ≡ codes " " ++ digits
     → line ≡ word ++ (codes " " ++ digits)
 after_both line word first digits whole rest = rw whole (ap (λ (xs : List ℕ). word ++ xs) rest)
+
+-- a word in two parts, of which a line begins with neither or with both
+pub no_first : (line first second rest : List ℕ) → ((behind : List ℕ) → line ≢ first ++ behind)
+    → line ≢ (first ++ second) ++ rest
+no_first line first second rest none is = none (second ++ rest) (is ∙ append_assoc first second rest)
+
+pub behind_both : (line first second : List ℕ) (behind : List ℕ) (found : Option (Bor (List ℕ)))
+    → line ≡ first ++ behind
+    → MatchOption found ((rest : List ℕ) → behind ≢ second ++ rest) (λ rest. behind ≡ second ++ rest.now)
+    → MatchOption found ((rest : List ℕ) → line ≢ (first ++ second) ++ rest)
+    (λ rest. line ≡ (first ++ second) ++ rest.now)
+behind_both line first second behind None is none = λ rest whole.
+    none rest (append_cancel_left first behind (second ++ rest) (sym is ∙ whole ∙ append_assoc first second rest))
+behind_both line first second behind (Some found) is rest =
+    is ∙ ap (λ (xs : List ℕ). first ++ xs) rest ∙ sym (append_assoc first second found.now)
 
 pub no_count : (ds : List ℕ) (n : ℕ) (e : NumeralFault) → ReadsNumber (numeral 10 ds) (Err e) → IsCount ds n → ⊥
 no_count ds n e h1 h2 = grind (arith, count_is_small)

@@ -1,10 +1,10 @@
 -- Scopes that have records.
-use Rattle.scf_request.proofs.Common.{◌≡◌, ℕ, ◌<◌, ◌≤◌, ◌^◌, true, List, [], ◌∷◌, refl, arith, Architecture, X8664, X86, X32, Aarch64, Arm, row_of}
+use Rattle.scf_request.proofs.Common.{ℕ, ◌<◌, ◌≤◌, ◌^◌, List, [], ◌∷◌, refl, arith, Architecture, X8664, X86, X32, Aarch64, Arm, row_of}
 use Rattle.std.proofs.Common.{IsTrue, leb, min}
 use Rattle.std.proofs.lemmas.Bool.{leb-true, le-leb}
 use Rattle.scf_insn.proofs.Architectures.{reach}
 use Rattle.scf_insn.proofs.CallWords.{IsRecord-call_of}
-use Rattle.scf_insn.specs.Words.{IsRecord, IsWords, call_of}
+use Rattle.scf_insn.specs.Words.{IsWords, call_of}
 use Rattle.scf_profile.specs.Scope.{IsInScope}
 use Rattle.scf_profile.specs.declared.scope.Scope.TheVariants.{Numbers, NumbersOf}
 use Rattle.scf_request.specs.Requests.{HasRecord}

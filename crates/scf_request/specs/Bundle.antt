@@ -4,34 +4,45 @@ use Rattle.std.specs.List.{filter_map}
 use Rattle.scf_insn.specs.Architectures.{architectures, row_of}
 use Rattle.scf_insn.specs.Numbers.{numeral}
 use Rattle.scf_insn.specs.declared.architecture.Architecture.{Architecture}
-use Rattle.scf_profile.specs.StatedProfile.{is_named}
+use Rattle.scf_insn.specs.declared.architecture.Architecture.TheVariants.{X8664}
 use Rattle.scf_request.specs.declared.bundle.PartKind.{PartKind}
-use Rattle.scf_request.specs.declared.bundle.PartKind.TheVariants.{Beside, Filter, Profile, Table, TableOf}
+use Rattle.scf_request.specs.declared.bundle.PartKind.TheVariants.{Beside, BesideProfile, Filter, Profile, StubOf, Table, TableOf}
+use Rattle.scf_request.specs.declared.bundle.BundleForm.{BundleForm}
+use Rattle.scf_request.specs.declared.bundle.BundleForm.TheVariants.{Profile as OfProfile, Architectures as OfArchitectures, Beside as OfBeside}
 use Rattle.scf_request.specs.declared.bundle.Part.{Part}
 use Rattle.scf_request.specs.declared.bundle.BundleFault.{BundleFault}
 use Rattle.scf_request.specs.declared.bundle.BundleFault.TheVariants.{Header, Short, Memory}
-use Rattle.scf_request.specs.declared.request.Scopes.{Scopes}
 use Rattle.scf_request.specs.declared.request.Scopes.TheVariants.{EachCall}
 
+-- the beginning and the end of the word of a kind
+abbrev pub word_parts : PartKind → List ℕ × List ℕ
+word_parts Filter = ([], codes "filter")
+word_parts Profile = ([], codes "profile")
+word_parts Table = ([], codes "table")
+word_parts Beside = ([], codes "beside")
+word_parts BesideProfile = ([], codes "beside-profile")
+word_parts (TableOf architecture) = ([], (row_of architecture).part)
+word_parts (StubOf architecture) = (codes "stub-", (row_of architecture).part)
+
 abbrev pub kind_word : PartKind → List ℕ
-kind_word Filter = codes "filter"
-kind_word Profile = codes "profile"
-kind_word Table = codes "table"
-kind_word Beside = codes "beside"
-kind_word (TableOf architecture) = (row_of architecture).part
+kind_word kind = (word_parts kind).0 ++ (word_parts kind).1
 
--- the kinds that parts have beside a profile
-abbrev pub profile_kinds : List PartKind
-profile_kinds = Filter ∷ Profile ∷ Table ∷ []
+-- the kinds of parts of a bundle by itself
+abbrev pub split_kinds : List PartKind
+split_kinds = Filter ∷ Profile ∷ Table ∷ []
 
--- and those that they have beside other filters: call by call there is a table, too
-abbrev pub beside_kinds : Scopes → List PartKind
-beside_kinds EachCall = Filter ∷ Beside ∷ Table ∷ []
-beside_kinds over = Filter ∷ Beside ∷ []
-
--- and those that they have beside a profile of several architectures, each of which may have a table
+-- those for several architectures, each of which may have a table and a stub
 abbrev pub architecture_kinds : List PartKind
-architecture_kinds = Filter ∷ Profile ∷ map (λ architecture. TableOf architecture) architectures
+architecture_kinds =
+    Filter ∷ Profile ∷ BesideProfile ∷ map (λ architecture. TableOf architecture) architectures
+    ++ map (λ architecture. StubOf architecture) architectures
+
+-- those by the form of a bundle: beside other filters there is a table call by call
+abbrev pub kinds_of : BundleForm → List PartKind
+kinds_of OfProfile = Filter ∷ Profile ∷ BesideProfile ∷ Table ∷ StubOf X8664 ∷ []
+kinds_of OfArchitectures = architecture_kinds
+kinds_of (OfBeside EachCall) = Filter ∷ Beside ∷ Table ∷ []
+kinds_of (OfBeside over) = Filter ∷ Beside ∷ []
 
 -- The header of a part: the word of its kind, one space, one to eight decimal digits that write the count of the bytes
 -- that follow, LF.
@@ -76,17 +87,17 @@ AreNoParts kinds bytes Memory = Unit {0}
 AreNoParts kinds bytes fault = (offset : ℕ) × (parts : List Part)
     × SpellsParts kinds 0 (take offset bytes) parts × IsPartFault kinds (drop offset bytes) offset fault
 
--- ---- a bundle with profiles
+-- ---- a bundle by itself
 
 -- the bytes of a bundle spell its parts
 abbrev pub SpellsBundle : List ℕ → List Part → Type 0
-SpellsBundle bytes parts = SpellsParts profile_kinds 0 bytes parts
+SpellsBundle bytes parts = SpellsParts split_kinds 0 bytes parts
 
 abbrev pub IsFaultAt : List ℕ → ℕ → BundleFault → Type 0
-IsFaultAt bytes at fault = IsPartFault profile_kinds bytes at fault
+IsFaultAt bytes at fault = IsPartFault split_kinds bytes at fault
 
 abbrev pub IsBundleFault : List ℕ → BundleFault → Type 0
-IsBundleFault bytes fault = AreNoParts profile_kinds bytes fault
+IsBundleFault bytes fault = AreNoParts split_kinds bytes fault
 
 -- ---- what parts hold
 
@@ -94,52 +105,63 @@ IsBundleFault bytes fault = AreNoParts profile_kinds bytes fault
 abbrev pub content_of : List ℕ → Part → List ℕ
 content_of bytes part = take part.length (drop part.start bytes)
 
-abbrev pub is_of : PartKind → PartKind → Bool
-is_of Filter Filter = true
-is_of Profile Profile = true
-is_of Table Table = true
-is_of Beside Beside = true
-is_of (TableOf architecture) (TableOf other) = is_named (row_of architecture).name other
-is_of kind other = false
+abbrev pub is_filter : PartKind → Bool
+is_filter Filter = true
+is_filter kind = false
+
+abbrev pub is_profile : PartKind → Bool
+is_profile Profile = true
+is_profile kind = false
+
+abbrev pub is_beside : PartKind → Bool
+is_beside Beside = true
+is_beside kind = false
+
+abbrev pub is_beside_profile : PartKind → Bool
+is_beside_profile BesideProfile = true
+is_beside_profile kind = false
+
+-- the architecture of a table, and of a stub
+abbrev pub table_architecture : PartKind → Option Architecture
+table_architecture Table = Some X8664
+table_architecture (TableOf architecture) = Some architecture
+table_architecture kind = None
+
+abbrev pub stub_architecture : PartKind → Option Architecture
+stub_architecture (StubOf architecture) = Some architecture
+stub_architecture kind = None
 
 -- what the parts of a kind hold, in their order
-abbrev pub contents_of : PartKind → List ℕ → List Part → List (List ℕ)
-contents_of kind bytes parts = filter_map
-    (λ part. if is_of kind part.kind then Some (content_of bytes part) else None) parts
+abbrev pub contents_of : (PartKind → Bool) → List ℕ → List Part → List (List ℕ)
+contents_of is_kind bytes parts =
+    filter_map (λ part. if is_kind part.kind then Some (content_of bytes part) else None) parts
 
--- the architecture of a kind, where it is one of a table of several
-abbrev pub architecture_of : PartKind → Option Architecture
-architecture_of (TableOf architecture) = Some architecture
-architecture_of kind = None
-
--- what the tables of several architectures hold, each with its architecture, in their order
-abbrev pub contents_of_tables : List ℕ → List Part → List (Architecture × List ℕ)
-contents_of_tables bytes parts = filter_map
+-- what those of the architectures hold, each with its architecture, in their order
+abbrev pub contents_by : (PartKind → Option Architecture) → List ℕ → List Part → List (Architecture × List ℕ)
+contents_by architecture_of bytes parts = filter_map
     (λ part. option_map (λ architecture. (architecture, content_of bytes part)) (architecture_of part.kind)) parts
 
--- Bytes are a bundle whose parts hold these filters, these profiles and these tables, those of each kind in order.
-pub record IsBundle (bytes : List ℕ) (filters profiles tables : List (List ℕ)) : Type 0 where
-  pub parts : List Part
-  pub spelled : SpellsBundle bytes parts
-  pub filters_held : filters ≡ contents_of Filter bytes parts
-  pub profiles_held : profiles ≡ contents_of Profile bytes parts
-  pub tables_held : tables ≡ contents_of Table bytes parts
+-- What the parts of a bundle hold, those of each kind in their order.
+pub record Held : Type 0 where
+  pub filters : List (List ℕ)
+  pub profiles : List (List ℕ)
+  pub beside : List (List ℕ)
+  pub beside_profiles : List (List ℕ)
+  pub tables : List (Architecture × List ℕ)
+  pub stubs : List (Architecture × List ℕ)
 
--- Bytes are a bundle for a comparison over these calls, whose parts hold these filters, these beside them and these
--- tables, those of each kind in order.
-pub record IsBesideBundle (over : Scopes) (bytes : List ℕ) (filters beside tables : List (List ℕ)) : Type 0 where
-  pub parts : List Part
-  pub spelled : SpellsParts (beside_kinds over) 0 bytes parts
-  pub filters_held : filters ≡ contents_of Filter bytes parts
-  pub beside_held : beside ≡ contents_of Beside bytes parts
-  pub tables_held : tables ≡ contents_of Table bytes parts
+abbrev pub held_of : List ℕ → List Part → Held
+held_of bytes parts = record {
+  filters = contents_of is_filter bytes parts;
+  profiles = contents_of is_profile bytes parts;
+  beside = contents_of is_beside bytes parts;
+  beside_profiles = contents_of is_beside_profile bytes parts;
+  tables = contents_by table_architecture bytes parts;
+  stubs = contents_by stub_architecture bytes parts;
+}
 
--- Bytes are a bundle for several architectures, whose parts hold these filters, these profiles and these tables, each
--- with its architecture, those of each kind in order.
-pub record IsArchitecturesBundle (bytes : List ℕ) (filters profiles : List (List ℕ))
-    (tables : List (Architecture × List ℕ)) : Type 0 where
+-- Bytes are a bundle of a form, whose parts hold this.
+pub record IsBundle (form : BundleForm) (bytes : List ℕ) (held : Held) : Type 0 where
   pub parts : List Part
-  pub spelled : SpellsParts architecture_kinds 0 bytes parts
-  pub filters_held : filters ≡ contents_of Filter bytes parts
-  pub profiles_held : profiles ≡ contents_of Profile bytes parts
-  pub tables_held : tables ≡ contents_of_tables bytes parts
+  pub spelled : SpellsParts (kinds_of form) 0 bytes parts
+  pub is_held : held ≡ held_of bytes parts

@@ -1,14 +1,17 @@
 -- The command line of the program, as its reader sees it.
-use Rattle.std.specs.Prelude.{ℕ, true, false, List, [], ◌∷◌, ◌++◌, codes, map, Some}
+use Rattle.std.specs.Prelude.{ℕ, true, false, List, [], ◌∷◌, ◌++◌, codes, map, Some, if◌then◌else◌}
 use Rattle.clap.specs.declared.builder.action.ArgAction.TheVariants.{SetTrue}
 use Rattle.clap.specs.Words.{App, Rule, Shape, new_app, new_rule}
-use Rattle.scf_request.specs.Options.{NumberOption}
-use Rattle.scf_request.specs.Requests.{Command, command_word, options_of, words_of_command}
+use Rattle.scf_request.specs.Options.{NumberOption, reading_option}
+use Rattle.scf_request.specs.Requests.{Command, command_word, options_of, takes_reading, words_of_command}
 use Rattle.scf_request.specs.Requests.Command.{Answers, Ask, Asm, Check, Compare, Compile, Decide, Dis, Run}
 
 -- an option takes one value, behind its name and two dashes
 abbrev pub option_rule : NumberOption → Rule
 option_rule o = record (new_rule o.name) { long = Some o.name; value_names = 1 }
+
+abbrev pub reading_rule : Rule
+reading_rule = record (new_rule reading_option) { long = Some reading_option; value_names = 1 }
 
 -- a flag takes none
 abbrev pub flag_rule : List ℕ → Rule
@@ -17,10 +20,15 @@ flag_rule name = record (new_rule name) { long = Some name; action = Some SetTru
 abbrev pub shape_with : List ℕ → List NumberOption → Shape
 shape_with name options = record (new_app name).top { rules = map option_rule options }
 
+-- a command on profiles takes a reading, too
+abbrev pub profile_shape : List ℕ → List NumberOption → Shape
+profile_shape name options = record (new_app name).top { rules = map option_rule options ++ reading_rule ∷ [] }
+
 abbrev pub shape_for : Command → Shape
 shape_for command =
     record (new_app (command_word command)).top {
-      rules = map option_rule (options_of command) ++ map flag_rule (words_of_command command).2;
+      rules = map option_rule (options_of command)
+          ++ (if takes_reading command then reading_rule ∷ [] else []) ++ map flag_rule (words_of_command command).2;
     }
 
 -- a command is named, and there is `--version`

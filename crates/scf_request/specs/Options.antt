@@ -6,6 +6,8 @@ use Rattle.clap.specs.Words.{Row, first_of}
 use Rattle.scf_insn.specs.declared.record.CallRecord.{CallRecord}
 use Rattle.scf_insn.specs.Kernel.{audit_arch_x86_64}
 use Rattle.scf_insn.specs.Numbers.{number_of}
+use Rattle.scf_profile.specs.declared.reading.Reading.{Reading}
+use Rattle.scf_profile.specs.declared.reading.Reading.TheVariants.{Strict, Runc, Crun}
 use Rattle.scf_profile.specs.declared.relation.Relation.{Relation}
 use Rattle.scf_profile.specs.declared.relation.Relation.TheVariants.{Same, NoMore, NoLess, SameDisposition}
 use Rattle.scf_request.specs.declared.options.NumberFault.{NumberFault}
@@ -91,6 +93,19 @@ exploration_options = long_option (codes "limit") 1000000 ∷ range_options
 
 abbrev pub numbers_of_exploration : Exploration → List ℕ
 numbers_of_exploration exploration = exploration.limit ∷ numbers_of_range (AtOnce exploration.scope)
+
+-- the option of the reading of a profile, and the readings by their names; without it the reading is by the words
+abbrev pub reading_option : List ℕ
+reading_option = codes "reading"
+
+abbrev pub readings : List (List ℕ × Reading)
+readings = (codes "strict", Strict) ∷ (codes "runc", Runc) ∷ (codes "crun", Crun) ∷ []
+
+abbrev pub reading_named : List ℕ → Option Reading
+reading_named name = option_map (λ reading. reading.1) (find (λ reading. bytes_eq name reading.0) readings)
+
+abbrev pub reading_in : List Row → Option Reading
+reading_in rows = option_map_or reading_named (first_of reading_option rows) (Some Strict)
 
 -- A flag is given where its name has the text `true`.
 abbrev pub is_given : List Row → List ℕ → Bool

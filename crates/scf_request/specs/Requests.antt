@@ -1,19 +1,22 @@
 -- What the program is asked for by its words.
-use Rattle.std.specs.Prelude.{◌≡◌, ℕ, true, false, List, [], ◌∷◌, ◌++◌, codes, map, Option, Some, None, Result, Ok, Err}
+use Rattle.std.specs.Prelude.{◌≡◌, ℕ, Bool, true, false, List, [], ◌∷◌, ◌++◌, codes, map, Option, Some, None, Result, Ok, Err, ok_or}
+use Rattle.std.specs.Option.{option_map_or}
 use Rattle.clap.specs.Words.{Row}
 use Rattle.scf_insn.specs.Words.{IsRecord}
 use Rattle.scf_insn.specs.declared.architecture.Architecture.{Architecture}
 use Rattle.scf_insn.specs.declared.record.CallRecord.{CallRecord}
 use Rattle.scf_profile.specs.Scope.{IsInScope}
+use Rattle.scf_profile.specs.declared.reading.Reading.{Reading}
+use Rattle.scf_profile.specs.declared.reading.Reading.TheVariants.{Strict}
 use Rattle.scf_profile.specs.declared.scope.Scope.{Scope}
 use Rattle.scf_profile.specs.declared.scope.Scope.TheVariants as scopes
 use Rattle.scf_request.specs.declared.request_fault.RequestFault.{RequestFault}
-use Rattle.scf_request.specs.declared.request_fault.RequestFault.TheVariants.{Number, NoCommand, Flags, Range}
+use Rattle.scf_request.specs.declared.request_fault.RequestFault.TheVariants.{Number, NoCommand, Flags, Reading as NoReading, Range}
 use Rattle.scf_request.specs.declared.request.Request.{Request}
 use Rattle.scf_request.specs.declared.request.Request.TheVariants as requests
 use Rattle.scf_request.specs.declared.request.Scopes.{Scopes}
 use Rattle.scf_request.specs.declared.request.Scopes.TheVariants.{AtOnce, EachCall}
-use Rattle.scf_request.specs.Options.{AreExclusive, AsksToCompare, AsksToExplore, NumberOption, architectures_flag, beside_flag, call_options, comparison_options, examples_flag, exploration_options, first_wrong, flag_names, is_given, native_flag, number_in, numbers_of_comparison, numbers_of_exploration, numbers_of_record, path_flag, relation_flags, scope_flags}
+use Rattle.scf_request.specs.Options.{AreExclusive, AsksToCompare, AsksToExplore, NumberOption, architectures_flag, beside_flag, call_options, comparison_options, examples_flag, exploration_options, first_wrong, flag_names, is_given, native_flag, number_in, numbers_of_comparison, numbers_of_exploration, numbers_of_record, path_flag, reading_in, relation_flags, scope_flags}
 
 pub data Command : Type 0 where
   Answers Ask Asm Check Compare Compile Decide Dis Run : Command
@@ -34,6 +37,14 @@ words_of_command Compile = (codes "compile", [], architectures_flag ∷ [])
 words_of_command Decide = (codes "decide", call_options, [])
 words_of_command Dis = (codes "dis", [], [])
 words_of_command Run = (codes "run", call_options, path_flag ∷ [])
+
+-- the commands on profiles take a reading, too
+abbrev pub takes_reading : Command → Bool
+takes_reading Answers = true
+takes_reading Ask = true
+takes_reading Compare = true
+takes_reading Compile = true
+takes_reading command = false
 
 abbrev pub command_word : Command → List ℕ
 command_word command = (words_of_command command).0
@@ -139,10 +150,14 @@ Spell asked (Err (Number fault)) = (command : Command) × (rows : List Row)
 Spell asked (Err Flags) = (command : Command) × (rows : List Row) × (asked ≡ Some (command_word command, rows))
     × (first_wrong (options_of command) rows ≡ None) × HasExclusive command rows
 Spell asked (Err NoCommand) = (command : Command) (rows : List Row) → asked ≡ Some (command_word command, rows) → ⊥
-Spell asked (Err Range) = ⊥
+Spell asked (Err fault) = ⊥
 
 -- What they ask for, or why for nothing: the request that they spell goes over no record, or they spell none.
 abbrev pub AsksFor : Option (List ℕ × List Row) → Result Request RequestFault → Type 0
 AsksFor asked (Ok request) = IsRequest asked request
 AsksFor asked (Err Range) = (request : Request) × SpellRequest asked request × (GoesOverRecord request → ⊥)
 AsksFor asked (Err fault) = Spell asked (Err fault)
+
+-- The reading by which a command's word and the values of its options ask, unless its option names none.
+abbrev pub ReadsBy : Option (List ℕ × List Row) → Result Reading RequestFault → Type 0
+ReadsBy asked result = result ≡ ok_or (option_map_or (λ words. reading_in words.1) asked (Some Strict)) NoReading

@@ -15,8 +15,10 @@ ghost use Rattle.scf_request.specs.Bundle.{
   SpellsBundle,
   SpellsParts,
   kind_word,
+  word_parts,
 };
 
+use crate::request::Scopes;
 use scf_insn::{Architecture, parse_numeral};
 use std::alloc::{AllocError, AllocFailed, Global};
 use thiserror::Error;
@@ -29,8 +31,12 @@ pub enum PartKind {
     Table,
     /// A filter of another stack, beside the first.
     Beside,
+    /// Another profile, beside the first.
+    BesideProfile,
     /// The table of an architecture, where there may be several.
     TableOf(Architecture),
+    /// The stub of the profile of an architecture.
+    StubOf(Architecture),
 }
 
 /// A part of a bundle: its kind, and the range of its contents, in bytes from the beginning.
@@ -39,6 +45,17 @@ pub struct Part {
     pub kind: PartKind,
     pub start: usize,
     pub length: usize,
+}
+
+/// Which kinds of parts a bundle has.
+#[derive(Clone, Copy)]
+pub enum BundleForm {
+    /// Filters, a profile and another one, x86-64's syscall table and the stub of its calls.
+    Profile,
+    /// Filters, a profile and another one, and the syscall tables and stubs of several architectures.
+    Architectures,
+    /// Filters and others beside them; call by call a syscall table, too.
+    Beside(Scopes),
 }
 
 /// Why bytes aren't a bundle.
@@ -75,16 +92,29 @@ impl<T: Drop> From<AllocFailed<T>> for BundleFault {
 }
 
 impl PartKind {
-    /// The kind's name in a header.
+    /// What the kind's name begins with: that of a stub is `stub-` and the name of its table.
+    fn prefix(self) -> &'static [u8]
+        ensures { result.now ≡ (word_parts self).0 }
+    {
+        match self {
+            PartKind::StubOf(_) => b"stub-",
+            _ => b"",
+        }
+    }
+
+    /// What it ends with.
     fn word(self) -> &'static [u8]
-        ensures { result.now ≡ kind_word self }
+        ensures { result.now ≡ (word_parts self).1 }
     {
         match self {
             PartKind::Filter => b"filter",
             PartKind::Profile => b"profile",
             PartKind::Table => b"table",
             PartKind::Beside => b"beside",
-            PartKind::TableOf(architecture) => architecture.part().as_bytes(),
+            PartKind::BesideProfile => b"beside-profile",
+            PartKind::TableOf(architecture) | PartKind::StubOf(architecture) => {
+                architecture.part().as_bytes()
+            }
         }
     }
 }
@@ -113,13 +143,21 @@ fn count_of(digits: &[u8]) -> Option<usize>
     }
 }
 
+/// What stands behind the word of this kind.
+fn behind_word(kind: PartKind, line: &[u8]) -> Option<&[u8]>
+    ensures { MatchOption result ((rest : List ℕ) → line.now ≢ kind_word kind ++ rest)
+        (λ rest. line.now ≡ kind_word kind ++ rest.now) }
+{
+    line.strip_prefix(kind.prefix())?.strip_prefix(kind.word())
+}
+
 /// The length in a header of this kind, without its line end.
 fn count_in(kind: PartKind, line: &[u8]) -> Option<usize>
     ensures { MatchOption result
         ((n : ℕ) → IsHeader (line.now ++ codes "\n") kind n → ⊥)
         (IsHeader (line.now ++ codes "\n") kind) }
 {
-    let digits = line.strip_prefix(kind.word())?.strip_prefix(b" ")?;
+    let digits = behind_word(kind, line)?.strip_prefix(b" ")?;
     count_of(digits)
 }
 
@@ -204,7 +242,7 @@ pub(crate) fn content_of<'a>(bytes: &'a [u8], part: Part) -> &'a [u8]
 /// A header is `filter`, `profile` or `table`, one space, 1 to 8 decimal digits and LF. The digits are the count of
 /// bytes that follow. `Header` has the first offset behind whole parts where bytes follow that aren't a header, `Short`
 /// the first offset of a header that announces more bytes than follow.
-#[tactic(auto, using(std::proofs::lemmas::Grind::common_steps, crate::proofs::BundleLemmas::one_spelling, crate::proofs::BundleLemmas::profile_kinds_told_apart))]
+#[tactic(auto, using(std::proofs::lemmas::Grind::common_steps, crate::proofs::BundleLemmas::one_spelling, crate::proofs::BundleLemmas::split_kinds_told_apart))]
 pub fn split(alloc: Global, bytes: &[u8]) -> Result<Vec<Part>, BundleFault>
     ensures parts { IfOk result (λ parts. SpellsBundle bytes.now parts.items) }
     // The bytes spell no other list of parts.
@@ -215,29 +253,40 @@ pub fn split(alloc: Global, bytes: &[u8]) -> Result<Vec<Part>, BundleFault>
     // Nothing is allocated before the first whole part.
     ensures first { (fault : BundleFault) → IsFaultAt bytes.now 0 fault → result ≡ Err fault }
 {
-    split_by(alloc, bytes, &PROFILE_KINDS)
+    split_by(alloc, bytes, &SPLIT_KINDS)
 }
 
-/// The kinds of parts beside a profile.
-pub(crate) const PROFILE_KINDS: [PartKind; 3] = [
+/// The kinds of parts that `split` takes.
+const SPLIT_KINDS: [PartKind; 3] = [PartKind::Filter, PartKind::Profile, PartKind::Table];
+
+/// The kinds of parts of a bundle with a profile.
+pub(crate) const PROFILE_KINDS: [PartKind; 5] = [
     PartKind::Filter,
     PartKind::Profile,
+    PartKind::BesideProfile,
     PartKind::Table,
+    PartKind::StubOf(Architecture::X8664),
 ];
 
-/// The kinds of parts beside a profile of several architectures.
-pub(crate) fn architecture_kinds() -> [PartKind; 7]
+/// The kinds of parts of a bundle with a profile of several architectures.
+pub(crate) fn architecture_kinds() -> [PartKind; 13]
     ensures { result ≡ spec.architecture_kinds }
 {
     let [first, second, third, fourth, fifth] = Architecture::all();
     [
         PartKind::Filter,
         PartKind::Profile,
+        PartKind::BesideProfile,
         PartKind::TableOf(first),
         PartKind::TableOf(second),
         PartKind::TableOf(third),
         PartKind::TableOf(fourth),
         PartKind::TableOf(fifth),
+        PartKind::StubOf(first),
+        PartKind::StubOf(second),
+        PartKind::StubOf(third),
+        PartKind::StubOf(fourth),
+        PartKind::StubOf(fifth),
     ]
 }
 

@@ -2,14 +2,14 @@
 
 ghost use Rattle.std.specs.Prelude.{◌≡◌, [], codes, false, true, map, IfOk, IfSome};
 ghost use Rattle.clap.specs.Words.{App, FailsBy, Shape, app_of, fault_of, new_app, rule_of, subcommand_of, subcommand_rows_of, with_subcommand};
-ghost use Rattle.scf_request.specs.CommandLine.{flag_rule, option_rule, scf, shape_with};
+ghost use Rattle.scf_request.specs.CommandLine.{flag_rule, option_rule, profile_shape, reading_rule, scf, shape_with};
 ghost use Rattle.scf_request.specs.Requests.Command.{Answers, Ask, Asm, Check, Compare, Compile, Decide, Dis, Run};
 ghost use Rattle.scf_request.specs.internal.Parsing.{MakesNamed, ReadsAsProgram, definition_of, option_of, options_kept};
 
 use crate::options::{
     ARCHITECTURES_FLAG, BESIDE_FLAG, CALLS_FLAG, DISPOSITION_FLAG, EXAMPLES_FLAG, NATIVE_FLAG,
-    NO_LESS_FLAG, NO_MORE_FLAG, NumberOption, PATH_FLAG, call_options, comparison_options,
-    exploration_options,
+    NO_LESS_FLAG, NO_MORE_FLAG, NumberOption, PATH_FLAG, READING_OPTION, call_options,
+    comparison_options, exploration_options,
 };
 use clap::{Arg, ArgAction, ArgMatches, Command, Error};
 use std::alloc::{AllocError, Global};
@@ -25,6 +25,10 @@ const ABOUT: &str =
 /// The help of `--native`.
 const NATIVE_HELP: &str = "Only calls of x86-64 with numbers below 0x40000000";
 
+/// The help of `--reading`.
+const READING_HELP: &str =
+    "How a profile is read: by its words, as `strict`, or as `runc` or `crun` does [default: strict]";
+
 /// The help of `--architectures` beside a profile alone.
 const TABLES_HELP: &str =
     "With the tables of several architectures: parts `table`, `table-x86`, `table-x32` ..";
@@ -38,6 +42,17 @@ fn argument_of<'a>(alloc: Global, option: NumberOption) -> Arg<'a>
         .long(option.name)
         .value_name("NUMBER")
         .help(option.help)
+}
+
+/// The option of the reading of a profile, for `clap`.
+fn reading_argument<'a>(alloc: Global) -> Arg<'a>
+    ensures rule { rule_of result ≡ reading_rule }
+    ensures local { result.global ≡ false }
+{
+    Arg::new(alloc, READING_OPTION)
+        .long(READING_OPTION)
+        .value_name("READING")
+        .help(READING_HELP)
 }
 
 /// A command with options that take numbers.
@@ -55,6 +70,19 @@ fn command_with<'a>(
         command = command.arg(argument_of(alloc, *option))?;
     }
     Ok(command)
+}
+
+/// A command on profiles, with options that take numbers.
+fn profile_command<'a>(
+    alloc: Global,
+    name: &'a str,
+    about: &'a str,
+    options: &[NumberOption],
+) -> Result<Command<'a>, AllocError>
+    ensures { IfOk result (λ command. app_of command
+        ≡ record { top = profile_shape name.now (options_kept options.now); subs = [] }) }
+{
+    command_with(alloc, name, about, options)?.arg(reading_argument(alloc))
 }
 
 /// A flag, for `clap`.
@@ -112,7 +140,7 @@ fn define_compile<'a>(alloc: Global) -> Result<Command<'a>, AllocError>
     ensures { IfOk result (λ command. app_of command ≡ definition_of Compile) }
 {
     let about = "Compiles a bundle of a profile and a table";
-    command_with(alloc, "compile", about, &[])?.arg(flag_argument(
+    profile_command(alloc, "compile", about, &[])?.arg(flag_argument(
         alloc,
         ARCHITECTURES_FLAG,
         TABLES_HELP,
@@ -133,7 +161,7 @@ fn define_compare<'a>(alloc: Global) -> Result<Command<'a>, AllocError>
     let beside = "With parts `beside`, other filters, in place of a profile";
     let each =
         "Only calls of architectures with a table: parts `table`, `table-x86` ..; not with --native or --beside";
-    command_with(alloc, "compare", about, &comparison_options())?
+    profile_command(alloc, "compare", about, &comparison_options())?
         .arg(flag_argument(alloc, NATIVE_FLAG, NATIVE_HELP))?
         .arg(flag_argument(alloc, CALLS_FLAG, calls))?
         .arg(flag_argument(alloc, NO_MORE_FLAG, no_more))?
@@ -148,7 +176,7 @@ fn define_ask<'a>(alloc: Global) -> Result<Command<'a>, AllocError>
     ensures { IfOk result (λ command. app_of command ≡ definition_of Ask) }
 {
     let about = "Says what a profile answers to a call, and why, of a bundle with a table";
-    command_with(alloc, "ask", about, &call_options())?.arg(flag_argument(
+    profile_command(alloc, "ask", about, &call_options())?.arg(flag_argument(
         alloc,
         ARCHITECTURES_FLAG,
         TABLES_HELP,
@@ -164,7 +192,7 @@ fn define_answers<'a>(alloc: Global) -> Result<Command<'a>, AllocError>
     let each =
         "Only calls of architectures with a table, of a profile: parts `table`, `table-x86` ..; not with --native";
     let examples = "Also a call of each region";
-    command_with(alloc, "answers", about, &exploration_options())?
+    profile_command(alloc, "answers", about, &exploration_options())?
         .arg(flag_argument(alloc, NATIVE_FLAG, NATIVE_HELP))?
         .arg(flag_argument(alloc, ARCHITECTURES_FLAG, each))?
         .arg(flag_argument(alloc, EXAMPLES_FLAG, examples))

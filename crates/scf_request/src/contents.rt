@@ -1,19 +1,12 @@
 //! The contents of a bundle.
 
 ghost use Rattle.std.specs.Prelude.{◌≡◌, Err, IfOk, IfErr};
-ghost use Rattle.scf_request.specs.Bundle.{
-  AreNoParts,
-  IsBundleFault,
-  IsFaultAt,
-  IsPartFault,
-  architecture_kinds,
-  beside_kinds,
-};
-ghost use Rattle.scf_request.specs.Contents.{IsHeldBeside, IsHeldBy, IsHeldForArchitectures, rest_of};
+ghost use Rattle.scf_request.specs.Bundle.{AreNoParts, IsPartFault, kinds_of};
+ghost use Rattle.scf_request.specs.Contents.{IsHeldBy, rest_of};
 ghost use Rattle.scf_request.specs.internal.Contents.{AddsPart, HoldParts};
 
 use crate::bundle::{
-    BundleFault, PROFILE_KINDS, PartKind, architecture_kinds, content_of, split_by,
+    BundleFault, BundleForm, PROFILE_KINDS, PartKind, architecture_kinds, content_of, split_by,
 };
 use crate::request::Scopes;
 use scf_insn::{Architecture, Failed, Source};
@@ -25,11 +18,14 @@ pub struct Contents<'a> {
     /// Readers of the filters, the oldest first.
     pub filters: Vec<PartReader<'a>>,
     pub profiles: Vec<PartReader<'a>>,
-    pub tables: Vec<PartReader<'a>>,
     /// Readers of the filters beside these, the oldest first.
     pub beside: Vec<PartReader<'a>>,
-    /// Readers of the tables of several architectures.
-    pub architecture_tables: Vec<TableReader<PartReader<'a>>>,
+    /// Readers of the profiles beside the first.
+    pub beside_profiles: Vec<PartReader<'a>>,
+    /// Readers of the syscall tables.
+    pub tables: Vec<TableReader<PartReader<'a>>>,
+    /// Readers of the numbers of stubs.
+    pub stubs: Vec<TableReader<PartReader<'a>>>,
 }
 
 impl<'a> Contents<'a> {
@@ -37,34 +33,45 @@ impl<'a> Contents<'a> {
     fn add(&mut self, kind: PartKind, bytes: &'a [u8]) -> Result<(), BundleFault>
         ensures { AddsPart kind bytes.now self.old result self.new }
     {
+        let reader = PartReader::new(bytes);
         match kind {
-            PartKind::Filter => self.filters.push(PartReader::new(bytes))?,
-            PartKind::Profile => self.profiles.push(PartReader::new(bytes))?,
-            PartKind::Table => self.tables.push(PartReader::new(bytes))?,
-            PartKind::Beside => self.beside.push(PartReader::new(bytes))?,
-            PartKind::TableOf(architecture) => self.architecture_tables.push(TableReader {
-                architecture,
-                reader: PartReader::new(bytes),
-            })?,
+            PartKind::Filter => self.filters.push(reader)?,
+            PartKind::Profile => self.profiles.push(reader)?,
+            PartKind::Beside => self.beside.push(reader)?,
+            PartKind::BesideProfile => self.beside_profiles.push(reader)?,
+            PartKind::Table => self
+                .tables
+                .push(TableReader::new(Architecture::X8664, reader))?,
+            PartKind::TableOf(architecture) => {
+                self.tables.push(TableReader::new(architecture, reader))?
+            }
+            PartKind::StubOf(architecture) => {
+                self.stubs.push(TableReader::new(architecture, reader))?
+            }
         }
         Ok(())
     }
 
-    /// The contents of the bundle that the bytes spell. Errors are those of `split`.
-    pub fn of(alloc: Global, bytes: &'a [u8]) -> Result<Contents<'a>, BundleFault>
-        ensures bundle { IfOk result (IsHeldBy bytes.now) }
-        ensures fault { IfErr result (IsBundleFault bytes.now) }
-        ensures first { (fault : BundleFault) → IsFaultAt bytes.now 0 fault → result ≡ Err fault }
+    /// The contents of the bundle of this form that the bytes spell. Errors are those of `split`, where the kinds of
+    /// parts are those of the form.
+    pub fn of(alloc: Global, form: BundleForm, bytes: &'a [u8]) -> Result<Contents<'a>, BundleFault>
+        ensures bundle { IfOk result (IsHeldBy form bytes.now) }
+        ensures fault { IfErr result (AreNoParts (kinds_of form) bytes.now) }
+        ensures first { (fault : BundleFault) → IsPartFault (kinds_of form) bytes.now 0 fault
+            → result ≡ Err fault }
     {
-        Contents::of_kinds(alloc, bytes, &PROFILE_KINDS)
+        match form {
+            BundleForm::Profile => Contents::of_kinds(alloc, bytes, &PROFILE_KINDS),
+            BundleForm::Architectures => Contents::of_kinds(alloc, bytes, &architecture_kinds()),
+            BundleForm::Beside(over) => Contents::beside(alloc, over, bytes),
+        }
     }
 
-    /// The contents of the bundle of a comparison over these calls with other filters. Errors are those of `split`,
-    /// where `beside` is a kind of a part, `profile` isn't, and `table` is for single calls alone.
-    pub fn beside(alloc: Global, bytes: &'a [u8], over: Scopes) -> Result<Contents<'a>, BundleFault>
-        ensures bundle { IfOk result (IsHeldBeside over bytes.now) }
-        ensures fault { IfErr result (AreNoParts (beside_kinds over) bytes.now) }
-        ensures first { (fault : BundleFault) → IsPartFault (beside_kinds over) bytes.now 0 fault
+    /// The contents of the bundle of a comparison over these calls with other filters.
+    fn beside(alloc: Global, over: Scopes, bytes: &'a [u8]) -> Result<Contents<'a>, BundleFault>
+        ensures bundle { IfOk result (HoldParts (kinds_of (BundleForm.Beside over)) bytes.now) }
+        ensures fault { IfErr result (AreNoParts (kinds_of (BundleForm.Beside over)) bytes.now) }
+        ensures first { (fault : BundleFault) → IsPartFault (kinds_of (BundleForm.Beside over)) bytes.now 0 fault
             → result ≡ Err fault }
     {
         match over {
@@ -76,17 +83,6 @@ impl<'a> Contents<'a> {
                 Contents::of_kinds(alloc, bytes, &[PartKind::Filter, PartKind::Beside])
             }
         }
-    }
-
-    /// The contents of the bundle with tables of several architectures. Errors are those of `split`, where the kind of
-    /// a table is that of its architecture.
-    pub fn of_architectures(alloc: Global, bytes: &'a [u8]) -> Result<Contents<'a>, BundleFault>
-        ensures bundle { IfOk result (IsHeldForArchitectures bytes.now) }
-        ensures fault { IfErr result (AreNoParts architecture_kinds bytes.now) }
-        ensures first { (fault : BundleFault) → IsPartFault architecture_kinds bytes.now 0 fault
-            → result ≡ Err fault }
-    {
-        Contents::of_kinds(alloc, bytes, &architecture_kinds())
     }
 
     /// The contents of the bundle that the bytes spell, with parts of these kinds.
@@ -104,9 +100,10 @@ impl<'a> Contents<'a> {
         let mut contents = Contents {
             filters: Vec::new(alloc),
             profiles: Vec::new(alloc),
-            tables: Vec::new(alloc),
             beside: Vec::new(alloc),
-            architecture_tables: Vec::new(alloc),
+            beside_profiles: Vec::new(alloc),
+            tables: Vec::new(alloc),
+            stubs: Vec::new(alloc),
         };
         for part in &parts {
             contents.add(part.kind, content_of(bytes, *part))?;
@@ -115,11 +112,23 @@ impl<'a> Contents<'a> {
     }
 }
 
-/// A reader of a syscall table, and the architecture whose syscalls it names.
+/// A reader of a syscall table or of the number of a stub, and its architecture.
 #[derive(Drop)]
 pub struct TableReader<R> {
     pub architecture: Architecture,
     pub reader: R,
+}
+
+impl<R> TableReader<R> {
+    /// The reader of what is of an architecture.
+    fn new(architecture: Architecture, reader: R) -> TableReader<R>
+        ensures { result ≡ record { architecture = architecture; reader = reader } }
+    {
+        TableReader {
+            architecture,
+            reader,
+        }
+    }
 }
 
 /// A reader of a part's contents. Never fails.

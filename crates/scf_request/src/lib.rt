@@ -4,14 +4,16 @@
 mod bundle;
 mod command_line;
 mod contents;
+mod interpretation;
 mod options;
 mod records;
 mod request;
 mod request_fault;
 
-pub use bundle::{BundleFault, Part, PartKind, split};
+pub use bundle::{BundleFault, BundleForm, Part, PartKind, split};
 pub use command_line::parse;
 pub use contents::{Contents, PartReader, TableReader};
+pub use interpretation::{Interpretation, Stub};
 pub use options::{NumberFault, record_of};
-pub use request::{Comparison, Exploration, Limits, Request, Scopes, request_of};
+pub use request::{Comparison, Exploration, Limits, Request, Scopes, reading_of, request_of};
 pub use request_fault::RequestFault;

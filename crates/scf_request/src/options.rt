@@ -11,7 +11,7 @@ use crate::request_fault::RequestFault;
 use clap::ArgMatches;
 use scf_insn::kernel::AUDIT_ARCH_X86_64;
 use scf_insn::{CallRecord, parse_number};
-use scf_profile::{Relation, Scope};
+use scf_profile::{Reading, Relation, Scope};
 use thiserror::Error;
 
 /// An option whose text isn't a number in its range.
@@ -121,6 +121,31 @@ pub(crate) fn exploration_options() -> [NumberOption; 3]
         word(FIRST_NUMBER, 0, first),
         word(LAST_NUMBER, MAX_WORD, last),
     ]
+}
+
+/// The option of the reading of a profile.
+pub(crate) const READING_OPTION: &str = "reading";
+
+/// The reading with this name.
+fn reading_named(name: &str) -> Option<Reading>
+    ensures { result ≡ table.reading_named name.now }
+{
+    match name {
+        "strict" => Some(Reading::Strict),
+        "runc" => Some(Reading::Runc),
+        "crun" => Some(Reading::Crun),
+        _ => None,
+    }
+}
+
+/// The reading that an option names, which is that by the words without it.
+pub(crate) fn reading_in(matches: &ArgMatches<'_>) -> Option<Reading>
+    ensures { result ≡ table.reading_in (rows_of (found_of matches.now)) }
+{
+    match matches.get_str(READING_OPTION) {
+        Some(name) => reading_named(name),
+        None => Some(Reading::Strict),
+    }
 }
 
 /// The flag that leaves out all but x86-64's own syscalls.

@@ -17,18 +17,18 @@ ghost use Rattle.scf_request.specs.Options.{
   numbers_of_range,
   range_options,
 };
-ghost use Rattle.scf_request.specs.Requests.{AsksFor, GoesOverRecord, Spell};
+ghost use Rattle.scf_request.specs.Requests.{AsksFor, GoesOverRecord, ReadsBy, Spell};
 
 use crate::options::{
     ARCHITECTURES_FLAG, BESIDE_FLAG, EXAMPLES_FLAG, NATIVE_FLAG, NumberFault, PATH_FLAG,
     RELATION_FLAGS, SCOPE_FLAGS, chosen_flag, comparison_numbers, exploration_numbers, has_range,
-    is_given, record_of,
+    is_given, reading_in, record_of,
 };
 use crate::records::goes_over_record;
 use crate::request_fault::RequestFault;
 use clap::ArgMatches;
 use scf_insn::CallRecord;
-use scf_profile::{Relation, Scope};
+use scf_profile::{Reading, Relation, Scope};
 
 /// Over which records a comparison goes.
 #[derive(Clone, Copy)]
@@ -294,5 +294,15 @@ pub fn request_of(matches: &ArgMatches<'_>) -> Result<Request, RequestFault>
     match matches.subcommand() {
         Some((name, options)) => request_asked(name, options),
         None => Err(RequestFault::NoCommand),
+    }
+}
+
+/// The reading of a profile by which parsed arguments ask. The error: the option's text names none.
+pub fn reading_of(matches: &ArgMatches<'_>) -> Result<Reading, RequestFault>
+    ensures { ReadsBy (subcommand_rows_of matches.now) result }
+{
+    match matches.subcommand() {
+        Some((_, options)) => reading_in(options).ok_or(RequestFault::Reading),
+        None => Ok(Reading::Strict),
     }
 }

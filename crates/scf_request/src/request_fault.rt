@@ -18,6 +18,9 @@ pub enum RequestFault {
     /// Two given flags exclude each other.
     #[error("two flags exclude each other")]
     Flags,
+    /// The option's text names no reading of a profile.
+    #[error("the option reading names no reading")]
+    Reading,
     /// No call record has a number in the range.
     #[error("no call has a number in the range")]
     Range,

@@ -1,5 +1,5 @@
 -- The profiles of several architectures, each compared.
-use Rattle.scf_tool.proofs.Common.{◌≡◌, ◌<◌, ℕ, zero, suc, Bool, true, false, not, List, [], ◌∷◌, length, get_or, find, Option, Some, None, refl, sym, subst, ap, ◌∙◌, arith, Contains, Contains-append_right, AllZip, Insn, Finding, Holds, Fails, Undecided, Unfinished, StackAnswers}
+use Rattle.scf_tool.proofs.Common.{◌≡◌, ◌<◌, ℕ, zero, suc, Bool, true, false, not, List, [], ◌∷◌, length, get_or, find, Option, Some, None, refl, sym, subst, ap, ◌∙◌, arith, Contains, Contains-append_right, AllZip, Finding, Holds, Fails, Undecided, Unfinished}
 use Rattle.scf_insn.specs.Architectures.{IsOf}
 use Rattle.scf_insn.specs.declared.architecture.Architecture.{Architecture}
 use Rattle.scf_insn.specs.Words.{IsRecord, words_of}
@@ -15,7 +15,7 @@ use Rattle.scf_profile.specs.declared.scope.Scope.TheVariants.{Numbers}
 use Rattle.scf_compare.specs.declared.budget.Limit.{Limit}
 use Rattle.scf_compare.specs.declared.finding.Which.TheVariants.{Left, Right}
 use Rattle.scf_compare.specs.Findings.{AllRelated, Compared, IsTrueFinding, compared_in}
-use Rattle.scf_compare.specs.Sides.{profile_behavior, stack_behavior}
+use Rattle.scf_compare.specs.Sides.{Behavior, profile_behavior}
 use Rattle.scf_tool.specs.ArchitectureScopes.{scope_of}
 use Rattle.scf_tool.specs.Comparisons.{IsFound}
 use Rattle.scf_tool.specs.JointFindings.{IsTrueOfEach, is_failure, is_holding, joint_finding, most_steps}
@@ -63,9 +63,9 @@ module _ {P V : Type 0} (R : P → V → Type 0) (f : V → Bool) where
 
 module _ (relation : Relation) (over : Architecture → Scope)
     (of_architecture : (a : Architecture) (call : CallRecord) → IsInScope (over a) call → IsOf a call)
-    (stack : List (List Insn)) (profiles : List Profile) where
+    (side : Behavior) (profiles : List Profile) where
   abbrev compared : Profile → Compared
-  compared p = compared_in relation (over p.architecture) (stack_behavior stack) (profile_behavior p)
+  compared p = compared_in relation (over p.architecture) side (profile_behavior p)
 
   -- what a profile answers to the words of a call of its architecture, all do
   answered : (p : Profile) (call : CallRecord) (answer : ℕ) → Contains profiles p → IsRecord call
@@ -77,7 +77,7 @@ module _ (relation : Relation) (over : Architecture → Scope)
   -- a finding on one that isn't Holds is true of all
   one_is_true : (p : Profile) (finding : Finding) → Contains profiles p
       → IsTrueFinding (compared p) finding → is_holding finding ≡ false
-      → IsTrueOfEach relation over stack profiles finding
+      → IsTrueOfEach relation over side profiles finding
   one_is_true p (Holds steps) among holds other = absurd (cc)
   one_is_true p (Fails call left right) among holds other = (
     p,
@@ -113,19 +113,18 @@ module _ (relation : Relation) (over : Architecture → Scope)
 
   module _ (limit : Limit) where
     abbrev Found : Profile → Finding → Type 0
-    Found p finding =
-        IsFound relation (stack_behavior stack) (profile_behavior p) (over p.architecture) limit finding
+    Found p finding = IsFound relation side (profile_behavior p) (over p.architecture) limit finding
 
     abbrev is_other : Finding → Bool
     is_other finding = not (is_holding finding)
 
     -- that which speaks for all is true of all
     pub joint_is_true : (findings : List Finding) → AllZip Found profiles findings
-        → IsTrueOfEach relation over stack profiles (joint_finding findings)
+        → IsTrueOfEach relation over side profiles (joint_finding findings)
     joint_is_true findings each = by_first (find is_failure findings) refl (find is_other findings) refl
       where
         by_first : (first : Option Finding) → find is_failure findings ≡ first → (other : Option Finding)
-            → find is_other findings ≡ other → IsTrueOfEach relation over stack profiles (joint_finding findings)
+            → find is_other findings ≡ other → IsTrueOfEach relation over side profiles (joint_finding findings)
         by_first (Some finding) found other others =
             let at = zip_found Found is_failure profiles findings finding each found in
             rw found (one_is_true at.0 finding at.1 at.2.holds (failure_is_other finding at.3))
@@ -133,7 +132,7 @@ module _ (relation : Relation) (over : Architecture → Scope)
             let at = zip_found Found is_other profiles findings finding each others in
             rw (found, others) (one_is_true at.0 finding at.1 at.2.holds (other_is_not_holding finding at.3))
         by_first None found None others =
-            let all : IsTrueOfEach relation over stack profiles (Holds (most_steps findings)) = λ p call among record_is in_it.
+            let all : IsTrueOfEach relation over side profiles (Holds (most_steps findings)) = λ p call among record_is in_it.
             let at = zip_none Found is_other profiles findings among.0 p each among.1 among.2 others in
             let answers = holding_is_related p at.0 at.1.holds at.2 call record_is in_it in (
               answers.left,

@@ -20,7 +20,7 @@ pub use Rattle.scf_compare.specs.declared.finding.Finding.TheVariants.{Holds, Fa
 pub use Rattle.scf_insn.specs.declared.insn.Insn.{Insn}
 pub use Rattle.scf_machine.specs.Precedence.{StackAnswers}
 pub use Rattle.scf_machine.proofs.Common.{IsPush, cost_of}
-pub use Rattle.scf_profile.proofs.Common.{Answering, IfOk-weaker, Names, Refuses, err_from_is_err_and, map-append, texts_at}
+pub use Rattle.scf_profile.proofs.Common.{Answering, IfOk-weaker, Names, err_from_is_err_and, map-append, texts_at}
 pub use Rattle.scf_profile.specs.declared.load_fault.LoadFault.{LoadFault}
 pub use Rattle.scf_text.proofs.Common.{each_fails, fails_first, flat_map, writes_then}
 pub use Rattle.scf_tool.specs.Commands.{NoReadFailed, ReadsInput}

@@ -1,11 +1,12 @@
 -- The inputs of a comparison.
 use Rattle.scf_tool.proofs.Common.{refl, sym, subst, ◌≡◌, ◌≤◌, length, Some, None, IfSome, LoadFault, ℕ, List, Option, Insn, Answering, Names, Inputs, AreComparedInputs, AreInputs, left_out_of}
+use Rattle.scf_request.specs.Interpretations.{Interpretation}
 
-module _ (filters : List (Option (List ℕ))) (table profile : Option (List ℕ)) where
+module _ (by : Interpretation) (filters : List (Option (List ℕ))) (table profile : Option (List ℕ)) where
   -- what holds of them is said of their bytes
   pub inputs_are_compared : (inputs : Inputs) (holds : List (List Insn) → Names → Answering → Type 0)
-      → AreInputs filters table profile inputs → holds inputs.stack inputs.names inputs.loaded.profile
-      → AreComparedInputs filters table profile (Some (left_out_of inputs.loaded)) holds
+      → AreInputs by filters table profile inputs → holds inputs.stack inputs.names inputs.loaded.profile
+      → AreComparedInputs by filters table profile (Some (left_out_of inputs.loaded)) holds
   inputs_are_compared inputs holds read compared = record {
     stack = inputs.stack;
     names = inputs.names;

@@ -1,11 +1,12 @@
 mod ArchitectureLemmas
-mod BesideLemmas
-mod CallLemmas
+pub mod BundleEndings
+pub mod CallLemmas
 pub mod Common
+mod ComparisonParts
 mod ExplorationLemmas
 mod FaultLemmas
-mod OneArchitecture
 mod InputLemmas
+mod SideLemmas
 pub mod StackLemmas
 pub mod TableLemmas
 pub mod WritingLemmas

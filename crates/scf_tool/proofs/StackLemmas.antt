@@ -1,12 +1,8 @@
 -- Readers of filters, one after another.
-use Rattle.scf_tool.proofs.Common.{◌≡◌, ℕ, ◌+◌, ◌<◌, ◌≤◌, List, [], ◌∷◌, ◌++◌, length, take, drop, set, get_or, map, Option, Some, Ok, Err, refl, sym, ap, ◌∙◌, arith, add-one, length-drop, drop_more, take_more, take_more_set, set_split, drop-set-lt, take-append-drop, map-append, sum_by_push, AllZip, Insn, max_insns_per_path, IsPush, cost_of, PartReader, HasEnded, IsAcceptedFilter, HasStack, HasNoStack, IsNotPushed, HaveStopped, LeavesFilterReaders, LeavesProfileReader, LeavesTableReader, NoReadFailed, VerifyFault, FilterRead, rest_of}
-use Rattle.scf_tool.specs.VerifyingBeside.{IsTableFault}
+use Rattle.scf_tool.proofs.Common.{◌≡◌, ℕ, ◌+◌, ◌<◌, ◌≤◌, List, [], ◌∷◌, ◌++◌, length, take, drop, set, get_or, map, Option, Some, Ok, Err, refl, sym, ap, ◌∙◌, arith, add-one, length-drop, drop_more, take_more, take_more_set, set_split, drop-set-lt, take-append-drop, map-append, sum_by_push, AllZip, Insn, max_insns_per_path, IsPush, cost_of, PartReader, HasEnded, IsAcceptedFilter, HasStack, HasNoStack, IsNotPushed, HaveStopped, NoReadFailed, VerifyFault, FilterRead, rest_of}
 use Rattle.std.proofs.lemmas.Slice.Zip.{all_zipped_more}
-use Rattle.scf_tool.proofs.Common.{inl, inr}
 use Rattle.scf_tool.specs.declared.verify_fault.VerifyFault.TheVariants.{ProfileRead, TableRead}
-use Rattle.scf_request.specs.declared.contents.TableReader.{TableReader}
 use Rattle.scf_tool.specs.FilterStacks.{HaveStoppedBy}
-use Rattle.scf_tool.specs.VerifyingArchitectures.{LeavesTableReaders}
 
 -- the lists hold the same from an index on, and this stands there
 pub record SameFrom {R : Type 0} (i : ℕ) (olds news : List R) (old : R) : Type 0 where
@@ -126,61 +122,14 @@ told_of_parts (reader ∷ readers) = ap (λ input. Some (rest_of reader) ∷ inp
 
 -- ---- readers that never fail
 
-abbrev pub part_bytes : PartReader → Option (List ℕ)
-part_bytes reader = Some (rest_of reader)
-
 module _ {R : Type 0} (remaining : R → Option (List ℕ)) where
   abbrev none : R → ℕ
   none reader = 0
 
-  -- no read of one is why nothing is compared
-  pub reads_well : (T : Type 0) (fault : VerifyFault) (olds news : List R) (table table_new profile profile_new : R)
-      → LeavesFilterReaders {T = T} remaining none olds (Err fault) news
-      → LeavesTableReader {T = T} remaining none table (Err fault) table_new
-      → LeavesProfileReader {T = T} remaining none profile (Err fault) profile_new → NoReadFailed fault
-  reads_well T (FilterRead fault) olds news table table_new profile profile_new of_filters of_table of_profile =
-      λ is. absurd (omega (arith, of_filters.left.0 is))
-  reads_well T (TableRead fault) olds news table table_new profile profile_new of_filters of_table of_profile =
-      λ is. absurd (omega (arith, of_table.0 is))
-  reads_well T (ProfileRead fault) olds news table table_new profile profile_new of_filters of_table of_profile =
-      λ is. absurd (omega (arith, of_profile.0 is))
-  reads_well T fault olds news table table_new profile profile_new of_filters of_table of_profile = tt
-
-  -- nor where there are tables of several architectures
-  pub read_well_each : (T : Type 0) (fault : VerifyFault) (olds news : List R) (tables tables_new : List (TableReader R))
-      (profile profile_new : R) → LeavesFilterReaders {T = T} remaining none olds (Err fault) news
-      → LeavesTableReaders {T = T} remaining none tables (Err fault) tables_new
-      → LeavesProfileReader {T = T} remaining none profile (Err fault) profile_new → NoReadFailed fault
-  read_well_each T (FilterRead fault) olds news tables tables_new profile profile_new of_filters of_tables of_profile =
-      λ is. absurd (omega (arith, of_filters.left.0 is))
-  read_well_each T (TableRead fault) olds news tables tables_new profile profile_new of_filters of_tables of_profile =
-      λ is. absurd (omega (arith, of_tables.left.1.0 is))
-  read_well_each T (ProfileRead fault) olds news tables tables_new profile profile_new of_filters of_tables of_profile =
-      λ is. absurd (omega (arith, of_profile.0 is))
-  read_well_each T fault olds news tables tables_new profile profile_new of_filters of_tables of_profile = tt
-
-  -- nor why there is no stack
-  pub stack_reads_well : (T : Type 0) (texts : List (Option (List ℕ))) (fault : VerifyFault) (olds news : List R)
-      → HasNoStack texts fault → LeavesFilterReaders {T = T} remaining none olds (Err fault) news → NoReadFailed fault
-  stack_reads_well T texts (FilterRead fault) olds news refused left = λ is. absurd (omega (arith, left.left.0 is))
-  stack_reads_well T texts (TableRead fault) olds news refused left = absurd refused.why
-  stack_reads_well T texts (ProfileRead fault) olds news refused left = absurd refused.why
-  stack_reads_well T texts fault olds news refused left = tt
-
+  -- no read of one is why there is no stack
   pub stopped_reads_well : (texts : List (Option (List ℕ))) (fault : VerifyFault) (olds news : List R)
       → HasNoStack texts fault → HaveStopped remaining none fault olds news → NoReadFailed fault
   stopped_reads_well texts (FilterRead fault) olds news refused left = λ is. absurd (omega (arith, left.left.0 is))
   stopped_reads_well texts (TableRead fault) olds news refused left = absurd refused.why
   stopped_reads_well texts (ProfileRead fault) olds news refused left = absurd refused.why
   stopped_reads_well texts fault olds news refused left = tt
-
-  -- nor why a table isn't read
-  pub table_reads_well : (T : Type 0) (fault : VerifyFault) (bytes : Option (List ℕ)) (table table_new : R)
-      → IsTableFault bytes fault → LeavesTableReader {T = T} remaining none table (Err fault) table_new
-      → NoReadFailed fault
-  table_reads_well T (FilterRead fault) bytes table table_new (inl refused) left = absurd refused
-  table_reads_well T (FilterRead fault) bytes table table_new (inr refused) left = absurd (cc (refused.2))
-  table_reads_well T (TableRead fault) bytes table table_new refused left = λ is. absurd (omega (arith, left.0 is))
-  table_reads_well T (ProfileRead fault) bytes table table_new (inl refused) left = absurd refused
-  table_reads_well T (ProfileRead fault) bytes table table_new (inr refused) left = absurd (cc (refused.2))
-  table_reads_well T fault bytes table table_new refused left = tt

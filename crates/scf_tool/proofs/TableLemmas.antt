@@ -1,27 +1,27 @@
 -- Tables of several architectures, one after another.
-use Rattle.scf_tool.proofs.Common.{◌≡◌, ◌≢◌, ℕ, ◌+◌, ◌<◌, Bool, true, false, List, [], ◌∷◌, ◌++◌, length, get_or, set, take, drop, map, Option, Some, Ok, Err, refl, sym, ap, ◌∙◌, arith, drop_more, map-append, take_more, take-append-drop, AllZip, Insn, PartReader, VerifyFault}
+use Rattle.scf_tool.proofs.Common.{◌≡◌, ◌≢◌, ℕ, ◌+◌, ◌<◌, Bool, true, false, List, [], ◌∷◌, ◌++◌, length, get_or, set, take, drop, map, Option, Some, Ok, Err, refl, sym, ap, ◌∙◌, arith, drop_more, map-append, take_more, take-append-drop, AllZip, PartReader, VerifyFault}
+use Rattle.std.proofs.lemmas.List.{length-map}
 use Rattle.std.proofs.lemmas.List.Sums.{sum_by-cons}
 use Rattle.std.proofs.lemmas.Slice.Zip.{all_zipped_more}
 use Rattle.std.specs.Prelude.{count_by}
 use Rattle.scf_insn.specs.Architectures.{row_of}
 use Rattle.scf_profile.specs.Table.{table_of}
 use Rattle.scf_profile.specs.StatedProfile.{is_named}
-use Rattle.scf_profile.specs.Profile.{Profile}
 use Rattle.scf_profile.specs.declared.table_fault.TableFault.{TableFault}
 use Rattle.scf_profile.specs.declared.table_fault.TableFault.TheVariants as faults
 use Rattle.scf_request.specs.Contents.{rest_of_table, texts_for}
+use Rattle.scf_request.specs.Interpretations.{Interpretation}
 use Rattle.scf_tool.specs.Commands.{CantLoadEach, SpellsTable, known_text}
 use Rattle.scf_tool.specs.declared.owned_table.OwnedTable.{OwnedTable}
-use Rattle.scf_tool.specs.declared.architecture_inputs.ArchitectureInputs.{ArchitectureInputs}
-use Rattle.scf_tool.specs.internal.Verification.{AreInputsUnder, named_of}
+use Rattle.scf_tool.specs.internal.Verification.{named_of}
 use Rattle.scf_insn.specs.declared.architecture.Architecture.{Architecture}
 use Rattle.scf_profile.specs.StatedProfile.{Tables}
 use Rattle.scf_profile.specs.Table.{Names}
 use Rattle.scf_request.specs.declared.contents.TableReader.{TableReader}
 use Rattle.scf_tool.proofs.StackLemmas.{IsReadUpTo, SameFrom, one_more_read, texts_split}
 use Rattle.scf_tool.specs.Verifying.{IsNoTable, IsTable}
-use Rattle.scf_tool.specs.VerifyingArchitectures.{AreComparedUnder, AreTables, HasNoTable, IsTableOf, TableHasEnded, left_out_of_each, table_text}
-use Rattle.scf_tool.specs.declared.verify_fault.VerifyFault.TheVariants.{Memory, Table}
+use Rattle.scf_tool.specs.VerifyingArchitectures.{AreTables, HasNoTable, IsTableOf, TableHasEnded, table_text}
+use Rattle.scf_tool.specs.declared.verify_fault.VerifyFault.TheVariants.{Table}
 
 module _ {R : Type 0} (remaining : R → Option (List ℕ)) (failures : R → ℕ) where
   -- what is known once the readers before an index had tables
@@ -104,10 +104,10 @@ module _ {R : Type 0} (text : R → List ℕ) (tables : List (TableReader R)) (i
         (table_text text reader) (named_of one) before (refl, spelled))
 
     -- one isn't
-    pub cant_spell : (profile : List ℕ) (fault : TableFault)
+    pub cant_spell : (by : Interpretation) (profile : List ℕ) (fault : TableFault)
         → (fault ≢ faults.Memory → table_of (text reader.reader) ≡ Err fault)
-        → CantLoadEach profile (map (table_text text) tables) (Table fault)
-    cant_spell profile fault refused = λ other. (
+        → CantLoadEach by profile (map (table_text text) tables) (Table fault)
+    cant_spell by profile fault refused = λ other. (
       map (table_text text) (take i tables),
       table_text text reader,
       map (table_text text) (drop (i + 1) tables),
@@ -120,22 +120,29 @@ module _ {R : Type 0} (text : R → List ℕ) (tables : List (TableReader R)) (i
       refused other,
     )
 
--- ---- the inputs of a comparison
+-- ---- the only table
 
-module _ (filters : List (Option (List ℕ))) (texts : List (Architecture × Option (List ℕ)))
-    (profile : Option (List ℕ)) where
-  -- what holds of them is said of their bytes
-  pub are_compared_under : (inputs : ArchitectureInputs) (holds : List (List Insn) → Tables → List Profile → Type 0)
-      → AreInputsUnder filters texts profile inputs
-      → holds inputs.stack (map named_of inputs.tables.items) inputs.loaded.profiles
-      → AreComparedUnder filters texts profile (Some (left_out_of_each inputs.loaded)) holds
-  are_compared_under inputs holds read compared = record {
-    stack = inputs.stack;
-    tables = map named_of inputs.tables.items;
-    loaded = inputs.loaded;
-    has_stack = read.has_stack;
-    are_tables = read.are_tables;
-    are_loaded = read.are_loaded;
-    is_left_out = refl;
-    compared = compared;
-  }
+-- so many are read as there are texts
+pub tables_counted : (texts : List (Architecture × Option (List ℕ))) (tables : Tables) → AreTables texts tables
+    → length tables ≡ length texts
+tables_counted [] [] are = refl
+tables_counted [] (table ∷ tables) are = absurd are
+tables_counted (text ∷ texts) [] are = absurd are
+tables_counted (text ∷ texts) (table ∷ tables) are = omega (arith, tables_counted texts tables are.1)
+
+-- and as there are parts
+pub parts_counted : (parts : List (TableReader PartReader)) (own : List OwnedTable)
+    → AreTables (map known_text (map rest_of_table parts)) (map named_of own) → length own ≡ length parts
+parts_counted parts own are = omega (
+  arith,
+  tables_counted (map known_text (map rest_of_table parts)) (map named_of own) are,
+  length-map own named_of,
+  length-map (map rest_of_table parts) known_text,
+  length-map parts rest_of_table,
+)
+
+-- the only element of a list
+pub only_element : {A : Type 0} (xs : List A) (d : A) → length xs ≡ 1 → xs ≡ get_or xs 0 d ∷ []
+only_element [] d one = absurd (omega (arith, one))
+only_element (x ∷ []) d one = refl
+only_element (x ∷ y ∷ xs) d one = absurd (omega (arith, one))

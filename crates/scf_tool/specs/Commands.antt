@@ -21,7 +21,7 @@ use Rattle.scf_text.specs.Spelling as spelling
 use Rattle.scf_profile.specs.declared.loaded.Loaded.{Loaded}
 use Rattle.scf_profile.specs.declared.loaded.LoadedProfiles.{LoadedProfiles}
 use Rattle.scf_profile.specs.declared.table_fault.TableFault.TheVariants as tables
-use Rattle.scf_profile.specs.Loading.{Loads, LoadsEach, Refuses, RefusesEach}
+use Rattle.scf_profile.specs.Loading.{RefusesAs, RefusesEachAs}
 use Rattle.scf_profile.specs.Profile.{Profile}
 use Rattle.scf_profile.specs.ProfileAnswers.{ProfileAnswers, ProfilesAnswer}
 use Rattle.scf_profile.specs.Reasons.{IsReason, IsReasonAmong}
@@ -32,6 +32,7 @@ use Rattle.scf_compile.specs.declared.fault.CompileFault.TheVariants as compiles
 use Rattle.scf_compile.specs.SizeBound.{size_bound_of, size_bound_of_each}
 use Rattle.scf_tool.specs.declared.fault.Fault.{Fault}
 use Rattle.scf_tool.specs.declared.fault.Fault.TheVariants as faults
+use Rattle.scf_profile.specs.declared.reading.Reading.{Reading}
 use Rattle.scf_profile.specs.declared.relation.Relation.{Relation}
 use Rattle.scf_tool.specs.declared.reply.Reply.{Reply}
 use Rattle.scf_tool.specs.declared.reply.Reply.TheVariants.{Accepted, Ran, Decided, Asked, Bytes, Compared}
@@ -40,23 +41,26 @@ use Rattle.scf_request.specs.declared.request.Exploration.{Exploration}
 use Rattle.scf_compare.specs.Sides.{profile_behavior, stack_behavior}
 use Rattle.scf_tool.specs.ArchitectureScopes.{scope_of}
 use Rattle.scf_tool.specs.Explorations.{ExploresEach, ExploresSide, ListsWalks}
-use Rattle.scf_tool.specs.declared.findings.ComparisonOutcome.{ComparisonOutcome}
+use Rattle.scf_tool.specs.declared.commands.parts.BesideProfile.{BesideProfile}
+use Rattle.scf_tool.specs.declared.commands.parts.BesideProfile.TheVariants as besides
 use Rattle.scf_request.specs.declared.request.Request.{Request}
 use Rattle.scf_request.specs.declared.request.Request.TheVariants as requests
 use Rattle.scf_request.specs.declared.request.Scopes.{Scopes}
 use Rattle.scf_request.specs.declared.request.Scopes.TheVariants.{AtOnce, EachCall}
 use Rattle.scf_tool.specs.declared.verify_fault.VerifyFault.{VerifyFault}
 use Rattle.scf_tool.specs.declared.verify_fault.VerifyFault.TheVariants as verifies
-use Rattle.scf_request.specs.Bundle.{AreNoParts, IsArchitecturesBundle, IsBesideBundle, IsBundle, architecture_kinds, beside_kinds, profile_kinds}
+use Rattle.scf_request.specs.Bundle.{AreNoParts, Held, IsBundle, kinds_of}
 use Rattle.scf_request.specs.Contents.{texts_for}
-use Rattle.scf_request.specs.declared.bundle.PartKind.{PartKind}
+use Rattle.scf_request.specs.declared.bundle.BundleForm.{BundleForm}
+use Rattle.scf_request.specs.declared.bundle.BundleForm.TheVariants as forms
+use Rattle.scf_request.specs.Interpretations.{Interpretation, LoadsBy, LoadsEachBy, interpretation_of, stubs_of}
 use Rattle.scf_tool.specs.Lines.{traced_text}
 use Rattle.scf_tool.specs.FilterStacks.{HasStack, HasNoStack}
-use Rattle.scf_tool.specs.Reports.{findings_status, report_text}
+use Rattle.scf_tool.specs.Reports.{findings_status, sides_text}
+use Rattle.scf_tool.specs.declared.sides.SidesOutcome.{SidesOutcome}
 use Rattle.scf_tool.specs.Verifying.{IsAcceptedFilter, IsNoFilter, ReadsFilter, ReadsUnder}
-use Rattle.scf_tool.specs.VerifyingArchitectures.{VerifiesArchitectures}
-use Rattle.scf_tool.specs.VerifyingBeside.{VerifiesBeside, fault_of_either}
-use Rattle.scf_tool.specs.VerifyingStacks.{VerifiesBy}
+use Rattle.scf_tool.specs.VerifyingSides.{AreRefused, AreVerified, SideBytes, fault_of_either}
+use Rattle.scf_tool.specs.VerifyingSides.SideBytes.{OfFilters, OfProfile}
 
 -- ---- standard input
 
@@ -68,27 +72,21 @@ max_input_len = 16777216
 abbrev pub ReadsInput : Option (List ℕ) → Result (List ℕ) InputFault → Type 0
 ReadsInput input result = ReadsUnder max_input_len input result
 
--- The input is a bundle whose parts hold these filters, these profiles and these tables.
-abbrev pub HoldsBundle : Option (List ℕ) → List (List ℕ) → List (List ℕ) → List (List ℕ) → Type 0
-HoldsBundle input filters profiles tables =
-    (bytes : List ℕ) × ReadsInput input (Ok bytes) × IsBundle bytes filters profiles tables
+-- The input is a bundle of a form whose parts hold this.
+abbrev pub HoldsBundle : BundleForm → Option (List ℕ) → Held → Type 0
+HoldsBundle form input held = (bytes : List ℕ) × ReadsInput input (Ok bytes) × IsBundle form bytes held
 
--- What a command ends with that takes parts of these kinds: the input isn't read, it is no bundle of them, they are
--- other parts than the command takes, or this holds of the end.
-abbrev pub EndsOnParts : List PartKind → Option (List ℕ) → Type 0 → (Result Reply Fault → Type 0)
+-- What a command ends with that takes such parts of a bundle: the input isn't read, it is no bundle, its parts are
+-- others, or this holds of the end.
+abbrev pub EndsOnBundle : BundleForm → Option (List ℕ) → (Held → Type 0) → (Held → Result Reply Fault → Type 0)
     → Result Reply Fault → Type 0
-EndsOnParts kinds input others holds (Err (faults.Input fault)) = ReadsInput input (Err fault)
-EndsOnParts kinds input others holds (Err (faults.Bundle fault)) =
-    (bytes : List ℕ) × ReadsInput input (Ok bytes) × AreNoParts kinds bytes fault
-EndsOnParts kinds input others holds (Err faults.Parts) = others
-EndsOnParts kinds input others holds ending = holds ending
-
--- A command takes a bundle with such counts of filters, profiles and tables.
-abbrev pub EndsOnBundle : Option (List ℕ) → (ℕ → ℕ → ℕ → Type 0) → (Result Reply Fault → Type 0)
-    → Result Reply Fault → Type 0
-EndsOnBundle input counts holds = EndsOnParts profile_kinds input
-    ((filters profiles tables : List (List ℕ)) × HoldsBundle input filters profiles tables
-    × (counts (length filters) (length profiles) (length tables) → ⊥)) holds
+EndsOnBundle form input Takes Holds (Err (faults.Input fault)) = ReadsInput input (Err fault)
+EndsOnBundle form input Takes Holds (Err (faults.Bundle fault)) =
+    (bytes : List ℕ) × ReadsInput input (Ok bytes) × AreNoParts (kinds_of form) bytes fault
+EndsOnBundle form input Takes Holds (Err faults.Parts) =
+    (held : Held) × HoldsBundle form input held × (Takes held → ⊥)
+EndsOnBundle form input Takes Holds ending =
+    (held : Held) × HoldsBundle form input held × Takes held × Holds held ending
 
 -- ---- one filter
 
@@ -142,32 +140,81 @@ DecidesCall call filters (Ok (Decided answer)) =
 DecidesCall call filters (Err (faults.Verify fault)) = NoReadFailed fault × HasNoStack (map Some filters) fault
 DecidesCall call filters ending = ⊥
 
--- They are all that the bundle holds.
-abbrev pub EndsOnFilters : Option (List ℕ) → (List (List ℕ) → Result Reply Fault → Type 0) → Result Reply Fault → Type 0
-EndsOnFilters input holds = EndsOnBundle input (λ filters profiles tables. (profiles ≡ 0) × (tables ≡ 0))
-    (λ ending. (filters : List (List ℕ)) × HoldsBundle input filters [] [] × holds filters ending)
+-- filters are all that a bundle with a profile's parts holds
+abbrev pub AreFilters : Held → Type 0
+AreFilters held = (held.profiles ≡ []) × (held.beside_profiles ≡ []) × (held.tables ≡ []) × (held.stubs ≡ [])
+
+-- `decide`: filters, any number of them
+abbrev pub Decides : CallRecord → Option (List ℕ) → Result Reply Fault → Type 0
+Decides call input = EndsOnBundle forms.Profile input AreFilters (λ held. DecidesCall call held.filters)
 
 -- ---- a profile
 
--- A profile and a table are all that the bundle holds.
-abbrev pub EndsOnProfile : Option (List ℕ) → (List ℕ → List ℕ → Result Reply Fault → Type 0)
+-- one filter or more, if there have to be some, else none
+abbrev pub IsFilterCount : BesideProfile → ℕ → Type 0
+IsFilterCount besides.Filters count = 1 ≤ count
+IsFilterCount beside count = count ≡ 0
+
+-- one more profile, if there has to be one, else none
+abbrev pub IsProfileCount : BesideProfile → ℕ → Type 0
+IsProfileCount besides.Profile count = count ≡ 1
+IsProfileCount beside count = count ≡ 0
+
+-- one table, or one or more, by whether there has to be just one
+abbrev pub IsTableCount : Bool → ℕ → Type 0
+IsTableCount true count = count ≡ 1
+IsTableCount false count = 1 ≤ count
+
+-- at most one table of an architecture, and no stub without it
+abbrev pub ArePartsOfOne : List (Architecture × List ℕ) → List (Architecture × List ℕ) → Architecture → Type 0
+ArePartsOfOne tables stubs architecture =
+    (length (texts_for architecture tables) ≤ 1)
+    × (length (texts_for architecture stubs) ≤ length (texts_for architecture tables))
+
+-- so many tables, each with a part for its stub or without one
+pub record HasTables (only_one : Bool) (held : Held) : Type 0 where
+  pub table_count : IsTableCount only_one (length held.tables)
+  pub each_once : All (ArePartsOfOne held.tables held.stubs) architectures
+
+-- one profile, its tables, and beside it filters, another profile, or nothing
+pub record HasKinds (beside : BesideProfile) (only_one : Bool) (held : Held) : Type 0 where
+  pub filter_count : IsFilterCount beside (length held.filters)
+  pub one_profile : length held.profiles ≡ 1
+  pub beside_count : IsProfileCount beside (length held.beside_profiles)
+  pub has_tables : HasTables only_one held
+
+-- these, and each of the stubs' parts has the number of one
+pub record AreTaken (beside : BesideProfile) (only_one : Bool) (held : Held) : Type 0 where
+  pub has_kinds : HasKinds beside only_one held
+  pub are_stubs : length (stubs_of held.stubs) ≡ length held.stubs
+
+-- A command takes a profile and so many tables. The reading and the stubs are how the profile is read.
+abbrev pub EndsOnProfile : BundleForm → Bool → Reading → Option (List ℕ)
+    → (Interpretation → List ℕ → List (Architecture × List ℕ) → Result Reply Fault → Type 0)
     → Result Reply Fault → Type 0
-EndsOnProfile input holds = EndsOnBundle input
-    (λ filters profiles tables. (filters ≡ 0) × (profiles ≡ 1) × (tables ≡ 1))
-    (λ ending. (profile table : List ℕ) × HoldsBundle input [] (profile ∷ []) (table ∷ []) × holds profile table ending)
+EndsOnProfile form only_one reading input Holds =
+    EndsOnBundle form input (AreTaken besides.Nothing only_one)
+    (λ held ending. (profile : List ℕ) × (held.profiles ≡ profile ∷ [])
+    × Holds (interpretation_of reading held) profile held.tables ending)
+
+-- of a profile and the only table
+abbrev pub OfOnly : (List ℕ → List ℕ → Result Reply Fault → Type 0) → List ℕ → List (Architecture × List ℕ)
+    → Result Reply Fault → Type 0
+OfOnly Holds profile tables ending =
+    (table : Architecture × List ℕ) × (tables ≡ table ∷ []) × Holds profile table.1 ending
 
 -- The table and the profile are read, and state this.
-pub record IsStated (profile table : List ℕ) (loaded : Loaded) : Type 0 where
+pub record IsStated (by : Interpretation) (profile table : List ℕ) (loaded : Loaded) : Type 0 where
   pub names : Names
   pub is_table : table_of table ≡ Ok names
-  pub loads : Loads profile names loaded
+  pub loads : LoadsBy by profile names loaded
 
 -- why a profile and a table state nothing
-abbrev pub CantLoad : List ℕ → List ℕ → VerifyFault → Type 0
-CantLoad profile table (verifies.Table fault) = fault ≢ tables.Memory → table_of table ≡ Err fault
-CantLoad profile table (verifies.Profile fault) =
-    (names : Names) × (table_of table ≡ Ok names) × Refuses profile names fault
-CantLoad profile table fault = ⊥
+abbrev pub CantLoad : Interpretation → List ℕ → List ℕ → VerifyFault → Type 0
+CantLoad by profile table (verifies.Table fault) = fault ≢ tables.Memory → table_of table ≡ Err fault
+CantLoad by profile table (verifies.Profile fault) =
+    (names : Names) × (table_of table ≡ Ok names) × RefusesAs by.reading profile names fault
+CantLoad by profile table fault = ⊥
 
 -- the bytes of an accepted filter that answers every call record as the profile does
 abbrev pub IsFilterOf : Profile → List ℕ → Type 0
@@ -180,177 +227,124 @@ IsFilterOfEach profiles bytes =
     (insns : List Insn) × IsAcceptedFilter (Some bytes) insns × SameAnswersAsEach (RunAnswers insns) profiles
 
 -- `compile`: the filter of the profile
-abbrev pub Compiles : List ℕ → List ℕ → Result Reply Fault → Type 0
-Compiles profile table (Ok (Bytes bytes)) =
-    (loaded : Loaded) × IsStated profile table loaded × IsFilterOf loaded.profile bytes.items
-Compiles profile table (Err (faults.Verify fault)) = CantLoad profile table fault
-Compiles profile table (Err (faults.Compile fault)) = (loaded : Loaded) × IsStated profile table loaded
+abbrev pub Compiles : Interpretation → List ℕ → List ℕ → Result Reply Fault → Type 0
+Compiles by profile table (Ok (Bytes bytes)) =
+    (loaded : Loaded) × IsStated by profile table loaded × IsFilterOf loaded.profile bytes.items
+Compiles by profile table (Err (faults.Verify fault)) = CantLoad by profile table fault
+Compiles by profile table (Err (faults.Compile fault)) = (loaded : Loaded) × IsStated by profile table loaded
     × (fault ≡ compiles.TooLarge → bpf_maxinsns < size_bound_of loaded.profile)
-Compiles profile table ending = ⊥
+Compiles by profile table ending = ⊥
 
 -- `ask`: the answer of the profile to the call, and why
-abbrev pub GivesReason : CallRecord → List ℕ → List ℕ → Result Reply Fault → Type 0
-GivesReason call profile table (Ok (Asked answer reason)) = (loaded : Loaded) × IsStated profile table loaded
+abbrev pub GivesReason : CallRecord → Interpretation → List ℕ → List ℕ → Result Reply Fault → Type 0
+GivesReason call by profile table (Ok (Asked answer reason)) = (loaded : Loaded) × IsStated by profile table loaded
     × ProfileAnswers loaded.profile call answer.0 × IsReason loaded.profile call reason
-GivesReason call profile table (Err (faults.Verify fault)) = CantLoad profile table fault
-GivesReason call profile table ending = ⊥
+GivesReason call by profile table (Err (faults.Verify fault)) = CantLoad by profile table fault
+GivesReason call by profile table ending = ⊥
 
 -- ---- a comparison
-
--- the report of an outcome, and its status
-abbrev pub IsReport : Relation → ComparisonOutcome → Reply → Type 0
-IsReport relation outcome (Compared text status) =
-    (text.items ≡ report_text relation outcome) × (status ≡ findings_status outcome.findings)
-IsReport relation outcome reply = ⊥
-
--- What filters, a profile and a table come to: why they aren't compared, or the report of the outcome that is asked
--- for.
-abbrev pub ComparesParts : Comparison → List (List ℕ) → List ℕ → List ℕ → Result Reply Fault → Type 0
-ComparesParts comparison filters profile table (Err (faults.Verify fault)) =
-    NoReadFailed fault × VerifiesBy comparison (map Some filters) (Some table) (Some profile) (Err fault)
-ComparesParts comparison filters profile table (Ok reply) = (outcome : ComparisonOutcome)
-    × VerifiesBy comparison (map Some filters) (Some table) (Some profile) (Ok outcome)
-    × IsReport comparison.relation outcome reply
-ComparesParts comparison filters profile table ending = ⊥
-
--- `compare`: the report of the comparison, where one filter or more, a profile and a table are all that the bundle
--- holds
-abbrev pub Compares : Comparison → Option (List ℕ) → Result Reply Fault → Type 0
-Compares comparison input =
-    EndsOnBundle input (λ filters profiles tables. (1 ≤ filters) × (profiles ≡ 1) × (tables ≡ 1))
-    (λ ending. (filters : List (List ℕ)) × (profile table : List ℕ) × (1 ≤ length filters)
-    × HoldsBundle input filters (profile ∷ []) (table ∷ [])
-    × ComparesParts comparison filters profile table ending)
-
--- ---- a comparison with other filters
-
--- The input is a bundle for a comparison over these calls, whose parts hold these filters, these beside them and these
--- tables.
-abbrev pub HoldsBeside : Scopes → Option (List ℕ) → List (List ℕ) → List (List ℕ) → List (List ℕ) → Type 0
-HoldsBeside over input filters beside tables =
-    (bytes : List ℕ) × ReadsInput input (Ok bytes) × IsBesideBundle over bytes filters beside tables
-
--- What two stacks come to: why they aren't compared, or the report of the outcome that is asked for, call by call of a
--- table.
-abbrev pub ComparesStacks : Comparison → List (List ℕ) → List (List ℕ) → List (List ℕ) → Result Reply Fault → Type 0
-ComparesStacks comparison filters beside tables (Err (faults.Stacks fault)) = NoReadFailed (fault_of_either fault)
-    × VerifiesBeside comparison (map Some filters) (map Some beside) (map Some tables) (Err fault)
-ComparesStacks comparison filters beside tables (Ok reply) = (outcome : ComparisonOutcome)
-    × VerifiesBeside comparison (map Some filters) (map Some beside) (map Some tables) (Ok outcome)
-    × IsReport comparison.relation outcome reply
-ComparesStacks comparison filters beside tables ending = ⊥
-
--- `compare --beside`: the report of the comparison of the filters with those beside them, any number of either; call by
--- call the bundle holds a table, too
-abbrev pub ComparesBeside : Comparison → Option (List ℕ) → Result Reply Fault → Type 0
-ComparesBeside comparison input = EndsOnParts (beside_kinds comparison.scopes) input
-    ((filters beside tables : List (List ℕ)) × HoldsBeside comparison.scopes input filters beside tables
-    × (comparison.scopes ≡ EachCall) × (length tables ≢ 1))
-    (λ ending. (filters beside tables : List (List ℕ)) × HoldsBeside comparison.scopes input filters beside tables
-    × ComparesStacks comparison filters beside tables ending)
-
--- ---- several architectures
-
--- The input is a bundle for several architectures, whose parts hold these filters, these profiles and these tables.
-abbrev pub HoldsArchitectures : Option (List ℕ) → List (List ℕ) → List (List ℕ) → List (Architecture × List ℕ) → Type 0
-HoldsArchitectures input filters profiles tables =
-    (bytes : List ℕ) × ReadsInput input (Ok bytes) × IsArchitecturesBundle bytes filters profiles tables
-
--- one filter or more, or none, by whether there have to be some
-abbrev pub IsFilterCount : Bool → ℕ → Type 0
-IsFilterCount true count = 1 ≤ count
-IsFilterCount false count = count ≡ 0
-
--- one table, or one or more, by whether there has to be just one
-abbrev pub IsTableCount : Bool → ℕ → Type 0
-IsTableCount true count = count ≡ 1
-IsTableCount false count = 1 ≤ count
-
--- these filters, one profile, and so many tables, at most one of each architecture
-pub record AreTaken (has_filters only_one : Bool) (filters profiles : List (List ℕ))
-    (tables : List (Architecture × List ℕ)) : Type 0 where
-  pub filter_count : IsFilterCount has_filters (length filters)
-  pub one_profile : length profiles ≡ 1
-  pub table_count : IsTableCount only_one (length tables)
-  pub each_once : All (λ architecture. length (texts_for architecture tables) ≤ 1) architectures
-
-abbrev pub HoldsOtherParts : Bool → Bool → Option (List ℕ) → Type 0
-HoldsOtherParts has_filters only_one input =
-    (filters profiles : List (List ℕ)) × (tables : List (Architecture × List ℕ))
-    × HoldsArchitectures input filters profiles tables
-    × (AreTaken has_filters only_one filters profiles tables → ⊥)
-
--- A command takes filters, or none, a profile and so many tables of several architectures.
-abbrev pub EndsOnArchitectures : Bool → Bool → Option (List ℕ)
-    → (List (List ℕ) → List ℕ → List (Architecture × List ℕ) → Result Reply Fault → Type 0)
-    → Result Reply Fault → Type 0
-EndsOnArchitectures has_filters only_one input holds =
-    EndsOnParts architecture_kinds input (HoldsOtherParts has_filters only_one input)
-    (λ ending. (filters : List (List ℕ)) × (profile : List ℕ) × (tables : List (Architecture × List ℕ))
-    × HoldsArchitectures input filters (profile ∷ []) tables
-    × AreTaken has_filters only_one filters (profile ∷ []) tables
-    × holds filters profile tables ending)
 
 -- the text of a table, which its reader tells
 abbrev pub known_text : Architecture × List ℕ → Architecture × Option (List ℕ)
 known_text table = (table.0, Some table.1)
 
--- What filters, a profile and tables come to: why they aren't compared, or the report of the outcome that is asked for.
-abbrev pub ComparesProfiles : Comparison → List (List ℕ) → List ℕ → List (Architecture × List ℕ) → Result Reply Fault
-    → Type 0
-ComparesProfiles comparison filters profile tables (Err (faults.Verify fault)) = NoReadFailed fault
-    × VerifiesArchitectures comparison (map Some filters) (map known_text tables) (Some profile) (Err fault)
-ComparesProfiles comparison filters profile tables (Ok reply) = (outcome : ComparisonOutcome)
-    × VerifiesArchitectures comparison (map Some filters) (map known_text tables) (Some profile) (Ok outcome)
-    × IsReport comparison.relation outcome reply
-ComparesProfiles comparison filters profile tables ending = ⊥
+-- the report of what a comparison comes to, and its status
+abbrev pub IsReport : Relation → SidesOutcome → Reply → Type 0
+IsReport relation verified (Compared text status) =
+    (text.items ≡ sides_text relation verified.left_out verified.outcome)
+    × (status ≡ findings_status verified.outcome.findings)
+IsReport relation verified reply = ⊥
 
 -- whether single calls are compared, for which there is one table
 abbrev pub is_call_by_call : Scopes → Bool
 is_call_by_call (AtOnce scope) = false
 is_call_by_call EachCall = true
 
--- `compare --architectures`: the report of the comparison
-abbrev pub ComparesArchitectures : Comparison → Option (List ℕ) → Result Reply Fault → Type 0
-ComparesArchitectures comparison input = EndsOnArchitectures true (is_call_by_call comparison.scopes) input
-    (ComparesProfiles comparison)
+-- a profile beside filters or beside another profile, and its tables
+abbrev pub TakesProfile : Bool → Held → Type 0
+TakesProfile only_one held = AreTaken besides.Filters only_one held ⊎ AreTaken besides.Profile only_one held
+
+-- What a comparison takes: beside a profile for x86-64 alone one table; call by call one table in any case.
+abbrev pub TakesSides : BundleForm → Scopes → Held → Type 0
+TakesSides forms.Profile over held = TakesProfile true held
+TakesSides forms.Architectures over held = TakesProfile (is_call_by_call over) held
+TakesSides (forms.Beside scopes) over held = over ≡ EachCall → length held.tables ≡ 1
+
+-- the sides that the parts with a profile are: filters and a profile, or a profile and the one beside it
+abbrev pub AreWithProfile : Held → SideBytes → SideBytes → Type 0
+AreWithProfile held (OfFilters filters) (OfProfile profile) = (filters ≡ held.filters)
+    × (held.profiles ≡ profile ∷ []) × (held.beside_profiles ≡ [])
+AreWithProfile held (OfProfile profile) (OfProfile beside) = (held.filters ≡ [])
+    × (held.profiles ≡ profile ∷ []) × (held.beside_profiles ≡ beside ∷ [])
+AreWithProfile held left right = ⊥
+
+-- those that the parts of a bundle are
+abbrev pub AreSidesOf : BundleForm → Held → SideBytes → SideBytes → Type 0
+AreSidesOf forms.Profile held left right = AreWithProfile held left right
+AreSidesOf forms.Architectures held left right = AreWithProfile held left right
+AreSidesOf (forms.Beside over) held left right = (left ≡ OfFilters held.filters) × (right ≡ OfFilters held.beside)
+
+-- without the tables of several architectures a profile is read for x86-64 alone
+abbrev pub is_native : BundleForm → Bool
+is_native forms.Profile = true
+is_native form = false
+
+-- What two sides and their tables come to: why they aren't compared, or the report of the comparison that is asked for.
+abbrev pub ComparesSides : Bool → Comparison → Interpretation → SideBytes → SideBytes
+    → List (Architecture × List ℕ) → Result Reply Fault → Type 0
+ComparesSides native comparison by left right tables (Err (faults.Sides fault)) =
+    NoReadFailed (fault_of_either fault) × AreRefused native by left right (map known_text tables) fault
+ComparesSides native comparison by left right tables (Ok reply) = (verified : SidesOutcome)
+    × AreVerified native by comparison left right (map known_text tables) verified
+    × IsReport comparison.relation verified reply
+ComparesSides native comparison by left right tables ending = ⊥
+
+-- `compare`: the report of the comparison of the sides that the bundle holds
+abbrev pub Compares : BundleForm → Reading → Comparison → Option (List ℕ) → Result Reply Fault → Type 0
+Compares form reading comparison input = EndsOnBundle form input (TakesSides form comparison.scopes)
+    (λ held ending. (left right : SideBytes) × AreSidesOf form held left right
+    × ComparesSides (is_native form) comparison (interpretation_of reading held) left right held.tables ending)
+
+-- ---- several architectures
 
 -- a call table of an architecture, however long its text is
 abbrev pub SpellsTable : Architecture × List ℕ → Architecture × Names → Type 0
 SpellsTable text table = (text.0 ≡ table.0) × (table_of text.1 ≡ Ok table.1)
 
 -- The tables and the profile are read, and state this for each architecture.
-pub record AreStated (profile : List ℕ) (texts : List (Architecture × List ℕ)) (loaded : LoadedProfiles) : Type 0 where
+pub record AreStated (by : Interpretation) (profile : List ℕ) (texts : List (Architecture × List ℕ))
+    (loaded : LoadedProfiles) : Type 0 where
   pub tables : Tables
   pub are_tables : AllZip SpellsTable texts tables
-  pub loads : LoadsEach profile tables loaded
+  pub loads : LoadsEachBy by profile tables loaded
 
 -- why a profile and tables state nothing: the first that is no table, or all are, and the profile is refused
-abbrev pub CantLoadEach : List ℕ → List (Architecture × List ℕ) → VerifyFault → Type 0
-CantLoadEach profile texts (verifies.Table fault) = fault ≢ tables.Memory
+abbrev pub CantLoadEach : Interpretation → List ℕ → List (Architecture × List ℕ) → VerifyFault → Type 0
+CantLoadEach by profile texts (verifies.Table fault) = fault ≢ tables.Memory
     → (before : List (Architecture × List ℕ)) × (own : Architecture × List ℕ) × (behind : List (Architecture × List ℕ))
     × (texts ≡ before ++ own ∷ behind) × (read : Tables) × AllZip SpellsTable before read × (table_of own.1 ≡ Err fault)
-CantLoadEach profile texts (verifies.Profile fault) =
-    (read : Tables) × AllZip SpellsTable texts read × RefusesEach profile read fault
-CantLoadEach profile texts fault = ⊥
+CantLoadEach by profile texts (verifies.Profile fault) =
+    (read : Tables) × AllZip SpellsTable texts read × RefusesEachAs by.reading profile read fault
+CantLoadEach by profile texts fault = ⊥
 
 -- `compile --architectures`: the filter of the profiles of all architectures that have a table
-abbrev pub CompilesEach : List ℕ → List (Architecture × List ℕ) → Result Reply Fault → Type 0
-CompilesEach profile texts (Ok (Bytes bytes)) =
-    (loaded : LoadedProfiles) × AreStated profile texts loaded × IsFilterOfEach loaded.profiles bytes.items
-CompilesEach profile texts (Err (faults.Verify fault)) = CantLoadEach profile texts fault
-CompilesEach profile texts (Err (faults.Compile fault)) = (loaded : LoadedProfiles)
-    × AreStated profile texts loaded
+abbrev pub CompilesEach : Interpretation → List ℕ → List (Architecture × List ℕ) → Result Reply Fault → Type 0
+CompilesEach by profile texts (Ok (Bytes bytes)) =
+    (loaded : LoadedProfiles) × AreStated by profile texts loaded × IsFilterOfEach loaded.profiles bytes.items
+CompilesEach by profile texts (Err (faults.Verify fault)) = CantLoadEach by profile texts fault
+CompilesEach by profile texts (Err (faults.Compile fault)) = (loaded : LoadedProfiles)
+    × AreStated by profile texts loaded
     × (fault ≡ compiles.TooLarge → bpf_maxinsns < size_bound_of_each loaded.profiles)
-CompilesEach profile texts ending = ⊥
+CompilesEach by profile texts ending = ⊥
 
 -- `ask --architectures`: the answer of the profile of the call's architecture, and why
-abbrev pub GivesReasonAmong : CallRecord → List ℕ → List (Architecture × List ℕ) → Result Reply Fault → Type 0
-GivesReasonAmong call profile texts (Ok (Asked answer reason)) = (loaded : LoadedProfiles)
-    × AreStated profile texts loaded × ProfilesAnswer loaded.profiles call answer.0
+abbrev pub GivesReasonAmong : CallRecord → Interpretation → List ℕ → List (Architecture × List ℕ) → Result Reply Fault
+    → Type 0
+GivesReasonAmong call by profile texts (Ok (Asked answer reason)) = (loaded : LoadedProfiles)
+    × AreStated by profile texts loaded × ProfilesAnswer loaded.profiles call answer.0
     × IsReasonAmong loaded.profiles call reason
-GivesReasonAmong call profile texts (Err (faults.Verify fault)) = CantLoadEach profile texts fault
-GivesReasonAmong call profile texts ending = ⊥
+GivesReasonAmong call by profile texts (Err (faults.Verify fault)) = CantLoadEach by profile texts fault
+GivesReasonAmong call by profile texts ending = ⊥
 
 -- ---- answers by regions
 
@@ -363,49 +357,57 @@ ListsStack exploration filters (Err faults.Answers) = Unit {0}
 ListsStack exploration filters ending = ⊥
 
 -- what a profile and a table come to
-abbrev pub ListsProfile : Exploration → List ℕ → List ℕ → Result Reply Fault → Type 0
-ListsProfile exploration profile table (Ok reply) = (loaded : Loaded) × IsStated profile table loaded
+abbrev pub ListsProfile : Exploration → Interpretation → List ℕ → List ℕ → Result Reply Fault → Type 0
+ListsProfile exploration by profile table (Ok reply) = (loaded : Loaded) × IsStated by profile table loaded
     × ListsWalks exploration (ExploresSide (profile_behavior loaded.profile) exploration.scope exploration.limit) reply
-ListsProfile exploration profile table (Err (faults.Verify fault)) = CantLoad profile table fault
-ListsProfile exploration profile table (Err faults.Answers) = Unit {0}
-ListsProfile exploration profile table ending = ⊥
+ListsProfile exploration by profile table (Err (faults.Verify fault)) = CantLoad by profile table fault
+ListsProfile exploration by profile table (Err faults.Answers) = Unit {0}
+ListsProfile exploration by profile table ending = ⊥
 
 -- what a profile and the tables of several architectures come to
-abbrev pub ListsProfiles : Exploration → List ℕ → List (Architecture × List ℕ) → Result Reply Fault → Type 0
-ListsProfiles exploration profile texts (Ok reply) = (loaded : LoadedProfiles) × AreStated profile texts loaded
+abbrev pub ListsProfiles : Exploration → Interpretation → List ℕ → List (Architecture × List ℕ) → Result Reply Fault
+    → Type 0
+ListsProfiles exploration by profile texts (Ok reply) = (loaded : LoadedProfiles) × AreStated by profile texts loaded
     × ListsWalks exploration (ExploresEach (scope_of exploration.scope) loaded.profiles exploration.limit) reply
-ListsProfiles exploration profile texts (Err (faults.Verify fault)) = CantLoadEach profile texts fault
-ListsProfiles exploration profile texts (Err faults.Answers) = Unit {0}
-ListsProfiles exploration profile texts ending = ⊥
+ListsProfiles exploration by profile texts (Err (faults.Verify fault)) = CantLoadEach by profile texts fault
+ListsProfiles exploration by profile texts (Err faults.Answers) = Unit {0}
+ListsProfiles exploration by profile texts ending = ⊥
 
--- filters alone, which may be none, or a profile and a table
-abbrev pub AreListedParts : ℕ → ℕ → ℕ → Type 0
-AreListedParts filters profiles tables =
-    ((profiles ≡ 0) × (tables ≡ 0)) ⊎ ((filters ≡ 0) × (profiles ≡ 1) × (tables ≡ 1))
-
--- `answers`: what these, which are all that the bundle holds, answer to the records of the scope
-abbrev pub ListsAnswers : Exploration → Option (List ℕ) → Result Reply Fault → Type 0
-ListsAnswers exploration input = EndsOnBundle input AreListedParts (λ ending.
-    ((filters : List (List ℕ)) × HoldsBundle input filters [] [] × ListsStack exploration filters ending)
-    ⊎ ((profile table : List ℕ) × HoldsBundle input [] (profile ∷ []) (table ∷ [])
-    × ListsProfile exploration profile table ending))
+-- `answers`: what filters, or a profile and a table, answer to the records of the scope
+abbrev pub ListsAnswers : Reading → Exploration → Option (List ℕ) → Result Reply Fault → Type 0
+ListsAnswers reading exploration input =
+    EndsOnBundle forms.Profile input (λ held. AreFilters held ⊎ AreTaken besides.Nothing true held)
+    (λ held ending. (AreFilters held × ListsStack exploration held.filters ending)
+    ⊎ ((profile : List ℕ) × (held.profiles ≡ profile ∷ [])
+    × OfOnly (ListsProfile exploration (interpretation_of reading held)) profile held.tables ending))
 
 -- ---- all commands
 
--- what a request ends with is true of the input
-abbrev pub IsTrueReply : Request → Option (List ℕ) → Result Reply Fault → Type 0
-IsTrueReply (requests.Answers exploration) input = ListsAnswers exploration input
-IsTrueReply (requests.AnswersOfArchitectures exploration) input =
-    EndsOnArchitectures false false input (λ filters. ListsProfiles exploration)
-IsTrueReply (requests.Ask call) input = EndsOnProfile input (GivesReason call)
-IsTrueReply (requests.AskArchitectures call) input =
-    EndsOnArchitectures false false input (λ filters. GivesReasonAmong call)
-IsTrueReply requests.Assemble input = Assembles input
-IsTrueReply (requests.Compare comparison) input = Compares comparison input
-IsTrueReply (requests.CompareBeside comparison) input = ComparesBeside comparison input
-IsTrueReply (requests.CompareArchitectures comparison) input = ComparesArchitectures comparison input
-IsTrueReply requests.Compile input = EndsOnProfile input Compiles
-IsTrueReply requests.CompileArchitectures input = EndsOnArchitectures false false input (λ filters. CompilesEach)
-IsTrueReply (requests.Decide call) input = EndsOnFilters input (DecidesCall call)
-IsTrueReply requests.List input = Lists input
-IsTrueReply request input = EndsOnFilter request input
+-- A command on a profile alone, and one with the tables of several architectures.
+abbrev pub EndsOnTable : Reading → Option (List ℕ) → (Interpretation → List ℕ → List ℕ → Result Reply Fault → Type 0)
+    → Result Reply Fault → Type 0
+EndsOnTable reading input Holds = EndsOnProfile forms.Profile true reading input (λ by. OfOnly (Holds by))
+
+abbrev pub EndsOnTables : Reading → Option (List ℕ)
+    → (Interpretation → List ℕ → List (Architecture × List ℕ) → Result Reply Fault → Type 0)
+    → Result Reply Fault → Type 0
+EndsOnTables reading input Holds = EndsOnProfile forms.Architectures false reading input Holds
+
+-- what a request ends with is true of the input, by the reading of a profile
+abbrev pub IsTrueReply : Reading → Request → Option (List ℕ) → Result Reply Fault → Type 0
+IsTrueReply reading (requests.Answers exploration) input = ListsAnswers reading exploration input
+IsTrueReply reading (requests.AnswersOfArchitectures exploration) input =
+    EndsOnTables reading input (ListsProfiles exploration)
+IsTrueReply reading (requests.Ask call) input = EndsOnTable reading input (GivesReason call)
+IsTrueReply reading (requests.AskArchitectures call) input = EndsOnTables reading input (GivesReasonAmong call)
+IsTrueReply reading requests.Assemble input = Assembles input
+IsTrueReply reading (requests.Compare comparison) input = Compares forms.Profile reading comparison input
+IsTrueReply reading (requests.CompareBeside comparison) input =
+    Compares (forms.Beside comparison.scopes) reading comparison input
+IsTrueReply reading (requests.CompareArchitectures comparison) input =
+    Compares forms.Architectures reading comparison input
+IsTrueReply reading requests.Compile input = EndsOnTable reading input Compiles
+IsTrueReply reading requests.CompileArchitectures input = EndsOnTables reading input CompilesEach
+IsTrueReply reading (requests.Decide call) input = Decides call input
+IsTrueReply reading requests.List input = Lists input
+IsTrueReply reading request input = EndsOnFilter request input

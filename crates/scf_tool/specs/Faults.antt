@@ -129,7 +129,7 @@ verify_kind (verifies.ProfileRead fault) = (codes "profile", input_kind fault)
 verify_kind (verifies.Profile fault) = (codes "profile", load_kind fault)
 verify_kind verifies.Memory = (codes "compare", (Failed, codes "Memory", []))
 
--- a fault of two stacks: those of the filters beside others are told apart
+-- a fault of two sides: those of the filters or the profile beside others are told apart
 abbrev pub beside_kind : BesideFault → List ℕ × Kind
 beside_kind (besides.Verify fault) = verify_kind fault
 beside_kind (besides.Beside fault) = (codes "beside", (verify_kind fault).1)
@@ -139,6 +139,7 @@ abbrev pub request_kind : RequestFault → List ℕ × Kind
 request_kind requests.NoCommand = (codes "command", (CommandLine, codes "NoCommand", []))
 request_kind (requests.Number fault) = (codes "number", (CommandLine, fault.name.now, []))
 request_kind requests.Flags = (codes "command", (CommandLine, codes "Flags", []))
+request_kind requests.Reading = (codes "command", (CommandLine, codes "Reading", []))
 request_kind requests.Range = (codes "command", (CommandLine, codes "Range", []))
 
 abbrev pub kind_of_fault : Fault → List ℕ × Kind
@@ -150,7 +151,7 @@ kind_of_fault faults.Parts = (codes "bundle", (Failed, codes "Parts", []))
 kind_of_fault (faults.Text fault) = (codes "text", text_kind fault)
 kind_of_fault (faults.Compile fault) = (codes "compile", compile_kind fault)
 kind_of_fault (faults.Verify fault) = verify_kind fault
-kind_of_fault (faults.Stacks fault) = beside_kind fault
+kind_of_fault (faults.Sides fault) = beside_kind fault
 kind_of_fault faults.Answers = (codes "answers", (Failed, codes "Memory", []))
 
 -- a number behind its name

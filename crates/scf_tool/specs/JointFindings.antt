@@ -1,12 +1,10 @@
--- The finding that speaks for several, and what it claims of a stack and the profiles of several architectures.
+-- The finding that speaks for several, and what it claims of a side and the profiles of several architectures.
 use Rattle.std.specs.Prelude.{◌≡◌, ℕ, Bool, true, false, not, List, find, map, max, Contains, Option}
 use Rattle.std.specs.List.{AllZip, fold}
 use Rattle.std.specs.Option.{option_map_or, option_or}
 use Rattle.scf_insn.specs.declared.architecture.Architecture.{Architecture}
 use Rattle.scf_insn.specs.Words.{words_of, IsRecord}
-use Rattle.scf_insn.specs.declared.insn.Insn.{Insn}
 use Rattle.scf_insn.specs.declared.record.CallRecord.{CallRecord}
-use Rattle.scf_machine.specs.Precedence.{StackAnswers}
 use Rattle.scf_profile.specs.Profile.{Profile}
 use Rattle.scf_profile.specs.ProfileAnswers.{ProfilesAnswer}
 use Rattle.scf_profile.specs.Relation.{IsRelated}
@@ -17,7 +15,7 @@ use Rattle.scf_compare.specs.declared.budget.Limit.{Limit}
 use Rattle.scf_compare.specs.declared.finding.Finding.{Finding}
 use Rattle.scf_compare.specs.declared.finding.Finding.TheVariants.{Holds, Fails, Undecided, Unfinished}
 use Rattle.scf_compare.specs.declared.finding.Which.TheVariants.{Left, Right}
-use Rattle.scf_compare.specs.Sides.{StackCanEndAt, profile_behavior, stack_behavior}
+use Rattle.scf_compare.specs.Sides.{Behavior, profile_behavior}
 use Rattle.scf_tool.specs.declared.findings.CallFinding.{CallFinding}
 use Rattle.scf_tool.specs.Comparisons.{IsFound}
 
@@ -50,28 +48,27 @@ most_steps findings = fold (λ most finding. max (steps_of finding) most) 0 find
 abbrev pub joint_finding : List Finding → Finding
 joint_finding findings = option_map_or (λ finding. finding) (worst_of findings) (Holds (most_steps findings))
 
--- What a finding claims of the call records over which each profile is compared, which are those of a scope for its
--- architecture: that the relation holds of the answers to each; that this record is one of them, and that they answer
--- it so and so, of which the relation doesn't hold; and that a run of a filter can end at this instruction.
-abbrev pub IsTrueOfEach : Relation → (Architecture → Scope) → List (List Insn) → List Profile → Finding → Type 0
-IsTrueOfEach relation over stack profiles (Holds steps) = (p : Profile) (call : CallRecord) → Contains profiles p
+-- What a finding claims of the call records over which each profile is compared with a side, which are those of a scope
+-- for its architecture: that the relation holds of the answers to each; that this record is one of them, and that they
+-- answer it so and so, of which the relation doesn't hold; and that a run of the side can end at this instruction.
+abbrev pub IsTrueOfEach : Relation → (Architecture → Scope) → Behavior → List Profile → Finding → Type 0
+IsTrueOfEach relation over side profiles (Holds steps) = (p : Profile) (call : CallRecord) → Contains profiles p
     → IsRecord call → IsInScope (over p.architecture) call
-    → (filter profile : ℕ) × StackAnswers stack (words_of call) filter
-    × ProfilesAnswer profiles call profile × IsRelated relation filter profile
-IsTrueOfEach relation over stack profiles (Fails call filter profile) = (p : Profile) × Contains profiles p
-    × IsRecord call × IsInScope (over p.architecture) call × StackAnswers stack (words_of call) filter.0
-    × ProfilesAnswer profiles call profile.0 × (IsRelated relation filter.0 profile.0 → ⊥)
-IsTrueOfEach relation over stack profiles (Undecided Left at) = StackCanEndAt stack at
-IsTrueOfEach relation over stack profiles (Undecided Right at) = ⊥
-IsTrueOfEach relation over stack profiles Unfinished = Unit {0}
+    → (left right : ℕ) × side.answers (words_of call) left
+    × ProfilesAnswer profiles call right × IsRelated relation left right
+IsTrueOfEach relation over side profiles (Fails call left right) = (p : Profile) × Contains profiles p
+    × IsRecord call × IsInScope (over p.architecture) call × side.answers (words_of call) left.0
+    × ProfilesAnswer profiles call right.0 × (IsRelated relation left.0 right.0 → ⊥)
+IsTrueOfEach relation over side profiles (Undecided Left at) = side.ends_at at
+IsTrueOfEach relation over side profiles (Undecided Right at) = ⊥
+IsTrueOfEach relation over side profiles Unfinished = Unit {0}
 
--- A finding speaks for a stack and several profiles, each compared over the records of the scope for its architecture
+-- A finding speaks for a side and several profiles, each compared over the records of the scope for its architecture
 -- within a limit. So it is true of the records of all of them.
-pub record IsJointlyFound (relation : Relation) (over : Architecture → Scope) (stack : List (List Insn))
+pub record IsJointlyFound (relation : Relation) (over : Architecture → Scope) (side : Behavior)
     (profiles : List Profile) (limit : Limit) (finding : Finding) : Type 0 where
   pub findings : List Finding
   pub each : AllZip
-      (λ p own. IsFound relation (stack_behavior stack) (profile_behavior p) (over p.architecture) limit own) profiles
-      findings
+      (λ p own. IsFound relation side (profile_behavior p) (over p.architecture) limit own) profiles findings
   pub joint : finding ≡ joint_finding findings
-  pub holds : IsTrueOfEach relation over stack profiles finding
+  pub holds : IsTrueOfEach relation over side profiles finding

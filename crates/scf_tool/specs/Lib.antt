@@ -15,7 +15,7 @@ pub mod Runs
 pub mod Statuses
 pub mod Verifying
 pub mod VerifyingArchitectures
-pub mod VerifyingBeside
 pub mod VerifyingFilters
+pub mod VerifyingSides
 pub mod VerifyingStacks
 pub mod internal

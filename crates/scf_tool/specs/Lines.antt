@@ -6,7 +6,7 @@ use Rattle.scf_insn.specs.declared.answer.Action.{Action}
 use Rattle.scf_insn.specs.declared.answer.Action.TheVariants.{KillProcess, KillThread, Trap, Errno, UserNotif, Trace, Log, Allow, Other}
 use Rattle.scf_insn.specs.Answers.{action_half, data_half, action_of}
 use Rattle.scf_profile.specs.declared.reason.Reason.{Reason}
-use Rattle.scf_profile.specs.declared.reason.Reason.TheVariants.{Foreign, Entry, Default}
+use Rattle.scf_profile.specs.declared.reason.Reason.TheVariants.{Foreign, Stub, Entry, Default}
 use Rattle.scf_tool.specs.Numerals.{eight_digits}
 
 -- the name of an action that has one (Linux uapi seccomp.h, without its prefix)
@@ -45,6 +45,7 @@ traced_text answer indices = answer_text answer ++ (steps_text (length indices) 
 -- why a profile answers so, behind the answer
 abbrev pub reason_words : Reason → List ℕ
 reason_words Foreign = codes " foreign"
+reason_words Stub = codes " stub"
 reason_words (Entry index) = codes " entry " ++ decimal index
 reason_words Default = codes " default"
 

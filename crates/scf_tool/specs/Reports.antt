@@ -46,68 +46,84 @@ said_of relations.NoMore = (codes "no more", codes "more")
 said_of relations.NoLess = (codes "no less", codes "less")
 said_of relations.SameDisposition = (codes "same disposition", codes "differs")
 
--- the right side of a comparison, by its name in the lines: a profile, of which this was left out, or other filters
-abbrev pub word_of_right : Option LeftOut → List ℕ
-word_of_right (Some left_out) = codes "profile"
-word_of_right None = codes "beside"
+-- The names of the sides in the lines, by what was left out of the profiles that they are: filters and a profile,
+-- filters and others beside them, a profile and one beside it.
+abbrev pub words_of_sides : Option LeftOut → Option LeftOut → List ℕ × List ℕ
+words_of_sides (Some left) right = (codes "profile", codes "beside")
+words_of_sides None (Some right) = (codes "filter", codes "profile")
+words_of_sides None None = (codes "filter", codes "beside")
 
--- the lines of a finding on a relation of filters and a right side
-abbrev pub finding_text : Relation → List ℕ → Finding → List ℕ
-finding_text relation right_word (Holds steps) = (said_of relation).0 ++ codes "\n"
-finding_text relation right_word (Fails call left right) =
+-- the lines of a finding on a relation of two sides with these names
+abbrev pub finding_text : Relation → List ℕ × List ℕ → Finding → List ℕ
+finding_text relation words (Holds steps) = (said_of relation).0 ++ codes "\n"
+finding_text relation words (Fails call left right) =
     ((said_of relation).1 ++ codes "\n")
-    ++ (call_line call ++ (answer_line (codes "filter") left.0 ++ answer_line right_word right.0))
-finding_text relation right_word (Undecided side at) = codes "undecided at " ++ decimal at ++ codes "\n"
-finding_text relation right_word Unfinished = codes "unfinished\n"
+    ++ (call_line call ++ (answer_line words.0 left.0 ++ answer_line words.1 right.0))
+finding_text relation words (Undecided side at) = codes "undecided at " ++ decimal at ++ codes "\n"
+finding_text relation words Unfinished = codes "unfinished\n"
 
 -- a word and a name
 abbrev pub name_line : List ℕ → List ℕ → List ℕ
 name_line word name = word ++ codes " " ++ name ++ codes "\n"
 
--- what was left out of a profile: a line for each skipped name, and one for each other architecture
-abbrev pub left_out_text : Option LeftOut → List ℕ
-left_out_text None = []
-left_out_text (Some left_out) =
-    flat_map (name_line (codes "skipped")) left_out.skipped
-    ++ flat_map (name_line (codes "other")) left_out.other_architectures
+-- what was left out of a profile, by these words: a line for each skipped name, and one for each other architecture
+abbrev pub left_out_text : List ℕ × List ℕ → Option LeftOut → List ℕ
+left_out_text words None = []
+left_out_text words (Some left_out) =
+    flat_map (name_line words.0) left_out.skipped ++ flat_map (name_line words.1) left_out.other_architectures
+
+-- the words for the profile on the right: its own beside another one
+abbrev pub words_of_left_out : Option LeftOut → List ℕ × List ℕ
+words_of_left_out (Some left) = (codes "beside-skipped", codes "beside-other")
+words_of_left_out None = (codes "skipped", codes "other")
+
+-- what was left out of both sides
+abbrev pub left_outs_text : Option LeftOut → Option LeftOut → List ℕ
+left_outs_text left right =
+    left_out_text (codes "skipped", codes "other") left ++ left_out_text (words_of_left_out left) right
 
 -- ---- call by call
 
 -- the line of the worst finding on calls
-abbrev pub joint_text : Relation → List ℕ → Option Finding → List ℕ
-joint_text relation right_word None = (said_of relation).0 ++ codes "\n"
-joint_text relation right_word (Some (Fails call left right)) = (said_of relation).1 ++ codes "\n"
-joint_text relation right_word (Some finding) = finding_text relation right_word finding
+abbrev pub joint_text : Relation → List ℕ × List ℕ → Option Finding → List ℕ
+joint_text relation words None = (said_of relation).0 ++ codes "\n"
+joint_text relation words (Some (Fails call left right)) = (said_of relation).1 ++ codes "\n"
+joint_text relation words (Some finding) = finding_text relation words finding
 
 -- what the line of a call says behind its names: of which arguments and answers a relation doesn't hold
-abbrev pub found_text : Relation → List ℕ → Finding → List ℕ
-found_text relation right_word (Fails call left right) =
+abbrev pub found_text : Relation → List ℕ × List ℕ → Finding → List ℕ
+found_text relation words (Fails call left right) =
     ((said_of relation).1 ++ codes " args")
     ++ (flat_map argument_text call.args
-    ++ (codes " filter " ++ (answer_text left.0 ++ (codes " " ++ answer_line right_word right.0))))
-found_text relation right_word finding = finding_text relation right_word finding
+    ++ ((codes " " ++ words.0 ++ codes " ") ++ (answer_text left.0 ++ (codes " " ++ answer_line words.1 right.0))))
+found_text relation words finding = finding_text relation words finding
 
 -- the line of a call: its number and its names, with commas between; nothing where the relation holds
-abbrev pub named_line : Relation → List ℕ → CallFinding → List ℕ
-named_line relation right_word call =
+abbrev pub named_line : Relation → List ℕ × List ℕ → CallFinding → List ℕ
+named_line relation words call =
     if is_holding call.finding then []
     else ((decimal call.number ++ codes " ") ++ (join_by (λ name. name) (codes ",") call.names ++ codes " "))
-    ++ found_text relation right_word call.finding
+    ++ found_text relation words call.finding
 
 -- ---- a report
 
 -- The lines of what is found: of the finding on a relation; or of the worst one on calls, and one for each
 -- call of which the relation doesn't hold.
-abbrev pub findings_text : Relation → List ℕ → Findings → List ℕ
-findings_text relation right_word (AtOnce finding) = finding_text relation right_word finding
-findings_text relation right_word (EachCall calls) =
-    joint_text relation right_word (worst_of_calls calls.items)
-    ++ flat_map (named_line relation right_word) calls.items
+abbrev pub findings_text : Relation → List ℕ × List ℕ → Findings → List ℕ
+findings_text relation words (AtOnce finding) = finding_text relation words finding
+findings_text relation words (EachCall calls) =
+    joint_text relation words (worst_of_calls calls.items)
+    ++ flat_map (named_line relation words) calls.items
 
--- The lines of an outcome, and those of what was left out.
+-- The lines of an outcome, and those of what was left out, also of the profile on the left.
+abbrev pub sides_text : Relation → Option LeftOut → ComparisonOutcome → List ℕ
+sides_text relation left outcome =
+    findings_text relation (words_of_sides left outcome.left_out) outcome.findings
+    ++ left_outs_text left outcome.left_out
+
+-- those of filters that are compared
 abbrev pub report_text : Relation → ComparisonOutcome → List ℕ
-report_text relation outcome =
-    findings_text relation (word_of_right outcome.left_out) outcome.findings ++ left_out_text outcome.left_out
+report_text relation outcome = sides_text relation None outcome
 
 -- a verdict is a finding on a profile
 abbrev pub outcome_of : Outcome → ComparisonOutcome

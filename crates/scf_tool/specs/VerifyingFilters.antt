@@ -10,6 +10,7 @@ use Rattle.scf_profile.specs.SameAnswers.{SameAnswers}
 use Rattle.scf_profile.specs.Table.{Names}
 use Rattle.scf_compare.specs.Effort.{effort_of}
 use Rattle.scf_compare.specs.Verdicts.{IsTrueOf, IsWithin, IsDecided}
+use Rattle.scf_request.specs.Interpretations.{by_words}
 use Rattle.scf_tool.specs.declared.verification.Outcome.{Outcome}
 use Rattle.scf_tool.specs.declared.verify_fault.VerifyFault.{VerifyFault}
 use Rattle.scf_tool.specs.Verifying.{IsAcceptedFilter, IsLoaded, IsNoFilter, IsProfileFault, IsTable}
@@ -22,7 +23,7 @@ pub record IsVerified (filter table profile : Option (List ℕ)) (limit : ℕ) (
   pub loaded : Loaded
   pub is_filter : IsAcceptedFilter filter insns
   pub is_table : IsTable table names
-  pub is_loaded : IsLoaded profile names loaded
+  pub is_loaded : IsLoaded by_words profile names loaded
   pub skipped : outcome.skipped ≡ loaded.skipped
   pub other_architectures : outcome.other_architectures ≡ loaded.other_architectures
   pub holds : IsTrueOf insns loaded.profile outcome.verdict
@@ -34,4 +35,5 @@ pub record IsVerified (filter table profile : Option (List ℕ)) (limit : ℕ) (
 abbrev pub Verifies : Option (List ℕ) → Option (List ℕ) → Option (List ℕ) → ℕ → Result Outcome VerifyFault → Type 0
 Verifies filter table profile limit (Ok outcome) = IsVerified filter table profile limit outcome
 Verifies filter table profile limit (Err fault) =
-    IsNoFilter filter fault ⊎ ((insns : List Insn) × IsAcceptedFilter filter insns × IsProfileFault table profile fault)
+    IsNoFilter filter fault
+    ⊎ ((insns : List Insn) × IsAcceptedFilter filter insns × IsProfileFault by_words table profile fault)

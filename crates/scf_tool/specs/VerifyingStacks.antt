@@ -1,7 +1,6 @@
 -- What is known of a stack of filters, a call table and a profile once they are read and compared. The bytes of each
 -- reader count where the reader tells them.
 use Rattle.std.specs.Prelude.{◌≡◌, ◌⊎◌, ℕ, List, All, Option, Some, Result, Ok, Err}
-use Rattle.scf_insn.specs.declared.architecture.Architecture.TheVariants.{X8664}
 use Rattle.scf_insn.specs.declared.insn.Insn.{Insn}
 use Rattle.scf_machine.specs.Plain.{IsPlainProgram}
 use Rattle.scf_machine.specs.Precedence.{StackAnswers}
@@ -13,12 +12,8 @@ use Rattle.scf_profile.specs.Scope.{SameAnswersIn}
 use Rattle.scf_profile.specs.declared.scope.Scope.{Scope}
 use Rattle.scf_compare.specs.declared.verdict.Verdict.{Verdict}
 use Rattle.scf_compare.specs.Effort.{effort_of_stack}
-use Rattle.scf_compare.specs.Sides.{profile_behavior, stack_behavior}
 use Rattle.scf_compare.specs.Verdicts.{IsTrueOfStack, IsWithin, IsDecided}
-use Rattle.scf_request.specs.declared.request.Comparison.{Comparison}
-use Rattle.scf_tool.specs.Comparisons.{AreAsked, AreFoundOfTable, IsFound, limit_of}
-use Rattle.scf_tool.specs.declared.findings.ComparisonOutcome.{ComparisonOutcome}
-use Rattle.scf_tool.specs.declared.findings.Findings.{Findings}
+use Rattle.scf_request.specs.Interpretations.{Interpretation, by_words}
 use Rattle.scf_tool.specs.declared.left_out.LeftOut.{LeftOut}
 use Rattle.scf_tool.specs.declared.verification.Outcome.{Outcome}
 use Rattle.scf_tool.specs.declared.verify_fault.VerifyFault.{VerifyFault}
@@ -37,25 +32,22 @@ outcome_left_out outcome =
 
 -- The bytes are a stack of filters, a call table and a profile, of which this is left out, and this holds of that
 -- stack, that table and that profile.
-pub record AreComparedInputs (filters : List (Option (List ℕ))) (table profile : Option (List ℕ))
+pub record AreComparedInputs (by : Interpretation) (filters : List (Option (List ℕ))) (table profile : Option (List ℕ))
     (left_out : Option LeftOut) (holds : List (List Insn) → Names → Profile → Type 0) : Type 0 where
   pub stack : List (List Insn)
   pub names : Names
   pub loaded : Loaded
   pub has_stack : HasStack filters stack
   pub is_table : IsTable table names
-  pub is_loaded : IsLoaded profile names loaded
+  pub is_loaded : IsLoaded by profile names loaded
   pub is_left_out : left_out ≡ Some (left_out_of loaded)
   pub compared : holds stack names loaded.profile
 
--- Why nothing is compared: the filters are no stack, or they are, and this is why.
-abbrev pub IsRefusedBehind : List (Option (List ℕ)) → (VerifyFault → Type 0) → VerifyFault → Type 0
-IsRefusedBehind filters behind fault =
-    HasNoStack filters fault ⊎ ((stack : List (List Insn)) × HasStack filters stack × behind fault)
-
--- the table and the profile state nothing
-abbrev pub IsRefusedStack : List (Option (List ℕ)) → Option (List ℕ) → Option (List ℕ) → VerifyFault → Type 0
-IsRefusedStack filters table profile fault = IsRefusedBehind filters (IsProfileFault table profile) fault
+-- Why nothing is compared: the filters are no stack, or they are, and the table and the profile state nothing.
+abbrev pub IsRefusedStack : Interpretation → List (Option (List ℕ)) → Option (List ℕ) → Option (List ℕ) → VerifyFault
+    → Type 0
+IsRefusedStack by filters table profile fault = HasNoStack filters fault
+    ⊎ ((stack : List (List Insn)) × HasStack filters stack × IsProfileFault by table profile fault)
 
 -- A verdict is true of a stack and a profile over the calls of a scope, and within the limit and the effort. It decides
 -- between plain filters and a plain profile.
@@ -70,27 +62,9 @@ pub record IsVerdictOn (stack : List (List Insn)) (p : Profile) (scope : Scope) 
 abbrev pub VerifiesStack : List (Option (List ℕ)) → Option (List ℕ) → Option (List ℕ) → Scope → ℕ
     → Result Outcome VerifyFault → Type 0
 VerifiesStack filters table profile scope limit (Ok outcome) =
-    AreComparedInputs filters table profile (Some (outcome_left_out outcome))
+    AreComparedInputs by_words filters table profile (Some (outcome_left_out outcome))
     (λ stack names p. IsVerdictOn stack p scope limit outcome.verdict)
-VerifiesStack filters table profile scope limit (Err fault) = IsRefusedStack filters table profile fault
-
--- The findings are true of a stack, a table and a profile, compared as is asked: by a relation, over a scope or call by
--- call of the table.
-abbrev pub AreFoundOfInputs : Comparison → List (List Insn) → Names → Profile → Findings → Type 0
-AreFoundOfInputs comparison stack names p findings =
-    AreAsked
-    (λ scope. IsFound comparison.relation (stack_behavior stack) (profile_behavior p) scope
-    (limit_of comparison.limits))
-    (AreFoundOfTable comparison.relation X8664 (stack_behavior stack) (profile_behavior p) names comparison.limits)
-    comparison.scopes findings
-
--- What that comparison, from the bytes of their readers, answers.
-abbrev pub VerifiesBy : Comparison → List (Option (List ℕ)) → Option (List ℕ) → Option (List ℕ)
-    → Result ComparisonOutcome VerifyFault → Type 0
-VerifiesBy comparison filters table profile (Ok outcome) =
-    AreComparedInputs filters table profile outcome.left_out
-    (λ stack names p. AreFoundOfInputs comparison stack names p outcome.findings)
-VerifiesBy comparison filters table profile (Err fault) = IsRefusedStack filters table profile fault
+VerifiesStack filters table profile scope limit (Err fault) = IsRefusedStack by_words filters table profile fault
 
 -- ---- the readers
 

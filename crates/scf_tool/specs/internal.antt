@@ -1,6 +1,7 @@
 pub mod Explaining
 pub mod Fields
 pub mod Gathering
-pub mod Listing
+pub mod Parts
 pub mod Pieces
+pub mod Sides
 pub mod Verification

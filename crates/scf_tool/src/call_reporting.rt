@@ -6,13 +6,16 @@ ghost use Rattle.std.specs.List.{flat_map, join_by};
 ghost use Rattle.scf_tool.specs.JointFindings.{worst_of_calls, is_failure, is_holding};
 ghost use Rattle.scf_tool.specs.Reports.{found_text, joint_text, named_line};
 ghost use Rattle.scf_tool.specs.internal.Gathering.{Adds};
+ghost use Rattle.scf_tool.specs.internal.Pieces.{names_in};
 
 use crate::buffer::Buffer;
 use crate::findings::CallFinding;
 use crate::fragments::Fragment::{Decimal, Text};
 use crate::joint_finding::{fails, holds};
 use crate::lines::add_answer;
-use crate::reporting::{add_answer_line, add_arguments, add_finding, add_word, failing, holding};
+use crate::reporting::{
+    SideWords, add_answer_line, add_arguments, add_finding, add_word, failing, holding,
+};
 use scf_compare::Finding;
 use scf_insn::{Answer, CallRecord, Memory};
 use scf_profile::{Relation, Texts};
@@ -44,15 +47,15 @@ pub(crate) fn worst_of_calls(calls: &[CallFinding]) -> Option<Finding>
 fn add_joint(
     text: &mut Buffer,
     relation: Relation,
-    right_word: &str,
+    words: SideWords,
     joint: Option<Finding>,
 ) -> Result<(), Memory>
-    ensures { Adds text.old (joint_text relation right_word.now joint) result text.new }
+    ensures { Adds text.old (joint_text relation (names_in words) joint) result text.new }
 {
     match joint {
         None => add_word(text, holding(relation)),
         Some(Finding::Fails { .. }) => add_word(text, failing(relation)),
-        Some(finding) => add_finding(text, relation, right_word, &finding),
+        Some(finding) => add_finding(text, relation, words, &finding),
     }
 }
 
@@ -79,36 +82,36 @@ fn add_front(alloc: Global, text: &mut Buffer, call: &CallFinding) -> Result<(),
 fn add_difference_found(
     text: &mut Buffer,
     relation: Relation,
-    right_word: &str,
+    words: SideWords,
     call: &CallRecord,
     left: Answer,
     right: Answer,
 ) -> Result<(), Memory>
     ensures { Adds text.old
-        (found_text relation right_word.now (Finding.Fails call.now left right)) result text.new }
+        (found_text relation (names_in words) (Finding.Fails call.now left right)) result text.new }
 {
     text.add(&[Text(failing(relation)), Text(" args")])?;
     add_arguments(text, &call.args)?;
-    text.add(&[Text(" filter ")])?;
+    text.add(&[Text(" "), Text(words.left), Text(" ")])?;
     add_answer(text, left)?;
     text.add(&[Text(" ")])?;
-    add_answer_line(text, right_word, right)?;
+    add_answer_line(text, words.right, right)?;
     Ok(())
 }
 
 fn add_found(
     text: &mut Buffer,
     relation: Relation,
-    right_word: &str,
+    words: SideWords,
     finding: &Finding,
 ) -> Result<(), Memory>
-    ensures { Adds text.old (found_text relation right_word.now finding.now) result text.new }
+    ensures { Adds text.old (found_text relation (names_in words) finding.now) result text.new }
 {
     match finding {
         Finding::Fails { call, left, right } => add_difference_found(
-            text, relation, right_word, call, *left, *right,
+            text, relation, words, call, *left, *right,
         ),
-        _ => add_finding(text, relation, right_word, finding),
+        _ => add_finding(text, relation, words, finding),
     }
 }
 
@@ -117,16 +120,16 @@ fn add_named(
     alloc: Global,
     text: &mut Buffer,
     relation: Relation,
-    right_word: &str,
+    words: SideWords,
     call: &CallFinding,
 ) -> Result<(), Memory>
-    ensures { Adds text.old (named_line relation right_word.now call.now) result text.new }
+    ensures { Adds text.old (named_line relation (names_in words) call.now) result text.new }
 {
     if holds(&call.finding) {
         return Ok(());
     }
     add_front(alloc, text, call)?;
-    add_found(text, relation, right_word, &call.finding)?;
+    add_found(text, relation, words, &call.finding)?;
     Ok(())
 }
 
@@ -134,13 +137,13 @@ fn add_calls(
     alloc: Global,
     text: &mut Buffer,
     relation: Relation,
-    right_word: &str,
+    words: SideWords,
     calls: &[CallFinding],
 ) -> Result<(), Memory>
-    ensures { Adds text.old (flat_map (named_line relation right_word.now) calls.now) result text.new }
+    ensures { Adds text.old (flat_map (named_line relation (names_in words)) calls.now) result text.new }
 {
     for call in calls {
-        add_named(alloc, text, relation, right_word, call)?;
+        add_named(alloc, text, relation, words, call)?;
     }
     Ok(())
 }
@@ -151,14 +154,14 @@ pub(crate) fn add_findings(
     alloc: Global,
     text: &mut Buffer,
     relation: Relation,
-    right_word: &str,
+    words: SideWords,
     calls: &[CallFinding],
 ) -> Result<(), Memory>
     ensures { Adds text.old
-        (joint_text relation right_word.now (worst_of_calls calls.now)
-        ++ flat_map (named_line relation right_word.now) calls.now) result text.new }
+        (joint_text relation (names_in words) (worst_of_calls calls.now)
+        ++ flat_map (named_line relation (names_in words)) calls.now) result text.new }
 {
-    add_joint(text, relation, right_word, worst_of_calls(calls))?;
-    add_calls(alloc, text, relation, right_word, calls)?;
+    add_joint(text, relation, words, worst_of_calls(calls))?;
+    add_calls(alloc, text, relation, words, calls)?;
     Ok(())
 }

@@ -8,9 +8,9 @@ ghost use Rattle.scf_tool.specs.Verifying.{HasEnded, HasFailedWhere};
 
 mod answers;
 mod architectures;
-mod beside;
 mod compare;
 mod filter;
+mod parts;
 mod profile;
 mod stack;
 mod text;
@@ -21,13 +21,13 @@ use crate::fault::Fault;
 use crate::reply::{LINE_ROOM, Reply, print_ending, status_of};
 use crate::status::Status;
 use answers::{list_answers, list_architectures};
-use architectures::{ask_architectures, compare_architectures, compile_architectures};
-use beside::compare_beside;
+use architectures::{ask_architectures, compile_architectures};
 use compare::compare_bundle;
 use filter::{check_filter, list_filter, run_filter, trace_filter};
 use profile::{ask_profile, compile_profile};
 use scf_insn::{InputFault, Sink, Source, read_input};
-use scf_request::{PartReader, Request, parse, request_of};
+use scf_profile::Reading;
+use scf_request::{BundleForm, Request, parse, reading_of, request_of};
 use stack::decide_stack;
 use std::alloc::Global;
 use std::convert::AsStr;
@@ -47,42 +47,43 @@ fn whole_input<R: Source>(alloc: Global, input: &mut R) -> Result<Vec<u8>, Input
     read_input(alloc, input, MAX_INPUT)
 }
 
-/// The only reader, if there is exactly one.
-fn only(mut readers: Vec<PartReader<'_>>) -> Option<PartReader<'_>>
-    ensures { MatchOption result (length readers.entry.items ≢ 1) (λ one. readers.entry.items ≡ one ∷ []) }
-{
-    if readers.len() == 1 {
-        readers.pop()
-    } else {
-        None
-    }
-}
-
-/// Runs a request.
-fn answer<R: Source>(alloc: Global, request: &Request, input: &mut R) -> Result<Reply, Fault>
-    ensures answer { IsTrueReply request.now (R.remaining input.old) result }
+/// Runs a request. A profile is read by the reading.
+fn answer<R: Source>(
+    alloc: Global,
+    reading: Reading,
+    request: &Request,
+    input: &mut R,
+) -> Result<Reply, Fault>
+    ensures answer { IsTrueReply reading request.now (R.remaining input.old) result }
     ensures left { LeavesInput request.now R.remaining R.failures input.old result input.new }
 {
     match request {
-        Request::Answers(exploration) => list_answers(alloc, *exploration, input),
-        Request::AnswersOfArchitectures(exploration) => list_architectures(
-            alloc,
-            *exploration,
-            input,
-        ),
-        Request::Ask(call) => ask_profile(alloc, call, input),
-        Request::AskArchitectures(call) => ask_architectures(alloc, call, input),
+        Request::Answers(exploration) => list_answers(alloc, reading, *exploration, input),
+        Request::AnswersOfArchitectures(exploration) => {
+            list_architectures(alloc, reading, *exploration, input)
+        }
+        Request::Ask(call) => ask_profile(alloc, reading, call, input),
+        Request::AskArchitectures(call) => ask_architectures(alloc, reading, call, input),
         Request::Assemble => assemble_text(alloc, input),
         Request::Check => check_filter(alloc, input),
-        Request::Compare(comparison) => compare_bundle(alloc, *comparison, input),
-        Request::CompareBeside(comparison) => compare_beside(alloc, *comparison, input),
-        Request::CompareArchitectures(comparison) => compare_architectures(
-            alloc,
-            *comparison,
-            input,
-        ),
-        Request::Compile => compile_profile(alloc, input),
-        Request::CompileArchitectures => compile_architectures(alloc, input),
+        Request::Compare(comparison) => {
+            compare_bundle(alloc, reading, BundleForm::Profile, *comparison, input)
+        }
+        Request::CompareBeside(comparison) => {
+            let form = BundleForm::Beside(comparison.scopes);
+            compare_bundle(alloc, reading, form, *comparison, input)
+        }
+        Request::CompareArchitectures(comparison) => {
+            compare_bundle(
+                alloc,
+                reading,
+                BundleForm::Architectures,
+                *comparison,
+                input,
+            )
+        }
+        Request::Compile => compile_profile(alloc, reading, input),
+        Request::CompileArchitectures => compile_architectures(alloc, reading, input),
         Request::Decide(call) => decide_stack(alloc, call, input),
         Request::List => list_filter(alloc, input),
         Request::Run(call) => run_filter(alloc, call, input),
@@ -95,7 +96,10 @@ fn ending_of<T: AsStr, R: Source>(alloc: Global, words: &[T], input: &mut R) -> 
     ensures { Ends (map T.text words.now) R.remaining R.failures input.old result input.new }
 {
     match parse(alloc, words) {
-        Ok(matches) => answer(alloc, &request_of(&matches)?, input),
+        Ok(matches) => {
+            let reading = reading_of(&matches)?;
+            answer(alloc, reading, &request_of(&matches)?, input)
+        }
         Err(error) => explain(alloc, &error),
     }
 }

@@ -25,8 +25,8 @@ pub(crate) enum Fault {
     Compile(CompileFault),
     /// A filter, a stack, a table or a profile is refused, or memory ran out during their comparison.
     Verify(VerifyFault),
-    /// Two stacks weren't compared.
-    Stacks(BesideFault),
+    /// Two sides weren't compared.
+    Sides(BesideFault),
     /// Out of memory while answers were listed.
     Answers,
 }
@@ -90,9 +90,9 @@ impl From<VerifyFault> for Fault {
 }
 
 impl From<BesideFault> for Fault {
-    ghost from_gives = { λ fault e. e ≡ faults.Stacks fault };
+    ghost from_gives = { λ fault e. e ≡ faults.Sides fault };
 
     fn from(fault: BesideFault) -> Fault {
-        Fault::Stacks(fault)
+        Fault::Sides(fault)
     }
 }

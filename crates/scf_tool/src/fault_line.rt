@@ -254,6 +254,7 @@ fn request_line(fault: RequestFault) -> FaultLine
         RequestFault::NoCommand => line("command", plain(CommandLine, "NoCommand")),
         RequestFault::Number(fault) => line("number", plain(CommandLine, fault.name)),
         RequestFault::Flags => line("command", plain(CommandLine, "Flags")),
+        RequestFault::Reading => line("command", plain(CommandLine, "Reading")),
         RequestFault::Range => line("command", plain(CommandLine, "Range")),
     }
 }
@@ -272,7 +273,7 @@ impl Fault {
             Fault::Text(fault) => line("text", text_kind(fault)),
             Fault::Compile(fault) => line("compile", compile_kind(fault)),
             Fault::Verify(fault) => verify_line(fault),
-            Fault::Stacks(fault) => beside_line(fault),
+            Fault::Sides(fault) => beside_line(fault),
             Fault::Answers => line("answers", plain(Failed, "Memory")),
         }
     }

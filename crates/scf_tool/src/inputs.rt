@@ -11,6 +11,7 @@ use crate::verify_fault::VerifyFault;
 use scf_insn::Source;
 use scf_machine::FilterStack;
 use scf_profile::{CallTable, Loaded};
+use scf_request::Interpretation;
 use std::alloc::Global;
 
 /// The inputs of a comparison: a stack of filters, a syscall table and a profile loaded with it.
@@ -24,13 +25,14 @@ pub(crate) struct Inputs {
 /// Reads the stack, the table and the profile, in this order.
 pub(crate) fn read_inputs<F: Source, P: Source, T: Source>(
     alloc: Global,
+    by: &Interpretation,
     filter_readers: &mut [F],
     profile_reader: &mut P,
     table_reader: &mut T,
 ) -> Result<Inputs, VerifyFault>
-    ensures inputs { IfOk result (AreInputs (map F.remaining filter_readers.old)
+    ensures inputs { IfOk result (AreInputs by.now (map F.remaining filter_readers.old)
         (T.remaining table_reader.old) (P.remaining profile_reader.old)) }
-    ensures refused { IfErr result (IsRefusedStack (map F.remaining filter_readers.old)
+    ensures refused { IfErr result (IsRefusedStack by.now (map F.remaining filter_readers.old)
         (T.remaining table_reader.old) (P.remaining profile_reader.old)) }
     ensures filter_readers { LeavesFilterReaders F.remaining F.failures filter_readers.old result filter_readers.new }
     ensures table_reader { LeavesTableReader T.remaining T.failures table_reader.old result table_reader.new }
@@ -38,7 +40,7 @@ pub(crate) fn read_inputs<F: Source, P: Source, T: Source>(
 {
     let stack = read_stack(alloc, filter_readers)?;
     let names = read_table(alloc, table_reader)?;
-    let loaded = read_profile(alloc, profile_reader, &names)?;
+    let loaded = read_profile(alloc, by, profile_reader, &names)?;
     Ok(Inputs {
         stack,
         names,

@@ -1,10 +1,7 @@
 //! The program `scf`: its commands, what they read and what they print.
 #![tactic(auto)]
 
-mod architecture_inputs;
 mod architecture_scope;
-mod architecture_verification;
-mod beside_verification;
 mod buffer;
 mod call_reporting;
 mod command_line;
@@ -28,13 +25,13 @@ mod owned_table;
 mod region_lines;
 mod reply;
 mod reporting;
+mod side_verification;
+mod sides;
 mod stack_verification;
 mod status;
 mod verification;
 mod verify_fault;
 
-pub use architecture_verification::verify_architectures;
-pub use beside_verification::verify_beside;
 pub use buffer::{encoding_of, listing_of};
 pub use command_line::refuse_words;
 pub use commands::run_command;
@@ -47,9 +44,9 @@ pub use left_out::LeftOut;
 pub use loading::{load_with_table, load_with_tables};
 pub use reporting::{report, report_by};
 pub use scf_request::{
-    BundleFault, Comparison, Limits, NumberFault, Part, PartKind, Scopes, TableReader, record_of,
-    split,
+    BundleFault, Comparison, Interpretation, Limits, NumberFault, Part, PartKind, Scopes, Stub,
+    TableReader, record_of, split,
 };
-pub use stack_verification::{verify_by, verify_stack};
+pub use stack_verification::verify_stack;
 pub use verification::{Outcome, verify};
 pub use verify_fault::{BesideFault, VerifyFault};

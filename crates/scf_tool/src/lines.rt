@@ -107,6 +107,7 @@ pub(crate) fn write_reason<S: Sink>(sink: &mut S, reason: Reason) -> Result<(), 
 {
     match reason {
         Reason::Foreign => write_whole(sink, b" foreign"),
+        Reason::Stub => write_whole(sink, b" stub"),
         Reason::Entry(index) => {
             write_fragments(sink, &[Text(" entry "), Decimal(u64::from(index))])
         }

@@ -2,6 +2,7 @@
 
 ghost use Rattle.std.specs.Prelude.{ℕ, List, map, IfErr, IfOk};
 ghost use Rattle.std.specs.List.{AllZip};
+ghost use Rattle.scf_request.specs.Interpretations.{Interpretation};
 ghost use Rattle.scf_tool.specs.Commands.{AreStated, CantLoad, CantLoadEach, IsStated, SpellsTable};
 ghost use Rattle.scf_tool.specs.VerifyingArchitectures.{table_text};
 ghost use Rattle.scf_tool.specs.internal.Verification.{named_of};
@@ -9,17 +10,22 @@ ghost use Rattle.scf_tool.specs.internal.Verification.{named_of};
 use crate::in_memory::InMemory;
 use crate::owned_table::{OwnedTable, load_under};
 use crate::verify_fault::VerifyFault;
-use scf_profile::{CallTable, Loaded, LoadedProfiles, TableFault, load};
-use scf_request::TableReader;
+use scf_profile::{CallTable, Loaded, LoadedProfiles, TableFault};
+use scf_request::{Interpretation, TableReader};
 use std::alloc::Global;
 
 /// Loads a profile under a syscall table.
-pub fn load_with_table(alloc: Global, profile: &[u8], table: &[u8]) -> Result<Loaded, VerifyFault>
-    ensures stated { IfOk result (IsStated profile.now table.now) }
-    ensures fault { IfErr result (CantLoad profile.now table.now) }
+pub fn load_with_table(
+    alloc: Global,
+    by: &Interpretation,
+    profile: &[u8],
+    table: &[u8],
+) -> Result<Loaded, VerifyFault>
+    ensures stated { IfOk result (IsStated by.now profile.now table.now) }
+    ensures fault { IfErr result (CantLoad by.now profile.now table.now) }
 {
     let names = CallTable::read(alloc, table)?;
-    Ok(load(alloc, profile, &names)?)
+    Ok(by.load(alloc, profile, &names)?)
 }
 
 /// The tables of several architectures, in order.
@@ -29,8 +35,8 @@ fn owned_tables<R: InMemory>(
 ) -> Result<Vec<OwnedTable>, VerifyFault>
     ensures tables { IfOk result (λ own.
         AllZip SpellsTable (map (table_text R.text) tables.now) (map named_of own.items)) }
-    ensures fault { IfErr result (λ fault. (profile : List ℕ)
-        → CantLoadEach profile (map (table_text R.text) tables.now) fault) }
+    ensures fault { IfErr result (λ fault. (by : Interpretation) (profile : List ℕ)
+        → CantLoadEach by profile (map (table_text R.text) tables.now) fault) }
 {
     let mut own = Vec::new(alloc);
     for part in tables {
@@ -49,12 +55,13 @@ fn owned_tables<R: InMemory>(
 /// Loads a profile for each architecture that has a table.
 pub fn load_with_tables<R: InMemory>(
     alloc: Global,
+    by: &Interpretation,
     profile: &[u8],
     tables: &[TableReader<R>],
 ) -> Result<LoadedProfiles, VerifyFault>
-    ensures stated { IfOk result (AreStated profile.now (map (table_text R.text) tables.now)) }
-    ensures fault { IfErr result (CantLoadEach profile.now (map (table_text R.text) tables.now)) }
+    ensures stated { IfOk result (AreStated by.now profile.now (map (table_text R.text) tables.now)) }
+    ensures fault { IfErr result (CantLoadEach by.now profile.now (map (table_text R.text) tables.now)) }
 {
     let own = owned_tables(alloc, tables)?;
-    Ok(load_under(alloc, profile, &own)?)
+    Ok(load_under(alloc, by, profile, &own)?)
 }

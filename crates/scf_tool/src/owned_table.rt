@@ -1,10 +1,12 @@
 //! Syscall tables of several architectures, and the profile that they give its numbers.
 
 ghost use Rattle.std.specs.Prelude.{◌≡◌, ◌++◌, ◌∷◌, [], map, IfErr, IfOk, OnOk};
-ghost use Rattle.scf_profile.specs.Loading.{LoadsEach, RefusesEach};
+ghost use Rattle.scf_profile.specs.Loading.{RefusesEachAs};
+ghost use Rattle.scf_request.specs.Interpretations.{LoadsEachBy};
 ghost use Rattle.scf_profile.specs.Table.{Names};
-ghost use Rattle.scf_tool.specs.Verifying.{IsNoTable, IsTable};
+ghost use Rattle.scf_tool.specs.Verifying.{IsNoProfileBy, IsNoTable, IsTable, LeavesProfileReader};
 ghost use Rattle.scf_tool.specs.VerifyingArchitectures.{
+  AreLoaded,
   AreTables,
   HasNoTable,
   TableHasEnded,
@@ -17,11 +19,11 @@ ghost use Rattle.scf_tool.specs.internal.Verification.{named_of};
 
 use crate::verification::read_table;
 use crate::verify_fault::VerifyFault;
-use scf_insn::{Architecture, Source};
+use scf_insn::{Architecture, Source, read_input};
 use scf_profile::{
-    ArchitectureTable, CallTable, LoadFault, LoadedProfiles, TableFault, load_profiles,
+    ArchitectureTable, CallTable, LoadFault, LoadedProfiles, MAX_TEXT_LEN, TableFault,
 };
-use scf_request::TableReader;
+use scf_request::{Interpretation, TableReader};
 use std::alloc::Global;
 
 /// A syscall table, and the architecture whose syscalls it names.
@@ -76,11 +78,12 @@ pub(crate) fn read_tables<R: Source>(
 /// Loads the profile of each architecture that has a table.
 pub(crate) fn load_under(
     alloc: Global,
+    by: &Interpretation,
     text: &[u8],
     tables: &[OwnedTable],
 ) -> Result<LoadedProfiles, LoadFault>
-    ensures ok { IfOk result (LoadsEach text.now (map named_of tables.now)) }
-    ensures err { IfErr result (RefusesEach text.now (map named_of tables.now)) }
+    ensures ok { IfOk result (LoadsEachBy by.now text.now (map named_of tables.now)) }
+    ensures err { IfErr result (RefusesEachAs by.now.reading text.now (map named_of tables.now)) }
 {
     let mut under = Vec::new(alloc);
     for own in tables {
@@ -89,5 +92,23 @@ pub(crate) fn load_under(
             table: &own.table,
         })?;
     }
-    load_profiles(alloc, text, &under)
+    by.load_profiles(alloc, text, &under)
+}
+
+/// Reads a profile under the tables of several architectures.
+pub(crate) fn read_profiles<R: Source>(
+    alloc: Global,
+    by: &Interpretation,
+    reader: &mut R,
+    tables: &[OwnedTable],
+) -> Result<LoadedProfiles, VerifyFault>
+    ensures loaded { IfOk result (AreLoaded by.now (R.remaining reader.old) (map named_of tables.now)) }
+    ensures refused { IfErr result (IsNoProfileBy
+        (λ input. RefusesEachAs by.now.reading input (map named_of tables.now)) (R.remaining reader.old)) }
+    ensures reader { LeavesProfileReader R.remaining R.failures reader.old result reader.new }
+{
+    match read_input(alloc, reader, MAX_TEXT_LEN) {
+        Ok(text) => Ok(load_under(alloc, by, &text, tables)?),
+        Err(fault) => Err(VerifyFault::ProfileRead(fault)),
+    }
 }

@@ -15,9 +15,12 @@ ghost use Rattle.scf_tool.specs.Reports.{
   prefixed,
   report_text,
   said_of,
-  word_of_right,
+  sides_text,
+  words_of_left_out,
 };
+ghost use Rattle.scf_tool.specs.Reports as spec;
 ghost use Rattle.scf_tool.specs.internal.Gathering.{Adds};
+ghost use Rattle.scf_tool.specs.internal.Pieces.{names_in};
 
 use crate::buffer::Buffer;
 use crate::call_reporting::add_findings;
@@ -77,14 +80,24 @@ pub(crate) fn add_answer_line(text: &mut Buffer, who: &str, answer: Answer) -> R
     Ok(())
 }
 
-/// The name of the right side of a comparison: a profile, of which this was left out, or other filters.
-pub(crate) fn word_of_right(left_out: &Option<LeftOut>) -> &'static str
-    ensures { result.now ≡ word_of_right left_out.now }
+/// The names of the sides of a comparison in the lines.
+#[derive(Clone, Copy)]
+pub(crate) struct SideWords {
+    pub left: &'static str,
+    pub right: &'static str,
+}
+
+/// The names of filters and a profile, of filters and others beside them, of a profile and one beside it, by what was
+/// left out of the profiles.
+fn words_of_sides(left: &Option<LeftOut>, right: &Option<LeftOut>) -> SideWords
+    ensures { names_in result ≡ spec.words_of_sides left.now right.now }
 {
-    match left_out {
-        Some(_) => "profile",
-        None => "beside",
-    }
+    let (left, right) = match (left, right) {
+        (Some(_), _) => ("profile", "beside"),
+        (None, Some(_)) => ("filter", "profile"),
+        (None, None) => ("filter", "beside"),
+    };
+    SideWords { left, right }
 }
 
 /// The word for a relation that holds.
@@ -121,34 +134,34 @@ pub(crate) fn add_word(text: &mut Buffer, word: &str) -> Result<(), Memory>
 fn add_difference(
     text: &mut Buffer,
     relation: Relation,
-    right_word: &str,
+    words: SideWords,
     call: &CallRecord,
     left: Answer,
     right: Answer,
 ) -> Result<(), Memory>
     ensures { Adds text.old
-        (finding_text relation right_word.now (Finding.Fails call.now left right)) result text.new }
+        (finding_text relation (names_in words) (Finding.Fails call.now left right)) result text.new }
 {
     add_word(text, failing(relation))?;
     add_call(text, call)?;
-    add_answer_line(text, "filter", left)?;
-    add_answer_line(text, right_word, right)?;
+    add_answer_line(text, words.left, left)?;
+    add_answer_line(text, words.right, right)?;
     Ok(())
 }
 
-/// Adds the lines of a finding on filters and the right side with this name.
+/// Adds the lines of a finding on sides with these names.
 pub(crate) fn add_finding(
     text: &mut Buffer,
     relation: Relation,
-    right_word: &str,
+    words: SideWords,
     finding: &Finding,
 ) -> Result<(), Memory>
-    ensures { Adds text.old (finding_text relation right_word.now finding.now) result text.new }
+    ensures { Adds text.old (finding_text relation (names_in words) finding.now) result text.new }
 {
     match finding {
         Finding::Holds { .. } => add_word(text, holding(relation)),
         Finding::Fails { call, left, right } => add_difference(
-            text, relation, right_word, call, *left, *right,
+            text, relation, words, call, *left, *right,
         ),
         Finding::Undecided { at, .. } => {
             let line = [Text("undecided at "), Decimal(*at as u64), Text("\n")];
@@ -197,23 +210,55 @@ fn add_names(text: &mut Buffer, word: &str, names: &Texts) -> Result<(), Memory>
     Ok(())
 }
 
-/// Adds what was left out of a profile.
-fn add_names_left_out(text: &mut Buffer, skipped: &Texts, others: &Texts) -> Result<(), Memory>
-    ensures { Adds text.old
-        (left_out_text (Some (record { skipped = skipped.now; other_architectures = others.now }))) result text.new }
+/// Adds what was left out of a profile, by these words.
+fn add_names_left_out(
+    text: &mut Buffer,
+    skipped_word: &str,
+    other_word: &str,
+    skipped: &Texts,
+    others: &Texts,
+) -> Result<(), Memory>
+    ensures { Adds text.old (left_out_text (skipped_word.now, other_word.now)
+        (Some (record { skipped = skipped.now; other_architectures = others.now }))) result text.new }
 {
-    add_names(text, "skipped", skipped)?;
-    add_names(text, "other", others)?;
+    add_names(text, skipped_word, skipped)?;
+    add_names(text, other_word, others)?;
     Ok(())
 }
 
 /// Adds what was left out of a profile, if there is one.
-pub(crate) fn add_left_out(text: &mut Buffer, left_out: &Option<LeftOut>) -> Result<(), Memory>
-    ensures { Adds text.old (left_out_text left_out.now) result text.new }
+fn add_left_out(
+    text: &mut Buffer,
+    skipped_word: &str,
+    other_word: &str,
+    left_out: &Option<LeftOut>,
+) -> Result<(), Memory>
+    ensures { Adds text.old
+        (left_out_text (skipped_word.now, other_word.now) left_out.now) result text.new }
 {
     match left_out {
-        Some(own) => add_names_left_out(text, &own.skipped, &own.other_architectures),
+        Some(own) => add_names_left_out(
+            text,
+            skipped_word,
+            other_word,
+            &own.skipped,
+            &own.other_architectures,
+        ),
         None => Ok(()),
+    }
+}
+
+/// Adds what was left out of the profile on the right, by words of its own beside a profile.
+fn add_left_out_of_right(
+    text: &mut Buffer,
+    left: &Option<LeftOut>,
+    right: &Option<LeftOut>,
+) -> Result<(), Memory>
+    ensures { Adds text.old (left_out_text (words_of_left_out left.now) right.now) result text.new }
+{
+    match left {
+        Some(_) => add_left_out(text, "beside-skipped", "beside-other", right),
+        None => add_left_out(text, "skipped", "other", right),
     }
 }
 
@@ -223,9 +268,19 @@ pub fn report(alloc: Global, outcome: &Outcome) -> Result<Vec<u8>, Memory>
     ensures { IfOk result (λ text. text.items ≡ report_text Relation.Same (outcome_of outcome.now)) }
 {
     let finding = finding_of(&outcome.verdict);
+    let words = SideWords {
+        left: "filter",
+        right: "profile",
+    };
     let mut text = Buffer::new(alloc);
-    add_finding(&mut text, Relation::Same, "profile", &finding)?;
-    add_names_left_out(&mut text, &outcome.skipped, &outcome.other_architectures)?;
+    add_finding(&mut text, Relation::Same, words, &finding)?;
+    add_names_left_out(
+        &mut text,
+        "skipped",
+        "other",
+        &outcome.skipped,
+        &outcome.other_architectures,
+    )?;
     Ok(text.into_bytes())
 }
 
@@ -239,12 +294,25 @@ pub fn report_by(
 ) -> Result<Vec<u8>, Memory>
     ensures { IfOk result (λ text. text.items ≡ report_text relation outcome.now) }
 {
-    let right_word = word_of_right(&outcome.left_out);
+    report_sides(alloc, relation, &None, outcome)
+}
+
+/// The report of an outcome as `report_by` gives it, where the left side may be a profile, of which this was left out.
+pub(crate) fn report_sides(
+    alloc: Global,
+    relation: Relation,
+    left: &Option<LeftOut>,
+    outcome: &ComparisonOutcome,
+) -> Result<Vec<u8>, Memory>
+    ensures { IfOk result (λ text. text.items ≡ sides_text relation left.now outcome.now) }
+{
+    let words = words_of_sides(left, &outcome.left_out);
     let mut text = Buffer::new(alloc);
     match &outcome.findings {
-        Findings::AtOnce(finding) => add_finding(&mut text, relation, right_word, finding)?,
-        Findings::EachCall(calls) => add_findings(alloc, &mut text, relation, right_word, calls)?,
+        Findings::AtOnce(finding) => add_finding(&mut text, relation, words, finding)?,
+        Findings::EachCall(calls) => add_findings(alloc, &mut text, relation, words, calls)?,
     }
-    add_left_out(&mut text, &outcome.left_out)?;
+    add_left_out(&mut text, "skipped", "other", left)?;
+    add_left_out_of_right(&mut text, left, &outcome.left_out)?;
     Ok(text.into_bytes())
 }

@@ -1,24 +1,17 @@
 //! Compares a stack of filters with a profile, from their bytes.
 
-ghost use Rattle.std.specs.Prelude.{IfOk, map};
+ghost use Rattle.std.specs.Prelude.{map};
 ghost use Rattle.scf_tool.specs.Verifying.{LeavesProfileReader, LeavesTableReader};
-ghost use Rattle.scf_tool.specs.VerifyingStacks.{
-  AreFoundOfInputs,
-  LeavesFilterReaders,
-  VerifiesBy,
-  VerifiesStack,
-};
+ghost use Rattle.scf_tool.specs.VerifyingStacks.{LeavesFilterReaders, VerifiesStack};
 
-use crate::findings::{ComparisonOutcome, Findings, compare_at_once, compare_calls};
-use crate::inputs::{Inputs, read_inputs};
-use crate::left_out::LeftOut;
+use crate::inputs::read_inputs;
 use crate::verification::Outcome;
 use crate::verify_fault::VerifyFault;
-use scf_compare::{Side, compare_stack};
+use scf_compare::compare_stack;
 use scf_facts::WordSets;
-use scf_insn::{Architecture, Memory, Source};
+use scf_insn::Source;
 use scf_profile::Scope;
-use scf_request::{Comparison, Scopes};
+use scf_request::Interpretation;
 use std::alloc::Global;
 
 /// Reads a stack of filters, a syscall table and a profile, and compares the stack with the profile over the records of
@@ -44,7 +37,8 @@ pub fn verify_stack<F: Source, P: Source, T: Source>(
     ensures table_reader { LeavesTableReader T.remaining T.failures table_reader.old result table_reader.new }
     ensures profile_reader { LeavesProfileReader P.remaining P.failures profile_reader.old result profile_reader.new }
 {
-    let inputs = read_inputs(alloc, filter_readers, profile_reader, table_reader)?;
+    let by = Interpretation::by_words(alloc);
+    let inputs = read_inputs(alloc, &by, filter_readers, profile_reader, table_reader)?;
     let stack = &inputs.stack;
     let profile = &inputs.loaded.profile;
     let verdict = compare_stack::<WordSets>(alloc, stack, profile, scope, limit)?;
@@ -54,59 +48,4 @@ pub fn verify_stack<F: Source, P: Source, T: Source>(
         skipped: loaded.skipped,
         other_architectures: loaded.other_architectures,
     })
-}
-
-/// Compares a stack with a profile as is asked.
-fn findings_of(alloc: Global, inputs: &Inputs, comparison: Comparison) -> Result<Findings, Memory>
-    ensures { IfOk result
-        (AreFoundOfInputs comparison inputs.now.stack inputs.now.names inputs.now.loaded.profile) }
-{
-    let left = Side::Stack(inputs.stack.filters());
-    let right = Side::Profile(&inputs.loaded.profile);
-    let relation = comparison.relation;
-    let limits = comparison.limits;
-    match comparison.scopes {
-        Scopes::AtOnce(scope) => {
-            let finding = compare_at_once(alloc, &left, &right, scope, relation, limits)?;
-            Ok(Findings::AtOnce(finding))
-        }
-        Scopes::EachCall => {
-            let own = Architecture::X8664;
-            let names = &inputs.names;
-            let calls = compare_calls(alloc, &left, &right, own, names, relation, limits)?;
-            Ok(Findings::EachCall(calls))
-        }
-    }
-}
-
-/// Reads as `verify_stack` does, and compares as is asked: by a relation, over the records of a scope, or call by call
-/// of the table.
-///
-/// At once, `Holds` says that the relation holds of the answers to every record of the scope, and `Fails` shows one of
-/// which it doesn't: see `compare_sides`. The steps and splits are at most `limits.each` and `limits.splits`.
-///
-/// Call by call, each call that the table names is compared by itself, over the records of x86-64 with its number and
-/// within the same limits. All together take at most `limits.total` steps, and as many below splits: the calls for
-/// which no step is left are `Unfinished`.
-pub fn verify_by<F: Source, P: Source, T: Source>(
-    alloc: Global,
-    filter_readers: &mut [F],
-    profile_reader: &mut P,
-    table_reader: &mut T,
-    comparison: Comparison,
-) -> Result<ComparisonOutcome, VerifyFault>
-    ensures answer { VerifiesBy comparison (map F.remaining filter_readers.old)
-        (T.remaining table_reader.old) (P.remaining profile_reader.old) result }
-    ensures filter_readers { LeavesFilterReaders F.remaining F.failures filter_readers.old result filter_readers.new }
-    ensures table_reader { LeavesTableReader T.remaining T.failures table_reader.old result table_reader.new }
-    ensures profile_reader { LeavesProfileReader P.remaining P.failures profile_reader.old result profile_reader.new }
-{
-    let inputs = read_inputs(alloc, filter_readers, profile_reader, table_reader)?;
-    let findings = findings_of(alloc, &inputs, comparison)?;
-    let loaded = inputs.loaded;
-    let left_out = Some(LeftOut {
-        skipped: loaded.skipped,
-        other_architectures: loaded.other_architectures,
-    });
-    Ok(ComparisonOutcome { findings, left_out })
 }

@@ -17,7 +17,8 @@ use crate::verify_fault::VerifyFault;
 use scf_compare::{Verdict, compare};
 use scf_facts::WordSets;
 use scf_insn::{Source, read_input};
-use scf_profile::{CallTable, Loaded, MAX_TEXT_LEN, Texts, load};
+use scf_profile::{CallTable, Loaded, MAX_TEXT_LEN, Texts};
+use scf_request::Interpretation;
 use std::alloc::Global;
 
 /// The verdict of a comparison, and what was left out of the profile.
@@ -45,15 +46,16 @@ pub(crate) fn read_table<R: Source>(alloc: Global, reader: &mut R) -> Result<Cal
 /// Reads a profile under a syscall table.
 pub(crate) fn read_profile<R: Source>(
     alloc: Global,
+    by: &Interpretation,
     reader: &mut R,
     names: &CallTable,
 ) -> Result<Loaded, VerifyFault>
-    ensures loaded { IfOk result (IsLoaded (R.remaining reader.old) names.now) }
-    ensures refused { IfErr result (IsNoProfile names.now (R.remaining reader.old)) }
+    ensures loaded { IfOk result (IsLoaded by.now (R.remaining reader.old) names.now) }
+    ensures refused { IfErr result (IsNoProfile by.now names.now (R.remaining reader.old)) }
     ensures reader { LeavesProfileReader R.remaining R.failures reader.old result reader.new }
 {
     match read_input(alloc, reader, MAX_TEXT_LEN) {
-        Ok(text) => Ok(load(alloc, &text, names)?),
+        Ok(text) => Ok(by.load(alloc, &text, names)?),
         Err(fault) => Err(VerifyFault::ProfileRead(fault)),
     }
 }
@@ -82,7 +84,8 @@ pub fn verify<F: Source, P: Source, T: Source>(
 {
     let program = read_filter(alloc, filter_reader)?;
     let names = read_table(alloc, table_reader)?;
-    let loaded = read_profile(alloc, profile_reader, &names)?;
+    let by = Interpretation::by_words(alloc);
+    let loaded = read_profile(alloc, &by, profile_reader, &names)?;
     let verdict = compare::<WordSets>(alloc, &program, &loaded.profile, limit)?;
     Ok(Outcome {
         verdict,

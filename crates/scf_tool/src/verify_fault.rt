@@ -63,13 +63,13 @@ impl From<Memory> for VerifyFault {
     }
 }
 
-/// Why two stacks weren't compared.
+/// Why two sides weren't compared.
 #[derive(Clone, Copy, Debug, PartialEq, Eq, Error)]
 pub enum BesideFault {
-    /// A filter of the first stack is refused, or a table, or memory ran out during the comparison.
+    /// A filter on the left is refused, or a table, or the first profile, or memory ran out during the comparison.
     #[error("{0}")]
     Verify(VerifyFault),
-    /// A filter of the stack beside it is refused.
+    /// A filter or a profile of the side beside it is refused.
     #[error("beside: {0}")]
     Beside(VerifyFault),
 }

@@ -10,31 +10,24 @@ ghost use Rattle.std.specs.Prelude.{◌≡◌};
 use crate::lines::{Lines, tell_twice, twice};
 use crate::{facts, rows};
 use scf_compare::{
-    Limit, Relation, Scope, Side, Verdict, compare, compare_sides_within, compare_stack, regions_of,
+    Finding, Limit, Relation, Scope, Side, Verdict, compare, compare_sides_within, compare_stack,
+    regions_of,
 };
 use scf_compile::{compile, compile_profiles};
 use scf_facts::WordSets;
 use scf_insn::{Answer, Architecture, CallRecord, Counted, Insn, Memory, read_input, read_program};
 use scf_machine::{CheckFault, FilterStack, Program, check, trace};
 use scf_profile::{ArchitectureTable, CallTable, Loaded, Profile, Texts, load, load_profiles};
-use scf_request::{Contents, TableReader, parse};
+use scf_request::{BundleForm, Contents, parse};
 use scf_text::{assemble, tokens};
 use scf_tool::{
-    Comparison, ComparisonOutcome, Limits, Outcome, Scopes, report, report_by, split, verify,
-    verify_architectures, verify_beside, verify_by, verify_stack,
+    ComparisonOutcome, Findings, Outcome, report, report_by, split, verify, verify_stack,
 };
 use std::alloc::Global;
 use std::io;
 
 /// The most steps of a comparison.
 const LIMIT: u64 = 1_000_000;
-
-/// The scopes that are compared: x86-64's calls, the first numbers, and each call of a table.
-const SCOPES: &[Scopes] = &[
-    Scopes::AtOnce(Scope::Native),
-    Scopes::AtOnce(Scope::Numbers { first: 0, last: 99 }),
-    Scopes::EachCall,
-];
 
 /// A call of x86-64.
 const CALL: CallRecord = CallRecord {
@@ -256,7 +249,11 @@ fn parse_words(alloc: Global, words: &[&str]) -> Result<(), Memory> {
 fn try_request<R: Print>(lines: &mut Lines<R>, alloc: Global) {
     tell_twice!(lines, "parse", parse_words(alloc, rows::words()));
     tell_twice!(lines, "split", split(alloc, rows::bundle()));
-    tell_twice!(lines, "Contents::of", Contents::of(alloc, rows::bundle()));
+    tell_twice!(
+        lines,
+        "Contents::of",
+        Contents::of(alloc, BundleForm::Profile, rows::bundle())
+    );
 }
 
 fn try_verify<R: Print>(lines: &mut Lines<R>, alloc: Global) {
@@ -274,88 +271,6 @@ fn try_verify<R: Print>(lines: &mut Lines<R>, alloc: Global) {
     if let Some(outcome) = verified {
         tell_twice!(lines, "report", report(alloc, &outcome));
     }
-}
-
-/// What is asked of a comparison over scopes.
-fn comparison(scopes: Scopes) -> Comparison
-    ensures { result.scopes ≡ scopes }
-{
-    Comparison {
-        limits: Limits {
-            each: LIMIT,
-            total: LIMIT,
-            splits: 100,
-        },
-        scopes,
-        relation: Relation::NoMore,
-    }
-}
-
-fn report_found<R: Print>(lines: &mut Lines<R>, alloc: Global, outcome: &ComparisonOutcome) {
-    tell_twice!(
-        lines,
-        "report_by",
-        report_by(alloc, Relation::NoMore, outcome)
-    );
-}
-
-fn try_verify_by<R: Print>(lines: &mut Lines<R>, alloc: Global, scopes: Scopes) {
-    let verified = twice!(
-        lines,
-        "verify_by",
-        verify_by(
-            alloc,
-            &mut [Counted::new(rows::clone())],
-            &mut Counted::new(rows::masked()),
-            &mut Counted::new(rows::table()),
-            comparison(scopes),
-        )
-    );
-    if let Some(outcome) = verified {
-        report_found(lines, alloc, &outcome);
-    }
-}
-
-/// A reader of the table of an architecture.
-fn table_reader(architecture: Architecture) -> TableReader<Counted<&'static [u8]>> {
-    TableReader {
-        architecture,
-        reader: Counted::new(rows::table()),
-    }
-}
-
-fn try_verify_architectures<R: Print>(lines: &mut Lines<R>, alloc: Global, scopes: Scopes) {
-    let verified = twice!(
-        lines,
-        "verify_architectures",
-        verify_architectures(
-            alloc,
-            &mut [Counted::new(rows::clone())],
-            &mut Counted::new(rows::config()),
-            &mut [table_reader(Architecture::X32)],
-            comparison(scopes),
-        )
-    );
-    if let Some(outcome) = verified {
-        report_found(lines, alloc, &outcome);
-    }
-}
-
-fn try_two_tables<R: Print>(lines: &mut Lines<R>, alloc: Global) {
-    tell_twice!(
-        lines,
-        "verify_architectures",
-        verify_architectures(
-            alloc,
-            &mut [Counted::new(rows::clone())],
-            &mut Counted::new(rows::config()),
-            &mut [
-                table_reader(Architecture::X8664),
-                table_reader(Architecture::X86),
-            ],
-            comparison(Scopes::AtOnce(Scope::All)),
-        )
-    );
 }
 
 fn try_verify_stack<R: Print>(lines: &mut Lines<R>, alloc: Global) {
@@ -387,29 +302,21 @@ fn report_difference<R: Print>(lines: &mut Lines<R>, alloc: Global) {
     tell_twice!(lines, "report", report(alloc, &outcome));
 }
 
-fn try_verify_beside<R: Print>(lines: &mut Lines<R>, alloc: Global, scopes: Scopes) {
-    let verified = twice!(
+/// A finding of two sides, with nothing left out.
+fn report_finding<R: Print>(lines: &mut Lines<R>, alloc: Global) {
+    let outcome = ComparisonOutcome {
+        findings: Findings::AtOnce(Finding::Fails {
+            call: CALL,
+            left: Answer(0x0005_0016),
+            right: Answer(0x7fff_0000),
+        }),
+        left_out: None,
+    };
+    tell_twice!(
         lines,
-        "verify_beside",
-        verify_beside(
-            alloc,
-            &mut [Counted::new(rows::clone())],
-            &mut [Counted::new(rows::allow_all())],
-            &mut [Counted::new(rows::table())],
-            comparison(scopes),
-        )
+        "report_by",
+        report_by(alloc, Relation::NoMore, &outcome)
     );
-    if let Some(outcome) = verified {
-        report_found(lines, alloc, &outcome);
-    }
-}
-
-fn try_comparisons<R: Print>(lines: &mut Lines<R>, alloc: Global) {
-    for scopes in SCOPES {
-        try_verify_by(lines, alloc, *scopes);
-        try_verify_architectures(lines, alloc, *scopes);
-        try_verify_beside(lines, alloc, *scopes);
-    }
 }
 
 pub(crate) fn make_all(rt: &HostRuntime) -> io::Result<()> {
@@ -423,7 +330,6 @@ pub(crate) fn make_all(rt: &HostRuntime) -> io::Result<()> {
     report_difference(&mut lines, alloc);
     try_verify(&mut lines, alloc);
     try_verify_stack(&mut lines, alloc);
-    try_comparisons(&mut lines, alloc);
-    try_two_tables(&mut lines, alloc);
+    report_finding(&mut lines, alloc);
     lines.into_outcome()
 }

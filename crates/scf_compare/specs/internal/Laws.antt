@@ -13,9 +13,15 @@ use Rattle.scf_compare.specs.declared.stack.StackNode.TheVariants.{Empty, At as 
 use Rattle.scf_compare.specs.Sides.{filter_at}
 use Rattle.scf_compare.specs.internal.Stacks.{stack_tree}
 use Rattle.scf_compare.specs.declared.profile.ProfileNode.{ProfileNode}
-use Rattle.scf_profile.specs.declared.rule.Rule.{Rule}
-use Rattle.scf_compare.specs.Effort.{spread, stack_paths}
+use Rattle.scf_compare.specs.declared.profile.ProfileNode.TheVariants.{Answer}
+use Rattle.scf_compare.specs.declared.profiles.ProfilesNode.{ProfilesNode}
+use Rattle.scf_compare.specs.declared.profiles.ProfilesNode.TheVariants.{At as InProfile, OfNone}
+use Rattle.scf_profile.specs.declared.number_rules.NumberRules.{NumberRules}
+use Rattle.scf_profile.specs.declared.reason.Reason.TheVariants.{Foreign}
+use Rattle.scf_profile.specs.Profile.{Profile}
+use Rattle.scf_compare.specs.Effort.{spread, spread_of_all, stack_paths}
 use Rattle.scf_compare.specs.internal.Profiles.{profile_tree}
+use Rattle.scf_compare.specs.internal.SeveralProfiles.{numbered_at, profiles_tree, size_of_later}
 use Rattle.scf_compare.specs.internal.Filters.{filter_tree}
 use Rattle.scf_compare.specs.Paths.{tree_sizes, tree_size}
 use Rattle.scf_compare.specs.declared.side.Side.{Side}
@@ -25,7 +31,9 @@ use Rattle.scf_compare.specs.internal.Pairs.{pair_tree}
 use Rattle.scf_compare.specs.declared.settling.SettlingNode.{SettlingNode}
 use Rattle.scf_compare.specs.Splits.{open_bits}
 use Rattle.scf_compare.specs.internal.Settling.{settling_tree, weight}
-use Rattle.scf_compare.specs.internal.Trees.{Tree}
+use Rattle.scf_compare.specs.declared.step.Step.{Step}
+use Rattle.scf_compare.specs.declared.step.Step.TheVariants.{Next, Branch, Leaf}
+use Rattle.scf_compare.specs.internal.Trees.{Tree, pending_size}
 use Rattle.scf_compare.specs.internal.NumberedProfiles.{NumberedProfile}
 
 -- one node and two trees behind it, with the same tree at each of their ends
@@ -64,24 +72,47 @@ stack_node_counts filters registers (InStack index older node) =
     scaled_counts _ (stack_paths behind) (node_counts (filter_at filters index) registers node) (paths_count behind)
 
 -- each node of a profile's tree counts
-pub profile_node_counts : (s : NumberedProfile) (node : ProfileNode) → 0 < (profile_tree s).size node
-profile_node_counts s node = grind arith
+pub profile_node_counts : (s : NumberedProfile) (others : ℕ) → 0 < others → (node : ProfileNode)
+    → 0 < (profile_tree s others).size node
+profile_node_counts s others some (Answer answer Foreign) = some
+profile_node_counts s others some node = grind arith
 
-pub spread_counts : (rules : List Rule) → 0 < spread rules
-spread_counts rules = omega arith
+pub profile_node_counts_alone : (s : NumberedProfile) (node : ProfileNode) → 0 < (profile_tree s 1).size node
+profile_node_counts_alone s = profile_node_counts s 1 (omega arith)
+
+pub spread_counts : (p : Profile) → 0 < spread p
+spread_counts p = omega arith
+
+-- each node of the tree of several profiles counts
+pub profiles_node_counts : (profiles : List Profile) (numbers : List NumberRules) (node : ProfilesNode)
+    → 0 < (profiles_tree profiles numbers).size node
+profiles_node_counts profiles numbers (InProfile index node) =
+    profile_node_counts (numbered_at profiles numbers index) (size_of_later profiles index) (omega arith) node
+profiles_node_counts profiles numbers OfNone = omega arith
+
+pub spreads_count : (profiles : List Profile) → 0 < spread_of_all profiles
+spreads_count [] = omega arith
+spreads_count (p ∷ later) = omega arith
 
 pub side_size_counts : (side : Side) → 0 < (behavior_of side).size
-side_size_counts side = grind (arith, paths_count, spread_counts)
+side_size_counts side = grind (arith, paths_count, spread_counts, spreads_count)
+
+-- a pending step counts, where nodes do
+pub pending_counts : {N E : Type 0} (tree : Tree N) → ((node : N) → 0 < tree.size node) → (step : Step N E)
+    → 0 < pending_size tree step
+pending_counts tree counts (Next next) = counts next
+pending_counts tree counts (Branch atom if_true if_false) = omega arith
+pending_counts tree counts (Leaf leaf) = omega arith
 
 -- each node of a pair counts, where those of both sides do
 pub pair_counts : {K M A B : Type 0} (compared : Compared) (left : K → Tree A) (right : M → Tree B)
     → ((known : K) (node : A) → 0 < (left known).size node)
     → ((known : M) (node : B) → 0 < (right known).size node)
-    → 0 < compared.right.size
-    → (known : PairKnown K M) (node : PairNode A B) → 0 < (pair_tree compared left right known).size node
-pair_counts compared left right of_left of_right whole known (AtLeft node) =
-    scaled_counts ((left known.left).size node) compared.right.size (of_left known.left node) whole
-pair_counts compared left right of_left of_right whole known (AtRight leaf node) = of_right known.right node
+    → (known : PairKnown K M B) (node : PairNode A B) → 0 < (pair_tree compared left right known).size node
+pair_counts compared left right of_left of_right known (AtLeft node) =
+    scaled_counts ((left known.left).size node) (pending_size (right known.right) known.ahead)
+    (of_left known.left node) (pending_counts (right known.right) (of_right known.right) known.ahead)
+pair_counts compared left right of_left of_right known (AtRight leaf node) = of_right known.right node
 
 -- each node of the second walk counts
 pub settling_counts : {N : Type 0} (effort : ℕ) (tree : Tree N) → ((node : N) → 0 < tree.size node)

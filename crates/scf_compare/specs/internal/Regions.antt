@@ -1,11 +1,9 @@
 -- From one region to the next.
-use Rattle.std.specs.Prelude.{◌≡◌, ◌≤◌, ◌<◌, ◌⊎◌, ◌++◌, ◌∷◌, ◌↔◌, [], ℕ, List, Option, None, Some, All, AllPairs, Bool, IfSome, IsSome, IsTrue, if◌then◌else◌, length, nat_lt, slice_get, true}
+use Rattle.std.specs.Prelude.{◌≡◌, ◌⊎◌, ◌++◌, ◌∷◌, ◌↔◌, [], ℕ, List, Option, All, AllPairs, Bool, IfSome, IsSome, IsTrue}
 use Rattle.scf_insn.specs.Words.{IsRecord, words_of}
-use Rattle.scf_facts.specs.declared.atom.Atom.{Atom}
 use Rattle.scf_facts.specs.declared.word_facts.WordFacts.{Ghosts as Store}
 use Rattle.scf_facts.specs.WordSets.{AllowsWords}
 use Rattle.scf_compare.specs.declared.frontier.Frontier.{Frontier}
-use Rattle.scf_compare.specs.declared.frontier.OpenBranch.{OpenBranch}
 use Rattle.scf_compare.specs.declared.frontier.Stage.{Stage}
 use Rattle.scf_compare.specs.declared.frontier.Stage.TheVariants.{At, AllSeen, Found}
 use Rattle.scf_compare.specs.declared.region.Region.{Region}

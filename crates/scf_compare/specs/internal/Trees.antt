@@ -19,7 +19,7 @@ abbrev pub IsAsked : Option Atom → Type 0
 IsAsked None = Unit {0}
 IsAsked (Some atom) = word_of atom < 16
 
--- the words go the one way or the other as what is asked says, and either way where nothing is
+-- words for which the atom is true come to the first, others to the second; without an atom they may come to either
 abbrev pub GoesEither : Option Atom → List ℕ → Type 0 → Type 0 → Type 0
 GoesEither None words first second = first ⊎ second
 GoesEither (Some atom) words first second =
@@ -70,17 +70,32 @@ pub record Leaves (E : Type 0) : Type 1 where
 -- A step at a node, for what is known here, and the tree for what is known there, where the step goes on: it leads to
 -- nodes, given words that come to the node go on, one step and what is behind it are within the node's size, and from a
 -- plain node all stays plain.
-pub record IsStep {N E : Type 0} (leaves : Leaves E) (given : List ℕ → Type 0) (here : Tree N) (node : N)
+pub record IsStep {M N E : Type 0} (leaves : Leaves E) (given : List ℕ → Type 0) (here : Tree M) (node : M)
     (there : Tree N) (step : Step N E) : Type 0 where
   pub proper : IsProper there leaves.is_leaf step
   pub leads : (words : List ℕ) → given words → here.reaches node words → GoesOn there leaves.tells step words
   pub costs : Costs there step (here.size node)
   pub plain : here.is_plain node → StaysPlain there leaves.tells_all step
 
--- The given words of a step come to one of its nodes.
-pub record IsDecidedNext {N E : Type 0} (leaves : Leaves E) (given : List ℕ → Type 0) (tree : Tree N) (step : Step N E)
-    (next : N) : Type 0 where
-  pub node : tree.is_node next
-  pub reached : (words : List ℕ) → given words → GoesOn tree leaves.tells step words → tree.reaches next words
-  pub size : tree.size next ≤ step_size tree step
-  pub plain : StaysPlain tree leaves.tells_all step → tree.is_plain next
+-- how many steps it takes to see all from a step on that isn't gone on from yet
+abbrev pub pending_size : {N E : Type 0} → Tree N → Step N E → ℕ
+pending_size tree (Next next) = tree.size next
+pending_size tree (Branch atom if_true if_false) = tree.size if_true + tree.size if_false + 1
+pending_size tree (Leaf leaf) = 1
+
+-- A tree whose nodes are pending steps: a step to a node stands for that node, another one for the node that it is of.
+abbrev pub pending_tree : {N E : Type 0} → Leaves E → Tree N → Tree (Step N E)
+pending_tree leaves tree = record {
+  is_node = IsProper tree leaves.is_leaf;
+  reaches = GoesOn tree leaves.tells;
+  size = pending_size tree;
+  is_plain = StaysPlain tree leaves.tells_all;
+}
+
+-- The given words that come to a node come to a later one, where more may be known.
+pub record IsLaterNode {N : Type 0} (given : List ℕ → Type 0) (here : Tree N) (from : N) (there : Tree N) (to : N)
+    : Type 0 where
+  pub node : there.is_node to
+  pub reached : (words : List ℕ) → given words → here.reaches from words → there.reaches to words
+  pub size : there.size to ≤ here.size from
+  pub plain : here.is_plain from → there.is_plain to

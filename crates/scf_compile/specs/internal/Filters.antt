@@ -1,5 +1,7 @@
 -- The instructions of rules, and what is put together of them: searches of the call number, and the whole filter.
-use Rattle.std.specs.Prelude.{◌≡◌, ℕ, ◌+◌, ◌*◌, ◌^◌, ◌<◌, ◌≤◌, All, Bool, List, [], ◌∷◌, ◌++◌, length, max, sum_by, IsTrue}
+use Rattle.std.specs.Prelude.{◌≡◌, ℕ, ◌+◌, ◌-◌, ◌*◌, ◌^◌, ◌<◌, ◌≤◌, All, Bool, List, [], ◌∷◌, ◌++◌, length, max}
+use Rattle.std.specs.Prelude.{IsTrue, if◌then◌else◌, sum_by}
+use Rattle.std.specs.List.{AllByRecursion}
 use Rattle.scf_insn.specs.Architectures.{IsOf}
 use Rattle.scf_insn.specs.declared.architecture.Architecture.{Architecture}
 use Rattle.scf_insn.specs.declared.insn.Insn.{Insn}
@@ -12,37 +14,46 @@ use Rattle.scf_profile.specs.PlainProfile.{IsPlainProfile, IsPlainRule}
 use Rattle.scf_profile.specs.Profile.{Profile}
 use Rattle.scf_profile.specs.ProfileAnswers.{ProfilesAnswer}
 use Rattle.scf_profile.specs.Rule.{IsRule}
-use Rattle.scf_profile.specs.RulesByNumber.{numbers_of, rules_of}
+use Rattle.scf_profile.specs.RulesByNumber.{rules_of}
+use Rattle.scf_profile.specs.Stub.{is_stubbed, stub_answer}
 use Rattle.scf_compile.specs.declared.dispatch.Search.{Search}
 use Rattle.scf_compile.specs.declared.placing.Position.{Position}
 use Rattle.scf_compile.specs.declared.ranges.NrRange.{NrRange}
 use Rattle.scf_compile.specs.SearchBound.{rules_steps, search_bound_of_each}
-use Rattle.scf_compile.specs.SizeBound.{rule_bound, size_bound_of_each}
+use Rattle.scf_compile.specs.SizeBound.{number_count, rule_bound, size_bound_of_each}
 use Rattle.scf_compile.specs.internal.Insns.{return_with}
 use Rattle.scf_compile.specs.internal.Blocks.{condition_code}
 use Rattle.scf_compile.specs.internal.Placing.{code_from, IsNear}
 use Rattle.scf_compile.specs.internal.Runs.{EndsWithin}
 use Rattle.scf_compile.specs.internal.Sound.{AreSound}
-use Rattle.scf_compile.specs.internal.NrRanges.{AllRules, AreServed, first_answer, range_bound}
+use Rattle.scf_compile.specs.internal.NrRanges.{AllRules, AreServed, first_answer, range_bound, rules_bound}
 
--- the conditions of a rule, each of which passes what is left of them and one instruction more where it fails
+-- the tests of a rule's conditions: one that fails skips the tests behind it and one more instruction
 abbrev pub conditions_code : Architecture → List Condition → List Insn
 conditions_code a [] = []
 conditions_code a (c ∷ cs) = condition_code a c (length (conditions_code a cs) + 1) ++ conditions_code a cs
 
--- answers where the conditions hold, else goes on behind
+-- returns the rule's answer if its conditions hold; else the instructions behind the rule follow
 abbrev pub rule_code : Architecture → Rule → List Insn
 rule_code a r = conditions_code a r.conditions ++ return_with r.answer.0 ∷ []
 
--- what stands behind a rule with these conditions: nothing where there are none, since then it answers each call
+-- the instructions behind a rule with these conditions: none behind a rule without conditions, which answers each call
 abbrev pub behind_rule : List Condition → List Insn → List Insn
 behind_rule [] others = []
 behind_rule (c ∷ cs) others = others
 
--- rules one after another, up to one without conditions, and where there is none the default answer behind them
-abbrev pub rules_code : Architecture → Answer → List Rule → List Insn
-rules_code a default [] = return_with default.0 ∷ []
-rules_code a default (r ∷ rs) = rule_code a r ++ behind_rule r.conditions (rules_code a default rs)
+-- The code answers each call within so many steps, whatever is in the accumulator, and has no more instructions.
+pub record Answers (code : List Insn) (most : ℕ) (plain : Type 0) (answer : CallRecord → ℕ) : Type 0 where
+  pub some : 0 < length code
+  pub len : length code ≤ most
+  pub sound : (asked : Bool) → (IsTrue asked → plain) → AreSound asked code
+  pub ends : (call : CallRecord) → IsRecord call → (a : ℕ) → EndsWithin (words_of call) code a (answer call) most
+
+-- The code answers as the first of the rules whose conditions hold, within the bound of their range.
+abbrev pub AnswersRules : Architecture → Answer → List Rule → List Insn → Type 0
+AnswersRules a default rules code =
+    Answers code (rules_bound rules - 2) (AllByRecursion IsPlainRule rules)
+    (λ call. first_answer a call default rules)
 
 -- Some instructions are put before others, which stay at their indices, and sound with them, and plain where this is
 -- so.
@@ -65,9 +76,15 @@ pub record IsSearchPut (a : Architecture) (default : Answer) (most : ℕ) (range
       → EndsWithin (words_of call) (code_from index after) call.nr (first_answer a call default (wanted call.nr))
       (2 * halvings + (1 + sum_by rule_bound (wanted call.nr)))
 
+-- the answer to a call of the profile's architecture: the stub's, or that of the first rule that the call meets
+abbrev pub own_answer : Profile → CallRecord → ℕ
+own_answer p call =
+    (if is_stubbed p.stub call.nr then stub_answer
+    else first_answer p.architecture call p.default_answer (rules_of call.nr p.rules))
+
 -- the most ranges that the search of a profile may have: two for each number, and two more
 abbrev pub most_ranges : Profile → ℕ
-most_ranges p = 2 * length (numbers_of p.rules) + 2
+most_ranges p = 2 * number_count p + 2
 
 -- Ranges of which the search of a profile may be.
 pub record MayBePut (p : Profile) (ranges : List NrRange) : Type 0 where
@@ -76,14 +93,13 @@ pub record MayBePut (p : Profile) (ranges : List NrRange) : Type 0 where
   pub rules : AllRules (IsRule p.architecture) ranges
   pub small : sum_by range_bound ranges < 2 ^ 31
 
--- From its index on each call of the profile's architecture is answered by the profile's rules of the number.
+-- From its index on each call of the profile's architecture is answered as the profile answers it.
 pub record IsSearchOf (p : Profile) (code : List Insn) (s : Search) : Type 0 where
   pub architecture : s.architecture ≡ p.architecture
   pub some : 0 < s.index.0
   pub stands : s.index.0 ≤ length code
   pub ends : (call : CallRecord) → IsRecord call → IsOf p.architecture call
-      → EndsWithin (words_of call) (code_from s.index code) call.nr
-      (first_answer p.architecture call p.default_answer (rules_of call.nr p.rules)) (3 + rules_steps p)
+      → EndsWithin (words_of call) (code_from s.index code) call.nr (own_answer p call) (3 + rules_steps p)
 
 -- each profile has its search
 abbrev pub AreSearchesOf : List Insn → List Profile → List Search → Type 0

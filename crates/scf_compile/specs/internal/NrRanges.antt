@@ -1,13 +1,17 @@
 -- The rules that apply from each number on.
-use Rattle.std.specs.Prelude.{◌≡◌, ℕ, ◌+◌, ◌-◌, ◌*◌, ◌^◌, ◌<◌, ◌≤◌, ◌⊎◌, All, Contains, List, [], ◌∷◌, ◌++◌, length, sum_by}
+use Rattle.std.specs.List.{filter}
+use Rattle.std.specs.Prelude.{◌≡◌, ℕ, nat_lt, true, false, ◌+◌, ◌-◌, ◌*◌, ◌^◌, ◌<◌}
+use Rattle.std.specs.Prelude.{◌≤◌, ◌⊎◌, All, Contains, List, [], ◌∷◌, ◌++◌, length, sum_by}
 use Rattle.std.specs.Prelude.{if◌then◌else◌}
 use Rattle.scf_insn.specs.declared.answer.Answer.{Answer}
 use Rattle.scf_insn.specs.declared.architecture.Architecture.{Architecture}
 use Rattle.scf_insn.specs.declared.record.CallRecord.{CallRecord}
 use Rattle.scf_insn.specs.Architectures.{row_of}
 use Rattle.scf_profile.specs.declared.rule.Rule.{Rule}
+use Rattle.scf_profile.specs.Profile.{Profile}
 use Rattle.scf_profile.specs.Rule.{all_hold}
 use Rattle.scf_profile.specs.RulesByNumber.{numbers_of, rules_of}
+use Rattle.scf_profile.specs.Stub.{is_stubbed}
 use Rattle.scf_compile.specs.declared.ranges.NrRange.{NrRange}
 use Rattle.scf_compile.specs.SizeBound.{rule_bound}
 
@@ -70,16 +74,36 @@ pub record AreRangesUpTo (first end most bound : ℕ) (default : Answer) (ranges
   pub small : sum_by range_bound ranges ≤ bound
 
 -- These are the ranges of an architecture's rules: each of its numbers is served by one, and they are few and small.
-abbrev pub AreRangesOf : Architecture → Answer → List NrRange → List Rule → Type 0
-AreRangesOf a default ranges rules =
+abbrev pub AreRangesOfRules : Architecture → Answer → List NrRange → List Rule → Type 0
+AreRangesOfRules a default ranges rules =
     let count = length (numbers_of rules) in
     AreRangesUpTo (row_of a).first ((row_of a).last + 1) (1 + 2 * count) (3 + 4 * count + sum_by rule_bound rules)
     default ranges rules
 
--- The ranges of an architecture's rules, and behind them other rules for the numbers above the architecture's.
-pub record AreAllRanges (a : Architecture) (default : Answer) (rules others : List Rule) (ranges : List NrRange)
-    : Type 0 where
+-- those that begin below a number
+abbrev pub ranges_below : ℕ → List NrRange → List NrRange
+ranges_below start ranges = filter (λ s. nat_lt s.first start) ranges
+
+-- The stub of a profile, if it has one, answers the numbers of its architecture from this one on.
+pub record IsStubStart (p : Profile) (start : ℕ) : Type 0 where
+  pub first : (row_of p.architecture).first ≤ start
+  pub last : start ≤ (row_of p.architecture).last + 1
+  pub below : (nr : ℕ) → (row_of p.architecture).first ≤ nr → nr < start → is_stubbed p.stub nr ≡ false
+  pub from : (nr : ℕ) → start ≤ nr → nr ≤ (row_of p.architecture).last → is_stubbed p.stub nr ≡ true
+
+-- The ranges of a profile: those of its rules below its stub, and from there on the stub's rules.
+pub record AreRangesOf (p : Profile) (stub : List Rule) (ranges : List NrRange) : Type 0 where
+  pub start : ℕ
+  pub is_start : IsStubStart p start
+  pub whole : List NrRange
+  pub laid : AreRangesOfRules p.architecture p.default_answer whole p.rules
+  pub some : start < (row_of p.architecture).last + 1 → IsLaid (ranges_below start whole) start stub ranges
+  pub none : (row_of p.architecture).last + 1 ≤ start → ranges ≡ ranges_below start whole
+
+-- The ranges of a profile, and behind them other rules for the numbers above the architecture's.
+pub record AreAllRanges (p : Profile) (stub others : List Rule) (ranges : List NrRange) : Type 0 where
   pub first : List NrRange
-  pub laid : AreRangesOf a default first rules
-  pub some : (row_of a).last < 2 ^ 32 - 1 → IsLaid first ((row_of a).last + 1) others ranges
-  pub none : (row_of a).last ≡ 2 ^ 32 - 1 → ranges ≡ first
+  pub laid : AreRangesOf p stub first
+  pub some : (row_of p.architecture).last < 2 ^ 32 - 1
+      → IsLaid first ((row_of p.architecture).last + 1) others ranges
+  pub none : (row_of p.architecture).last ≡ 2 ^ 32 - 1 → ranges ≡ first

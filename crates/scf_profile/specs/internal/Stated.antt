@@ -33,6 +33,7 @@ stated_profile default_answer s = record {
   architecture = s.architecture;
   default_answer = default_answer;
   rules = s.rules.items;
+  stub = None;
 }
 
 -- and as a reading has it

@@ -1,62 +1,22 @@
 //! What filters or a profile answer to the records of a scope.
 
-ghost use Rattle.std.specs.Prelude.{ℕ, List, Option, false, map, IfOk, IfErr, MatchOption, Ok, Err};
-ghost use Rattle.scf_request.specs.Bundle.{IsBundleFault};
+ghost use Rattle.std.specs.Prelude.{map};
 ghost use Rattle.scf_request.specs.Contents.{rest_of, rest_of_table};
-ghost use Rattle.scf_request.specs.declared.request.Exploration.{Exploration};
-ghost use Rattle.scf_tool.specs.Commands.{
-  EndsOnArchitectures,
-  ListsAnswers,
-  ListsProfile,
-  ListsProfiles,
-  ListsStack,
-  ReadsInput,
-};
-ghost use Rattle.scf_tool.specs.internal.Listing.{HoldsListed};
+ghost use Rattle.scf_tool.specs.Commands.{EndsOnTables, ListsAnswers, ListsProfile, ListsProfiles, ListsStack};
 ghost use Rattle.scf_tool.specs.Statuses.{LeavesWhole};
 
-use crate::commands::architectures::{loaded, parts_of};
-use crate::commands::{only, whole_input};
+use crate::commands::parts::{BesideProfile, are_filters, profile_parts};
+use crate::commands::whole_input;
 use crate::exploration::{list_each, list_side};
 use crate::fault::Fault;
 use crate::filter_stack::stack_of;
-use crate::loading::load_with_table;
+use crate::loading::{load_with_table, load_with_tables};
 use crate::reply::Reply;
 use scf_compare::Side;
 use scf_insn::Source;
-use scf_request::{BundleFault, Contents, Exploration, PartReader, TableReader};
+use scf_profile::Reading;
+use scf_request::{BundleForm, Contents, Exploration, Interpretation, PartReader, TableReader};
 use std::alloc::Global;
-
-/// What a bundle holds.
-#[derive(Drop)]
-enum ListedParts<'a> {
-    Filters(Vec<PartReader<'a>>),
-    Profile {
-        profile: PartReader<'a>,
-        table: PartReader<'a>,
-    },
-}
-
-/// The filters of a bundle, or its profile and its table, where they are all that it holds.
-fn listed_parts<'a>(alloc: Global, bytes: &'a [u8]) -> Result<Option<ListedParts<'a>>, BundleFault>
-    ensures parts { (input : Option (List ℕ)) → ReadsInput input (Ok bytes.now) → IfOk result (λ parts.
-        MatchOption parts
-        ((exploration : Exploration) → ListsAnswers exploration input (Err Fault.Parts))
-        (HoldsListed input)) }
-    ensures fault { IfErr result (IsBundleFault bytes.now) }
-{
-    let contents = Contents::of(alloc, bytes)?;
-    if contents.profiles.is_empty() && contents.tables.is_empty() {
-        return Ok(Some(ListedParts::Filters(contents.filters)));
-    }
-    if !contents.filters.is_empty() {
-        return Ok(None);
-    }
-    match only(contents.profiles).zip(only(contents.tables)) {
-        Some((profile, table)) => Ok(Some(ListedParts::Profile { profile, table })),
-        None => Ok(None),
-    }
-}
 
 /// Lists what the stack of these filters answers.
 fn list_stack(
@@ -76,13 +36,14 @@ fn list_stack(
 /// Lists what a profile answers.
 fn list_profile(
     alloc: Global,
+    by: &Interpretation,
     profile: &[u8],
     table: &[u8],
     exploration: Exploration,
 ) -> Result<Reply, Fault>
-    ensures { ListsProfile exploration profile.now table.now result }
+    ensures { ListsProfile exploration by.now profile.now table.now result }
 {
-    let loaded = load_with_table(alloc, profile, table)?;
+    let loaded = load_with_table(alloc, by, profile, table)?;
     match list_side(alloc, &Side::Profile(&loaded.profile), exploration) {
         Ok(reply) => Ok(reply),
         Err(_) => Err(Fault::Answers),
@@ -92,13 +53,14 @@ fn list_profile(
 /// Lists what a profile answers for each architecture.
 fn list_profiles(
     alloc: Global,
+    by: &Interpretation,
     profile: &[u8],
     tables: &[TableReader<PartReader<'_>>],
     exploration: Exploration,
 ) -> Result<Reply, Fault>
-    ensures { ListsProfiles exploration profile.now (map rest_of_table tables.now) result }
+    ensures { ListsProfiles exploration by.now profile.now (map rest_of_table tables.now) result }
 {
-    let loaded = loaded(alloc, profile, tables)?;
+    let loaded = load_with_tables(alloc, by, profile, tables)?;
     match list_each(alloc, loaded.profiles.as_slice(), exploration) {
         Ok(reply) => Ok(reply),
         Err(_) => Err(Fault::Answers),
@@ -108,37 +70,46 @@ fn list_profiles(
 /// `answers`: what filters or a profile answer to the records of a scope.
 pub(super) fn list_answers<R: Source>(
     alloc: Global,
+    reading: Reading,
     exploration: Exploration,
     input: &mut R,
 ) -> Result<Reply, Fault>
-    ensures answer { ListsAnswers exploration (R.remaining input.old) result }
+    ensures answer { ListsAnswers reading exploration (R.remaining input.old) result }
     ensures left { LeavesWhole R.remaining R.failures input.old result input.new }
 {
     let bytes = whole_input(alloc, input)?;
-    let Some(parts) = listed_parts(alloc, &bytes)? else {
+    let contents = Contents::of(alloc, BundleForm::Profile, &bytes)?;
+    if are_filters(&contents) {
+        let mut filters = contents.filters;
+        return list_stack(alloc, &mut filters, exploration);
+    }
+    let Some(parts) = profile_parts(alloc, reading, contents, BesideProfile::Nothing, true)? else {
         return Err(Fault::Parts);
     };
-    match parts {
-        ListedParts::Filters(mut filters) => list_stack(alloc, &mut filters, exploration),
-        ListedParts::Profile { profile, table } => {
-            list_profile(alloc, profile.rest(), table.rest(), exploration)
-        }
-    }
+    let table = parts.tables[0].reader.rest();
+    list_profile(alloc, &parts.by, parts.profile.rest(), table, exploration)
 }
 
 /// `answers --architectures`: what a profile answers to the records of each architecture that has a table.
 pub(super) fn list_architectures<R: Source>(
     alloc: Global,
+    reading: Reading,
     exploration: Exploration,
     input: &mut R,
 ) -> Result<Reply, Fault>
-    ensures answer { EndsOnArchitectures false false (R.remaining input.old)
-        (λ filters. ListsProfiles exploration) result }
+    ensures answer { EndsOnTables reading (R.remaining input.old) (ListsProfiles exploration) result }
     ensures left { LeavesWhole R.remaining R.failures input.old result input.new }
 {
     let bytes = whole_input(alloc, input)?;
-    let Some(parts) = parts_of(alloc, &bytes, false, false)? else {
+    let contents = Contents::of(alloc, BundleForm::Architectures, &bytes)?;
+    let Some(parts) = profile_parts(alloc, reading, contents, BesideProfile::Nothing, false)? else {
         return Err(Fault::Parts);
     };
-    list_profiles(alloc, parts.profile.rest(), &parts.tables, exploration)
+    list_profiles(
+        alloc,
+        &parts.by,
+        parts.profile.rest(),
+        &parts.tables,
+        exploration,
+    )
 }

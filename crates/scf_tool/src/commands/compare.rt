@@ -1,41 +1,40 @@
-//! The comparison of a stack of filters with a profile.
+//! The comparison of two sides.
 
-ghost use Rattle.std.specs.Prelude.{
-  ◌≡◌,
-  ◌≤◌,
-  ℕ,
-  List,
-  Option,
-  ◌∷◌,
-  [],
-  length,
-  map,
-  IfOk,
-  IfErr,
-  MatchOption,
-  Ok,
-  Err,
+ghost use Rattle.std.specs.Prelude.{◌≡◌, true, length, map, IfOk, IfErr, MatchOption, Ok, Err};
+ghost use Rattle.scf_request.specs.Contents.{held_by, rest_of_table};
+ghost use Rattle.scf_tool.specs.Commands.{
+  AreSidesOf,
+  AreTaken,
+  AreWithProfile,
+  Compares,
+  ComparesSides,
+  IsReport,
+  TakesProfile,
+  TakesSides,
 };
-ghost use Rattle.scf_tool.specs.Commands.{Compares, ComparesParts, HoldsBundle, IsReport, ReadsInput};
+ghost use Rattle.scf_tool.specs.Commands as spec;
 ghost use Rattle.scf_tool.specs.Reports.{finding_status, findings_status};
 ghost use Rattle.scf_tool.specs.Statuses.{LeavesWhole};
-ghost use Rattle.scf_request.specs.Bundle.{IsBundleFault};
-ghost use Rattle.scf_request.specs.Contents.{rest_of};
-ghost use Rattle.scf_request.specs.declared.request.Comparison.{Comparison};
+ghost use Rattle.scf_tool.specs.internal.Parts.{AreComparisonParts};
+ghost use Rattle.scf_tool.specs.internal.Sides.{side_bytes};
 
 use crate::call_reporting::worst_of_calls;
-use crate::commands::{only, whole_input};
+use crate::commands::parts::{BesideProfile, only, profile_parts};
+use crate::commands::whole_input;
 use crate::fault::Fault;
-use crate::findings::{ComparisonOutcome, Findings};
+use crate::findings::Findings;
 use crate::reply::Reply;
-use crate::reporting::report_by;
-use crate::stack_verification::verify_by;
+use crate::reporting::report_sides;
+use crate::side_verification::verify_sides;
+use crate::sides::{SideParts, SidesOutcome};
 use crate::status::Status;
-use crate::verify_fault::VerifyFault;
+use crate::verify_fault::BesideFault;
 use scf_compare::Finding;
 use scf_insn::{Memory, Source};
-use scf_profile::Relation;
-use scf_request::{BundleFault, Comparison, Contents, PartReader};
+use scf_profile::{Reading, Relation};
+use scf_request::{
+    BundleFault, BundleForm, Comparison, Contents, Interpretation, PartReader, Scopes, TableReader,
+};
 use std::alloc::Global;
 
 /// The exit status that goes with a finding.
@@ -62,71 +61,199 @@ fn status_of_findings(findings: &Findings) -> Status
     }
 }
 
-/// The report on an outcome.
-pub(super) fn report_of(
-    alloc: Global,
-    relation: Relation,
-    outcome: &ComparisonOutcome,
-) -> Result<Reply, Memory>
-    ensures { IfOk result (IsReport relation outcome.now) }
+/// The report on what a comparison comes to.
+fn report_of(alloc: Global, relation: Relation, verified: &SidesOutcome) -> Result<Reply, Memory>
+    ensures { IfOk result (IsReport relation verified.now) }
 {
-    let status = status_of_findings(&outcome.findings);
-    let text = report_by(alloc, relation, outcome)?;
+    let status = status_of_findings(&verified.outcome.findings);
+    let text = report_sides(alloc, relation, &verified.left_out, &verified.outcome)?;
     Ok(Reply::Compared { text, status })
 }
 
-/// The report on a stack and a profile.
-fn compare_parts(
-    alloc: Global,
-    filters: &mut [PartReader<'_>],
-    profile: &mut PartReader<'_>,
-    table: &mut PartReader<'_>,
-    comparison: Comparison,
-) -> Result<Reply, VerifyFault>
-    ensures reply { IfOk result (λ reply. ComparesParts comparison
-        (map rest_of filters.old) (rest_of profile.old) (rest_of table.old) (Ok reply)) }
-    ensures fault { IfErr result (λ fault. ComparesParts comparison
-        (map rest_of filters.old) (rest_of profile.old) (rest_of table.old) (Err (Fault.Verify fault))) }
-{
-    let outcome = verify_by(alloc, filters, profile, table, comparison)?;
-    Ok(report_of(alloc, comparison.relation, &outcome)?)
+/// Two sides, their tables, and how profiles are read.
+#[derive(Drop)]
+struct ComparisonParts<'a> {
+    pub left: SideParts<'a>,
+    pub right: SideParts<'a>,
+    pub tables: Vec<TableReader<PartReader<'a>>>,
+    pub by: Interpretation,
 }
 
-/// The readers of the filters, the profile and the table of a bundle, where it holds one filter or more and one of each
-/// other kind.
-fn compared_parts<'a>(
-    alloc: Global,
-    bytes: &'a [u8],
-) -> Result<Option<(Vec<PartReader<'a>>, PartReader<'a>, PartReader<'a>)>, BundleFault>
-    // Where it holds other parts, that is what any comparison ends with.
-    ensures parts { (input : Option (List ℕ)) → ReadsInput input (Ok bytes.now) → IfOk result (λ parts.
-        MatchOption parts
-        ((comparison : Comparison) → Compares comparison input (Err Fault.Parts))
-        (λ own. (1 ≤ length (map rest_of own.0.items))
-        × HoldsBundle input (map rest_of own.0.items) (rest_of own.1 ∷ []) (rest_of own.2 ∷ []))) }
-    ensures fault { IfErr result (IsBundleFault bytes.now) }
+/// Whether single calls are compared.
+fn is_call_by_call(over: Scopes) -> bool
+    ensures { result ≡ spec.is_call_by_call over }
 {
-    let contents = Contents::of(alloc, bytes)?;
-    match only(contents.profiles).zip(only(contents.tables)) {
-        Some((profile, table)) if !contents.filters.is_empty() => {
-            Ok(Some((contents.filters, profile, table)))
-        }
-        _ => Ok(None),
+    matches!(over, Scopes::EachCall)
+}
+
+/// Whether a profile is read for x86-64 alone.
+fn is_native(form: BundleForm) -> bool
+    ensures { result ≡ spec.is_native form }
+{
+    matches!(form, BundleForm::Profile)
+}
+
+/// Filters and a profile.
+fn filters_and_profile<'a>(
+    alloc: Global,
+    reading: Reading,
+    only_one: bool,
+    contents: Contents<'a>,
+) -> Result<Option<ComparisonParts<'a>>, BundleFault>
+    ensures parts { IfOk result (λ parts. MatchOption parts
+        (AreTaken BesideProfile.Filters only_one (held_by contents.entry) → ⊥)
+        (λ own. AreTaken BesideProfile.Filters only_one (held_by contents.entry)
+        × AreComparisonParts AreWithProfile reading (held_by contents.entry) own)) }
+    ensures fault { IfErr result (λ fault. fault ≡ BundleFault.Memory) }
+{
+    match profile_parts(alloc, reading, contents, BesideProfile::Filters, only_one)? {
+        Some(parts) => Ok(Some(ComparisonParts {
+            left: SideParts::Filters(parts.filters),
+            right: SideParts::Profile(parts.profile),
+            tables: parts.tables,
+            by: parts.by,
+        })),
+        None => Ok(None),
     }
 }
 
-/// `compare`: whether a stack of filters answers as a profile does, or is no more or no less permissive.
+/// A profile and another one beside it.
+fn two_profiles<'a>(
+    alloc: Global,
+    reading: Reading,
+    only_one: bool,
+    contents: Contents<'a>,
+) -> Result<Option<ComparisonParts<'a>>, BundleFault>
+    ensures parts { IfOk result (λ parts. MatchOption parts
+        (AreTaken BesideProfile.Profile only_one (held_by contents.entry) → ⊥)
+        (λ own. AreTaken BesideProfile.Profile only_one (held_by contents.entry)
+        × AreComparisonParts AreWithProfile reading (held_by contents.entry) own)) }
+    ensures fault { IfErr result (λ fault. fault ≡ BundleFault.Memory) }
+{
+    match profile_parts(alloc, reading, contents, BesideProfile::Profile, only_one)? {
+        Some(parts) => match only(parts.beside) {
+            Some(beside) => Ok(Some(ComparisonParts {
+                left: SideParts::Profile(parts.profile),
+                right: SideParts::Profile(beside),
+                tables: parts.tables,
+                by: parts.by,
+            })),
+            None => Ok(None),
+        },
+        None => Ok(None),
+    }
+}
+
+/// Filters and a profile, or two profiles.
+fn with_profile<'a>(
+    alloc: Global,
+    reading: Reading,
+    only_one: bool,
+    contents: Contents<'a>,
+) -> Result<Option<ComparisonParts<'a>>, BundleFault>
+    ensures parts { IfOk result (λ parts. MatchOption parts
+        (TakesProfile only_one (held_by contents.entry) → ⊥)
+        (λ own. TakesProfile only_one (held_by contents.entry)
+        × AreComparisonParts AreWithProfile reading (held_by contents.entry) own)) }
+    ensures fault { IfErr result (λ fault. fault ≡ BundleFault.Memory) }
+{
+    if contents.beside_profiles.is_empty() {
+        filters_and_profile(alloc, reading, only_one, contents)
+    } else {
+        two_profiles(alloc, reading, only_one, contents)
+    }
+}
+
+/// Filters and others beside them.
+fn two_stacks<'a>(
+    alloc: Global,
+    reading: Reading,
+    over: Scopes,
+    form: BundleForm,
+    contents: Contents<'a>,
+) -> Result<Option<ComparisonParts<'a>>, BundleFault>
+    requires { (scopes : Scopes) × (form ≡ BundleForm.Beside scopes) }
+    ensures parts { IfOk result (λ parts. MatchOption parts
+        (TakesSides form over (held_by contents.entry) → ⊥)
+        (λ own. TakesSides form over (held_by contents.entry)
+        × AreComparisonParts (AreSidesOf form) reading (held_by contents.entry) own)) }
+    ensures fault { IfErr result (λ fault. fault ≡ BundleFault.Memory) }
+{
+    if is_call_by_call(over) && contents.tables.len() != 1 {
+        return Ok(None);
+    }
+    let by = Interpretation::of_parts(alloc, reading, &contents.stubs)?;
+    Ok(Some(ComparisonParts {
+        left: SideParts::Filters(contents.filters),
+        right: SideParts::Filters(contents.beside),
+        tables: contents.tables,
+        by,
+    }))
+}
+
+/// The two sides that a bundle holds, with their tables, where they are what a comparison takes.
+fn comparison_parts<'a>(
+    alloc: Global,
+    reading: Reading,
+    form: BundleForm,
+    over: Scopes,
+    contents: Contents<'a>,
+) -> Result<Option<ComparisonParts<'a>>, BundleFault>
+    ensures parts { IfOk result (λ parts. MatchOption parts
+        (TakesSides form over (held_by contents.entry) → ⊥)
+        (λ own. TakesSides form over (held_by contents.entry)
+        × AreComparisonParts (AreSidesOf form) reading (held_by contents.entry) own)) }
+    ensures fault { IfErr result (λ fault. fault ≡ BundleFault.Memory) }
+{
+    match form {
+        BundleForm::Profile => with_profile(alloc, reading, true, contents),
+        BundleForm::Architectures => {
+            with_profile(alloc, reading, is_call_by_call(over), contents)
+        }
+        BundleForm::Beside(_) => two_stacks(alloc, reading, over, form, contents),
+    }
+}
+
+/// The report on two sides.
+fn compare_parts(
+    alloc: Global,
+    native: bool,
+    parts: ComparisonParts<'_>,
+    comparison: Comparison,
+) -> Result<Reply, BesideFault>
+    requires profile { native ≡ true → length parts.tables.items ≡ 1 }
+    requires calls { comparison.scopes ≡ Scopes.EachCall → length parts.tables.items ≡ 1 }
+    ensures reply { IfOk result (λ reply. ComparesSides native comparison parts.entry.by
+        (side_bytes parts.entry.left) (side_bytes parts.entry.right)
+        (map rest_of_table parts.entry.tables.items) (Ok reply)) }
+    ensures fault { IfErr result (λ fault. ComparesSides native comparison parts.entry.by
+        (side_bytes parts.entry.left) (side_bytes parts.entry.right)
+        (map rest_of_table parts.entry.tables.items) (Err (Fault.Sides fault))) }
+{
+    let by = parts.by;
+    let left = parts.left;
+    let right = parts.right;
+    let mut tables = parts.tables;
+    let verified = verify_sides(alloc, &by, native, left, right, &mut tables, comparison)?;
+    Ok(report_of(alloc, comparison.relation, &verified)?)
+}
+
+/// `compare`: whether the sides that a bundle of this form holds are answered alike, or the left one is no more or no
+/// less permissive.
 pub(super) fn compare_bundle<R: Source>(
     alloc: Global,
+    reading: Reading,
+    form: BundleForm,
     comparison: Comparison,
     input: &mut R,
 ) -> Result<Reply, Fault>
-    ensures answer { Compares comparison (R.remaining input.old) result }
+    ensures answer { Compares form reading comparison (R.remaining input.old) result }
     ensures left { LeavesWhole R.remaining R.failures input.old result input.new }
 {
     let bytes = whole_input(alloc, input)?;
-    let Some((mut filters, mut profile, mut table)) = compared_parts(alloc, &bytes)? else {
+    let contents = Contents::of(alloc, form, &bytes)?;
+    let Some(parts) = comparison_parts(alloc, reading, form, comparison.scopes, contents)? else {
         return Err(Fault::Parts);
     };
-    Ok(compare_parts(alloc, &mut filters, &mut profile, &mut table, comparison)?)
+    Ok(compare_parts(alloc, is_native(form), parts, comparison)?)
 }

@@ -32,3 +32,12 @@ pub compare_with-requires-in-Profile : goal.compare_with-requires-in-Profile
 compare_with-requires-in-Profile g c = λ same.
     rw c.new-left.ensures.profile
     (rw c.in-Profile.is at (c.are_same_stacks-is_same.ensures.related same c.args.by c.args.over))
+
+pub returns-in-Profiles : goal.returns-in-Profiles
+returns-in-Profiles g c =
+    rw c.in-Profiles.is
+    (IfOk-weaker c.compare_with-in-Profiles.result _ _ (of_one (λ own. absurd own)) c.compare_with-in-Profiles.ensures)
+
+pub compare_with-requires-in-Profiles : goal.compare_with-requires-in-Profiles
+compare_with-requires-in-Profiles g c = λ same.
+    rw c.in-Profiles.is at (c.are_same_stacks-is_same.ensures.related same c.args.by c.args.over)

@@ -56,7 +56,7 @@ returns-in_ok-settled-in-Undecided-2-clause-comparison g c =
     rw (c.unwrap_or.ensures, undecided.is) (settled_comparison _ _ _ _ c.args.limit c.explore.new.taken
     c.settle.new.budget.steps undecided.at c.args.budget.now undecided.side second.settled
     (rw (undecided.is, c.start.ensures.size) at c.in_ok-finding.ensures)
-    (λ given. (c.in_ok-facts.ensures.exact given.0, (c.start.ensures.plain given.1, given.2)))
+    (λ given. (c.in_ok-facts.ensures.exact given.0, c.start.ensures.plain given.1 given.2))
     (λ own. search rules)
     second.ensures.settled second.ensures.steps)
 
@@ -66,6 +66,6 @@ returns-in-Undecided-clause-comparison g c =
     settled_comparison _ _ _ _ c.args.limit c.explore.new.taken c.args.budget.now.steps undecided.at c.args.budget.now
     undecided.side (Some (Holds c.explore.new.taken))
     (rw (undecided.is, c.start.ensures.size) at c.in_ok-finding.ensures)
-    (λ given. (c.in_ok-facts.ensures.exact given.0, (c.start.ensures.plain given.1, given.2)))
+    (λ given. (c.in_ok-facts.ensures.exact given.0, c.start.ensures.plain given.1 given.2))
     (λ own none. grind arith)
     (inl (refl, c.requires c.if-is_same.true)) (grind arith)

@@ -1,4 +1,4 @@
-use Rattle.scf_compare.proofs.Common.{◌≡◌, ℕ, IsTrue, List, None, AreWordsIn, arith, common_steps, length}
+use Rattle.scf_compare.proofs.Common.{◌≡◌, IsTrue, None, arith, common_steps, length}
 use Rattle.scf_compare.proofs.Branches.{weaken_stage}
 use Rattle.scf_compare.proofs.AddedRegions.{after_leaf, no_more_ahead, now_covered, still_covered}
 use Rattle.scf_compare.specs.Regions.{IsCovered}

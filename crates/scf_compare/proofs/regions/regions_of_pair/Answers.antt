@@ -1,5 +1,4 @@
-use Rattle.scf_compare.proofs.Common.{◌≡◌, AreWordsIn, IsWords-words_of, None, arith, call_of-words_of, inl, inr, refl, words_of}
-use Rattle.scf_compare.specs.internal.Frontier.{IsWhole}
+use Rattle.scf_compare.proofs.Common.{AreWordsIn, IsWords-words_of, arith, call_of-words_of, inl, inr, refl, words_of}
 use Rattle.scf_compare.proofs.regions.regions_of_pair.Goals as goal
 
 pub loop-steps-init : goal.loop-steps-init

@@ -1,4 +1,4 @@
-use Rattle.scf_compile.proofs.Common.{rules, IsRule, ◌≡◌, ◌++◌, ap, arith, IfOk-weaker, sum_by, sum_by-append, IsFirst, IsPut, IsSearchPut, rules_code, range_bound}
+use Rattle.scf_compile.proofs.Common.{rules, All, IsRule, NrRange, [], ◌≡◌, ◌<◌, ◌^◌, sym, subst, rules_bound, ◌++◌, ap, arith, IfOk-weaker, sum_by, sum_by-append, IsFirst, IsPut, IsSearchPut, AnswersRules, range_bound, sum_by-cons}
 use Rattle.scf_compile.proofs.Searches.{all_parts, one_is, search_branch, search_one}
 use Rattle.scf_compile.proofs.search.+put_search.Goals as goal
 
@@ -45,15 +45,31 @@ returns-then-ranges-gt1 t c =
     c.index-high-0.is c.in_ok-miss.ensures c.in_ok-hit.ensures (rw (← c.index-high-0.is) at first))
     c.put_branch.ensures)
 
+pub rules_block-requires : goal.rules_block-requires
+rules_block-requires t c =
+    let ss = c.args.ranges.now in
+    let s = c.index-ranges-0.result in
+    let is = one_is ss s c.requires.some (omega arith) c.index-ranges-0.is in
+    let same = c.index-ranges-0.is in
+    let fine : All (IsRule c.args.architecture) s.rules.now = (rw is at c.requires.rules) 0 s (omega arith) in
+    let small : rules_bound s.rules.now < 2 ^ 32 =
+    omega (arith, rw is at c.requires.small, sum_by-cons range_bound s []) in
+    record {
+      fine = subst (λ (r : NrRange). All (IsRule c.args.architecture) r.rules.now) same fine;
+      small = subst (λ (r : NrRange). rules_bound r.rules.now < 2 ^ 32) same small;
+    }
+
 pub returns : goal.returns
 returns t c =
     let ss = c.args.ranges.now in
     let s = c.index-ranges-0.result in
-    let one = c.if-ranges-gt1.false in
     let is = one_is ss s c.requires.some (omega arith) c.index-ranges-0.is in
-    let block : c.deref.result.now ≡ rules_code c.args.architecture c.args.default s.rules.now = search rules in
+    let own : AnswersRules c.args.architecture c.args.default s.rules.now c.in_ok-block.block.items =
+    subst (λ (r : NrRange). AnswersRules c.args.architecture c.args.default r.rules.now c.in_ok-block.block.items)
+    (sym c.index-ranges-0.is) c.in_ok-block.ensures in
+    let block : AnswersRules c.args.architecture c.args.default s.rules.now c.deref.result.now =
+    rw c.deref.ensures.value own in
     IfOk-weaker c.put_shared.result (IsPut c.deref.result.now c.args.code.now.items c.put_shared.new.code.items)
     (IsSearchPut c.args.architecture c.args.default c.args.most ss _ _)
-    (λ index put. rw is (search_one c.args.architecture c.args.default c.args.most s _ _ index
-    (rw is at c.requires.rules) (rw block at put)))
+    (λ index put. rw is (search_one c.args.architecture c.args.default c.args.most s _ _ _ index block put))
     c.put_shared.ensures

@@ -1,5 +1,5 @@
-use Rattle.scf_profile.proofs.Common.{refl, profiles_of, effective_profile, map-map, stated_profile, subst, sym, AreOfApart, tables_of}
-use Rattle.scf_profile.proofs.Stated.{effective_apart, none_too_many, profiles_apart}
+use Rattle.scf_profile.proofs.Common.{refl, map, profiles_of, effective_profile, map-map, stated_profile, subst, sym, AreOfApart, tables_of}
+use Rattle.scf_profile.proofs.Stated.{still_apart, none_too_many, profiles_apart}
 use Rattle.scf_profile.proofs.profile_text.read_root_for.Goals as goal
 
 pub returns-clause-value : goal.returns-clause-value
@@ -23,6 +23,8 @@ returns-clause-value c =
 pub returns-clause-apart : goal.returns-clause-apart
 returns-clause-apart c =
     let default = c.in_ok-head.head.default_answer in
-    effective_apart c.args.reading default c.in_ok-rules.rules.items
-    (subst AreOfApart (sym (c.in_ok-rules.ensures.rules default))
-    (profiles_apart c.left_out-left_out.result (tables_of c.args.tables.now) default c.deref.result.now))
+    let profiles = map (stated_profile default) c.in_ok-rules.rules.items in
+    let apart = subst AreOfApart (sym (c.in_ok-rules.ensures.rules default))
+    (profiles_apart c.left_out-left_out.result (tables_of c.args.tables.now) default c.deref.result.now) in
+    subst AreOfApart (map-map (effective_profile c.args.reading) (stated_profile default) c.in_ok-rules.rules.items)
+    (still_apart (effective_profile c.args.reading) profiles (λ p. refl) apart)

@@ -1,12 +1,12 @@
-use Rattle.scf_request.proofs.Common.{List, ◌∙◌, ap, ap₂, codes, IfOk-weaker, NumberOption, shape_with, with_rule}
+use Rattle.scf_request.proofs.Common.{List, ◌∙◌, ap, ap₂, codes, IfOk-weaker, NumberOption, profile_shape, with_rule}
 use Rattle.clap.specs.Words.{AddsArg}
 use Rattle.scf_request.proofs.CommandLineLemmas.{program_alone}
 use Rattle.scf_request.proofs.command_line.define_answers.Goals as goal
 
 pub returns : goal.returns
 returns c =
-    let first = c.in_ok-command_with.ensures
-    ∙ ap (λ (options : List NumberOption). program_alone (shape_with (codes "answers") options))
+    let first = c.in_ok-profile_command.ensures
+    ∙ ap (λ (options : List NumberOption). program_alone (profile_shape (codes "answers") options))
     c.exploration_options.ensures.kept in
     let second = c.in_ok-arg.ensures.shape c.flag_argument.ensures.local
     ∙ ap₂ with_rule first c.flag_argument.ensures.rule in

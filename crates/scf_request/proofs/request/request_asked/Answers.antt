@@ -2,7 +2,7 @@ use Rattle.scf_request.proofs.Common.{◌≡◌, ℕ, List, Option, Row, Err, er
 use Rattle.std.proofs.Common.{IfErr, IfOk, Ok, Result, Some}
 use Rattle.scf_request.specs.declared.request.Request.{Request}
 use Rattle.scf_request.specs.declared.request_fault.RequestFault.{RequestFault}
-use Rattle.scf_request.specs.declared.request_fault.RequestFault.TheVariants.{Flags, NoCommand, Number, Range}
+use Rattle.scf_request.specs.declared.request_fault.RequestFault.TheVariants.{Flags, NoCommand, Number, Range, Reading}
 use Rattle.scf_request.specs.Requests.{AsksFor, GoesOverRecord, Spell, SpellRequest}
 use Rattle.scf_request.proofs.request.request_asked.Goals as goal
 
@@ -11,6 +11,7 @@ refused : (asked : Option (List ℕ × List Row)) (fault : RequestFault) → Spe
 refused asked (Number fault) why = why
 refused asked Flags why = why
 refused asked NoCommand why = why
+refused asked Reading why = absurd why
 refused asked Range why = absurd why
 
 taken : (asked : Option (List ℕ × List Row)) (request : Request) (result : Result Request RequestFault)

@@ -10,6 +10,6 @@ loop-part-preserved g c =
 pub returns-in_err-table-clause-fault : goal.returns-in_err-table-clause-fault
 returns-in_err-table-clause-fault g c =
     let p = err_from_is_err_and c.from_residual.result c.from_residual.ensures.1 in
-    rw (p.1, p.2) (λ profile.
+    rw (p.1, p.2) (λ by profile.
     cant_spell g.R.InMemory.text _ _ c.part-item.result c.loop-part-test.true c.part-item.is _ c.loop-part.invariant
-    profile c.in_err-table.field-0.0 (rw c.bytes.ensures at c.in_err-table.ensures.table))
+    by profile c.in_err-table.field-0.0 (rw c.bytes.ensures at c.in_err-table.ensures.table))

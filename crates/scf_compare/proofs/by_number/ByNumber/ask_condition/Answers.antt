@@ -49,15 +49,18 @@ pub returns-then-asks_of_zero : goal.returns-then-asks_of_zero
 returns-then-asks_of_zero c =
     let shared = (goal.at.returns-then-asks_of_zero c).After-asks_of_zero in
     record {
-      proper = c.follow.ensures.node;
-      leads = λ words w r.
-          let zero =
-          half_is_zero (bits shared) c.args.part (argument (call_of words) (condition shared).index)
-          (asked shared true c.if-asks_of_zero.true) in
-          let ways = rw zero at (ways shared words w r) in
-          c.follow.ensures.reached words (condition shared) w (here shared) r.at_condition (grind (arith, ways));
-      costs = grind (arith, c.question_of-question.ensures.costs);
-      plain = λ plain. plain;
+      rules = λ ends. ends;
+      step = λ others. record {
+        proper = c.follow.ensures.node;
+        leads = λ words w r.
+            let zero =
+            half_is_zero (bits shared) c.args.part (argument (call_of words) (condition shared).index)
+            (asked shared true c.if-asks_of_zero.true) in
+            let ways = rw zero at (ways shared words w r) in
+            c.follow.ensures.reached words (condition shared) w (here shared) r.at_condition (grind (arith, ways));
+        costs = grind (arith, c.question_of-question.ensures.costs, c.follow.ensures.size others);
+        plain = λ plain. plain;
+      };
     }
 
 pub returns-else-asks_of_zero : goal.returns-else-asks_of_zero
@@ -67,15 +70,18 @@ returns-else-asks_of_zero c =
     let if_true = c.follow-else-asks_of_zero.ensures in
     let if_false = c.follow-else-asks_of_zero-2.ensures in
     record {
-      proper = search rules;
-      leads = λ words w r.
-          let there =
-          answer_there (bits shared) c.args.part question.result.atom words (condition shared).index w
-          (asked shared false c.if-asks_of_zero.false) question.ensures.word in
-          let ways = ways shared words w r in (
-            λ e. if_true.reached words (condition shared) w (here shared) r.at_condition (ways.0 (sym there ∙ e)),
-            λ e. if_false.reached words (condition shared) w (here shared) r.at_condition (ways.1 (sym there ∙ e)),
-          );
-      costs = omega (arith, question.ensures.costs, if_true.size, if_false.size);
-      plain = λ plain. (question.ensures.keeps (plain_condition shared plain), plain, plain);
+      rules = λ ends. ends;
+      step = λ others. record {
+        proper = search rules;
+        leads = λ words w r.
+            let there =
+            answer_there (bits shared) c.args.part question.result.atom words (condition shared).index w
+            (asked shared false c.if-asks_of_zero.false) question.ensures.word in
+            let ways = ways shared words w r in (
+              λ e. if_true.reached words (condition shared) w (here shared) r.at_condition (ways.0 (sym there ∙ e)),
+              λ e. if_false.reached words (condition shared) w (here shared) r.at_condition (ways.1 (sym there ∙ e)),
+            );
+        costs = omega (arith, question.ensures.costs, if_true.size others, if_false.size others);
+        plain = λ plain. (question.ensures.keeps (plain_condition shared plain), plain, plain);
+      };
     }

@@ -1,4 +1,4 @@
-use Rattle.scf_compare.proofs.Common.{◌+◌, ◌-◌, ◌/◌, ◌<◌, length, refl, arith, call_of, slice_index, AreNumbersOf}
+use Rattle.scf_compare.proofs.Common.{◌<◌, length, refl, arith, call_of, slice_index, AreNumbersOf}
 use Rattle.scf_compare.proofs.Bits.{at_least}
 use Rattle.scf_compare.proofs.Rules.{read_at}
 use Rattle.scf_compare.proofs.Numbered.{from_number}
@@ -9,13 +9,15 @@ loop-first-preserved-in-Always g c =
     let numbers = c.numbers-numbers.result.now in
     let rules = c.args.self.now.profile.rules in
     let own = c.index-numbers-middle.result in
-    let middle = c.loop-first.first + (c.loop-first.last - c.loop-first.first) / 2 in
+    let middle = c.middle_of-middle.result in
     let are : AreNumbersOf numbers rules =
     rw c.numbers-numbers.ensures.numbers c.numbers-numbers.ensures.numbered.numbers in
-    let inside : middle < length numbers = omega (arith, c.loop-first.invariant.inside, c.loop-first-test.true) in
+    let inside : middle < length numbers = omega (arith, c.loop-first.invariant.inside, c.middle_of-middle.ensures.below) in
     record {
       inside = c.loop-first.invariant.inside;
-      told = λ words w allowed.
+      later = omega (arith, c.loop-first.invariant.later, c.loop-first.invariant.behind, c.middle_of-middle.ensures.from);
+      behind = omega arith;
+      told = λ words w allowed _.
           from_number numbers rules are (call_of words) middle own
           (read_at numbers numbers middle own refl inside c.index-numbers-middle.is)
           (at_least (slice_index words 0) own.number

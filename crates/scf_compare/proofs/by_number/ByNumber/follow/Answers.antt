@@ -38,7 +38,7 @@ returns-in-Decided-false-clause-reached c = λ words condition w here at. rw c.i
     at (fails_by architecture call (own_conditions numbers c.args.at) c.args.at.condition condition here
     (holds_by architecture words condition false w (successor ∙ c.in-Decided-false.field-0-test))) in
     c.next_rule.ensures.reached words (record {
-      is_of = at.at_rule.is_of;
+      by_rules = at.at_rule.by_rules;
       own = at.at_rule.own;
       unmet =
           all_more (λ earlier. meets architecture earlier call ≡ false) rules c.args.at.rule rule stands at.at_rule.unmet

@@ -17,7 +17,7 @@ returns-then-at-as_slice-clause-reached c = λ words at.
     record { at_condition = at; condition = _; here = here c; known = tt }
 
 pub returns-then-at-as_slice-clause-size : goal.returns-then-at-as_slice-clause-size
-returns-then-at-as_slice-clause-size c =
+returns-then-at-as_slice-clause-size c = λ others.
     let numbers = c.args.self.now.numbers in
     let conditions = own_conditions numbers c.args.at in
     omega (arith, conditions_more conditions c.args.at.condition _ (size_behind numbers c.args.at) (here c))

@@ -1,29 +1,65 @@
-use Rattle.scf_compare.proofs.Common.{◌≤◌, arith, mul-le-mul_left, scaled_costs}
+use Rattle.scf_compare.proofs.Common.{◌+◌, ◌≤◌, arith, mul-le-mul_left, scaled_costs}
+use Rattle.scf_compare.specs.internal.Laws.{pending_counts}
+use Rattle.scf_compare.specs.internal.Trees.{pending_size}
 use Rattle.scf_compare.proofs.pair.PairComparison.step.Goals as goal
+
+pub returns-in-Next : goal.returns-in-Next
+returns-in-Next g c =
+    let step = rw c.in-Next.is at c.step.ensures in
+    let tree = g.L.SideTree.tree c.args.self.now.left in
+    let known = c.args.known.now in
+    let right = g.R.SideTree.tree c.args.self.now.right known.right in
+    let counts = pending_counts right (g.met.R.SideTree.counts c.args.self.now.right known.right) known.ahead in
+    let after = (tree c.step.new.known).size c.in-Next.next in
+    let size = (tree known.left).size c.in-AtLeft.node in
+    let costs : after + 0 + 1 ≤ size = omega (arith, step.costs) in
+    rw c.in-AtLeft.is (grind (
+      arith,
+      step.leads,
+      step.plain,
+      scaled_costs after 0 size (pending_size right known.ahead) costs counts,
+    ))
 
 pub returns-in-Branch : goal.returns-in-Branch
 returns-in-Branch g c =
     let step = rw c.in-Branch.is at c.step.ensures in
     let tree = g.L.SideTree.tree c.args.self.now.left in
     let after = tree c.step.new.known in
-    let whole = (g.R.SideTree.behavior c.args.self.now.right).size in
-    let counts = g.met.R.SideTree.size_counts c.args.self.now.right in
+    let size = (tree c.args.known.now.left).size c.in-AtLeft.node in
+    let right = g.R.SideTree.tree c.args.self.now.right in
+    let known = c.go_ahead-known.new.known in
+    let ahead = c.go_ahead-known.ensures in
+    let pending = c.go_ahead-known.result in
+    let counts = pending_counts (right known) (g.met.R.SideTree.counts c.args.self.now.right known) pending in
+    let all = mul-le-mul_left size ahead.size in
     rw c.in-AtLeft.is (grind (
       arith,
       step.leads,
       step.plain,
-      scaled_costs (after.size c.in-Branch.if_true) (after.size c.in-Branch.if_false)
-          ((tree c.args.known.now.left).size c.in-AtLeft.node) whole step.costs counts,
+      ahead.reached,
+      ahead.plain,
+      scaled_costs (after.size c.in-Branch.if_true) (after.size c.in-Branch.if_false) size
+          (pending_size (right known) pending) step.costs counts,
+      all,
     ))
 
 pub returns-in-Leaf : goal.returns-in-Leaf
 returns-in-Leaf g c =
     let step = rw c.in-Leaf.is at c.step.ensures in
-    let asked = c.ask_right.ensures c.step.new.known in
+    let known = c.args.known.now in
+    let asked = c.ask_right.ensures c.step.new.known known.ahead in
     let tree = g.L.SideTree.tree c.args.self.now.left in
-    let counts : 1 ≤ (tree c.args.known.now.left).size c.in-AtLeft.node = step.costs in
-    let all = mul-le-mul_left (g.R.SideTree.behavior c.args.self.now.right).size counts in
+    let counts : 1 ≤ (tree known.left).size c.in-AtLeft.node = step.costs in
+    let right = g.R.SideTree.tree c.args.self.now.right known.right in
+    let all = mul-le-mul_left (pending_size right known.ahead) counts in
     rw c.in-AtLeft.is (grind (arith, asked, step.leads, all))
 
 pub returns-in-AtRight : goal.returns-in-AtRight
-returns-in-AtRight g c = rw c.in-AtRight.is (c.ask_right-in-AtRight.ensures c.args.known.now.left)
+returns-in-AtRight g c =
+    let asked = c.ask_right-in-AtRight.ensures c.args.known.now.left c.args.known.now.ahead in
+    rw c.in-AtRight.is (record {
+      proper = asked.proper;
+      leads = asked.leads;
+      costs = asked.costs;
+      plain = asked.plain;
+    })

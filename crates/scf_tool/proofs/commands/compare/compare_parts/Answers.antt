@@ -1,26 +1,28 @@
-use Rattle.scf_tool.proofs.Common.{err_from_is_err_and, inr, refl}
-use Rattle.scf_tool.specs.declared.findings.ComparisonOutcome.{ComparisonOutcome}
-use Rattle.scf_tool.proofs.StackLemmas.{part_bytes, reads_well, told_of_parts}
+use Rattle.scf_tool.proofs.Common.{err_from_is_err_and}
+use Rattle.scf_tool.specs.VerifyingSides.AreRefused.{by_memory}
 use Rattle.scf_tool.proofs.commands.compare.compare_parts.Goals as goal
 
-pub returns-in_err-outcome-clause-fault : goal.returns-in_err-outcome-clause-fault
-returns-in_err-outcome-clause-fault c =
+pub verify_sides-requires-clause-profile : goal.verify_sides-requires-clause-profile
+verify_sides-requires-clause-profile c = λ is. rw c.deref_mut.ensures.value (c.requires.profile is)
+
+pub verify_sides-requires-clause-calls : goal.verify_sides-requires-clause-calls
+verify_sides-requires-clause-calls c = λ is. rw c.deref_mut.ensures.value (c.requires.calls is)
+
+pub returns-in_err-verified-clause-fault : goal.returns-in_err-verified-clause-fault
+returns-in_err-verified-clause-fault c =
     let p = err_from_is_err_and c.from_residual.result c.from_residual.ensures.1 in
-    let left = c.in_err-outcome.ensures in
-    rw (p.1, p.2) (
-      reads_well part_bytes ComparisonOutcome _ _ _ _ _ _ _ left.filter_readers left.table_reader left.profile_reader,
-      rw (told_of_parts c.args.filters.now) at left.answer,
-    )
+    rw (p.1, p.2)
+    (c.in_err-verified.ensures.read, rw c.deref_mut.ensures.value at c.in_err-verified.ensures.refused)
 
 pub returns-in_err-report_of-clause-fault : goal.returns-in_err-report_of-clause-fault
 returns-in_err-report_of-clause-fault c =
     let p = err_from_is_err_and c.from_residual-in_err-report_of.result c.from_residual-in_err-report_of.ensures.1 in
-    let read = rw (told_of_parts c.args.filters.now) at c.in_ok-outcome.ensures.answer in
-    rw (p.1, p.2) (tt, inr (_, read.has_stack, inr (_, read.is_table, inr (_, read.is_loaded, refl))))
+    let own = rw c.deref_mut.ensures.value at c.in_ok-verified.ensures.verified in
+    rw (p.1, p.2) (tt, by_memory own.tables own.left_input own.right_input own.are_sides)
 
 pub returns-clause-reply : goal.returns-clause-reply
 returns-clause-reply c = (
-  c.in_ok-outcome.outcome,
-  rw (told_of_parts c.args.filters.now) at c.in_ok-outcome.ensures.answer,
+  c.in_ok-verified.verified,
+  rw c.deref_mut.ensures.value at c.in_ok-verified.ensures.verified,
   c.in_ok-report_of.ensures,
 )

@@ -1,0 +1,10 @@
+use Rattle.std.proofs.Common.{◌≡◌, ◌++◌, flat_map, map, take}
+use Rattle.scf_c.specs.Answers.{all_regions, facts_of, numbers_of_region}
+use Rattle.scf_c.proofs.answers.add_walks.Given as goal
+
+abbrev pub invariant-loop-walk : goal.invariant-loop-walk
+invariant-loop-walk l = record {
+  regions : l.regions.items
+      ≡ l.fn.regions.items ++ map numbers_of_region (all_regions (take l.walk-index l.walks));
+  facts : l.facts.items ≡ l.fn.facts.items ++ flat_map facts_of (all_regions (take l.walk-index l.walks));
+}

@@ -1,0 +1,144 @@
+-- What a side answers, by regions of records, and what is handed out of it.
+use Rattle.std.specs.Prelude.{◌≡◌, ◌==◌, ◌⊎◌, ◌≤◌, ◌<◌, ◌++◌, ℕ, Bool, true, false, List, [], ◌∷◌, All, Option, Some, None, flat_map, is_some, length, map, slice_get, sum_by, if◌then◌else◌}
+use Rattle.std.specs.List.{AllZip}
+use Rattle.std.specs.Option.{option_map_or}
+use Rattle.scf_insn.specs.declared.answer.Answer.{Answer}
+use Rattle.scf_facts.specs.declared.bits.Bits.{Bits}
+use Rattle.scf_facts.specs.declared.interval.Interval.{Interval}
+use Rattle.scf_facts.specs.WordSets.{NumberFacts}
+use Rattle.scf_profile.specs.Scope.{IsInScope}
+use Rattle.scf_compare.specs.Regions.{AreRegions, IsDecidedRegion}
+use Rattle.scf_compare.specs.Sides.{Behavior}
+use Rattle.scf_compare.specs.declared.origin.Origin.{Origin}
+use Rattle.scf_compare.specs.declared.origin.Origin.TheVariants.{Filter, Profile}
+use Rattle.scf_compare.specs.declared.region.Region.{Region}
+use Rattle.scf_compare.specs.declared.regions.Regions.{Regions}
+use Rattle.scf_tool.specs.RegionLines.{are_whole, word_indices}
+use Rattle.scf_c.specs.declared.answers.Listed.{Listed}
+use Rattle.scf_c.specs.declared.layout.Listing.{Listing}
+use Rattle.scf_c.specs.declared.layout.Question.{Question}
+use Rattle.scf_c.specs.declared.layout.RegionNumbers.{RegionNumbers}
+use Rattle.scf_c.specs.declared.layout.SideInput.{SideInput}
+use Rattle.scf_c.specs.declared.layout.Table.{Table}
+use Rattle.scf_c.specs.declared.layout.WordFact.{WordFact}
+use Rattle.scf_c.specs.declared.question.Asked.{Asked}
+use Rattle.scf_c.specs.declared.records.Records.{Records}
+use Rattle.scf_c.specs.declared.refusal.Refusal.{Refusal}
+use Rattle.scf_c.specs.declared.refusal.Refusal.TheVariants.{Verify}
+use Rattle.scf_c.specs.declared.side.ReadSide.{ReadSide}
+use Rattle.scf_c.specs.Layout.{call_of, no_call}
+use Rattle.scf_c.specs.Profiles.{entry_of, nothing_left_out, reason_number}
+use Rattle.scf_c.specs.Records.{AreRecords, AreRecordsRefused}
+use Rattle.scf_c.specs.Sides.{IsRead, IsSideRefused, behavior_of_read, left_out_of_side, used_by}
+use Rattle.scf_tool.specs.declared.verify_fault.VerifyFault.TheVariants.{Memory}
+
+-- ---- regions
+
+-- These are the regions of a side over some records, within a limit of steps. Those of a plain side are exact and have
+-- an answer.
+pub record AreOfRecords (side : Behavior) (limit : ℕ) (records : Records) (regions : Regions) : Type 0 where
+  pub are_regions : AreRegions side (IsInScope records.scope) limit regions
+  pub decided : side.is_plain → All IsDecidedRegion regions.list.items
+
+-- Walks over several sets of records come to their regions, or to none, only if the limit of all steps is below their
+-- sizes together.
+abbrev pub ListsEach : Behavior → List Records → ℕ → Option (List Regions) → Type 0
+ListsEach side several limit None = limit < sum_by (λ records. side.size) several
+ListsEach side several limit (Some listed) =
+    AllZip (AreOfRecords side limit) several listed × (sum_by (λ regions. regions.steps) listed ≤ limit)
+
+-- ---- as numbers
+
+abbrev pub interval_fact : ℕ → Interval → WordFact
+interval_fact index interval = record { word = index; kind = 1; low = interval.low; high = interval.high }
+
+abbrev pub bits_fact : ℕ → ℕ → Bits → WordFact
+bits_fact kind index bits = record { word = index; kind = kind; low = bits.mask; high = bits.value }
+
+-- What is known of a word: intervals, unless they are the whole word, the bits that it has, if any, and those that it
+-- doesn't have.
+abbrev pub facts_of_set : ℕ → NumberFacts → List WordFact
+facts_of_set index facts =
+    (if are_whole facts.intervals then [] else map (interval_fact index) facts.intervals)
+    ++ ((if facts.known.mask == 0 then [] else bits_fact 2 index facts.known ∷ [])
+    ++ map (bits_fact 3 index) facts.refuted)
+
+-- of the words with these indices
+abbrev pub facts_at : List NumberFacts → List ℕ → List WordFact
+facts_at words indices = flat_map (λ index. option_map_or (facts_of_set index) (slice_get words index) []) indices
+
+abbrev pub facts_of : Region → List WordFact
+facts_of region = facts_at region.words word_indices
+
+abbrev pub bit_of : Bool → ℕ
+bit_of true = 1
+bit_of false = 0
+
+abbrev pub reason_of_origin : Origin → ℕ
+reason_of_origin (Filter filter index) = 0
+reason_of_origin (Profile reason) = reason_number reason
+
+abbrev pub entry_of_origin : Origin → ℕ
+entry_of_origin (Filter filter index) = 0
+entry_of_origin (Profile reason) = entry_of reason
+
+abbrev pub filter_of_origin : Origin → ℕ
+filter_of_origin (Filter filter index) = filter
+filter_of_origin (Profile reason) = 0
+
+abbrev pub index_of_origin : Origin → ℕ
+index_of_origin (Filter filter index) = index
+index_of_origin (Profile reason) = 0
+
+abbrev pub numbers_of_region : Region → RegionNumbers
+numbers_of_region region = record {
+  answer = option_map_or (λ (answer : Answer). answer.0) region.answer 0;
+  is_known = bit_of (is_some region.answer);
+  is_exact = bit_of region.is_exact;
+  has_example = bit_of (is_some region.example);
+  reason = reason_of_origin region.origin;
+  entry = entry_of_origin region.origin;
+  filter = filter_of_origin region.origin;
+  index = index_of_origin region.origin;
+  fact_count = length (facts_of region);
+  example = option_map_or call_of region.example no_call;
+  reserved = 0 ∷ 0 ∷ 0 ∷ 0 ∷ [];
+}
+
+-- all regions of walks
+abbrev pub all_regions : List Regions → List Region
+all_regions listed = flat_map (λ regions. regions.list.items) listed
+
+-- ---- a listing
+
+abbrev pub no_listing : Listing
+no_listing = record { is_finished = 0; unused = 0; left_out = nothing_left_out }
+
+-- what is handed out of walks: nothing if they are unfinished
+abbrev pub regions_handed : Option (List Regions) → List RegionNumbers
+regions_handed None = []
+regions_handed (Some listed) = map numbers_of_region (all_regions listed)
+
+abbrev pub facts_handed : Option (List Regions) → List WordFact
+facts_handed None = []
+facts_handed (Some listed) = flat_map facts_of (all_regions listed)
+
+-- A side is read, and walked over the records that are asked for; this is handed out.
+pub record IsListed (question : Question) (side : SideInput) (tables : List Table) (asked : Asked) (listed : Listed)
+    : Type 0 where
+  pub read : ReadSide
+  pub records : List Records
+  pub walks : Option (List Regions)
+  pub is_side : IsRead side asked.left tables read
+  pub are_records : AreRecords asked.over (used_by read tables) records
+  pub lists : ListsEach (behavior_of_read read) records question.total_limit walks
+  pub listing_is : listed.listing
+      ≡ record { is_finished = bit_of (is_some walks); unused = 0; left_out = left_out_of_side read }
+  pub regions_are : listed.regions.items ≡ regions_handed walks
+  pub facts_are : listed.facts.items ≡ facts_handed walks
+
+-- Why it isn't: the first fault of the side or of a table, or out of memory, which may come at any time.
+abbrev pub IsListingRefused : SideInput → List Table → Asked → Refusal → Type 0
+IsListingRefused side tables asked why =
+    (why ≡ Verify Memory) ⊎ (IsSideRefused side asked.left tables why
+    ⊎ ((read : ReadSide) × IsRead side asked.left tables read × AreRecordsRefused (used_by read tables) why))

@@ -1,0 +1,338 @@
+//! Comparisons of two sides over several sets of records.
+
+ghost use Rattle.std.specs.Prelude.{◌≡◌, ◌++◌, ℕ, find, not, IfErr, IfOk, OnOk};
+ghost use Rattle.scf_compare.specs.Sides.{behavior_of};
+ghost use Rattle.scf_c.specs.Sides.{behavior_of_read};
+ghost use Rattle.scf_c.specs.Comparisons.{
+  AreFound,
+  IsComparisonRefused,
+  IsCompared,
+  IsFoundOf,
+  comparison_of,
+  is_failure,
+  is_holding,
+  joint_finding,
+  no_finding,
+  numbers_of,
+  of_each,
+  of_records,
+  printed_left_out,
+  side_number,
+  text_of,
+};
+
+use crate::layout::{
+    Call, Comparison, FindingNumbers, Question, RecordsComparison, SideInput, Table,
+};
+use crate::question::{Asked, limit_of};
+use crate::records::{Records, records_of};
+use crate::refusal::Refusal;
+use crate::side::{ReadSide, are_same_kind, read_side, tables_in_scope};
+use scf_compare::{Finding, Limit, Side, Which, compare_sides_within};
+use scf_facts::{WordSets, word_sets_start_exact};
+use scf_insn::Memory;
+use scf_profile::Relation;
+use scf_tool::{ComparisonOutcome, Findings, LeftOut, report_by};
+use std::alloc::{AllocError, Global};
+
+/// What comparisons come to together and each, and the lines that the program prints of them together.
+#[derive(Drop)]
+pub(crate) struct Compared {
+    pub comparison: Comparison,
+    pub each: Vec<RecordsComparison>,
+    pub text: Vec<u8>,
+}
+
+/// Compares two sides over some records, in no more steps than remain, of its own and below splits. Those that it takes
+/// are subtracted.
+fn compare_over(
+    alloc: Global,
+    left: &Side<'_>,
+    right: &Side<'_>,
+    records: Records,
+    relation: Relation,
+    limit: Limit,
+    remaining: &mut u64,
+    remaining_below: &mut u64,
+) -> Result<Finding, Memory>
+    ensures { IfOk result (λ finding. IsFoundOf relation (behavior_of left.now) (behavior_of right.now)
+        limit remaining.old records finding remaining.new) }
+{
+    word_sets_start_exact();
+    compare_sides_within::<WordSets>(
+        alloc,
+        left,
+        right,
+        records.scope,
+        relation,
+        limit,
+        remaining,
+        remaining_below,
+    )
+}
+
+/// Compares two sides over each of several sets of records, in at most `total` steps together.
+fn compare_each(
+    alloc: Global,
+    left: &Side<'_>,
+    right: &Side<'_>,
+    several: &[Records],
+    relation: Relation,
+    limit: Limit,
+    total: u64,
+) -> Result<Vec<Finding>, Memory>
+    ensures { IfOk result (λ findings. (remaining : ℕ)
+        × AreFound relation (behavior_of left.now) (behavior_of right.now) limit total several.now findings.items
+        remaining) }
+{
+    let mut findings = Vec::new(alloc);
+    let mut remaining = total;
+    let mut remaining_below = total;
+    for records in several {
+        let finding = compare_over(
+            alloc,
+            left,
+            right,
+            *records,
+            relation,
+            limit,
+            &mut remaining,
+            &mut remaining_below,
+        )?;
+        findings.push(finding)?;
+    }
+    Ok(findings)
+}
+
+/// The same of sides that are read.
+fn compare_read(
+    alloc: Global,
+    left: &ReadSide,
+    right: &ReadSide,
+    several: &[Records],
+    relation: Relation,
+    limit: Limit,
+    total: u64,
+) -> Result<Vec<Finding>, Memory>
+    ensures { IfOk result (λ findings. (remaining : ℕ)
+        × AreFound relation (behavior_of_read left.now) (behavior_of_read right.now) limit total several.now
+        findings.items remaining) }
+{
+    let left = left.as_side();
+    let right = right.as_side();
+    compare_each(alloc, &left, &right, several, relation, limit, total)
+}
+
+fn fails(finding: &Finding) -> bool
+    ensures { result ≡ is_failure finding.now }
+{
+    matches!(finding, Finding::Fails { .. })
+}
+
+fn holds(finding: &Finding) -> bool
+    ensures { result ≡ is_holding finding.now }
+{
+    matches!(finding, Finding::Holds { .. })
+}
+
+/// The first that fails.
+fn first_failure(findings: &[Finding]) -> Option<Finding>
+    ensures { result ≡ find is_failure findings.now }
+{
+    findings.iter().copied().find(|finding| fails(finding))
+}
+
+/// The first that doesn't hold.
+fn first_open(findings: &[Finding]) -> Option<Finding>
+    ensures { result ≡ find (λ finding. not (is_holding finding)) findings.now }
+{
+    findings.iter().copied().find(|finding| !holds(finding))
+}
+
+/// The first that holds.
+fn first_holding(findings: &[Finding]) -> Option<Finding>
+    ensures { result ≡ find is_holding findings.now }
+{
+    findings.iter().copied().find(|finding| holds(finding))
+}
+
+/// The finding that speaks for several: the first that fails, else the first that doesn't hold, else the first that
+/// does.
+fn joint_finding(findings: &[Finding]) -> Option<Finding>
+    ensures { result ≡ joint_finding findings.now }
+{
+    first_failure(findings)
+        .or(first_open(findings))
+        .or(first_holding(findings))
+}
+
+fn side_number(side: Which) -> u32
+    ensures { result ≡ side_number side }
+{
+    match side {
+        Which::Left => 1,
+        Which::Right => 2,
+    }
+}
+
+/// A finding of which only the verdict is known.
+fn only(verdict: u32) -> FindingNumbers
+    ensures { result ≡ record no_finding { verdict = verdict } }
+{
+    FindingNumbers {
+        verdict,
+        left: 0,
+        right: 0,
+        side: 0,
+        at: 0,
+        call: Call::none(),
+    }
+}
+
+/// What is handed out where nothing is compared.
+pub(crate) fn no_finding() -> FindingNumbers
+    ensures { result ≡ no_finding }
+{
+    only(0)
+}
+
+/// What is handed out of a finding.
+fn numbers_of(finding: &Finding) -> FindingNumbers
+    ensures { result ≡ numbers_of finding.now }
+{
+    match finding {
+        Finding::Holds { .. } => only(1),
+        Finding::Fails { call, left, right } => FindingNumbers {
+            verdict: 2,
+            left: left.0,
+            right: right.0,
+            side: 0,
+            at: 0,
+            call: Call::of(call),
+        },
+        Finding::Undecided { side, at } => FindingNumbers {
+            verdict: 3,
+            left: 0,
+            right: 0,
+            side: side_number(*side),
+            at: *at as u64,
+            call: Call::none(),
+        },
+        Finding::Unfinished => only(4),
+    }
+}
+
+fn of_records(records: &Records, finding: &Finding) -> RecordsComparison
+    ensures { result ≡ of_records records.now finding.now }
+{
+    RecordsComparison {
+        architecture: records.architecture,
+        nr: records.nr,
+        finding: numbers_of(finding),
+        reserved: [0; 4],
+    }
+}
+
+/// Adds what is handed out of findings over sets of records.
+fn add_each(
+    list: &mut Vec<RecordsComparison>,
+    several: &[Records],
+    findings: &[Finding],
+) -> Result<(), AllocError>
+    ensures { OnOk result (list.new.items ≡ list.old.items ++ of_each several.now findings.now) }
+{
+    let Some((records, later)) = several.split_first() else {
+        return Ok(());
+    };
+    let Some((finding, further)) = findings.split_first() else {
+        return Ok(());
+    };
+    list.push(of_records(records, finding))?;
+    add_each(list, later, further)
+}
+
+/// What is handed out of all findings.
+fn comparison_of(findings: &[Finding], left: &ReadSide, right: &ReadSide) -> Comparison
+    ensures { result ≡ comparison_of findings.now left.now right.now }
+{
+    let finding = match joint_finding(findings) {
+        Some(finding) => numbers_of(&finding),
+        None => no_finding(),
+    };
+    Comparison {
+        finding,
+        left_out_of_left: left.left_out(),
+        left_out_of_right: right.left_out(),
+    }
+}
+
+/// What is printed as left out of a side.
+fn printed_left_out(side: ReadSide) -> Option<LeftOut>
+    ensures { result ≡ printed_left_out side }
+{
+    match side {
+        ReadSide::Profiles(loaded) => Some(LeftOut {
+            skipped: loaded.skipped,
+            other_architectures: loaded.other_architectures,
+        }),
+        ReadSide::Filters(_) => None,
+    }
+}
+
+/// The printed lines of a finding on filters and a right side.
+fn text_of(
+    alloc: Global,
+    relation: Relation,
+    right: ReadSide,
+    finding: Option<Finding>,
+) -> Result<Vec<u8>, Memory>
+    ensures { IfOk result (λ text. text.items ≡ text_of relation right finding) }
+{
+    let Some(finding) = finding else {
+        return Ok(Vec::new(alloc));
+    };
+    let outcome = ComparisonOutcome {
+        findings: Findings::AtOnce(finding),
+        left_out: printed_left_out(right),
+    };
+    report_by(alloc, relation, &outcome)
+}
+
+/// Compares two sides as is asked.
+pub(crate) fn compare_inputs(
+    alloc: Global,
+    left: &SideInput,
+    right: &SideInput,
+    tables: &[Table],
+    question: &Question,
+    asked: Asked,
+) -> Result<Compared, Refusal>
+    ensures compared { IfOk result (IsCompared question.now left.now right.now tables.now asked) }
+    ensures refused { IfErr result (IsComparisonRefused left.now right.now tables.now asked) }
+{
+    let left_side = read_side(alloc, left, asked.left, tables)?;
+    let right_side = match read_side(alloc, right, asked.right, tables) {
+        Ok(side) => side,
+        Err(why) => return Err(why.of_right(are_same_kind(asked.left, asked.right))),
+    };
+    let used = tables_in_scope(alloc, &left_side, &right_side, tables)?;
+    let records = records_of(alloc, asked.over, &used)?;
+    let findings = compare_read(
+        alloc,
+        &left_side,
+        &right_side,
+        &records,
+        asked.relation,
+        limit_of(question),
+        question.total_limit,
+    )?;
+    let comparison = comparison_of(&findings, &left_side, &right_side);
+    let mut each = Vec::new(alloc);
+    add_each(&mut each, &records, &findings)?;
+    let text = text_of(alloc, asked.relation, right_side, joint_finding(&findings))?;
+    Ok(Compared {
+        comparison,
+        each,
+        text,
+    })
+}

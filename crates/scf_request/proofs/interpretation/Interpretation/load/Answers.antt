@@ -1,0 +1,5 @@
+use Rattle.scf_request.proofs.Common.{refl}
+use Rattle.scf_request.proofs.interpretation.Interpretation.load.Goals as goal
+
+pub returns-clause-ok : goal.returns-clause-ok
+returns-clause-ok c = (c.in_ok-stated.stated, rw c.reading.ensures at c.in_ok-stated.ensures.ok, rw c.with_stubs.ensures refl)

@@ -1,0 +1,59 @@
+-- How a profile is read: by a reading, and with runc's stub for the calls of some architectures.
+use Rattle.std.specs.Prelude.{◌≡◌, ◌-◌, ◌^◌, ℕ, List, [], map, nat_le, Option, Some, None, option_map, if◌then◌else◌}
+use Rattle.std.specs.List.{filter_map, fold}
+use Rattle.std.specs.Option.{option_and_then}
+use Rattle.scf_insn.specs.declared.architecture.Architecture.{Architecture}
+use Rattle.scf_insn.specs.Numbers.{numeral}
+use Rattle.scf_profile.specs.Loading.{LoadsAs, LoadsEachAs}
+use Rattle.scf_profile.specs.Profile.{Profile}
+use Rattle.scf_profile.specs.StatedProfile.{Tables, with_stub}
+use Rattle.scf_profile.specs.Table.{Names}
+use Rattle.scf_profile.specs.declared.loaded.Loaded.{Loaded}
+use Rattle.scf_profile.specs.declared.loaded.LoadedProfiles.{LoadedProfiles}
+use Rattle.scf_profile.specs.declared.reading.Reading.{Reading}
+use Rattle.scf_profile.specs.declared.reading.Reading.TheVariants.{Strict}
+use Rattle.scf_request.specs.Bundle.{Held}
+use Rattle.scf_request.specs.declared.interpretation.Stub.{Stub}
+
+pub record Interpretation : Type 0 where
+  pub reading : Reading
+  pub stubs : List Stub
+
+-- by its words, and without a stub
+abbrev pub by_words : Interpretation
+by_words = record { reading = Strict; stubs = [] }
+
+-- ---- what is loaded
+
+-- what is read, after each stub has been set in the profile of its architecture
+abbrev pub stubbed : {A : Type 0} → (Architecture → Option ℕ → A → A) → List Stub → A → A
+stubbed set stubs stated = fold (λ so_far stub. set stub.architecture (Some stub.first) so_far) stated stubs
+
+abbrev pub each_with_stub : Architecture → Option ℕ → List Profile → List Profile
+each_with_stub architecture first profiles = map (with_stub architecture first) profiles
+
+-- what the text and the table state by the reading, with the stubs
+abbrev pub LoadsBy : Interpretation → List ℕ → Names → Loaded → Type 0
+LoadsBy by text table loaded = (stated : Loaded) × LoadsAs by.reading text table stated
+    × (loaded ≡ record stated { profile = stubbed with_stub by.stubs stated.profile })
+
+abbrev pub LoadsEachBy : Interpretation → List ℕ → Tables → LoadedProfiles → Type 0
+LoadsEachBy by text tables loaded = (stated : LoadedProfiles) × LoadsEachAs by.reading text tables stated
+    × (loaded ≡ record stated { profiles = stubbed each_with_stub by.stubs stated.profiles })
+
+-- ---- the stubs of a bundle
+
+-- the number of a stub: decimal digits that spell one of a call record
+abbrev pub stub_number : List ℕ → Option ℕ
+stub_number text = option_and_then (λ n. if nat_le n (2 ^ 32 - 1) then Some n else None) (numeral 10 text)
+
+abbrev pub stub_of : Architecture × List ℕ → Option Stub
+stub_of part = option_map (λ first. record { architecture = part.0; first = first }) (stub_number part.1)
+
+-- the stubs of the parts that have the number of one
+abbrev pub stubs_of : List (Architecture × List ℕ) → List Stub
+stubs_of parts = filter_map stub_of parts
+
+-- how a profile of a bundle is read
+abbrev pub interpretation_of : Reading → Held → Interpretation
+interpretation_of reading held = record { reading = reading; stubs = stubs_of held.stubs }

@@ -1,0 +1,181 @@
+//! How a profile is read: by its words or as a runtime does, and with which stubs.
+
+ghost use Rattle.std.specs.Prelude.{◌≡◌, Some, length, map, IfErr, IfOk};
+ghost use Rattle.scf_profile.specs.Loading.{RefusesAs, RefusesEachAs};
+ghost use Rattle.scf_profile.specs.StatedProfile.{tables_of, with_stub};
+ghost use Rattle.scf_request.specs.Interpretations.{LoadsBy, LoadsEachBy, each_with_stub, stubbed, stub_number as number_of_stub, stub_of as stub_stated, stubs_of as stubs_stated, by_words as words_alone};
+ghost use Rattle.scf_request.specs.Contents.{rest_of_table};
+
+use crate::bundle::BundleFault;
+use crate::contents::{PartReader, TableReader};
+use scf_insn::{Architecture, parse_numeral};
+use scf_profile::{
+    ArchitectureTable, CallTable, LoadFault, Loaded, LoadedProfiles, Profile, Profiles, Reading,
+    load_as, load_profiles_as,
+};
+use std::alloc::{AllocError, Global};
+use std::marker::Model;
+
+/// The stub of an architecture's profile: the first syscall number that it answers, as a record has it.
+#[derive(Clone, Copy)]
+pub struct Stub {
+    pub architecture: Architecture,
+    pub first: u32,
+}
+
+/// How a profile is read: by which reading, and with which stubs.
+#[derive(Drop)]
+pub struct Interpretation {
+    reading: Reading,
+    stubs: Vec<Stub>,
+}
+
+impl Model for Interpretation {
+    ghost use Rattle.scf_request.specs.Interpretations.{Interpretation};
+
+    ghost Value = { Interpretation };
+
+    ghost view = { λ i. record { reading = i.reading; stubs = i.stubs.items } };
+}
+
+impl Interpretation {
+    /// By a reading and with these stubs.
+    pub fn new(reading: Reading, stubs: Vec<Stub>) -> Interpretation
+        ensures { result ≡ record { reading = reading; stubs = stubs.items } }
+    {
+        Interpretation { reading, stubs }
+    }
+
+    /// By the words of the profile, and without a stub.
+    pub fn by_words(alloc: Global) -> Interpretation
+        ensures { result ≡ words_alone }
+    {
+        Interpretation::new(Reading::Strict, Vec::new(alloc))
+    }
+
+    /// By a reading, and with the stubs of a bundle. The error: out of memory.
+    pub fn of_parts(
+        alloc: Global,
+        reading: Reading,
+        stubs: &[TableReader<PartReader<'_>>],
+    ) -> Result<Interpretation, BundleFault>
+        ensures by { IfOk result (λ by. by
+            ≡ record { reading = reading; stubs = stubs_stated (map rest_of_table stubs.now) }) }
+        ensures fault { IfErr result (λ fault. fault ≡ BundleFault.Memory) }
+    {
+        let stubs = stubs_of(alloc, stubs)?;
+        Ok(Interpretation { reading, stubs })
+    }
+
+    fn reading(&self) -> Reading
+        ensures { result ≡ self.now.reading }
+    {
+        self.reading
+    }
+
+    /// How many stubs there are.
+    pub fn stub_count(&self) -> usize
+        ensures { result ≡ length self.now.stubs }
+    {
+        self.stubs.len()
+    }
+
+    /// The profile with the stubs of its architecture.
+    fn with_stubs(&self, profile: Profile) -> Profile
+        ensures { result ≡ stubbed with_stub self.now.stubs profile }
+    {
+        let mut profile = profile;
+        for stub in &self.stubs {
+            profile = stub.added_to(profile);
+        }
+        profile
+    }
+
+    /// Profiles, each with the stubs of its architecture.
+    fn each_with_stubs(&self, profiles: Profiles) -> Profiles
+        ensures { result ≡ stubbed each_with_stub self.now.stubs profiles }
+    {
+        let mut profiles = profiles;
+        for stub in &self.stubs {
+            profiles = profiles.with_stub(stub.architecture, Some(stub.first));
+        }
+        profiles
+    }
+
+    /// Loads a profile from JSON text; a syscall table gives the names their numbers. Errors are those of `load_as`.
+    pub fn load(&self, alloc: Global, text: &[u8], table: &CallTable) -> Result<Loaded, LoadFault>
+        ensures ok { IfOk result (LoadsBy self.now text.now table.now) }
+        ensures err { IfErr result (RefusesAs self.now.reading text.now table.now) }
+    {
+        let stated = load_as(alloc, self.reading(), text, table)?;
+        Ok(Loaded {
+            profile: self.with_stubs(stated.profile),
+            skipped: stated.skipped,
+            other_architectures: stated.other_architectures,
+        })
+    }
+
+    /// Loads the profile of each architecture that has a table. Errors are those of `load_profiles_as`.
+    pub fn load_profiles(
+        &self,
+        alloc: Global,
+        text: &[u8],
+        tables: &[ArchitectureTable],
+    ) -> Result<LoadedProfiles, LoadFault>
+        ensures ok { IfOk result (LoadsEachBy self.now text.now (tables_of tables.now)) }
+        ensures err { IfErr result (RefusesEachAs self.now.reading text.now (tables_of tables.now)) }
+    {
+        let stated = load_profiles_as(alloc, self.reading(), text, tables)?;
+        Ok(LoadedProfiles {
+            profiles: self.each_with_stubs(stated.profiles),
+            skipped: stated.skipped,
+            other_architectures: stated.other_architectures,
+        })
+    }
+}
+
+impl Stub {
+    /// The profile with this stub, if it is of the architecture.
+    fn added_to(self, profile: Profile) -> Profile
+        ensures { result ≡ with_stub self.architecture (Some self.first) profile }
+    {
+        if self.architecture.name() == profile.architecture().name() {
+            profile.with_stub(Some(self.first))
+        } else {
+            profile
+        }
+    }
+}
+
+/// The number of a stub, in decimal digits.
+fn stub_number(text: &[u8]) -> Option<u32>
+    ensures { result ≡ number_of_stub text.now }
+{
+    match parse_numeral(text, 10) {
+        Ok(number) if number <= u64::from(u32::MAX) => Some(number as u32),
+        _ => None,
+    }
+}
+
+/// The stub of a part, if it has the number of one.
+fn stub_of(part: &TableReader<PartReader<'_>>) -> Option<Stub>
+    ensures { result ≡ stub_stated (rest_of_table part.now) }
+{
+    Some(Stub {
+        architecture: part.architecture,
+        first: stub_number(part.reader.rest())?,
+    })
+}
+
+/// The stubs of the parts that have the number of one, in order.
+fn stubs_of(alloc: Global, parts: &[TableReader<PartReader<'_>>]) -> Result<Vec<Stub>, AllocError>
+    ensures { IfOk result (λ stubs. stubs.items ≡ stubs_stated (map rest_of_table parts.now)) }
+{
+    let mut stubs = Vec::new(alloc);
+    for part in parts {
+        if let Some(stub) = stub_of(part) {
+            stubs.push(stub)?;
+        }
+    }
+    Ok(stubs)
+}
