@@ -49,12 +49,16 @@ static uint32_t runs(void) {
 }
 
 static uint32_t compares(void) {
-    const struct scf_right_side right = {.kind = SCF_PROFILE, .profile = profile, .table = table};
-    const struct scf_question question = {.scope = SCF_NATIVE_CALLS, .limit = SCF_LIMIT};
+    const struct scf_side left = {.kind = SCF_FILTERS, .filters = &filter, .filters_len = 1};
+    const struct scf_side right = {.kind = SCF_PROFILE, .profile = {.text = profile}};
+    const struct scf_table tables[] = {{.bytes = table, .architecture = SCF_TABLE_X86_64}};
+    const struct scf_question question = {
+        .scope = SCF_EACH_ARCHITECTURE, .limit = SCF_LIMIT, .total_limit = SCF_LIMIT};
     struct scf_comparison comparison;
-    size_t needed;
-    uint32_t status = scf_compare(&filter, 1, &right, &question, &comparison, NULL, 0, &needed, &fault);
-    return status == SCF_OK && comparison.verdict != SCF_HOLDS ? 99 : status;
+    size_t each, needed;
+    uint32_t status = scf_compare(&left, &right, tables, 1, &question, &comparison, NULL, 0, &each, NULL, 0, &needed,
+                                  &fault);
+    return status == SCF_OK && comparison.finding.verdict != SCF_HOLDS ? 99 : status;
 }
 
 static double now(void) {

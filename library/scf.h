@@ -1,5 +1,5 @@
-/* libscf: checks, runs, lists, compiles and compares seccomp filters, in memory. Profiles are those of x86-64, or of
- * several architectures. Its answers are proved, but for the two calls at the end of this header.
+/* libscf: checks, runs, lists, compiles and compares seccomp filters, in memory. Its answers are proved, but for the
+ * four calls at the end of this header.
  *
  *     cc program.c $(pkg-config --cflags --libs scf)
  *
@@ -76,12 +76,13 @@ struct scf_fault {
     uint32_t source;     /* enum scf_source; 0: there is no fault */
     uint32_t kind;       /* enum scf_kind */
     uint64_t numbers[3]; /* those of the printed line, in its order, then 0 */
+    uint64_t reserved[4];
 };
 
 /* Which input is refused, or what memory ran out for. */
 enum scf_source {
     SCF_SOURCE_FILTER = 1,
-    SCF_SOURCE_BESIDE = 2, /* a filter of the right side, or their stack */
+    SCF_SOURCE_BESIDE = 2, /* an input of the right side, if the left one is of the same kind */
     SCF_SOURCE_TEXT = 3,
     SCF_SOURCE_TABLE = 4,
     SCF_SOURCE_PROFILE = 5,
@@ -196,114 +197,9 @@ SCF_RESULT SCF_NONNULL(3, 4, 5) SCF_READS(1, 2)
 uint32_t scf_decide(const struct scf_bytes *filters, size_t filters_len, const struct scf_call *call,
                     uint32_t *answer, struct scf_fault *fault);
 
-/* ---- a profile: OCI's seccomp object in JSON, or a config with one; the table gives its names their numbers */
+/* ---- syscall tables */
 
-/* Hands out a filter that answers every call as the profile does. */
-SCF_RESULT SCF_NONNULL(7, 8) SCF_READS(1, 2) SCF_READS(3, 4) SCF_WRITES(5, 6)
-uint32_t scf_compile(const uint8_t *profile, size_t profile_len, const uint8_t *table, size_t table_len,
-                     uint8_t *filter, size_t room, size_t *needed, struct scf_fault *fault);
-
-struct scf_reason {
-    uint32_t kind;  /* enum scf_reason_kind */
-    uint32_t entry; /* of SCF_BY_ENTRY: its index in `syscalls` */
-};
-
-enum scf_reason_kind {
-    SCF_NO_REASON = 0, /* the call didn't end with SCF_OK */
-    SCF_BY_DEFAULT = 1,
-    SCF_BY_ENTRY = 2,
-    SCF_FOREIGN = 3 /* a syscall of another ABI: KILL_PROCESS */
-};
-
-/* The profile's answer to a call, and why. */
-SCF_RESULT SCF_NONNULL(5, 6, 7, 8) SCF_READS(1, 2) SCF_READS(3, 4)
-uint32_t scf_ask(const uint8_t *profile, size_t profile_len, const uint8_t *table, size_t table_len,
-                 const struct scf_call *call, uint32_t *answer, struct scf_reason *reason, struct scf_fault *fault);
-
-/* ---- comparisons */
-
-/* What the filters are compared with. Set what isn't used to 0. */
-struct scf_right_side {
-    uint32_t kind;                   /* enum scf_right_kind */
-    uint32_t reserved;               /* 0 */
-    const struct scf_bytes *filters; /* of SCF_FILTERS: a stack, the oldest first */
-    size_t filters_len;
-    struct scf_bytes profile;        /* of SCF_PROFILE */
-    struct scf_bytes table;          /* of SCF_PROFILE; of scf_compare_calls with either */
-};
-
-enum scf_right_kind { SCF_PROFILE = 1, SCF_FILTERS = 2 };
-
-struct scf_question {
-    uint32_t scope;       /* enum scf_scope */
-    uint32_t relation;    /* enum scf_relation */
-    uint32_t first;       /* of SCF_ONE_CALL its number, of SCF_NUMBERS the first; else not looked at */
-    uint32_t last;        /* of SCF_NUMBERS the last, else not looked at; a range that ends before it begins is empty */
-    uint64_t limit;       /* the most steps of a comparison, as SCF_LIMIT */
-    uint64_t total_limit; /* of scf_compare_calls: the most steps of all together; UINT64_MAX for no limit */
-    uint64_t reserved[2]; /* 0 */
-};
-
-/* The calls that are compared. */
-enum scf_scope {
-    SCF_ALL_CALLS = 0,    /* also of other ABIs */
-    SCF_NATIVE_CALLS = 1, /* of x86-64 */
-    SCF_ONE_CALL = 2,     /* of x86-64 with one number */
-    SCF_NUMBERS = 3       /* of x86-64 with a number of a range */
-};
-
-/* What is to hold of the filters' and the right side's answer to each of them. Denied < delegated < allowed. */
-enum scf_relation {
-    SCF_SAME = 0,    /* they are equal, all 32 bits */
-    SCF_NO_MORE = 1, /* the filters' is no more permissive */
-    SCF_NO_LESS = 2, /* the filters' is no less permissive */
-    SCF_SAME_DISPOSITION = 3
-};
-
-/* What scf takes without --limit. */
-#define SCF_LIMIT 1000000
-
-enum scf_verdict {
-    SCF_NO_VERDICT = 0, /* the call didn't end with SCF_OK */
-    SCF_HOLDS = 1,      /* proved for every call of the scope */
-    SCF_FAILS = 2,      /* `call` shows it, with both answers */
-    SCF_UNDECIDED = 3,  /* more splits (10,000) or steps below them are wanted than a comparison makes */
-    SCF_UNFINISHED = 4  /* the limit was reached */
-};
-
-struct scf_comparison {
-    uint32_t verdict; /* enum scf_verdict */
-    uint32_t left;    /* of SCF_FAILS: the answer of the filters */
-    uint32_t right;   /* of SCF_FAILS: the answer of the right side */
-    uint32_t side;    /* of SCF_UNDECIDED: 1 by a filter of the left side, 2 by one of the right side */
-    uint64_t at;      /* of SCF_UNDECIDED: the index of an instruction where runs of that side can end */
-    struct scf_call call;
-};
-
-/* Compares a stack of filters, the oldest first, with the right side. The text is what `scf compare` prints. */
-SCF_RESULT SCF_NONNULL(3, 4, 5, 8, 9) SCF_READS(1, 2) SCF_WRITES(6, 7)
-uint32_t scf_compare(const struct scf_bytes *filters, size_t filters_len, const struct scf_right_side *right,
-                     const struct scf_question *question, struct scf_comparison *comparison, uint8_t *text, size_t room,
-                     size_t *needed, struct scf_fault *fault);
-
-struct scf_call_comparison {
-    uint32_t nr;
-    uint32_t reserved; /* 0 */
-    struct scf_comparison comparison;
-};
-
-/* Compares call by call of the table, in the order of their numbers, each by itself. The scope is SCF_NATIVE_CALLS. The
- * text is what `scf compare --calls` prints. */
-SCF_RESULT SCF_NONNULL(3, 4, 7, 10, 11) SCF_READS(1, 2) SCF_WRITES(5, 6) SCF_WRITES(8, 9)
-uint32_t scf_compare_calls(const struct scf_bytes *filters, size_t filters_len, const struct scf_right_side *right,
-                           const struct scf_question *question, struct scf_call_comparison *calls, size_t calls_room,
-                           size_t *calls_needed, uint8_t *text, size_t room, size_t *needed, struct scf_fault *fault);
-
-/* ---- several architectures: calls for a profile that lists more than SCMP_ARCH_X86_64
- *
- * They take one table or more, at most one for an architecture, in any order. The profile must list the architecture of
- * each. Calls of others that it lists count as foreign: KILL_PROCESS answers them, and they aren't compared. */
-
+/* What numbers the syscalls of an architecture, and the architecture of a question. */
 enum scf_architecture {
     SCF_TABLE_X86_64 = 1,
     SCF_TABLE_X86 = 2, /* i386 */
@@ -312,41 +208,219 @@ enum scf_architecture {
     SCF_TABLE_ARM = 5
 };
 
-/* A syscall table, and the architecture whose syscalls it numbers; x32's has its numbers without SCF_X32_BIT. */
+/* A syscall table gives the names of an architecture's syscalls their numbers; x32's has them without SCF_X32_BIT. runc
+ * puts a stub before the filter that answers the numbers from `stub` on by ENOSYS (0x50026), whatever the profile says.
+ *
+ * A call takes one table or more, at most one for an architecture, in any order. Syscalls of an architecture that has
+ * none are answered by KILL_PROCESS, also if the profile lists it: struct scf_left_out says how many it lists. */
 struct scf_table {
-    uint32_t architecture; /* enum scf_architecture */
-    uint32_t reserved;     /* 0 */
     struct scf_bytes bytes;
+    uint32_t architecture; /* enum scf_architecture */
+    uint32_t has_stub;     /* 1 or 0 */
+    uint32_t stub;         /* as a call has it: of x32 with SCF_X32_BIT; else not looked at */
+    uint32_t reserved;     /* 0 */
 };
 
-/* Hands out a filter that answers every call of these architectures as the profile does, and every other one by
- * KILL_PROCESS: also one of an architecture that the profile lists without a table here. */
-SCF_RESULT SCF_NONNULL(7, 8) SCF_READS(1, 2) SCF_READS(3, 4) SCF_WRITES(5, 6)
-uint32_t scf_compile_architectures(const uint8_t *profile, size_t profile_len, const struct scf_table *tables,
-                                   size_t tables_len, uint8_t *filter, size_t room, size_t *needed,
-                                   struct scf_fault *fault);
+/* ---- a profile: OCI's seccomp object in JSON, or a config with one */
 
-/* The profile's answer to a call, and why: SCF_FOREIGN for a call of no architecture that has a table. */
-SCF_RESULT SCF_NONNULL(5, 6, 7, 8) SCF_READS(1, 2) SCF_READS(3, 4)
-uint32_t scf_ask_architectures(const uint8_t *profile, size_t profile_len, const struct scf_table *tables,
-                               size_t tables_len, const struct scf_call *call, uint32_t *answer,
-                               struct scf_reason *reason, struct scf_fault *fault);
+/* How a profile is read: by its words, or as a runtime reads it that hands it to libseccomp. Engines write profiles
+ * that only their runtime takes. */
+enum scf_reading { SCF_STRICT = 0, SCF_RUNC = 1, SCF_CRUN = 2 };
 
-/* Compares a stack of filters, the oldest first, with the profile over the calls of all these architectures. `relation`
- * is an enum scf_relation, `limit` the most steps for each architecture. The text is what `scf compare --architectures`
- * prints. */
-SCF_RESULT SCF_NONNULL(9, 12, 13) SCF_READS(1, 2) SCF_READS(3, 4) SCF_READS(5, 6) SCF_WRITES(10, 11)
-uint32_t scf_compare_architectures(const struct scf_bytes *filters, size_t filters_len, const uint8_t *profile,
-                                   size_t profile_len, const struct scf_table *tables, size_t tables_len,
-                                   uint32_t relation, uint64_t limit, struct scf_comparison *comparison, uint8_t *text,
-                                   size_t room, size_t *needed, struct scf_fault *fault);
+/* Without this flag a table of an architecture that the profile doesn't list is refused (SCF_KIND_NOT_LISTED); with it
+ * such tables are skipped. */
+#define SCF_SKIP_UNLISTED 1u
 
-/* ---- beside the proved calls: these two are written in C, and tested */
+struct scf_profile {
+    struct scf_bytes text;
+    uint32_t reading;     /* enum scf_reading */
+    uint32_t flags;       /* SCF_SKIP_UNLISTED or 0 */
+    uint64_t reserved[2]; /* 0 */
+};
+
+/* How much of a profile isn't judged. */
+struct scf_left_out {
+    uint64_t not_looked_at; /* architectures that it lists without a table here, each occurrence */
+    uint64_t skipped;       /* names that no table has, each occurrence */
+    uint64_t reserved[4];
+};
+
+/* Hands out a filter that answers every call as the profile does. */
+SCF_RESULT SCF_NONNULL(1, 6, 7, 8) SCF_READS(2, 3) SCF_WRITES(4, 5)
+uint32_t scf_compile(const struct scf_profile *profile, const struct scf_table *tables, size_t tables_len,
+                     uint8_t *filter, size_t room, size_t *needed, struct scf_left_out *left_out,
+                     struct scf_fault *fault);
+
+enum scf_reason {
+    SCF_NO_REASON = 0, /* the call didn't end with SCF_OK */
+    SCF_BY_DEFAULT = 1,
+    SCF_BY_ENTRY = 2,
+    SCF_FOREIGN = 3, /* a syscall of an architecture without a table: KILL_PROCESS */
+    SCF_BY_STUB = 4
+};
+
+struct scf_answer {
+    uint32_t answer; /* SECCOMP_RET_.. of linux/seccomp.h */
+    uint32_t reason; /* enum scf_reason */
+    uint32_t entry;  /* of SCF_BY_ENTRY: its index in `syscalls` */
+    uint32_t unused;
+    struct scf_left_out left_out;
+};
+
+/* The profile's answer to a call, and why. */
+SCF_RESULT SCF_NONNULL(1, 4, 5, 6) SCF_READS(2, 3)
+uint32_t scf_ask(const struct scf_profile *profile, const struct scf_table *tables, size_t tables_len,
+                 const struct scf_call *call, struct scf_answer *answer, struct scf_fault *fault);
+
+/* ---- comparisons */
+
+/* What is compared: a profile or filters. Set what isn't used to 0. */
+struct scf_side {
+    uint32_t kind;                   /* enum scf_kind_of_side */
+    uint32_t reserved;               /* 0 */
+    const struct scf_bytes *filters; /* of SCF_FILTERS: a stack, the oldest first */
+    size_t filters_len;
+    struct scf_profile profile; /* of SCF_PROFILE */
+};
+
+enum scf_kind_of_side { SCF_PROFILE = 1, SCF_FILTERS = 2 };
+
+struct scf_question {
+    uint32_t scope;        /* enum scf_scope */
+    uint32_t relation;     /* enum scf_relation */
+    uint32_t architecture; /* of SCF_NUMBERS; else not looked at, nor are these: */
+    uint32_t first;        /* the first number, as a call has it: of x32 with SCF_X32_BIT */
+    uint32_t last;         /* the last one */
+    uint32_t unused;       /* 0 */
+    uint64_t limit;        /* the most steps of a comparison, as SCF_LIMIT */
+    uint64_t total_limit;  /* the most steps of all together; UINT64_MAX for no limit */
+    uint64_t reserved[2];  /* 0 */
+};
+
+/* The calls that are compared. One number is a range. A range without a number that the architecture's calls can have
+ * is SCF_WRONG_ARGUMENT. */
+enum scf_scope {
+    SCF_ALL_CALLS = 0,         /* of all architectures, also of those that no table is for */
+    SCF_NUMBERS = 1,           /* of an architecture, with a number of a range */
+    SCF_EACH_ARCHITECTURE = 2, /* of each architecture that has a table, one after another */
+    SCF_EACH_CALL = 3          /* of each syscall of each table, one after another */
+};
+
+/* What is to hold of the left and the right side's answer to each of them. Denied < delegated < allowed. */
+enum scf_relation {
+    SCF_SAME = 0,    /* they are equal, all 32 bits */
+    SCF_NO_MORE = 1, /* the left side's is no more permissive */
+    SCF_NO_LESS = 2, /* the left side's is no less permissive */
+    SCF_SAME_DISPOSITION = 3
+};
+
+/* What scf takes without --limit. */
+#define SCF_LIMIT 1000000
+
+enum scf_verdict {
+    SCF_NO_VERDICT = 0, /* nothing was compared: the call didn't end with SCF_OK, or no table has a syscall */
+    SCF_HOLDS = 1,      /* proved for every call of the scope */
+    SCF_FAILS = 2,      /* `call` shows it, with both answers */
+    SCF_UNDECIDED = 3,  /* more splits (10,000) or steps below them are wanted than a comparison makes */
+    SCF_UNFINISHED = 4  /* a limit was reached */
+};
+
+struct scf_finding {
+    uint32_t verdict; /* enum scf_verdict */
+    uint32_t left;    /* of SCF_FAILS: the answer of the left side */
+    uint32_t right;   /* of SCF_FAILS: the answer of the right side */
+    uint32_t side;    /* of SCF_UNDECIDED: 1 by a filter of the left side, 2 by one of the right side */
+    uint64_t at;      /* of SCF_UNDECIDED: the index of an instruction where runs of that side can end */
+    struct scf_call call;
+};
+
+/* The finding on all: of several the first that fails, else the first that doesn't hold. */
+struct scf_comparison {
+    struct scf_finding finding;
+    struct scf_left_out left, right; /* of a profile */
+};
+
+/* That on the calls of one architecture or syscall. */
+struct scf_records_finding {
+    uint32_t architecture; /* enum scf_architecture; of SCF_ALL_CALLS 0 */
+    uint32_t nr;           /* of SCF_EACH_CALL, as a call has it */
+    struct scf_finding finding;
+    uint64_t reserved[4];
+};
+
+/* Compares the left side with the right one. `each` is the finding on each architecture or syscall, in order. The
+ * tables are those of a profile on either side; without one there may be none. The text is what `scf compare` prints of
+ * the finding on all, and of what is left out of the right side; it calls the left side "filter". */
+SCF_RESULT SCF_NONNULL(1, 2, 5, 6, 9, 12, 13) SCF_READS(3, 4) SCF_WRITES(7, 8) SCF_WRITES(10, 11)
+uint32_t scf_compare(const struct scf_side *left, const struct scf_side *right, const struct scf_table *tables,
+                     size_t tables_len, const struct scf_question *question, struct scf_comparison *comparison,
+                     struct scf_records_finding *each, size_t each_room, size_t *each_needed, uint8_t *text,
+                     size_t room, size_t *needed, struct scf_fault *fault);
+
+/* ---- answers: all that a side answers */
+
+/* What the walk over a side comes to. */
+struct scf_listing {
+    uint32_t is_finished; /* 1, or 0 if the limit was reached: then no region is listed */
+    uint32_t unused;
+    struct scf_left_out left_out;
+};
+
+/* Calls that a side answers alike, from one place. Each call of the scope lies in a region. An exact one has no other
+ * calls than those that it is about, and no call of another exact one; in a region that isn't exact a test wasn't
+ * decided, so that some of its calls may lie in others. */
+struct scf_region {
+    uint32_t answer;      /* SECCOMP_RET_.., if it is known */
+    uint32_t is_known;
+    uint32_t is_exact;
+    uint32_t has_example;
+    uint32_t reason;      /* of a profile: enum scf_reason, with the entry */
+    uint32_t entry;
+    uint64_t filter;      /* of filters: the index of the one that answers, 0 the oldest, and the instruction's */
+    uint64_t index;
+    uint64_t fact_count;  /* how many of the facts are about it: they stand in the order of the regions */
+    struct scf_call example;
+    uint64_t reserved[4];
+};
+
+/* What the words of a region's calls are; of a word without a fact nothing is known. The words are those of struct
+ * seccomp_data, little-endian: 0 nr, 1 arch, 2 and 3 ip, 4 and 5 the first argument, and so on. */
+struct scf_fact {
+    uint32_t word;
+    uint32_t kind; /* enum scf_fact_kind */
+    uint32_t low;  /* of SCF_WITHIN the least value, else a mask */
+    uint32_t high; /* of SCF_WITHIN the greatest value, else the value under the mask */
+};
+
+enum scf_fact_kind {
+    SCF_WITHIN = 1,   /* the word lies in one of these intervals */
+    SCF_HAS_BITS = 2, /* (word & mask) == value */
+    SCF_LACKS_BITS = 3 /* (word & mask) != value */
+};
+
+/* Hands out what a side answers to each call of the question's scope, in at most its total_limit of steps; its relation
+ * is SCF_SAME. */
+SCF_RESULT SCF_NONNULL(1, 4, 5, 8, 11, 12) SCF_READS(2, 3) SCF_WRITES(6, 7) SCF_WRITES(9, 10)
+uint32_t scf_answers(const struct scf_side *side, const struct scf_table *tables, size_t tables_len,
+                     const struct scf_question *question, struct scf_listing *listing, struct scf_region *regions,
+                     size_t regions_room, size_t *regions_needed, struct scf_fact *facts, size_t facts_room,
+                     size_t *facts_needed, struct scf_fault *fault);
+
+/* ---- beside the proved calls: these are written in C, and tested */
 
 /* The syscall table that scf has of an architecture (enum scf_architecture): *size bytes, which stay as they are. Their
  * first line says of which kernel they are. NULL and 0 for a number that has no meaning. */
 SCF_RESULT SCF_NONNULL(2)
 const uint8_t *scf_table(uint32_t architecture, size_t *size);
+
+/* Hands out what a fault says: the line that scf prints of it, and a line of what that means, with its numbers; nothing
+ * for a fault of zeros. */
+SCF_NONNULL(1)
+void scf_fault_text(const struct scf_fault *fault, char *text, size_t room, size_t *needed);
+
+/* Hands out a call in words, by the names of scf's own tables: `socket(0x2, 0x1, 0x0, 0x0, 0x0, 0x0) of x86-64`. */
+SCF_NONNULL(1, 4)
+void scf_call_text(const struct scf_call *call, char *text, size_t room, size_t *needed);
 
 /* Loads a filter for the calling thread, by seccomp(2); the kernel checks it. `flags` are SECCOMP_FILTER_FLAG_.. of
  * linux/seccomp.h. no_new_privs is set before, and stays set if the filter isn't loaded; with SCF_KEEP_PRIVILEGES it is

@@ -16,7 +16,8 @@ enum class status : std::uint32_t { ok, refused, wrong_argument, no_memory };
 enum class architecture : std::uint32_t { x86_64 = 1, x86, x32, aarch64, arm };
 enum class relation : std::uint32_t { same, no_more, no_less, same_disposition };
 enum class verdict : std::uint32_t { none, holds, fails, undecided, unfinished };
-enum class reason : std::uint32_t { none, by_default, by_entry, foreign };
+enum class reason : std::uint32_t { none, by_default, by_entry, foreign, by_stub };
+enum class reading : std::uint32_t { strict, runc, crun };
 
 /* What a call hands out, or why not. Like std::optional it is true if there is a value. */
 template <class T> struct result {
@@ -35,18 +36,14 @@ inline scf_bytes view(std::string_view text) {
     return {reinterpret_cast<const std::uint8_t *>(text.data()), text.size()};
 }
 
-using filters = std::span<const scf_bytes>; /* the oldest first */
+using filters = std::span<const scf_bytes>; /* a stack, the oldest first */
+using tables = std::span<const struct scf_table>;
 
-/* An OCI profile, JSON, and the table that gives its names their numbers. */
+/* An OCI profile, JSON, and how it is read. */
 struct profile {
     std::string_view text;
-    scf_bytes table;
-};
-
-/* An OCI profile, JSON, and the tables of the architectures that it is to speak for. */
-struct profiles {
-    std::string_view text;
-    std::span<const struct scf_table> tables;
+    scf::reading reading = scf::reading::strict;
+    bool skip_unlisted = false; /* skips the tables of architectures that it doesn't list; else they are refused */
 };
 
 /* scf's own table of an architecture. Its first line says of which kernel it is. */
@@ -56,11 +53,23 @@ inline scf_bytes table(architecture of) {
     return {at, size};
 }
 
-/* That table, or another one, as profiles take it. */
+/* That table, or another one, as calls take it: with a first number, runc's stub answers from there on. */
 inline struct scf_table table_of(architecture of, scf_bytes bytes) {
-    return {static_cast<std::uint32_t>(of), 0, bytes};
+    return {bytes, static_cast<std::uint32_t>(of), 0, 0, 0};
 }
 inline struct scf_table table_of(architecture of) { return table_of(of, table(of)); }
+inline struct scf_table with_stub(struct scf_table of, std::uint32_t first) {
+    of.has_stub = 1, of.stub = first;
+    return of;
+}
+
+/* scf's own tables of all architectures. */
+inline std::vector<struct scf_table> own_tables() {
+    std::vector<struct scf_table> all;
+    for (std::uint32_t number = 1; number <= static_cast<std::uint32_t>(architecture::arm); number++)
+        all.push_back(table_of(static_cast<architecture>(number)));
+    return all;
+}
 
 namespace detail {
 
@@ -85,6 +94,26 @@ template <class T, class Call> std::uint32_t output(T &list, std::size_t room, C
 inline std::uint8_t *characters(char *at) { return reinterpret_cast<std::uint8_t *>(at); }
 
 } // namespace detail
+
+/* What a fault says: the line that scf prints of it, and a line of what that means. */
+inline std::string text(const scf_fault &fault) {
+    std::string text;
+    detail::output(text, 512, [&](auto *at, auto room, auto *needed) {
+        scf_fault_text(&fault, at, room, needed);
+        return 0u;
+    });
+    return text;
+}
+
+/* A call in words, by the names of scf's own tables. */
+inline std::string text(const scf_call &call) {
+    std::string text;
+    detail::output(text, 512, [&](auto *at, auto room, auto *needed) {
+        scf_call_text(&call, at, room, needed);
+        return 0u;
+    });
+    return text;
+}
 
 /* ---- filters */
 
@@ -148,20 +177,25 @@ inline result<std::uint32_t> decide(filters stack, const scf_call &call) {
 
 /* ---- profiles */
 
-/* A filter that answers every call as the profile does. */
-inline result<std::vector<std::uint8_t>> compile(const profile &of) {
-    return detail::make<std::vector<std::uint8_t>>([&](auto &filter, auto &fault) {
-        return detail::output(filter, 1 << 15, [&](auto *at, auto room, auto *needed) {
-            return scf_compile(view(of.text).at, of.text.size(), of.table.at, of.table.len, at, room, needed, &fault);
-        });
-    });
+namespace detail {
+
+inline scf_profile raw(const profile &of) {
+    return {view(of.text), static_cast<std::uint32_t>(of.reading), of.skip_unlisted ? SCF_SKIP_UNLISTED : 0, {}};
 }
 
-inline result<std::vector<std::uint8_t>> compile(const profiles &of) {
-    return detail::make<std::vector<std::uint8_t>>([&](auto &filter, auto &fault) {
-        return detail::output(filter, 1 << 15, [&](auto *at, auto room, auto *needed) {
-            return scf_compile_architectures(view(of.text).at, of.text.size(), of.tables.data(), of.tables.size(), at,
-                                             room, needed, &fault);
+} // namespace detail
+
+struct compiled {
+    std::vector<std::uint8_t> filter;
+    scf_left_out left_out; /* how much of the profile isn't judged */
+};
+
+/* A filter that answers every call as the profile does, and by KILL_PROCESS one of an architecture without a table. */
+inline result<compiled> compile(const profile &of, tables all) {
+    const scf_profile own = detail::raw(of);
+    return detail::make<compiled>([&](auto &made, auto &fault) {
+        return detail::output(made.filter, 1 << 15, [&](auto *at, auto room, auto *needed) {
+            return scf_compile(&own, all.data(), all.size(), at, room, needed, &made.left_out, &fault);
         });
     });
 }
@@ -170,138 +204,93 @@ struct profile_answer {
     std::uint32_t answer;
     scf::reason reason;
     std::uint32_t entry; /* of by_entry: its index in `syscalls` */
+    scf_left_out left_out;
 };
 
-namespace detail {
-
-template <class Call> result<profile_answer> answer_of(Call call) {
-    return make<profile_answer>([&](auto &asked, auto &fault) {
-        scf_reason why;
-        const std::uint32_t status = call(&asked.answer, &why, &fault);
-        asked.reason = static_cast<scf::reason>(why.kind), asked.entry = why.entry;
-        return status;
-    });
-}
-
-} // namespace detail
-
 /* The profile's answer to a call, and why. */
-inline result<profile_answer> ask(const profile &of, const scf_call &call) {
-    return detail::answer_of([&](auto... out) {
-        return scf_ask(view(of.text).at, of.text.size(), of.table.at, of.table.len, &call, out...);
-    });
-}
-
-inline result<profile_answer> ask(const profiles &of, const scf_call &call) {
-    return detail::answer_of([&](auto... out) {
-        return scf_ask_architectures(view(of.text).at, of.text.size(), of.tables.data(), of.tables.size(), &call,
-                                     out...);
+inline result<profile_answer> ask(const profile &of, tables all, const scf_call &call) {
+    const scf_profile own = detail::raw(of);
+    return detail::make<profile_answer>([&](auto &asked, auto &fault) {
+        scf_answer raw;
+        const std::uint32_t status = scf_ask(&own, all.data(), all.size(), &call, &raw, &fault);
+        asked = {raw.answer, static_cast<scf::reason>(raw.reason), raw.entry, raw.left_out};
+        return status;
     });
 }
 
 /* ---- comparisons */
 
-struct scope {
-    std::uint32_t kind = SCF_ALL_CALLS, first = 0, last = 0;
+/* What is compared: a profile or filters. */
+struct side {
+    scf_side raw{};
+
+    side(const profile &of) { raw.kind = SCF_PROFILE, raw.profile = detail::raw(of); }
+    side(filters stack) { raw.kind = SCF_FILTERS, raw.filters = stack.data(), raw.filters_len = stack.size(); }
+    template <std::size_t size> side(const scf_bytes (&stack)[size]) : side(filters(stack)) {}
 };
 
-inline constexpr scope all_calls{}, native_calls{SCF_NATIVE_CALLS, 0, 0};
-constexpr scope one_call(std::uint32_t nr) { return {SCF_ONE_CALL, nr, 0}; }
-constexpr scope numbers(std::uint32_t first, std::uint32_t last) { return {SCF_NUMBERS, first, last}; }
+struct scope {
+    std::uint32_t kind = SCF_ALL_CALLS, architecture = 0, first = 0, last = 0;
+};
+
+inline constexpr scope all_calls{}, each_architecture{SCF_EACH_ARCHITECTURE}, each_call{SCF_EACH_CALL};
+constexpr scope numbers(architecture of, std::uint32_t first, std::uint32_t last) {
+    return {SCF_NUMBERS, static_cast<std::uint32_t>(of), first, last};
+}
+constexpr scope one_call(architecture of, std::uint32_t nr) { return numbers(of, nr, nr); }
 
 struct question {
     scf::scope scope{};
     scf::relation relation = scf::relation::same;
-    std::uint64_t limit = SCF_LIMIT, total_limit = UINT64_MAX; /* the latter of compare_calls */
+    std::uint64_t limit = SCF_LIMIT, total_limit = UINT64_MAX;
 };
 
-struct comparison {
-    scf::verdict verdict;
-    std::uint32_t left, right; /* of fails: both answers to `call` */
-    std::uint32_t side;        /* of undecided: 1 or 2, by a filter of which the index of an instruction is `at` */
-    std::uint64_t at;
-    scf_call call;
-    std::string report; /* what `scf compare` prints */
+struct comparison : scf_comparison {
+    std::vector<scf_records_finding> each; /* on each architecture or syscall */
+    std::string report;                    /* what `scf compare` prints of the finding on all */
+
+    scf::verdict verdict() const { return static_cast<scf::verdict>(finding.verdict); }
 };
 
-struct calls_comparison {
-    std::vector<scf_call_comparison> calls;
-    std::string report; /* what `scf compare --calls` prints */
+struct listing : scf_listing {
+    std::vector<scf_region> regions;
+    std::vector<scf_fact> facts; /* the first `fact_count` are those of the first region, and so on */
 };
 
 namespace detail {
 
-inline scf_question question_of(const question &of) {
-    return {of.scope.kind, static_cast<std::uint32_t>(of.relation), of.scope.first, of.scope.last, of.limit,
-            of.total_limit, {}};
+inline scf_question raw(const question &of) {
+    const auto relation = static_cast<std::uint32_t>(of.relation);
+    const scope &in = of.scope;
+    return {in.kind, relation, in.architecture, in.first, in.last, 0, of.limit, of.total_limit, {}};
 }
 
-template <class Call> result<comparison> comparison_of(Call call) {
-    return make<comparison>([&](auto &comparison, auto &fault) {
-        scf_comparison raw;
-        const std::uint32_t status =
-            output(comparison.report, 1 << 13, [&](auto *at, auto room, auto *needed) {
-                return call(&raw, characters(at), room, needed, &fault);
-            });
-        comparison.verdict = static_cast<scf::verdict>(raw.verdict);
-        comparison.left = raw.left, comparison.right = raw.right;
-        comparison.side = raw.side, comparison.at = raw.at, comparison.call = raw.call;
-        return status;
-    });
-}
+} // namespace detail
 
-inline scf_right_side right_of(const profile &of) { return {SCF_PROFILE, 0, nullptr, 0, view(of.text), of.table}; }
-inline scf_right_side right_of(filters stack, scf_bytes table = {}) {
-    return {SCF_FILTERS, 0, stack.data(), stack.size(), {}, table};
-}
-
-inline result<comparison> compare(filters left, const scf_right_side &right, const question &of) {
-    const scf_question asked = question_of(of);
-    return comparison_of(
-        [&](auto... out) { return scf_compare(left.data(), left.size(), &right, &asked, out...); });
-}
-
-inline result<calls_comparison> compare_calls(filters left, const scf_right_side &right, const question &of) {
-    scf_question asked = question_of(of);
-    asked.scope = SCF_NATIVE_CALLS;
-    return make<calls_comparison>([&](auto &made, auto &fault) {
-        return output(made.calls, 512, [&](auto *calls, auto calls_room, auto *calls_needed) {
-            return output(made.report, 1 << 15, [&](auto *at, auto room, auto *needed) {
-                return scf_compare_calls(left.data(), left.size(), &right, &asked, calls, calls_room, calls_needed,
-                                         characters(at), room, needed, &fault);
+/* Compares two sides. The tables are those of a profile on either side. */
+inline result<comparison> compare(const side &left, const side &right, tables all = {}, const question &of = {}) {
+    const scf_question asked = detail::raw(of);
+    return detail::make<comparison>([&](auto &made, auto &fault) {
+        return detail::output(made.each, 8, [&](auto *each, auto each_room, auto *each_needed) {
+            return detail::output(made.report, 1 << 13, [&](auto *at, auto room, auto *needed) {
+                return scf_compare(&left.raw, &right.raw, all.data(), all.size(), &asked, &made, each, each_room,
+                                   each_needed, detail::characters(at), room, needed, &fault);
             });
         });
     });
 }
 
-} // namespace detail
-
-/* Compares a stack of filters with a profile, with a profile over the calls of all architectures that have a table (the
- * scope has to be all_calls), or with other filters. */
-inline result<comparison> compare(filters left, const profile &right, const question &of = {}) {
-    return detail::compare(left, detail::right_of(right), of);
-}
-
-inline result<comparison> compare(filters left, const profiles &right, const question &of = {}) {
-    if (of.scope.kind != SCF_ALL_CALLS) return {status::wrong_argument, {}, {}};
-    return detail::comparison_of([&](auto... out) {
-        return scf_compare_architectures(left.data(), left.size(), view(right.text).at, right.text.size(),
-                                         right.tables.data(), right.tables.size(),
-                                         static_cast<std::uint32_t>(of.relation), of.limit, out...);
+/* All that a side answers to the calls of a scope, in at most `limit` steps. */
+inline result<listing> answers(const side &of, tables all = {}, scope in = {}, std::uint64_t limit = SCF_LIMIT) {
+    const scf_question asked = detail::raw({in, relation::same, limit, limit});
+    return detail::make<listing>([&](auto &made, auto &fault) {
+        return detail::output(made.regions, 1024, [&](auto *regions, auto regions_room, auto *regions_needed) {
+            return detail::output(made.facts, 8192, [&](auto *facts, auto room, auto *needed) {
+                return scf_answers(&of.raw, all.data(), all.size(), &asked, &made, regions, regions_room,
+                                   regions_needed, facts, room, needed, &fault);
+            });
+        });
     });
-}
-
-inline result<comparison> compare(filters left, filters right, const question &of = {}) {
-    return detail::compare(left, detail::right_of(right), of);
-}
-
-/* Compares call by call of the table, each by itself. */
-inline result<calls_comparison> compare_calls(filters left, const profile &right, const question &of = {}) {
-    return detail::compare_calls(left, detail::right_of(right), of);
-}
-
-inline result<calls_comparison> compare_calls(filters left, filters right, scf_bytes table, const question &of = {}) {
-    return detail::compare_calls(left, detail::right_of(right, table), of);
 }
 
 } // namespace scf

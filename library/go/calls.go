@@ -28,6 +28,15 @@ func invoke(call func(fault *C.struct_scf_fault) C.uint32_t) error {
 	return &Fault{Source(f.source), Kind(f.kind), *(*[3]uint64)(unsafe.Pointer(&f.numbers))}
 }
 
+func (f *Fault) text() string {
+	fault := C.struct_scf_fault{source: C.uint32_t(f.Source), kind: C.uint32_t(f.Kind)}
+	*(*[3]uint64)(unsafe.Pointer(&fault.numbers)) = f.Numbers
+	text := make([]byte, 1024)
+	var needed C.size_t
+	C.scf_fault_text(&fault, (*C.char)(unsafe.Pointer(&text[0])), size(text), &needed)
+	return string(text[:needed])
+}
+
 func ptr(b []byte) *C.uint8_t {
 	if len(b) == 0 {
 		return nil
@@ -142,154 +151,203 @@ func Decide(filters [][]byte, call Call) (Answer, error) {
 	return Answer(a), err
 }
 
-// Compile returns a filter that answers every call as the profile does.
-func (p Profile) Compile() ([]byte, error) {
-	return output(1<<15, func(list []byte, needed *C.size_t, f *C.struct_scf_fault) C.uint32_t {
-		return C.scf_compile(ptr(p.Text), size(p.Text), ptr(p.Table), size(p.Table), ptr(list), size(list), needed, f)
-	})
-}
-
-// Ask returns the profile's answer to a call, why it is this, and with ByEntry the index of the entry.
-func (p Profile) Ask(call Call) (answer Answer, why Reason, entry int, err error) {
-	var a C.uint32_t
-	var reason C.struct_scf_reason
-	err = invoke(func(f *C.struct_scf_fault) C.uint32_t {
-		return C.scf_ask(ptr(p.Text), size(p.Text), ptr(p.Table), size(p.Table), callPtr(&call), &a, &reason, f)
-	})
-	return Answer(a), Reason(reason.kind), int(reason.entry), err
-}
-
-// tables copies the tables to C's memory.
-func (p Profiles) tables() (tables []C.struct_scf_table, free func(), err error) {
-	texts := make([][]byte, len(p.Tables))
-	for i, table := range p.Tables {
-		texts[i] = table.Text
+func (p *Profile) inC(text C.struct_scf_bytes) (own C.struct_scf_profile) {
+	own.text, own.reading = text, C.uint32_t(p.Reading)
+	if p.SkipUnlisted {
+		own.flags = C.SCF_SKIP_UNLISTED
 	}
-	list, free, err := copyToC(texts)
-	tables = make([]C.struct_scf_table, len(list)+1) // with an element more, so that there is a first
-	for i, text := range list {
-		tables[i] = C.struct_scf_table{architecture: C.uint32_t(p.Tables[i].Architecture), bytes: text}
-	}
-	return tables, free, err
+	return own
 }
 
-// Compile returns a filter that answers every call as the profile of its architecture does.
-func (p Profiles) Compile() ([]byte, error) {
-	tables, free, err := p.tables()
+// tablesOf are the tables with these texts, in C's memory, and an element more, so that there is a first.
+func tablesOf(tables []Table, texts []C.struct_scf_bytes) []C.struct_scf_table {
+	list := make([]C.struct_scf_table, len(tables)+1)
+	for i, table := range tables {
+		list[i] = C.struct_scf_table{bytes: texts[i], architecture: C.uint32_t(table.Architecture)}
+		if table.HasStub {
+			list[i].has_stub, list[i].stub = 1, C.uint32_t(table.Stub)
+		}
+	}
+	return list
+}
+
+// inputs are sides and tables in C's memory.
+type inputs struct {
+	sides  []C.struct_scf_side
+	tables []C.struct_scf_table
+	count  C.size_t
+	free   func()
+}
+
+func copyInputs(tables []Table, sides ...Side) (*inputs, error) {
+	var texts [][]byte
+	for _, table := range tables {
+		texts = append(texts, table.Text)
+	}
+	for _, side := range sides {
+		if side == nil {
+			return nil, ErrWrongArgument
+		}
+		filters, profile := side.parts()
+		if profile != nil {
+			filters = [][]byte{profile.Text}
+		}
+		texts = append(texts, filters...)
+	}
+	list, free, err := copyToC(append(texts, nil))
 	if err != nil {
 		return nil, err
 	}
-	defer free()
-	return output(1<<15, func(list []byte, needed *C.size_t, f *C.struct_scf_fault) C.uint32_t {
-		return C.scf_compile_architectures(ptr(p.Text), size(p.Text), &tables[0], C.size_t(len(p.Tables)), ptr(list),
-			size(list), needed, f)
-	})
+	in := &inputs{tables: tablesOf(tables, list), count: C.size_t(len(tables)), free: free}
+	list = list[len(tables):]
+	for _, side := range sides {
+		var own C.struct_scf_side
+		if filters, profile := side.parts(); profile != nil {
+			own.kind, own.profile = C.SCF_PROFILE, profile.inC(list[0])
+			list = list[1:]
+		} else {
+			own.kind, own.filters, own.filters_len = C.SCF_FILTERS, &list[0], C.size_t(len(filters))
+			list = list[len(filters):]
+		}
+		in.sides = append(in.sides, own)
+	}
+	return in, nil
 }
 
-// Ask is Profile.Ask for the profile of the call's architecture; the reason is Foreign where that has no table.
-func (p Profiles) Ask(call Call) (answer Answer, why Reason, entry int, err error) {
-	tables, free, err := p.tables()
+func leftOut(counts *C.struct_scf_left_out) LeftOut {
+	return LeftOut{uint64(counts.not_looked_at), uint64(counts.skipped)}
+}
+
+// Compile returns a filter that answers every call as the profile does. KILL_PROCESS answers the calls of architectures
+// that have no table; LeftOut says how many of them the profile lists.
+func (p Profile) Compile(tables ...Table) ([]byte, LeftOut, error) {
+	in, err := copyInputs(tables, p)
 	if err != nil {
-		return 0, 0, 0, err
+		return nil, LeftOut{}, err
 	}
-	defer free()
-	var a C.uint32_t
-	var reason C.struct_scf_reason
+	defer in.free()
+	var counts C.struct_scf_left_out
+	filter, err := output(1<<15, func(list []byte, needed *C.size_t, f *C.struct_scf_fault) C.uint32_t {
+		return C.scf_compile(&in.sides[0].profile, &in.tables[0], in.count, ptr(list), size(list), needed, &counts, f)
+	})
+	return filter, leftOut(&counts), err
+}
+
+// Ask returns the profile's answer to a call, and why: Foreign where the call's architecture has no table.
+func (p Profile) Ask(call Call, tables ...Table) (ProfileAnswer, error) {
+	in, err := copyInputs(tables, p)
+	if err != nil {
+		return ProfileAnswer{}, err
+	}
+	defer in.free()
+	var a C.struct_scf_answer
 	err = invoke(func(f *C.struct_scf_fault) C.uint32_t {
-		return C.scf_ask_architectures(ptr(p.Text), size(p.Text), &tables[0], C.size_t(len(p.Tables)), callPtr(&call), &a,
-			&reason, f)
+		return C.scf_ask(&in.sides[0].profile, &in.tables[0], in.count, callPtr(&call), &a, f)
 	})
-	return Answer(a), Reason(reason.kind), int(reason.entry), err
+	return ProfileAnswer{Answer(a.answer), Reason(a.reason), uint32(a.entry), leftOut(&a.left_out)}, err
 }
 
-// sides copies both sides of a comparison to C's memory.
-func sides(filters [][]byte, right RightSide) (left *C.struct_scf_bytes, side C.struct_scf_right_side, free func(),
-	err error) {
-	if right == nil {
-		return nil, side, nil, ErrWrongArgument
-	}
-	kind, others, profile, table := right.parts()
-	texts := append(append(append([][]byte{}, filters...), others...), profile, table)
-	list, free, err := copyToC(texts)
-	if err != nil {
-		return nil, side, nil, err
-	}
-	side.kind = C.uint32_t(kind)
-	side.filters, side.filters_len = &list[len(filters)], C.size_t(len(others))
-	side.profile, side.table = list[len(list)-2], list[len(list)-1]
-	return &list[0], side, free, nil
-}
-
-func comparison(c *C.struct_scf_comparison, report []byte) Comparison {
+func finding(c *C.struct_scf_finding) Finding {
 	call := *(*Call)(unsafe.Pointer(&c.call))
-	return Comparison{Verdict(c.verdict), call, Answer(c.left), Answer(c.right), uint32(c.side), uint64(c.at),
-		string(report)}
+	return Finding{Verdict(c.verdict), call, Answer(c.left), Answer(c.right), uint32(c.side), uint64(c.at)}
 }
 
-// Compare compares a stack of filters, the oldest first, with a profile or with other filters.
-func Compare(filters [][]byte, right RightSide, scope Scope, relation Relation, limit uint64) (Comparison, error) {
-	left, side, free, err := sides(filters, right)
+func questionOf(scope Scope, relation Relation, limit, totalLimit uint64) C.struct_scf_question {
+	return C.struct_scf_question{scope: C.uint32_t(scope.scope), relation: C.uint32_t(relation),
+		architecture: C.uint32_t(scope.architecture), first: C.uint32_t(scope.first), last: C.uint32_t(scope.last),
+		limit: C.uint64_t(limit), total_limit: C.uint64_t(totalLimit)}
+}
+
+// Compare compares two sides in at most limit steps for each architecture or syscall, and as many as it takes for all
+// together. The tables are those of a profile on either side.
+func Compare(left, right Side, scope Scope, relation Relation, limit uint64, tables ...Table) (Comparison, error) {
+	in, err := copyInputs(tables, left, right)
 	if err != nil {
 		return Comparison{}, err
 	}
-	defer free()
-	question := C.struct_scf_question{scope: C.uint32_t(scope.scope), relation: C.uint32_t(relation),
-		first: C.uint32_t(scope.first), last: C.uint32_t(scope.last), limit: C.uint64_t(limit)}
-	var c C.struct_scf_comparison
-	report, err := output(1<<13, func(text []byte, needed *C.size_t, f *C.struct_scf_fault) C.uint32_t {
-		return C.scf_compare(left, C.size_t(len(filters)), &side, &question, &c, ptr(text), size(text), needed, f)
-	})
-	return comparison(&c, report), err
-}
-
-// CompareArchitectures compares a stack of filters, the oldest first, with a profile over the calls of all
-// architectures that have a table, each in at most limit steps.
-func CompareArchitectures(filters [][]byte, p Profiles, relation Relation, limit uint64) (Comparison, error) {
-	left, _, free, err := sides(filters, Filters{})
-	if err != nil {
-		return Comparison{}, err
-	}
-	defer free()
-	tables, freeTables, err := p.tables()
-	if err != nil {
-		return Comparison{}, err
-	}
-	defer freeTables()
-	var c C.struct_scf_comparison
-	report, err := output(1<<13, func(text []byte, needed *C.size_t, f *C.struct_scf_fault) C.uint32_t {
-		return C.scf_compare_architectures(left, C.size_t(len(filters)), ptr(p.Text), size(p.Text), &tables[0],
-			C.size_t(len(p.Tables)), C.uint32_t(relation), C.uint64_t(limit), &c, ptr(text), size(text), needed, f)
-	})
-	return comparison(&c, report), err
-}
-
-// CompareCalls compares call by call of the right side's table, each by itself in at most limit steps, and all together
-// in at most totalLimit. The report is what scf compare --calls prints.
-func CompareCalls(filters [][]byte, right RightSide, relation Relation,
-	limit, totalLimit uint64) (calls []CallComparison, report string, err error) {
-	left, side, free, err := sides(filters, right)
-	if err != nil {
-		return nil, "", err
-	}
-	defer free()
-	question := C.struct_scf_question{scope: C.SCF_NATIVE_CALLS, relation: C.uint32_t(relation), limit: C.uint64_t(limit),
-		total_limit: C.uint64_t(totalLimit)}
-	list := make([]C.struct_scf_call_comparison, 512)
+	defer in.free()
+	question := questionOf(scope, relation, limit, ^uint64(0))
+	each := make([]C.struct_scf_records_finding, 8)
 	var count C.size_t
-	text, err := output(1<<15, func(text []byte, needed *C.size_t, f *C.struct_scf_fault) C.uint32_t {
+	var c C.struct_scf_comparison
+	report, err := output(1<<13, func(text []byte, needed *C.size_t, f *C.struct_scf_fault) C.uint32_t {
 		for {
-			status := C.scf_compare_calls(left, C.size_t(len(filters)), &side, &question, &list[0], C.size_t(len(list)),
-				&count, ptr(text), size(text), needed, f)
-			if int(count) <= len(list) {
+			status := C.scf_compare(&in.sides[0], &in.sides[1], &in.tables[0], in.count, &question, &c, &each[0],
+				C.size_t(len(each)), &count, ptr(text), size(text), needed, f)
+			if int(count) <= len(each) {
 				return status
 			}
-			list = make([]C.struct_scf_call_comparison, count)
+			each = make([]C.struct_scf_records_finding, count)
 		}
 	})
-	for i := range list[:count] {
-		calls = append(calls, CallComparison{uint32(list[i].nr), comparison(&list[i].comparison, nil)})
+	compared := Comparison{Finding: finding(&c.finding), LeftOut: leftOut(&c.left), RightOut: leftOut(&c.right),
+		Report: string(report)}
+	for i := range each[:count] {
+		compared.Each = append(compared.Each,
+			RecordsFinding{Architecture(each[i].architecture), uint32(each[i].nr), finding(&each[i].finding)})
 	}
-	return calls, string(text), err
+	return compared, err
+}
+
+func region(r *C.struct_scf_region, facts []Fact) Region {
+	own := Region{Answer: Answer(r.answer), IsKnown: r.is_known != 0, IsExact: r.is_exact != 0, By: Reason(r.reason),
+		Entry: uint32(r.entry), Filter: uint64(r.filter), Index: uint64(r.index), Facts: facts}
+	if r.has_example != 0 {
+		call := *(*Call)(unsafe.Pointer(&r.example))
+		own.Example = &call
+	}
+	return own
+}
+
+// Answers returns all that a side answers to the calls of a scope, by regions, in at most limit steps. If the limit was
+// reached it isn't finished, and there is no region.
+func Answers(side Side, scope Scope, limit uint64, tables ...Table) (regions []Region, isFinished bool, out LeftOut,
+	err error) {
+	in, err := copyInputs(tables, side)
+	if err != nil {
+		return nil, false, out, err
+	}
+	defer in.free()
+	question := questionOf(scope, Same, limit, limit)
+	list, facts := make([]C.struct_scf_region, 1024), make([]C.struct_scf_fact, 8192)
+	var count, factCount C.size_t
+	var listing C.struct_scf_listing
+	for {
+		err = invoke(func(f *C.struct_scf_fault) C.uint32_t {
+			return C.scf_answers(&in.sides[0], &in.tables[0], in.count, &question, &listing, &list[0],
+				C.size_t(len(list)), &count, &facts[0], C.size_t(len(facts)), &factCount, f)
+		})
+		if int(count) <= len(list) && int(factCount) <= len(facts) {
+			break
+		}
+		list, facts = make([]C.struct_scf_region, count), make([]C.struct_scf_fact, factCount)
+	}
+	allFacts := make([]Fact, factCount)
+	for i, fact := range facts[:factCount] {
+		allFacts[i] = Fact{uint32(fact.word), FactKind(fact.kind), uint32(fact.low), uint32(fact.high)}
+	}
+	for i := range list[:count] {
+		own := int(list[i].fact_count)
+		regions = append(regions, region(&list[i], allFacts[:own:own]))
+		allFacts = allFacts[own:]
+	}
+	return regions, listing.is_finished != 0, leftOut(&listing.left_out), err
+}
+
+// OwnTables are scf's own tables of all architectures.
+func OwnTables() (tables []Table) {
+	for architecture := X86_64; architecture <= Arm; architecture++ {
+		tables = append(tables, Table{Architecture: architecture, Text: SyscallTable(architecture)})
+	}
+	return tables
+}
+
+// String is a call in words, by the names of scf's own tables.
+func (call Call) String() string {
+	text := make([]byte, 512)
+	var needed C.size_t
+	C.scf_call_text(callPtr(&call), (*C.char)(unsafe.Pointer(&text[0])), size(text), &needed)
+	return string(text[:needed])
 }
 
 // SyscallTable is the table that scf has of an architecture, nil of a number that is none. Its first line says of which

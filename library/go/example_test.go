@@ -12,12 +12,12 @@ import (
 var profile = scf.Profile{
 	Text: []byte(`{"defaultAction": "SCMP_ACT_ERRNO",
 		"syscalls": [{"names": ["read", "write"], "action": "SCMP_ACT_ALLOW"}]}`),
-	Table: scf.SyscallTable(scf.X86_64),
 }
+var table = scf.Table{Architecture: scf.X86_64, Text: scf.SyscallTable(scf.X86_64)}
 
 // A profile is compiled, and the filter's answer to socket(2) asked for.
 func ExampleRun() {
-	filter, err := profile.Compile()
+	filter, _, err := profile.Compile(table)
 	if err != nil {
 		fmt.Println(err)
 		return
@@ -34,7 +34,7 @@ func ExampleCompare() {
 		fmt.Println(err)
 		return
 	}
-	compared, err := scf.Compare([][]byte{allowAll}, profile, scf.OneCall(41), scf.NoMore, scf.Limit)
+	compared, err := scf.Compare(scf.Filters{allowAll}, profile, scf.OneCall(scf.X86_64, 41), scf.NoMore, scf.Limit, table)
 	fmt.Println(compared.Verdict, compared.Call.Nr, compared.Left, "beside", compared.Right, err)
 	// Output: fails 41 ALLOW 0 beside ERRNO 1 <nil>
 }

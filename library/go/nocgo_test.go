@@ -9,8 +9,8 @@ import (
 
 func TestWithoutCgo(t *testing.T) {
 	_, of := Check(nil)
-	_, compared := Compare(nil, Profile{}, All, Same, Limit)
-	_, compiled := Profiles{}.Compile()
+	_, compared := Compare(Filters{}, Profile{}, All, Same, Limit)
+	_, _, compiled := Profile{}.Compile()
 	for _, err := range []error{of, compared, compiled} {
 		if !errors.Is(err, ErrNoCgo) {
 			t.Error(err)

@@ -27,34 +27,42 @@ type Call struct {
 	Args     [6]uint64
 }
 
-// A RightSide is what filters are compared with: a Profile, or Filters.
-type RightSide interface {
-	parts() (kind uint32, filters [][]byte, profile, table []byte)
+// A Side is what is compared: a Profile, or Filters.
+type Side interface {
+	parts() (filters [][]byte, profile *Profile)
 }
 
-// Profile is an OCI profile, JSON, and the table that gives its names their numbers.
-type Profile struct{ Text, Table []byte }
-
-// Filters are other filters, the oldest first; for CompareCalls also the table of the calls.
-type Filters struct {
-	Filters [][]byte
-	Table   []byte
+// Profile is an OCI profile, JSON, and how it is read. With SkipUnlisted tables of architectures that it doesn't list
+// are skipped; else they are refused.
+type Profile struct {
+	Text         []byte
+	Reading      Reading
+	SkipUnlisted bool
 }
 
-func (p Profile) parts() (uint32, [][]byte, []byte, []byte) { return 1, nil, p.Text, p.Table }
-func (f Filters) parts() (uint32, [][]byte, []byte, []byte) { return 2, f.Filters, nil, f.Table }
+// Filters is a stack of filters, the oldest first.
+type Filters [][]byte
 
-// Table is a syscall table, and the architecture whose syscalls it numbers.
+func (p Profile) parts() ([][]byte, *Profile) { return nil, &p }
+func (f Filters) parts() ([][]byte, *Profile) { return f, nil }
+
+// Table is a syscall table, and the architecture whose syscalls it numbers. With HasStub runc's stub answers ENOSYS to
+// the numbers from Stub on, as calls have them.
 type Table struct {
 	Architecture Architecture
 	Text         []byte
+	HasStub      bool
+	Stub         uint32
 }
 
-// Profiles is an OCI profile, JSON, and the tables of the architectures that it is to speak for, at most one for each.
-type Profiles struct {
-	Text   []byte
-	Tables []Table
-}
+// Reading is how a profile is read: by its words, or as a runtime reads it that hands it to libseccomp.
+type Reading uint32
+
+const (
+	Strict Reading = iota
+	Runc
+	Crun
+)
 
 // Architecture says whose syscalls a table numbers.
 type Architecture uint32
@@ -76,27 +84,30 @@ func (a Architecture) Audit() uint32 {
 	return 0
 }
 
-// Scope says which calls are compared: All, Native, or what OneCall and Numbers make.
-type Scope struct{ scope, first, last uint32 }
+// Scope says which calls are compared.
+type Scope struct{ scope, architecture, first, last uint32 }
 
 var (
-	All    = Scope{scope: 0} // also of other ABIs
-	Native = Scope{scope: 1} // of x86-64
+	All              = Scope{scope: 0} // also of architectures that have no table
+	EachArchitecture = Scope{scope: 2} // of each that has a table, one after another
+	EachCall         = Scope{scope: 3} // of each syscall of each table, one after another
 )
 
-// OneCall has the calls of x86-64 with this number.
-func OneCall(nr uint32) Scope { return Scope{2, nr, 0} }
+// Numbers has the calls of an architecture with a number of a range, as calls have it, both ends included.
+func Numbers(architecture Architecture, first, last uint32) Scope {
+	return Scope{1, uint32(architecture), first, last}
+}
 
-// Numbers has those with a number of a range, both ends included.
-func Numbers(first, last uint32) Scope { return Scope{3, first, last} }
+// OneCall has those with one number.
+func OneCall(architecture Architecture, nr uint32) Scope { return Numbers(architecture, nr, nr) }
 
-// Relation is what is to hold of the filters' and the right side's answers. Denied < delegated < allowed.
+// Relation is what is to hold of the left and the right side's answers. Denied < delegated < allowed.
 type Relation uint32
 
 const (
 	Same            Relation = iota
-	NoMore                   // the filters' is no more permissive
-	NoLess                   // the filters' is no less permissive
+	NoMore                   // the left side's is no more permissive
+	NoLess                   // the left side's is no less permissive
 	SameDisposition          // both deny, delegate or allow
 )
 
@@ -107,24 +118,76 @@ const (
 	Holds Verdict = iota + 1
 	Fails
 	Undecided  // more splits (10,000) or steps below them are wanted than a comparison makes
-	Unfinished // the limit was reached
+	Unfinished // a limit was reached
 )
 
-// Comparison is what a comparison comes to. Where it Fails, it has a call and both answers; where it is Undecided, the
+// Finding is what a comparison comes to. Where it Fails, it has a call and both answers; where it is Undecided, the
 // index of an instruction of a filter of side 1 or 2.
-type Comparison struct {
+type Finding struct {
 	Verdict     Verdict
 	Call        Call
 	Left, Right Answer
 	Side        uint32
 	At          uint64
-	Report      string // what scf compare prints
 }
 
-// CallComparison is what the comparison of one call comes to.
-type CallComparison struct {
-	Nr uint32
-	Comparison
+// LeftOut is how much of a profile isn't judged: the architectures that it lists without a table, and the names that no
+// table has, each occurrence.
+type LeftOut struct{ NotLookedAt, Skipped uint64 }
+
+// RecordsFinding is that on the calls of one architecture (0 of all), or of one syscall by its number as calls have it.
+type RecordsFinding struct {
+	Architecture Architecture
+	Nr           uint32
+	Finding
+}
+
+// Comparison is the finding on all, of several the first that fails, else the first that doesn't hold; how much of
+// either profile isn't judged; and the finding on each architecture or syscall.
+type Comparison struct {
+	Finding
+	LeftOut, RightOut LeftOut
+	Each              []RecordsFinding
+	Report            string // what scf compare prints of the finding on all
+}
+
+// Region is calls that a side answers alike, and one of them. By is the reason of a profile, with its entry, and else
+// 0: then the filter and the instruction of it answer. Calls of one that isn't exact may lie in others, too.
+type Region struct {
+	Answer        Answer
+	IsKnown       bool
+	IsExact       bool
+	By            Reason
+	Entry         uint32
+	Filter, Index uint64
+	Example       *Call
+	Facts         []Fact
+}
+
+// Fact is what is known of a word of calls (0 Nr, 1 Arch, 4 and 5 the first argument ..): that it lies in one of such
+// intervals from Low to High, or that it has, or lacks, the bits High under the mask Low.
+type Fact struct {
+	Word      uint32
+	Kind      FactKind
+	Low, High uint32
+}
+
+// FactKind says what a Fact says.
+type FactKind uint32
+
+const (
+	Within FactKind = iota + 1
+	HasBits
+	LacksBits
+)
+
+// ProfileAnswer is a profile's answer to a call, why it is this, with ByEntry the index of the entry, and how much of
+// the profile isn't judged.
+type ProfileAnswer struct {
+	Answer  Answer
+	Reason  Reason
+	Entry   uint32
+	LeftOut LeftOut
 }
 
 // Reason says why a profile answers a call as it does.
@@ -133,7 +196,8 @@ type Reason uint32
 const (
 	ByDefault Reason = iota + 1
 	ByEntry
-	Foreign // the call is of another ABI
+	Foreign // the call is of an architecture that has no table
+	ByStub  // by runc's stub
 )
 
 // Answer is what a filter answers: an action and 16 bits of data. Its text is as scf prints it.
@@ -192,11 +256,15 @@ func (r Relation) String() string {
 	return nameOf("Relation", uint32(r), 0, "same", "no more", "no less", "same disposition")
 }
 
+func (r Reading) String() string { return nameOf("Reading", uint32(r), 0, "strict", "runc", "crun") }
+
 func (v Verdict) String() string {
 	return nameOf("Verdict", uint32(v), 1, "holds", "fails", "undecided", "unfinished")
 }
 
-func (r Reason) String() string { return nameOf("Reason", uint32(r), 1, "default", "entry", "foreign") }
+func (r Reason) String() string {
+	return nameOf("Reason", uint32(r), 1, "default", "entry", "foreign", "stub")
+}
 
 // Fault says which input isn't accepted, why, and where: the numbers are those of the line that docs/FAULTS.md has for
 // it. It is an error, and so is its Kind: errors.Is(err, scf.KindConflict) finds it.
@@ -206,13 +274,8 @@ type Fault struct {
 	Numbers [3]uint64
 }
 
-func (f *Fault) Error() string {
-	text := fmt.Sprintf("scf: %v is refused: %v", f.Source, f.Kind)
-	if f.Numbers[0] == NoEntry {
-		return text
-	}
-	return fmt.Sprintf("%s %d", text, f.Numbers)
-}
+// Error is the line that scf prints, and a line of what that means.
+func (f *Fault) Error() string { return "scf: " + strings.TrimRight(f.text(), "\n") }
 
 // Unwrap is the kind.
 func (f *Fault) Unwrap() error { return f.Kind }

@@ -27,8 +27,9 @@ var (
 	unknown = []byte{0x20, 0, 0, 0, 16, 0, 0, 0, 7, 0, 0, 0, 0, 0, 0, 0, 0x24, 0, 0, 0, 3, 0, 0, 0,
 		0x1c, 0, 0, 0, 0, 0, 0, 0, 0x1c, 0, 0, 0, 0, 0, 0, 0, 0x1c, 0, 0, 0, 0, 0, 0, 0,
 		0x15, 0, 0, 1, 0, 0, 0, 0, 6, 0, 0, 0, 1, 0, 5, 0, 6, 0, 0, 0, 0, 0, 0xff, 0x7f}
-	profile = Profile{[]byte(`{"defaultAction": "SCMP_ACT_ERRNO",
-		"syscalls": [{"names": ["read"], "action": "SCMP_ACT_ALLOW"}]}`), []byte("read 0\nwrite 1\n")}
+	profile = Profile{Text: []byte(`{"defaultAction": "SCMP_ACT_ERRNO",
+		"syscalls": [{"names": ["read"], "action": "SCMP_ACT_ALLOW"}]}`)}
+	table       = Table{Architecture: X86_64, Text: []byte("read 0\nwrite 1\n")}
 	x86_64      = X86_64.Audit()
 	read, write = Call{Nr: 0, Arch: x86_64}, Call{Nr: 1, Arch: x86_64}
 )
@@ -86,22 +87,38 @@ func TestProfiles(t *testing.T) {
 		answer Answer
 		why    Reason
 	}{{read, retAllow, ByEntry}, {write, retEperm, ByDefault}, {Call{}, retKillProcess, Foreign}} {
-		answer, why, entry, err := profile.Ask(row.call)
-		is(t, []any{answer, why, entry, err}, []any{row.answer, row.why, 0, nil})
+		answer, err := profile.Ask(row.call, table)
+		is(t, []any{answer, err}, []any{ProfileAnswer{row.answer, row.why, 0, LeftOut{}}, nil})
 	}
-	_, err := Profile{[]byte("{}"), nil}.Compile()
+	_, _, err := Profile{Text: []byte("{}")}.Compile(table)
 	refused(t, err, SourceProfile, KindMissing, NoEntry)
-	filter, _ := profile.Compile()
-	compared, err := Compare([][]byte{filter}, profile, All, Same, Limit)
-	if err != nil || compared.Verdict != Holds || compared.Report != "same\n" {
+	filter, _, _ := profile.Compile(table)
+	compared, err := Compare(Filters{filter}, profile, All, Same, Limit, table)
+	if err != nil || compared.Verdict != Holds || compared.Report != "same\n" || len(compared.Each) != 1 {
 		t.Error(compared, err)
 	}
 }
 
+// A runtime leaves out the entry whose answer is the default's; the stub answers from 1 on.
+func TestReadings(t *testing.T) {
+	text := []byte(`{"defaultAction": "SCMP_ACT_ERRNO", "syscalls": [{"names": ["write"], "action": "SCMP_ACT_ALLOW"},
+		{"names": ["write"], "action": "SCMP_ACT_ERRNO"}]}`)
+	_, err := Profile{Text: text}.Ask(write, table)
+	var fault *Fault
+	is(t, errors.As(err, &fault) && fault.Kind == KindConflict, true)
+	for _, reading := range []Reading{Runc, Crun} {
+		answer, err := Profile{Text: text, Reading: reading}.Ask(write, table)
+		is(t, []any{answer, err}, []any{ProfileAnswer{retAllow, ByEntry, 0, LeftOut{}}, nil})
+		stubbed := Table{X86_64, table.Text, true, 1}
+		answer, err = Profile{Text: text, Reading: reading}.Ask(write, stubbed)
+		is(t, []any{answer, err}, []any{ProfileAnswer{0x50026, ByStub, 0, LeftOut{}}, nil})
+	}
+}
+
 func TestArchitectures(t *testing.T) {
-	p := Profiles{[]byte(`{"defaultAction": "SCMP_ACT_ERRNO", "architectures": ["SCMP_ARCH_X86_64", "SCMP_ARCH_X86"],
-		"syscalls": [{"names": ["read"], "action": "SCMP_ACT_ALLOW"}]}`),
-		[]Table{{X86_64, []byte("read 0\n")}, {X86, []byte("read 3\n")}}}
+	p := Profile{Text: []byte(`{"defaultAction": "SCMP_ACT_ERRNO", "architectures": ["SCMP_ARCH_X86_64", "SCMP_ARCH_X86"],
+		"syscalls": [{"names": ["read"], "action": "SCMP_ACT_ALLOW"}]}`)}
+	tables := []Table{{Architecture: X86_64, Text: []byte("read 0\n")}, {Architecture: X86, Text: []byte("read 3\n")}}
 	const i386 = 0x40000003
 	for _, row := range []struct {
 		call   Call
@@ -110,71 +127,88 @@ func TestArchitectures(t *testing.T) {
 	}{{read, retAllow, ByEntry}, {Call{Nr: 3, Arch: i386}, retAllow, ByEntry},
 		{Call{Nr: 0, Arch: i386}, retEperm, ByDefault},
 		{Call{Nr: 1 << 30, Arch: x86_64}, retKillProcess, Foreign}} {
-		answer, why, entry, err := p.Ask(row.call)
-		is(t, []any{answer, why, entry, err}, []any{row.answer, row.why, 0, nil})
+		answer, err := p.Ask(row.call, tables...)
+		is(t, []any{answer, err}, []any{ProfileAnswer{row.answer, row.why, 0, LeftOut{}}, nil})
 	}
-	filter, _ := p.Compile()
-	compared, err := CompareArchitectures([][]byte{filter}, p, Same, Limit)
-	if err != nil || compared.Verdict != Holds || compared.Report != "same\n" {
+	filter, _, _ := p.Compile(tables...)
+	compared, err := Compare(Filters{filter}, p, EachArchitecture, Same, Limit, tables...)
+	if err != nil || compared.Verdict != Holds || len(compared.Each) != 2 || compared.Each[1].Architecture != X86 {
 		t.Error(compared, err)
 	}
-	filter, _ = Profiles{p.Text, p.Tables[:1]}.Compile()
-	compared, err = CompareArchitectures([][]byte{filter}, p, Same, Limit)
+	filter, out, _ := p.Compile(tables[0])
+	is(t, out, LeftOut{1, 0})
+	compared, err = Compare(Filters{filter}, p, EachArchitecture, Same, Limit, tables...)
 	if err != nil || compared.Verdict != Fails || compared.Call.Arch != i386 {
 		t.Error(compared, err)
 	}
-	_, err = CompareArchitectures(nil, Profiles{p.Text, []Table{p.Tables[0], {Arm, nil}}}, Same, Limit)
+	arm := Table{Architecture: Arm, Text: []byte("read 3\n")}
+	_, _, err = p.Compile(tables[0], arm)
 	refused(t, err, SourceProfile, KindNotListed, 1)
-	_, err = CompareArchitectures(nil, Profiles{p.Text, append(p.Tables, p.Tables[0])}, Same, Limit)
-	is(t, err, ErrWrongArgument)
-	_, err = Profiles{p.Text, nil}.Compile()
-	is(t, err, ErrWrongArgument)
+	p.SkipUnlisted = true
+	_, err = p.Ask(read, OwnTables()...)
+	is(t, err, nil)
+	for _, wrong := range [][]Table{{tables[0], tables[0]}, nil} {
+		_, _, err = p.Compile(wrong...)
+		is(t, err, ErrWrongArgument)
+	}
 }
 
 func TestComparisons(t *testing.T) {
-	both := Filters{[][]byte{allow, deny}, profile.Table}
+	both := Filters{allow, deny}
 	for _, row := range []struct {
 		filter   []byte
-		right    RightSide
+		right    Side
 		scope    Scope
 		relation Relation
 		limit    uint64
 		verdict  Verdict
 	}{
-		{allow, profile, OneCall(0), Same, Limit, Holds}, {allow, profile, Native, NoLess, Limit, Holds},
-		{allow, profile, Numbers(1, 1), NoMore, Limit, Fails}, {allow, profile, All, Same, 0, Unfinished},
+		{allow, profile, OneCall(X86_64, 0), Same, Limit, Holds}, {allow, profile, EachArchitecture, NoLess, Limit, Holds},
+		{allow, profile, Numbers(X86_64, 1, 1), NoMore, Limit, Fails}, {allow, profile, All, Same, 0, Unfinished},
 		{deny, both, All, SameDisposition, Limit, Holds},
 	} {
-		compared, err := Compare([][]byte{row.filter}, row.right, row.scope, row.relation, row.limit)
+		compared, err := Compare(Filters{row.filter}, row.right, row.scope, row.relation, row.limit, table)
 		if err != nil || compared.Verdict != row.verdict {
 			t.Error(row, compared, err)
 		} else if row.verdict == Fails {
 			is(t, []any{compared.Call.Nr, compared.Left, compared.Right}, []any{uint32(1), Answer(retAllow), Answer(retEperm)})
 		}
 	}
-	compared, err := Compare([][]byte{unknown}, profile, OneCall(1), Same, Limit)
+	compared, err := Compare(Filters{unknown}, profile, OneCall(X86_64, 1), Same, Limit, table)
 	is(t, []any{compared.Verdict, compared.Side, compared.At, err}, []any{Undecided, uint32(1), uint64(8), nil})
-	calls, report, err := CompareCalls([][]byte{allow}, profile, Same, Limit, NoEntry)
-	if err != nil || len(calls) != 2 || calls[0].Verdict != Holds || calls[1].Verdict != Fails ||
-		!strings.HasPrefix(report, "differs\n1 write differs ") {
-		t.Error(calls, report, err)
+	compared, err = Compare(Filters{allow}, profile, EachCall, Same, Limit, table)
+	if err != nil || len(compared.Each) != 2 || compared.Each[0].Verdict != Holds || compared.Each[1].Verdict != Fails ||
+		compared.Each[1].Nr != 1 || compared.Verdict != Fails {
+		t.Error(compared, err)
 	}
-	_, report, err = CompareCalls([][]byte{deny}, both, Same, Limit, Limit)
-	is(t, []any{report, err}, []any{"same\n", nil})
-	_, err = Compare(nil, Filters{[][]byte{{6}}, nil}, All, Same, 1)
+	_, err = Compare(Filters{}, Filters{{6}}, All, Same, 1)
 	refused(t, err, SourceBeside, KindTruncated, 0)
-	for _, right := range []RightSide{profile, nil} {
-		_, err = Compare(nil, right, All, 9, 1)
+	for _, right := range []Side{profile, nil} {
+		_, err = Compare(Filters{}, right, All, 9, 1, table)
 		is(t, err, ErrWrongArgument)
 	}
+}
+
+func TestAnswers(t *testing.T) {
+	regions, isFinished, out, err := Answers(profile, Numbers(X86_64, 0, 1), Limit, table)
+	if err != nil || !isFinished || len(regions) != 2 || out != (LeftOut{}) {
+		t.Fatal(regions, isFinished, out, err)
+	}
+	for _, region := range regions {
+		wanted, _ := profile.Ask(*region.Example, table)
+		is(t, []any{region.Answer, region.By, region.IsExact, len(region.Facts) > 0},
+			[]any{wanted.Answer, wanted.Reason, true, true})
+	}
+	regions, isFinished, _, err = Answers(profile, All, 0, table)
+	is(t, []any{len(regions), isFinished, err}, []any{0, false, nil})
 }
 
 // There is no memory for a copy of this filter, which has more bytes than a process has addresses. It isn't read.
 func TestNoMemory(t *testing.T) {
 	huge := unsafe.Slice(&allow[0], 1<<47)
 	_, decided := Decide([][]byte{huge}, read)
-	_, compared := Compare([][]byte{huge}, profile, All, Same, Limit)
-	_, compiled := Profiles{nil, []Table{{X86_64, huge}}}.Compile()
+	_, compared := Compare(Filters{huge}, profile, All, Same, Limit)
+	_, _, compiled := profile.Compile(Table{Architecture: X86_64, Text: huge})
 	is(t, []error{decided, compared, compiled}, []error{ErrNoMemory, ErrNoMemory, ErrNoMemory})
 }
 
@@ -185,11 +219,15 @@ func TestNames(t *testing.T) {
 	}{
 		{"ERRNO 1", Answer(retEperm)}, {"UNNAMED 0x7ffe0001", Answer(0x7ffe0001)}, {"ALLOW", Answer(retAllow).Action()},
 		{"fails", Fails}, {"Verdict(0)", Verdict(0)}, {"Verdict(9)", Verdict(9)}, {"same", Same}, {"no less", NoLess},
-		{"entry", ByEntry}, {"arm", Arm}, {"NotListed", KindNotListed}, {"Kind(99)", Kind(99)}, {"compare", SourceCompare},
+		{"entry", ByEntry}, {"stub", ByStub}, {"crun", Crun}, {"arm", Arm}, {"NotListed", KindNotListed},
+		{"Kind(99)", Kind(99)}, {"compare", SourceCompare},
 	} {
 		is(t, row.number.String(), row.name)
 	}
-	is(t, (&Fault{SourceProfile, KindConflict, [3]uint64{1, 0, 3}}).Error(), "scf: profile is refused: Conflict [1 0 3]")
+	text := (&Fault{SourceProfile, KindConflict, [3]uint64{308, 1, 10}}).Error()
+	if !strings.HasPrefix(text, "scf: fault profile Conflict number 308 first 1 second 10\nTwo entries, ") {
+		t.Error(text)
+	}
 	is(t, []uint32{X32.Audit(), Arm.Audit(), Architecture(9).Audit()}, []uint32{0xc000003e, 0x40000028, 0})
 }
 
@@ -227,7 +265,7 @@ func TestGoroutines(t *testing.T) {
 		all.Add(1)
 		go func() {
 			defer all.Done()
-			if filter, err := profile.Compile(); err != nil || len(filter)%8 != 0 {
+			if filter, _, err := profile.Compile(table); err != nil || len(filter)%8 != 0 {
 				t.Error(err)
 			}
 		}()

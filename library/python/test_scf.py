@@ -11,15 +11,21 @@ import scf
 ALLOW, DENY = bytes((6, 0, 0, 0, 0, 0, 0xFF, 0x7F)), bytes((6, 0, 0, 0, 1, 0, 5, 0))
 RET_ALLOW, RET_EPERM, RET_KILL_PROCESS = 0x7FFF0000, 0x00050001, 0x80000000
 PROFILE = scf.Profile(b'{"defaultAction": "SCMP_ACT_ERRNO", "syscalls": [{"names": ["read", "absent"], "action": '
-                      b'"SCMP_ACT_ALLOW"}]}', b"read 0\nwrite 1\n")
+                      b'"SCMP_ACT_ALLOW"}]}')
+NATIVE = scf.Table(scf.Architecture.X86_64, b"read 0\nwrite 1\n")
+NAMES, NOTHING, ABSENT = [NATIVE], scf.LeftOut(0, 0), scf.LeftOut(0, 1)
 READ, WRITE = scf.Call(0), scf.Call(1)
 # Three times word 4, less that word three times, is 0, so this denies; but no comparison splits that far.
 UNKNOWN = (bytes((0x20, 0, 0, 0, 16, 0, 0, 0, 7, 0, 0, 0, 0, 0, 0, 0, 0x24, 0, 0, 0, 3, 0, 0, 0))
            + bytes((0x1C, 0, 0, 0, 0, 0, 0, 0)) * 3 + bytes((0x15, 0, 0, 1, 0, 0, 0, 0)) + DENY + ALLOW)
 I386 = scf.Architecture.X86.audit
-BOTH = scf.Profiles(b'{"defaultAction": "SCMP_ACT_ERRNO", "architectures": ["SCMP_ARCH_X86_64", "SCMP_ARCH_X86"], '
-                    b'"syscalls": [{"names": ["read"], "action": "SCMP_ACT_ALLOW"}]}',
-                    {scf.Architecture.X86_64: b"read 0\n", scf.Architecture.X86: b"read 3\n"})
+BOTH = scf.Profile(b'{"defaultAction": "SCMP_ACT_ERRNO", "architectures": ["SCMP_ARCH_X86_64", "SCMP_ARCH_X86"], '
+                   b'"syscalls": [{"names": ["read"], "action": "SCMP_ACT_ALLOW"}]}')
+TABLES = [scf.Table(scf.Architecture.X86_64, b"read 0\n"), scf.Table(scf.Architecture.X86, b"read 3\n")]
+
+
+def numbers(first, last):
+    return scf.Scope.numbers(first, last)
 
 
 class Calls(unittest.TestCase):
@@ -34,7 +40,8 @@ class Calls(unittest.TestCase):
         self.assertEqual(scf.version(), (0, 1, 0))
         self.assertEqual(scf.check(ALLOW), 1)
         self.assertEqual(self.refused(scf.Source.FILTER, scf.Kind.TRUNCATED, (8, 0, 0), scf.check, ALLOW + b"\6"),
-                         "filter is refused: truncated (8, 0, 0)")
+                         "fault filter Truncated offset 8\nThe input ends inside the instruction that begins at this "
+                         "byte: an instruction has 8 bytes.")
         self.assertEqual(scf.run(ALLOW, READ), (RET_ALLOW, 1))
         self.assertEqual(scf.trace(DENY, READ), (RET_EPERM, [0]))
         answer = scf.run(DENY, READ).answer
@@ -42,6 +49,14 @@ class Calls(unittest.TestCase):
         self.assertEqual(str(scf.Answer(0x7FFE0001)), "UNNAMED 0x7ffe0001")
         self.assertEqual(scf.decide([DENY, ALLOW], READ), RET_EPERM)
         self.assertEqual(scf.decide([], READ), RET_ALLOW)
+
+    def test_calls_in_words(self):
+        for call, text in ((scf.Call(41, (2, 1)), "socket(0x2, 0x1, 0x0, 0x0, 0x0, 0x0) of x86-64"),
+                           (scf.Call(3, arch=I386), "read(0x0, 0x0, 0x0, 0x0, 0x0, 0x0) of i386"),
+                           (scf.Call(1 << 30), "read(0x0, 0x0, 0x0, 0x0, 0x0, 0x0) of x32"),
+                           (scf.Call(9999), "syscall 9999(0x0, 0x0, 0x0, 0x0, 0x0, 0x0) of x86-64"),
+                           (scf.Call(1, arch=7), "syscall 1(0x0, 0x0, 0x0, 0x0, 0x0, 0x0) of arch 0x7")):
+            self.assertEqual(str(call), text)
 
     def test_texts(self):
         self.assertEqual(scf.assemble(b"ret #0x7fff0000\n"), ALLOW)
@@ -51,82 +66,121 @@ class Calls(unittest.TestCase):
         self.assertEqual(scf.assemble(scf.listing(DENY * 4096).encode()), DENY * 4096)
 
     def test_profiles(self):
-        self.assertEqual(scf.ask(PROFILE, READ), (RET_ALLOW, scf.Reason.ENTRY, 0))
-        self.assertEqual(scf.ask(PROFILE, WRITE), (RET_EPERM, scf.Reason.DEFAULT, None))
-        self.assertEqual(scf.ask(PROFILE, scf.Call(0, arch=0)), (RET_KILL_PROCESS, scf.Reason.FOREIGN, None))
-        self.assertEqual(self.refused(scf.Source.PROFILE, scf.Kind.MISSING, (scf.NO_ENTRY, 0, 0), scf.compile,
-                                      scf.Profile(b"{}", b"")), "profile is refused: missing")
-        found = scf.compare([scf.compile(PROFILE)], PROFILE)
-        self.assertEqual((found.verdict, found.call, found.report), (scf.Verdict.HOLDS, None, "same\nskipped absent\n"))
+        self.assertEqual(scf.ask(PROFILE, NAMES, READ), (RET_ALLOW, scf.Reason.ENTRY, 0, ABSENT))
+        self.assertEqual(scf.ask(PROFILE, NAMES, WRITE), (RET_EPERM, scf.Reason.DEFAULT, None, ABSENT))
+        self.assertEqual(scf.ask(PROFILE, NAMES, scf.Call(0, arch=0)),
+                         (RET_KILL_PROCESS, scf.Reason.FOREIGN, None, ABSENT))
+        text = self.refused(scf.Source.PROFILE, scf.Kind.MISSING, (scf.NO_ENTRY, 0, 0), scf.compile,
+                            scf.Profile(b"{}"), NAMES)
+        self.assertEqual(text.split("\n")[0], "fault profile Missing")
+        compared = scf.compare(scf.Filters([scf.compile(PROFILE, NAMES)]), PROFILE, NAMES)
+        self.assertEqual((compared.finding.verdict, compared.finding.call, compared.report),
+                         (scf.Verdict.HOLDS, None, "same\nskipped absent\n"))
+        self.assertEqual((compared.left, compared.right, len(compared.each)), (NOTHING, ABSENT, 1))
+
+    def test_readings(self):
+        """A runtime leaves out the entry whose answer is the default's; the stub answers from 1 on."""
+        text = (b'{"defaultAction": "SCMP_ACT_ERRNO", "syscalls": [{"names": ["write"], "action": "SCMP_ACT_ALLOW"}, '
+                b'{"names": ["write"], "action": "SCMP_ACT_ERRNO"}]}')
+        self.refused(scf.Source.PROFILE, scf.Kind.CONFLICT, (1, 0, 1), scf.ask, scf.Profile(text), NAMES, WRITE)
+        for reading in (scf.Reading.RUNC, scf.Reading.CRUN):
+            profile = scf.Profile(text, reading)
+            self.assertEqual(scf.ask(profile, NAMES, WRITE), (RET_ALLOW, scf.Reason.ENTRY, 0, NOTHING))
+            self.assertEqual(scf.ask(profile, [NATIVE._replace(stub=1)], WRITE),
+                             (0x00050026, scf.Reason.STUB, None, NOTHING))
 
     def test_comparisons(self):
-        for scope, relation, limit, verdict in ((scf.Scope.one_call(0), scf.Relation.SAME, scf.LIMIT, "HOLDS"),
-                                                (scf.NATIVE, scf.Relation.NO_LESS, scf.LIMIT, "HOLDS"),
-                                                (scf.NATIVE, scf.Relation.NO_MORE, scf.LIMIT, "FAILS"),
+        allow = scf.Filters([ALLOW])
+        for scope, relation, limit, verdict in ((numbers(0, 0), scf.Relation.SAME, scf.LIMIT, "HOLDS"),
+                                                (scf.EACH_ARCHITECTURE, scf.Relation.NO_LESS, scf.LIMIT, "HOLDS"),
+                                                (scf.EACH_ARCHITECTURE, scf.Relation.NO_MORE, scf.LIMIT, "FAILS"),
                                                 (scf.ALL, scf.Relation.SAME, 0, "UNFINISHED")):
-            self.assertEqual(scf.compare([ALLOW], PROFILE, scope, relation, limit).verdict.name, verdict)
-        found = scf.compare([ALLOW], PROFILE, scf.Scope.numbers(1, 1))
-        self.assertEqual((found.call.nr, found.left, found.right), (1, RET_ALLOW, RET_EPERM))
-        found = scf.compare([UNKNOWN], PROFILE, scf.Scope.one_call(1))
-        self.assertEqual((found.verdict, found.side, found.at, found.call), (scf.Verdict.UNDECIDED, 1, 8, None))
-        both = scf.Filters([ALLOW, DENY], PROFILE.table)
-        self.assertEqual(scf.compare([DENY], both, relation=scf.Relation.SAME_DISPOSITION).verdict, scf.Verdict.HOLDS)
-        self.refused(scf.Source.BESIDE, scf.Kind.TRUNCATED, (0, 0, 0), scf.compare, [], scf.Filters([b"\6"]))
+            compared = scf.compare(allow, PROFILE, NAMES, scope, relation, limit)
+            self.assertEqual(compared.finding.verdict.name, verdict)
+        finding = scf.compare(allow, PROFILE, NAMES, numbers(1, 1)).finding
+        self.assertEqual((finding.call.nr, finding.left, finding.right), (1, RET_ALLOW, RET_EPERM))
+        finding = scf.compare(PROFILE, allow, NAMES, numbers(1, 1)).finding
+        self.assertEqual((finding.call.nr, finding.left, finding.right), (1, RET_EPERM, RET_ALLOW))
+        finding = scf.compare(scf.Filters([UNKNOWN]), PROFILE, NAMES, numbers(1, 1)).finding
+        self.assertEqual((finding.verdict, finding.side, finding.at, finding.call), (scf.Verdict.UNDECIDED, 1, 8, None))
+        compared = scf.compare(scf.Filters([DENY]), scf.Filters([ALLOW, DENY]), relation=scf.Relation.SAME_DISPOSITION)
+        self.assertEqual(compared.finding.verdict, scf.Verdict.HOLDS)
+        self.refused(scf.Source.BESIDE, scf.Kind.TRUNCATED, (0, 0, 0), scf.compare, scf.Filters([]),
+                     scf.Filters([b"\6"]))
 
     def test_call_by_call(self):
-        found = scf.compare_calls([ALLOW], PROFILE)
-        self.assertEqual([(it.nr, it.comparison.verdict) for it in found.calls],
-                         [(0, scf.Verdict.HOLDS), (1, scf.Verdict.FAILS)])
-        self.assertEqual(found.report.split(" args")[0], "differs\n1 write differs")
-        # more calls and a longer text than the room that is tried first
-        named = scf.Filters([ALLOW], b"".join(b"a_call_with_a_long_name_%d %d\n" % (nr, nr) for nr in range(700)))
-        found = scf.compare_calls([DENY], named)
-        self.assertEqual([it.nr for it in found.calls], list(range(700)))
-        self.assertEqual(found.report.count("\n"), 701)
+        compared = scf.compare(scf.Filters([ALLOW]), PROFILE, NAMES, scf.EACH_CALL)
+        self.assertEqual([(each.architecture, each.nr, each.finding.verdict) for each in compared.each],
+                         [(1, 0, scf.Verdict.HOLDS), (1, 1, scf.Verdict.FAILS)])
+        self.assertEqual((compared.finding.verdict, compared.finding.call.nr), (scf.Verdict.FAILS, 1))
+        # more calls than the room that is tried first
+        named = NATIVE._replace(text=b"".join(b"call_%d %d\n" % (nr, nr) for nr in range(700)))
+        compared = scf.compare(scf.Filters([DENY]), scf.Filters([ALLOW]), [named], scf.EACH_CALL)
+        self.assertEqual([each.nr for each in compared.each], list(range(700)))
+
+    def test_answers(self):
+        listing = scf.answers(PROFILE, NAMES, numbers(0, 1))
+        self.assertEqual((len(listing.regions), listing.left_out), (2, ABSENT))
+        for region in listing.regions:
+            asked = scf.ask(PROFILE, NAMES, region.example)
+            self.assertEqual((region.answer, region.place), (asked.answer, (asked.reason, asked.entry or 0)))
+            self.assertTrue(region.is_exact and region.facts)
+        region, = scf.answers(scf.Filters([ALLOW])).regions
+        self.assertEqual((region.answer, region.place, region.facts), (RET_ALLOW, (0, 0), []))
+        self.assertIsNone(scf.answers(PROFILE, NAMES, total_limit=0).regions)
 
     def test_architectures(self):
         for call, answer in ((READ, (RET_ALLOW, scf.Reason.ENTRY, 0)),
                              (scf.Call(3, arch=I386), (RET_ALLOW, scf.Reason.ENTRY, 0)),
                              (scf.Call(0, arch=I386), (RET_EPERM, scf.Reason.DEFAULT, None)),
                              (scf.Call(1 << 30), (RET_KILL_PROCESS, scf.Reason.FOREIGN, None))):
-            self.assertEqual(scf.ask_architectures(BOTH, call), answer)
-        found = scf.compare_architectures([scf.compile_architectures(BOTH)], BOTH)
-        self.assertEqual((found.verdict, found.report), (scf.Verdict.HOLDS, "same\n"))
-        one = scf.Profiles(BOTH.text, {scf.Architecture.X86_64: b"read 0\n"})
-        found = scf.compare_architectures([scf.compile_architectures(one)], BOTH, scf.Relation.NO_LESS)
-        self.assertEqual((found.verdict, found.call.arch, found.right), (scf.Verdict.FAILS, I386, RET_ALLOW))
-        other = scf.Profiles(BOTH.text, {**one.tables, scf.Architecture.ARM: b""})
-        self.refused(scf.Source.PROFILE, scf.Kind.NOT_LISTED, (1, 0, 0), scf.compile_architectures, other)
+            self.assertEqual(scf.ask(BOTH, TABLES, call), (*answer, NOTHING))
+        compared = scf.compare(scf.Filters([scf.compile(BOTH, TABLES)]), BOTH, TABLES, scf.EACH_ARCHITECTURE)
+        self.assertEqual((compared.finding.verdict, compared.report), (scf.Verdict.HOLDS, "same\n"))
+        compiled = scf.Filters([scf.compile(BOTH, TABLES[:1])])
+        compared = scf.compare(compiled, BOTH, TABLES, scf.EACH_ARCHITECTURE, scf.Relation.NO_LESS)
+        self.assertEqual((compared.finding.verdict, compared.finding.call.arch, compared.finding.right),
+                         (scf.Verdict.FAILS, I386, RET_ALLOW))
+        self.assertEqual(scf.compare(compiled, BOTH, TABLES[:1]).right, scf.LeftOut(1, 0))
+        arm = scf.Table(scf.Architecture.ARM, b"")
+        self.refused(scf.Source.PROFILE, scf.Kind.NOT_LISTED, (1, 0, 0), scf.compile, BOTH, [TABLES[0], arm])
+        own = scf.ask(BOTH._replace(skip_unlisted=True), scf.own_tables(), READ)
+        self.assertEqual(own, (RET_ALLOW, scf.Reason.ENTRY, 0, NOTHING))
 
     def test_numbers_that_have_no_meaning(self):
-        for wrong in (lambda: scf.compare_architectures([], scf.Profiles(BOTH.text, {})),
+        for wrong in (lambda: scf.compile(BOTH, []), lambda: scf.compile(BOTH, [TABLES[0], TABLES[0]]),
                       lambda: scf.Call(1 << 32), lambda: scf.Call(0, (1 << 64,)), lambda: scf.Call(-1),
-                      lambda: scf.Call(0, (0,) * 7), lambda: scf.compare([], PROFILE, scf.Scope(9)),
-                      lambda: scf.compare([], PROFILE, limit=1 << 64),
-                      lambda: scf.compare([], PROFILE, scf.Scope.one_call(1 << 32))):
+                      lambda: scf.Call(0, (0,) * 7), lambda: scf.compare(PROFILE, PROFILE, NAMES, scf.Scope(9)),
+                      lambda: scf.compare(PROFILE, PROFILE, NAMES, numbers(1, 0)),
+                      lambda: scf.compare(PROFILE, PROFILE, NAMES, limit=1 << 64),
+                      lambda: scf.compile(PROFILE, [NATIVE._replace(stub=1 << 32)]),
+                      lambda: scf.compare(PROFILE, PROFILE, NAMES, numbers(0, 1 << 32))):
             with self.assertRaises(ValueError) as raised:
                 wrong()
             self.assertNotIsInstance(raised.exception, scf.Refused)
 
     def test_wrong_types_are_named(self):
+        none = scf.Filters([])
         for name, wrong in (
                 ("filter", lambda: scf.check("text")), ("filter", lambda: scf.run(None, READ)),
                 ("call", lambda: scf.run(ALLOW, None)), ("call", lambda: scf.decide([], 0)),
                 ("filters", lambda: scf.decide(None, READ)), ("filters[1]", lambda: scf.decide([ALLOW, 6], READ)),
-                ("filters[0]", lambda: scf.compare(ALLOW, PROFILE)), ("text", lambda: scf.assemble("ret #0")),
-                ("nr", lambda: scf.Call("0")), ("args", lambda: scf.Call(0, 2)),
-                ("args[0]", lambda: scf.Call(0, (b"",))),
-                ("profile", lambda: scf.compile(b"{}")), ("profile.text", lambda: scf.compile(scf.Profile("{}", b""))),
-                ("profile.table", lambda: scf.ask(scf.Profile(b"{}", None), READ)),
-                ("profiles", lambda: scf.compile_architectures(PROFILE)),
-                ("profiles.tables", lambda: scf.compile_architectures(scf.Profiles(b"{}", [b""]))),
-                ("profiles.tables' key 6", lambda: scf.compile_architectures(scf.Profiles(b"{}", {6: b""}))),
-                ("right", lambda: scf.compare([], b"{}")), ("right.filters", lambda: scf.compare([], scf.Filters(1))),
-                ("scope", lambda: scf.compare([], PROFILE, 1)),
-                ("relation", lambda: scf.compare([], PROFILE, relation=1 << 32)),
-                ("relation", lambda: scf.compare_calls([], PROFILE, "same")),
-                ("relation", lambda: scf.compare_architectures([], BOTH, 1 << 32)),
-                ("limit", lambda: scf.compare([], PROFILE, limit=1.5)), ("architecture", lambda: scf.table("x86_64"))):
+                ("left.filters[0]", lambda: scf.compare(scf.Filters(ALLOW), none)),
+                ("text", lambda: scf.assemble("ret #0")), ("nr", lambda: scf.Call("0")),
+                ("args", lambda: scf.Call(0, 2)), ("args[0]", lambda: scf.Call(0, (b"",))),
+                ("profile", lambda: scf.compile(b"{}", NAMES)),
+                ("profile.text", lambda: scf.compile(scf.Profile("{}"), NAMES)),
+                ("profile.reading", lambda: scf.compile(scf.Profile(b"{}", "runc"), NAMES)),
+                ("tables", lambda: scf.compile(PROFILE, NATIVE.text.decode)),
+                ("tables[0]", lambda: scf.compile(PROFILE, [b""])),
+                ("tables[0].architecture", lambda: scf.compile(PROFILE, [scf.Table(6, b"")])),
+                ("tables[0].text", lambda: scf.ask(PROFILE, [scf.Table(scf.Architecture.ARM, None)], READ)),
+                ("right", lambda: scf.compare(none, b"{}")),
+                ("right.filters", lambda: scf.compare(none, scf.Filters(1))),
+                ("scope", lambda: scf.compare(none, none, (), 1)),
+                ("relation", lambda: scf.compare(none, none, relation=1 << 32)),
+                ("limit", lambda: scf.compare(none, none, limit=1.5)), ("side", lambda: scf.answers(ALLOW)),
+                ("architecture", lambda: scf.table("x86_64"))):
             with self.assertRaises(TypeError) as raised:
                 wrong()
             self.assertTrue(str(raised.exception).startswith(f"{name} must be "), raised.exception)
@@ -138,14 +192,15 @@ class Calls(unittest.TestCase):
                                   (area, mmap.PAGESIZE // 8)):
                 self.assertEqual(scf.check(buffer), count)
                 self.assertEqual(scf.decide([DENY, buffer], READ), RET_EPERM)
-        profile = scf.Profile(bytearray(PROFILE.text), memoryview(PROFILE.table))
-        self.assertEqual(scf.compile(profile), scf.compile(PROFILE))
+        compiled = scf.compile(scf.Profile(bytearray(PROFILE.text)), [NATIVE._replace(text=memoryview(NATIVE.text))])
+        self.assertEqual(compiled, scf.compile(PROFILE, NAMES))
         self.assertEqual(scf.check(ALLOW + bytes(0)), 1)
 
     def test_numbers_of_a_later_library(self):
         """They stay numbers."""
-        self.assertEqual(scf._comparison_of(scf._Comparison(verdict=9)).verdict, 9)
-        self.assertEqual(str(scf.Refused(9, 99, (1, 2, 3))), "9 is refused: 99 (1, 2, 3)")
+        self.assertEqual(scf._finding(scf._Finding(verdict=9)).verdict, 9)
+        refused = scf.Refused(9, 99, (1, 2, 3))
+        self.assertEqual((refused.source, refused.kind, refused.numbers, str(refused)), (9, 99, (1, 2, 3), ""))
 
     def test_tables(self):
         for architecture, about, line in ((scf.Architecture.X86_64, b"x86-64", b"read 0"),
@@ -173,14 +228,17 @@ class Calls(unittest.TestCase):
                          b"set()\n")
 
     def test_threads(self):
-        compiled = scf.compile(PROFILE)
-        found = []
-        threads = [threading.Thread(target=lambda: found.append(scf.compare([compiled], PROFILE).verdict))
-                   for _ in range(16)]
+        compiled = scf.Filters([scf.compile(PROFILE, NAMES)])
+        verdicts = []
+
+        def compare():
+            verdicts.append(scf.compare(compiled, PROFILE, NAMES).finding.verdict)
+
+        threads = [threading.Thread(target=compare) for _ in range(16)]
         for step in (threading.Thread.start, threading.Thread.join):
             for thread in threads:
                 step(thread)
-        self.assertEqual(found, [scf.Verdict.HOLDS] * 16)
+        self.assertEqual(verdicts, [scf.Verdict.HOLDS] * 16)
 
 
 if __name__ == "__main__":

@@ -3,7 +3,9 @@
 #include "parties.h"
 #include <scf.hpp>
 
-static const scf::profile own{profile, scf::view(std::string_view(table))};
+static const scf::profile own{profile};
+static const struct scf_table names[] = {
+    scf::table_of(scf::architecture::x86_64, scf::view(std::string_view(table)))};
 
 static void filters() {
     const auto all = scf::view(allow), none = scf::view(deny);
@@ -23,41 +25,52 @@ static void filters() {
 }
 
 static void profiles() {
-    IS(scf::ask(own, call_of(1))->answer == RET_ALLOW);
-    IS(scf::ask(own, call_of(1))->reason == scf::reason::by_entry && scf::ask(own, call_of(1))->entry == 0);
-    IS(scf::ask(own, call_of(0))->reason == scf::reason::by_default);
-    const auto compiled = scf::compile(own);
-    const scf_bytes stack[] = {scf::view(*compiled)}, other[] = {scf::view(allow)};
-    const auto same = scf::compare(stack, own);
-    IS(same->verdict == scf::verdict::holds && same->report == "same\nskipped absent\n");
-    const auto more = scf::compare(other, own, {.scope = scf::one_call(0), .relation = scf::relation::no_more});
-    IS(more->verdict == scf::verdict::fails && more->call.nr == 0);
-    IS(more->left == RET_ALLOW && more->right == RET_EPERM);
-    IS(scf::compare(other, own, {.limit = 0})->verdict == scf::verdict::unfinished);
-    IS(scf::compare(stack, other, {.relation = scf::relation::no_more})->verdict == scf::verdict::holds);
-    IS(scf::compare({}, scf::profile{"{}", {}}).fault.kind == SCF_KIND_MISSING);
-    const auto calls = scf::compare_calls(other, own);
-    IS(calls->calls.size() == 2 && calls->calls[0].comparison.verdict == SCF_FAILS);
-    IS(calls->report.substr(0, 22) == "differs\n0 read differs");
-    IS(scf::compare_calls(stack, stack, own.table)->report == "same\n");
+    const auto asked = scf::ask(own, names, call_of(1));
+    IS(asked->answer == RET_ALLOW && asked->reason == scf::reason::by_entry && asked->entry == 0);
+    IS(asked->left_out.skipped == 1);
+    IS(scf::ask(own, names, call_of(0))->reason == scf::reason::by_default);
+    const struct scf_table stubbed[] = {scf::with_stub(names[0], 1)};
+    const auto stub = scf::ask({profile, scf::reading::runc}, stubbed, call_of(1));
+    IS(stub->answer == RET_ENOSYS && stub->reason == scf::reason::by_stub);
+    const auto compiled = scf::compile(own, names);
+    const scf_bytes stack[] = {scf::view(compiled->filter)}, other[] = {scf::view(allow)};
+    const auto same = scf::compare(stack, own, names);
+    IS(same->verdict() == scf::verdict::holds && same->report == "same\nskipped absent\n");
+    IS(same->each.size() == 1 && same->right.skipped == 1);
+    const auto native = scf::architecture::x86_64;
+    const auto more =
+        scf::compare(other, own, names, {.scope = scf::one_call(native, 0), .relation = scf::relation::no_more});
+    IS(more->verdict() == scf::verdict::fails && more->finding.call.nr == 0);
+    IS(more->finding.left == RET_ALLOW && more->finding.right == RET_EPERM);
+    IS(scf::compare(other, own, names, {.limit = 0})->verdict() == scf::verdict::unfinished);
+    IS(scf::compare(stack, other, {}, {.relation = scf::relation::no_more})->verdict() == scf::verdict::holds);
+    const auto missing = scf::compare(scf::filters{}, scf::profile{"{}"}, names);
+    IS(missing.fault.kind == SCF_KIND_MISSING && scf::text(missing.fault).substr(0, 22) == "fault profile Missing\n");
+    const auto calls = scf::compare(other, own, names, {.scope = scf::each_call});
+    IS(calls->each.size() == 2 && calls->each[0].finding.verdict == SCF_FAILS && calls->each[1].nr == 1);
+    const auto listed = scf::answers(scf::side(other), {});
+    IS(listed->is_finished && listed->regions.size() == 1 && listed->regions[0].answer == RET_ALLOW);
+    IS(listed->facts.empty());
 }
 
 static void architectures() {
-    const std::string_view text = "{\"defaultAction\": \"SCMP_ACT_ERRNO\", \"architectures\": [\"SCMP_ARCH_X86_64\", "
-                                  "\"SCMP_ARCH_X86\"], \"syscalls\": [{\"names\": [\"read\"], \"action\": "
-                                  "\"SCMP_ACT_ALLOW\"}]}";
+    const scf::profile both{"{\"defaultAction\": \"SCMP_ACT_ERRNO\", \"architectures\": [\"SCMP_ARCH_X86_64\", "
+                            "\"SCMP_ARCH_X86\"], \"syscalls\": [{\"names\": [\"read\"], \"action\": "
+                            "\"SCMP_ACT_ALLOW\"}]}"};
     const struct scf_table tables[] = {scf::table_of(scf::architecture::x86_64),
                                        scf::table_of(scf::architecture::x86, scf::view(std::string_view("read 3\n")))};
-    const scf::profiles both{text, tables};
     scf_call read = call_of(3);
     read.arch = SCF_AUDIT_X86;
-    IS(scf::ask(both, read)->answer == RET_ALLOW && scf::ask(both, call_of(3))->answer == RET_EPERM);
-    const auto compiled = scf::compile(both);
-    const scf_bytes stack[] = {scf::view(*compiled)}, other[] = {scf::view(deny)};
-    IS(scf::compare(stack, both)->verdict == scf::verdict::holds);
-    IS(scf::compare(other, both)->verdict == scf::verdict::fails);
-    IS(scf::compare(stack, both, {.scope = scf::native_calls}).status == scf::status::wrong_argument);
-    IS(scf::compile(scf::profiles{text, {}}).status == scf::status::wrong_argument);
+    IS(scf::ask(both, tables, read)->answer == RET_ALLOW && scf::ask(both, tables, call_of(3))->answer == RET_EPERM);
+    const auto compiled = scf::compile(both, tables);
+    const scf_bytes stack[] = {scf::view(compiled->filter)}, other[] = {scf::view(deny)};
+    IS(scf::compare(stack, both, tables)->verdict() == scf::verdict::holds);
+    const auto each = scf::compare(other, both, tables, {.scope = scf::each_architecture});
+    IS(each->verdict() == scf::verdict::fails && each->each.size() == 2);
+    const auto all = scf::own_tables();
+    IS(all.size() == 5 && scf::compile(both, all).fault.kind == SCF_KIND_NOT_LISTED);
+    IS(scf::compile({both.text, scf::reading::strict, true}, all)->left_out.not_looked_at == 0);
+    IS(scf::compile(both, {}).status == scf::status::wrong_argument);
     IS(scf::table(static_cast<scf::architecture>(99)).at == nullptr);
 }
 

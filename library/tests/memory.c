@@ -47,10 +47,14 @@ struct result {
     uint32_t status, answer, steps;
     size_t count, needed;
     struct scf_fault fault;
-    struct scf_reason reason;
+    struct scf_answer reply;
+    struct scf_left_out left_out;
     struct scf_comparison found;
     size_t path[64];
-    struct scf_call_comparison calls[512];
+    struct scf_records_finding each[1024];
+    struct scf_listing listing;
+    struct scf_region regions[4096];
+    struct scf_fact facts[1 << 14];
     uint8_t text[1 << 16];
 };
 
@@ -80,80 +84,64 @@ static void decides(struct result *r) {
     r->status = scf_decide(stack, 2, &call, &r->answer, &r->fault);
 }
 
-static void compiles(struct result *r) { r->status = scf_compile(IN(own_profile), IN(own_table), OUT); }
-
-static void asks(struct result *r) {
-    struct scf_call call = call_of(1);
-    r->status = scf_ask(IN(own_profile), IN(own_table), &call, &r->answer, &r->reason, &r->fault);
-}
-
-static void compare(struct result *r, const struct scf_right_side *right) {
-    struct scf_question question = asked(SCF_NATIVE_CALLS, SCF_SAME);
-    r->status = scf_compare(&filter, 1, right, &question, &r->found, OUT);
-}
-
-static void compare_calls(struct result *r, const struct scf_right_side *right) {
-    struct scf_question question = asked(SCF_NATIVE_CALLS, SCF_SAME);
-    r->status = scf_compare_calls(&filter, 1, right, &question, r->calls, 512, &r->count, OUT);
-}
-
-static struct scf_right_side right_side(uint32_t kind) {
-    struct scf_right_side right = with_filters(stack, 2);
-    right.kind = kind;
-    right.profile = own_profile;
-    right.table = own_table;
-    return right;
-}
-
-static void compares(struct result *r) {
-    struct scf_right_side right = right_side(SCF_PROFILE);
-    compare(r, &right);
-}
-
-static void compares_beside(struct result *r) {
-    struct scf_right_side right = right_side(SCF_FILTERS);
-    compare(r, &right);
-}
-
-static void compares_calls(struct result *r) {
-    struct scf_right_side right = right_side(SCF_PROFILE);
-    compare_calls(r, &right);
-}
-
-static void compares_calls_beside(struct result *r) {
-    struct scf_right_side right = right_side(SCF_FILTERS);
-    compare_calls(r, &right);
-}
-
-/* The profile lists both, and the one table serves for both. */
+/* The profile lists both, and the one table serves for both; with a stub, which no call comes to. */
 static void set_tables(struct scf_table *tables) {
     memset(tables, 0, 2 * sizeof *tables);
     tables[0].architecture = SCF_TABLE_X86_64, tables[1].architecture = SCF_TABLE_X86;
     tables[0].bytes = tables[1].bytes = own_table;
+    tables[1].has_stub = 1, tables[1].stub = UINT32_MAX;
 }
 
-static void compiles_each(struct result *r) {
+static struct scf_profile read_profile(void) {
+    struct scf_profile own = read_by("", SCF_STRICT);
+    own.text = own_profile;
+    own.flags = SCF_SKIP_UNLISTED;
+    return own;
+}
+
+static void compiles(struct result *r) {
+    struct scf_profile own = read_profile();
     struct scf_table tables[2];
     set_tables(tables);
-    r->status = scf_compile_architectures(IN(own_profile), tables, 2, OUT);
+    r->status = scf_compile(&own, tables, 2, r->text, sizeof r->text, &r->needed, &r->left_out, &r->fault);
 }
 
-static void asks_of_each(struct result *r) {
+static void asks(struct result *r) {
+    struct scf_profile own = read_profile();
     struct scf_call call = call_of(1);
     struct scf_table tables[2];
     set_tables(tables);
-    r->status = scf_ask_architectures(IN(own_profile), tables, 2, &call, &r->answer, &r->reason, &r->fault);
+    r->status = scf_ask(&own, tables, 2, &call, &r->reply, &r->fault);
 }
 
-static void compares_each(struct result *r) {
+static void compare(struct result *r, uint32_t left_kind, uint32_t right_kind, uint32_t scope) {
+    struct scf_side left = with_filters(&filter, 1), right = with_filters(stack, 2);
+    struct scf_question question = asked(scope, SCF_SAME);
     struct scf_table tables[2];
     set_tables(tables);
-    r->status = scf_compare_architectures(&filter, 1, IN(own_profile), tables, 2, SCF_SAME, SCF_LIMIT, &r->found, OUT);
+    left.kind = left_kind, right.kind = right_kind;
+    left.profile = right.profile = read_profile();
+    r->status = scf_compare(&left, &right, tables, 2, &question, &r->found, r->each, 1024, &r->count, OUT);
+}
+
+static void compares(struct result *r) { compare(r, SCF_FILTERS, SCF_PROFILE, SCF_EACH_ARCHITECTURE); }
+
+static void compares_stacks(struct result *r) { compare(r, SCF_FILTERS, SCF_FILTERS, SCF_ALL_CALLS); }
+
+static void compares_profiles(struct result *r) { compare(r, SCF_PROFILE, SCF_PROFILE, SCF_ALL_CALLS); }
+
+static void compares_calls(struct result *r) { compare(r, SCF_FILTERS, SCF_PROFILE, SCF_EACH_CALL); }
+
+static void answers(struct result *r) {
+    struct scf_side side = with_filters(stack, 2);
+    struct scf_question question = asked(SCF_ALL_CALLS, SCF_SAME);
+    r->status = scf_answers(&side, NULL, 0, &question, &r->listing, r->regions, 4096, &r->count, r->facts, 1 << 14,
+                            &r->needed, &r->fault);
 }
 
 static const call_type calls[] = {
-    checks_filter, runs, traces, lists, assembles, decides, compiles, asks, compares, compares_beside, compares_calls,
-    compares_calls_beside, compiles_each, asks_of_each, compares_each,
+    checks_filter, runs, traces, lists, assembles, decides, compiles, asks, compares, compares_stacks,
+    compares_profiles, compares_calls, answers,
 };
 enum { CALLS = sizeof calls / sizeof *calls };
 

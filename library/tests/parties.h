@@ -10,6 +10,7 @@
 
 #define RET_ALLOW 0x7fff0000u
 #define RET_EPERM 0x00050001u
+#define RET_ENOSYS 0x00050026u
 #define RET_KILL_PROCESS 0x80000000u
 
 static const uint8_t allow[] = {6, 0, 0, 0, 0, 0, 0xff, 0x7f};
@@ -55,23 +56,37 @@ static struct scf_call call_of(uint32_t nr) {
     return call;
 }
 
-static struct scf_right_side with_profile(const char *text) {
-    struct scf_right_side right;
-    memset(&right, 0, sizeof right);
-    right.kind = SCF_PROFILE;
-    right.profile = text_of(text);
-    right.table = text_of(table);
-    return right;
+static struct scf_profile read_by(const char *text, uint32_t reading) {
+    struct scf_profile own;
+    memset(&own, 0, sizeof own);
+    own.text = text_of(text);
+    own.reading = reading;
+    return own;
 }
 
-static struct scf_right_side with_filters(const struct scf_bytes *filters, size_t count) {
-    struct scf_right_side right;
-    memset(&right, 0, sizeof right);
-    right.kind = SCF_FILTERS;
-    right.filters = filters;
-    right.filters_len = count;
-    right.table = text_of(table);
-    return right;
+static struct scf_side with_profile(const char *text) {
+    struct scf_side side;
+    memset(&side, 0, sizeof side);
+    side.kind = SCF_PROFILE;
+    side.profile = read_by(text, SCF_STRICT);
+    return side;
+}
+
+static struct scf_side with_filters(const struct scf_bytes *filters, size_t count) {
+    struct scf_side side;
+    memset(&side, 0, sizeof side);
+    side.kind = SCF_FILTERS;
+    side.filters = filters;
+    side.filters_len = count;
+    return side;
+}
+
+static struct scf_table table_of(uint32_t architecture, const char *text) {
+    struct scf_table own;
+    memset(&own, 0, sizeof own);
+    own.architecture = architecture;
+    own.bytes = text_of(text);
+    return own;
 }
 
 static struct scf_question asked(uint32_t scope, uint32_t relation) {
@@ -80,6 +95,14 @@ static struct scf_question asked(uint32_t scope, uint32_t relation) {
     question.scope = scope;
     question.relation = relation;
     question.limit = question.total_limit = SCF_LIMIT;
+    return question;
+}
+
+/* of x86-64's calls with a number of a range */
+static struct scf_question asked_of(uint32_t first, uint32_t last, uint32_t relation) {
+    struct scf_question question = asked(SCF_NUMBERS, relation);
+    question.architecture = SCF_TABLE_X86_64;
+    question.first = first, question.last = last;
     return question;
 }
 

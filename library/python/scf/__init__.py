@@ -1,9 +1,10 @@
 """Checks, runs, compiles and compares seccomp filters in this process, by libscf.
 
     >>> import scf
-    >>> profile = scf.Profile(open("profile.json", "rb").read(), scf.table(scf.Architecture.X86_64))
-    >>> compared = scf.compare([open("filter.bpf", "rb").read()], profile, scf.NATIVE)
-    >>> compared.verdict, compared.call, compared.report
+    >>> profile = scf.Profile(open("config.json", "rb").read(), scf.Reading.RUNC, skip_unlisted=True)
+    >>> filter = scf.Filters([open("filter.bpf", "rb").read()])
+    >>> compared = scf.compare(filter, profile, scf.own_tables(), scf.EACH_ARCHITECTURE)
+    >>> compared.finding, compared.right.not_looked_at, compared.report
 
 Filters, profiles and tables are bytes, or any other buffer: bytearray, memoryview, mmap. Each function raises Refused,
 which is a ValueError, if an input isn't accepted, TypeError if an argument has another type, ValueError if a number is
@@ -15,18 +16,17 @@ from __future__ import annotations
 import ctypes
 import enum
 import os
-from collections.abc import Callable, Mapping, Sequence
-from typing import TYPE_CHECKING, NamedTuple, Union
+from collections.abc import Callable, Sequence
+from typing import TYPE_CHECKING, Any, NamedTuple, Union
 
 if TYPE_CHECKING:
     from mmap import mmap
 
-__all__ = ["ALL", "Action", "Answer", "Architecture", "Buffer", "Call", "CallComparison", "CallsComparison",
-           "Comparison", "Filters", "KEEP_PRIVILEGES", "Kind", "LIMIT", "NATIVE", "NO_ENTRY", "Profile",
-           "ProfileAnswer", "Profiles", "Reason", "Refused", "Relation", "RightSide", "Run", "Scope", "Source", "Trace",
-           "Verdict", "ask", "ask_architectures", "assemble", "check", "compare", "compare_architectures",
-           "compare_calls", "compile", "compile_architectures", "decide", "listing", "load", "run", "table", "trace",
-           "version"]
+__all__ = ["ALL", "Action", "Answer", "Architecture", "Buffer", "Call", "Comparison", "EACH_ARCHITECTURE", "EACH_CALL",
+           "Fact", "Filters", "Finding", "KEEP_PRIVILEGES", "Kind", "LIMIT", "LeftOut", "Listing", "NO_ENTRY",
+           "Profile", "ProfileAnswer", "Reading", "Reason", "RecordsFinding", "Refused", "Region", "Relation", "Run",
+           "Scope", "Side", "Source", "Table", "Trace", "Verdict", "answers", "ask", "assemble", "check", "compare",
+           "compile", "decide", "listing", "load", "own_tables", "run", "table", "trace", "version"]
 
 Buffer = Union[bytes, bytearray, memoryview, "mmap"]
 LIMIT = 1_000_000  # the most steps of a comparison that scf takes without --limit
@@ -34,7 +34,7 @@ KEEP_PRIVILEGES = 0x80000000
 
 
 class Relation(enum.IntEnum):
-    """What is to hold of the answers of the filters and of the right side. Denied < delegated < allowed."""
+    """What is to hold of the answers of both sides. Denied < delegated < allowed."""
 
     SAME, NO_MORE, NO_LESS, SAME_DISPOSITION = range(4)
 
@@ -48,7 +48,13 @@ class Verdict(enum.IntEnum):
 class Reason(enum.IntEnum):
     """Why a profile answers a call as it does."""
 
-    DEFAULT, ENTRY, FOREIGN = range(1, 4)
+    DEFAULT, ENTRY, FOREIGN, STUB = range(1, 5)
+
+
+class Reading(enum.IntEnum):
+    """How a profile is read: by its words, or as a runtime reads it that hands it to libseccomp."""
+
+    STRICT, RUNC, CRUN = range(3)
 
 
 class Architecture(enum.IntEnum):
@@ -99,51 +105,80 @@ class _Call(ctypes.Structure):
 
 
 class _Fault(ctypes.Structure):
-    _fields_ = [("source", _U32), ("kind", _U32), ("numbers", _U64 * 3)]
-
-
-class _Reason(ctypes.Structure):
-    _fields_ = [("kind", _U32), ("entry", _U32)]
-
-
-class _RightSide(ctypes.Structure):
-    _fields_ = [("kind", _U32), ("reserved", _U32), ("filters", ctypes.POINTER(_Bytes)), ("filters_len", _SIZE),
-                ("profile", _Bytes), ("table", _Bytes)]
-
-
-class _Question(ctypes.Structure):
-    _fields_ = [("scope", _U32), ("relation", _U32), ("first", _U32), ("last", _U32), ("limit", _U64),
-                ("total_limit", _U64), ("reserved", _U64 * 2)]
-
-
-class _Comparison(ctypes.Structure):
-    _fields_ = [("verdict", _U32), ("left", _U32), ("right", _U32), ("side", _U32), ("at", _U64), ("call", _Call)]
-
-
-class _CallComparison(ctypes.Structure):
-    _fields_ = [("nr", _U32), ("reserved", _U32), ("comparison", _Comparison)]
+    _fields_ = [("source", _U32), ("kind", _U32), ("numbers", _U64 * 3), ("reserved", _U64 * 4)]
 
 
 class _Table(ctypes.Structure):
-    _fields_ = [("architecture", _U32), ("reserved", _U32), ("bytes", _Bytes)]
+    _fields_ = [("bytes", _Bytes), ("architecture", _U32), ("has_stub", _U32), ("stub", _U32), ("reserved", _U32)]
+
+
+class _Profile(ctypes.Structure):
+    _fields_ = [("text", _Bytes), ("reading", _U32), ("flags", _U32), ("reserved", _U64 * 2)]
+
+
+class _LeftOut(ctypes.Structure):
+    _fields_ = [("not_looked_at", _U64), ("skipped", _U64), ("reserved", _U64 * 4)]
+
+
+class _Answer(ctypes.Structure):
+    _fields_ = [("answer", _U32), ("reason", _U32), ("entry", _U32), ("unused", _U32), ("left_out", _LeftOut)]
+
+
+class _Side(ctypes.Structure):
+    _fields_ = [("kind", _U32), ("reserved", _U32), ("filters", ctypes.POINTER(_Bytes)), ("filters_len", _SIZE),
+                ("profile", _Profile)]
+
+
+class _Question(ctypes.Structure):
+    _fields_ = [("scope", _U32), ("relation", _U32), ("architecture", _U32), ("first", _U32), ("last", _U32),
+                ("unused", _U32), ("limit", _U64), ("total_limit", _U64), ("reserved", _U64 * 2)]
+
+
+class _Finding(ctypes.Structure):
+    _fields_ = [("verdict", _U32), ("left", _U32), ("right", _U32), ("side", _U32), ("at", _U64), ("call", _Call)]
+
+
+class _Comparison(ctypes.Structure):
+    _fields_ = [("finding", _Finding), ("left", _LeftOut), ("right", _LeftOut)]
+
+
+class _RecordsFinding(ctypes.Structure):
+    _fields_ = [("architecture", _U32), ("nr", _U32), ("finding", _Finding), ("reserved", _U64 * 4)]
+
+
+class _Listing(ctypes.Structure):
+    _fields_ = [("is_finished", _U32), ("unused", _U32), ("left_out", _LeftOut)]
+
+
+class _Region(ctypes.Structure):
+    _fields_ = [("answer", _U32), ("is_known", _U32), ("is_exact", _U32), ("has_example", _U32), ("reason", _U32),
+                ("entry", _U32), ("filter", _U64), ("index", _U64), ("fact_count", _U64), ("example", _Call),
+                ("reserved", _U64 * 4)]
+
+
+class _Fact(ctypes.Structure):
+    _fields_ = [("word", _U32), ("kind", _U32), ("low", _U32), ("high", _U32)]
 
 
 _lib = ctypes.CDLL(os.environ.get("LIBSCF", "libscf.so.0"))
 _NUMBER, _NEEDED, _CALL = ctypes.POINTER(_U32), ctypes.POINTER(_SIZE), ctypes.POINTER(_Call)
 _IN, _FILTERS, _TABLES = [ctypes.c_char_p, _SIZE], [ctypes.POINTER(_Bytes), _SIZE], [ctypes.POINTER(_Table), _SIZE]
-_OUT, _COMPARISON = [ctypes.c_void_p, _SIZE, _NEEDED], ctypes.POINTER(_Comparison)
-_SIDES = [*_FILTERS, ctypes.POINTER(_RightSide), ctypes.POINTER(_Question)]
+_OUT, _PROFILE, _SIDE = [ctypes.c_void_p, _SIZE, _NEEDED], ctypes.POINTER(_Profile), ctypes.POINTER(_Side)
+_QUESTION, _COMPARISON = ctypes.POINTER(_Question), ctypes.POINTER(_Comparison)
 for _name, _types in {
     "check": [*_IN, _NEEDED], "run": [*_IN, _CALL, _NUMBER, _NUMBER], "trace": [*_IN, _CALL, _NUMBER, *_OUT],
     "list": [*_IN, *_OUT], "assemble": [*_IN, *_OUT], "decide": [*_FILTERS, _CALL, _NUMBER],
-    "compile": [*_IN, *_IN, *_OUT], "ask": [*_IN, *_IN, _CALL, _NUMBER, ctypes.POINTER(_Reason)],
-    "compare": [*_SIDES, _COMPARISON, *_OUT], "compare_calls": [*_SIDES, *_OUT, *_OUT],
-    "compile_architectures": [*_IN, *_TABLES, *_OUT],
-    "ask_architectures": [*_IN, *_TABLES, _CALL, _NUMBER, ctypes.POINTER(_Reason)],
-    "compare_architectures": [*_FILTERS, *_IN, *_TABLES, _U32, _U64, _COMPARISON, *_OUT],
+    "compile": [_PROFILE, *_TABLES, *_OUT, ctypes.POINTER(_LeftOut)],
+    "ask": [_PROFILE, *_TABLES, _CALL, ctypes.POINTER(_Answer)],
+    "compare": [_SIDE, _SIDE, *_TABLES, _QUESTION, _COMPARISON, *_OUT, *_OUT],
+    "answers": [_SIDE, *_TABLES, _QUESTION, ctypes.POINTER(_Listing), *_OUT, *_OUT],
 }.items():
     _function = getattr(_lib, f"scf_{_name}")
     _function.restype, _function.argtypes = _U32, [*_types, ctypes.POINTER(_Fault)]
+_lib.scf_fault_text.restype = None
+_lib.scf_fault_text.argtypes = [ctypes.POINTER(_Fault), ctypes.c_void_p, _SIZE, _NEEDED]
+_lib.scf_call_text.restype = None
+_lib.scf_call_text.argtypes = [_CALL, ctypes.c_void_p, _SIZE, _NEEDED]
 _lib.scf_version.restype = _U32
 _lib.scf_table.restype, _lib.scf_table.argtypes = ctypes.c_void_p, [_U32, _NEEDED]
 _lib.scf_load.restype, _lib.scf_load.argtypes = ctypes.c_int, [*_IN, _U32]
@@ -154,17 +189,15 @@ def _member(names: type[enum.IntEnum], number: int) -> int:
     return names(number) if number in names._value2member_map_ else number
 
 
-def _name_of(number: int) -> str:
-    return number.name.lower() if isinstance(number, enum.Enum) else str(number)
-
-
 class Refused(ValueError):
-    """An input isn't accepted: which one, why, and the numbers that say where (docs/FAULTS.md)."""
+    """An input isn't accepted: which one, why, and the numbers that say where (docs/FAULTS.md). Its text is the line
+    that scf prints, and a line that says what it means."""
 
     def __init__(self, source: int, kind: int, numbers: Sequence[int]):
         self.source, self.kind, self.numbers = _member(Source, source), _member(Kind, kind), tuple(numbers)
-        where = "" if self.numbers[0] == NO_ENTRY else f" {self.numbers}"
-        super().__init__(f"{_name_of(self.source)} is refused: {_name_of(self.kind)}{where}")
+        text, needed = ctypes.create_string_buffer(1024), _SIZE()
+        _lib.scf_fault_text(_Fault(source, kind, self.numbers), text, len(text), needed)
+        super().__init__(_text(text.raw[:needed.value]).rstrip("\n"))
 
 
 def _call(function: Callable[..., int], *arguments: object) -> None:
@@ -177,6 +210,16 @@ def _call(function: Callable[..., int], *arguments: object) -> None:
         raise ValueError("a number has no meaning, or there is no table")
     if status:
         raise Refused(fault.source, fault.kind, fault.numbers)
+
+
+def _outputs_of(rooms: Sequence[tuple[Any, int]], function: Callable[..., int], *arguments: object) -> list[Any]:
+    """The lists that a call hands out, each of so many elements of a type, or of more."""
+    while True:
+        lists, needed = [(kind * room)() for kind, room in rooms], [_SIZE() for _ in rooms]
+        _call(function, *arguments, *(word for room, need in zip(lists, needed) for word in (room, len(room), need)))
+        if all(need.value <= len(room) for room, need in zip(lists, needed)):
+            return [room[:need.value] for room, need in zip(lists, needed)]
+        rooms = [(kind, need.value) for (kind, _), need in zip(rooms, needed)]
 
 
 def _output_of(room: int, function: Callable[..., int], *arguments: object) -> bytes:
@@ -243,80 +286,95 @@ class Call(_CallFields):
             raise ValueError("a syscall has six arguments")
         return super().__new__(cls, nr, (*args, *(0,) * (6 - len(args))), arch, ip)
 
+    def __str__(self) -> str:
+        """In words, by the names of scf's own tables."""
+        text, needed = ctypes.create_string_buffer(512), _SIZE()
+        _lib.scf_call_text(_record(self), text, len(text), needed)
+        return text.raw[:needed.value].decode()
+
 
 def _record(call: Call) -> _Call:
     _check_type(Call, call=call)
     return _Call(call.nr, call.arch, call.ip, call.args)
 
 
+class Table(NamedTuple):
+    """A syscall table, the architecture whose syscalls it numbers, and the first number, as a call has it, that runc's
+    stub answers by ENOSYS."""
+
+    architecture: Architecture
+    text: Buffer
+    stub: int | None = None
+
+
 class Profile(NamedTuple):
-    """An OCI profile, JSON, and the table that gives its names their numbers."""
+    """An OCI profile, JSON, and how it is read. With `skip_unlisted` tables of architectures that it doesn't list are
+    skipped; else they are refused."""
 
     text: Buffer
-    table: Buffer
-
-
-class Profiles(NamedTuple):
-    """An OCI profile, JSON, and the table of each architecture that it is to speak for."""
-
-    text: Buffer
-    tables: Mapping[Architecture, Buffer]
+    reading: Reading = Reading.STRICT
+    skip_unlisted: bool = False
 
 
 class Filters(NamedTuple):
-    """Other filters, the oldest first; for compare_calls also the table of the calls."""
+    """A stack of filters, the oldest first."""
 
     filters: Sequence[Buffer]
-    table: Buffer = b""
 
 
-RightSide = Union[Profile, Filters]
+Side = Union[Profile, Filters]
 
 
 class Scope(NamedTuple):
-    """The calls that are compared: ALL, NATIVE, or those that a class method makes."""
+    """The calls that are compared: ALL, those of each architecture or syscall that has a table, one after another
+    (EACH_ARCHITECTURE, EACH_CALL), or those with a number of a range."""
 
     kind: int
+    architecture: int = 0
     first: int = 0
     last: int = 0
 
     @classmethod
-    def one_call(cls, nr: int) -> Scope:
-        """Those of x86-64 with this number."""
-        return cls(2, nr)
-
-    @classmethod
-    def numbers(cls, first: int, last: int) -> Scope:
-        """Those of x86-64 with a number of a range, both ends included."""
-        return cls(3, first, last)
+    def numbers(cls, first: int = 0, last: int = 2 ** 32 - 1, architecture: int = Architecture.X86_64) -> Scope:
+        """Those of an architecture with a number of a range, as calls have it, both ends included."""
+        return cls(1, architecture, first, last)
 
 
-ALL, NATIVE = Scope(0), Scope(1)
+ALL, EACH_ARCHITECTURE, EACH_CALL = Scope(0), Scope(2), Scope(3)
 
 
-def _profile_arguments(profile: Profile) -> tuple[object, ...]:
-    _check_type(Profile, profile=profile)
-    return *_buffer("profile.text", profile.text), *_buffer("profile.table", profile.table)
+def _profile(name: str, profile: Profile) -> _Profile:
+    _check_type(Profile, **{name: profile})
+    _check_type(Reading, **{f"{name}.reading": profile.reading})
+    return _Profile(_bytes(f"{name}.text", profile.text), profile.reading, bool(profile.skip_unlisted))
 
 
-def _profiles_arguments(profiles: Profiles) -> tuple[object, ...]:
-    _check_type(Profiles, profiles=profiles)
-    _check_type(Mapping, **{"profiles.tables": profiles.tables})
-    for architecture in profiles.tables:
-        _check_type(Architecture, **{f"profiles.tables' key {architecture!r}": architecture})
-    tables = [_Table(architecture, 0, _bytes(f"profiles.tables[{architecture!r}]", table))
-              for architecture, table in profiles.tables.items()]
-    return *_buffer("profiles.text", profiles.text), (_Table * len(tables))(*tables), len(tables)
+def _tables(tables: Sequence[Table]) -> tuple[ctypes.Array[_Table], int]:
+    _check_type(Sequence, tables=tables)
+    structs = []
+    for index, table in enumerate(tables):
+        _check_type(Table, **{f"tables[{index}]": table})
+        _check_type(Architecture, **{f"tables[{index}].architecture": table.architecture})
+        _check_bits(32, **{f"tables[{index}].stub": table.stub or 0})
+        text = _bytes(f"tables[{index}].text", table.text)
+        structs.append(_Table(text, table.architecture, table.stub is not None, table.stub or 0))
+    return (_Table * len(structs))(*structs), len(structs)
 
 
-def _sides(filters: Sequence[Buffer], right: RightSide, question: _Question) -> tuple[object, ...]:
-    if isinstance(right, Profile):
-        side = _RightSide(1, 0, None, 0, _bytes("right.text", right.text), _bytes("right.table", right.table))
-    elif isinstance(right, Filters):
-        side = _RightSide(2, 0, *_stack("right.filters", right.filters), _Bytes(), _bytes("right.table", right.table))
-    else:
-        raise TypeError(f"right must be Profile or Filters, not {type(right).__name__}")
-    return *_stack("filters", filters), side, question
+def _side(name: str, side: Side) -> _Side:
+    if isinstance(side, Profile):
+        return _Side(1, 0, None, 0, _profile(name, side))
+    if isinstance(side, Filters):
+        return _Side(2, 0, *_stack(f"{name}.filters", side.filters))
+    raise TypeError(f"{name} must be Profile or Filters, not {type(side).__name__}")
+
+
+def _question(scope: Scope, relation: Relation, limit: int, total_limit: int) -> _Question:
+    _check_type(Scope, scope=scope)
+    _check_type(Relation, relation=relation)
+    _check_bits(32, **{f"scope.{name}": number for name, number in scope._asdict().items()})
+    _check_bits(64, limit=limit, total_limit=total_limit)
+    return _Question(scope.kind, relation, *scope[1:], 0, limit, total_limit)
 
 
 # ---- results
@@ -356,17 +414,26 @@ class Trace(NamedTuple):
     path: list[int]
 
 
+class LeftOut(NamedTuple):
+    """How much of a profile isn't judged: the architectures that it lists without a table, and the names that no table
+    has, each occurrence."""
+
+    not_looked_at: int
+    skipped: int
+
+
 class ProfileAnswer(NamedTuple):
     """A profile's answer to a call, why it is this, and with ENTRY the index of the entry in `syscalls`."""
 
     answer: Answer
     reason: int
     entry: int | None
+    left_out: LeftOut
 
 
-class Comparison(NamedTuple):
-    """What a comparison comes to, and what `scf compare` prints of it. Where it FAILS, a call and both answers; where
-    it is UNDECIDED, `at` is the index of an instruction of a filter of the side, 1 or 2."""
+class Finding(NamedTuple):
+    """What a comparison comes to. Where it FAILS, a call and both answers; where it is UNDECIDED, `at` is the index of
+    an instruction of a filter of the side, 1 or 2."""
 
     verdict: int
     call: Call | None
@@ -374,30 +441,77 @@ class Comparison(NamedTuple):
     right: Answer | None
     side: int | None
     at: int | None
-    report: str
 
 
-class CallComparison(NamedTuple):
-    """What the comparison of one call comes to."""
+class RecordsFinding(NamedTuple):
+    """That on the calls of one architecture (0 of all), or of one syscall by its number, as calls have it."""
 
+    architecture: int
     nr: int
-    comparison: Comparison
+    finding: Finding
 
 
-class CallsComparison(NamedTuple):
-    """What a comparison call by call comes to, and what `scf compare --calls` prints of it."""
+class Comparison(NamedTuple):
+    """The finding on all (of several the first that fails, else the first that doesn't hold), how much of either
+    profile isn't judged, the finding on each architecture or syscall, and what `scf compare` prints of the first."""
 
-    calls: list[CallComparison]
+    finding: Finding
+    left: LeftOut
+    right: LeftOut
+    each: list[RecordsFinding]
     report: str
 
 
-def _comparison_of(result: _Comparison, report: str = "") -> Comparison:
-    verdict, call = _member(Verdict, result.verdict), result.call
+class Fact(NamedTuple):
+    """What is known of a word of calls (0 nr, 1 arch, 4 and 5 the first argument ..): of kind 1 that it lies in one of
+    such intervals, from `low` to `high`; of kind 2 that it has these bits, of kind 3 that it doesn't: `low` is the
+    mask, `high` the value."""
+
+    word: int
+    kind: int
+    low: int
+    high: int
+
+
+class Region(NamedTuple):
+    """Calls that a side answers alike, and one of them. The place is the reason and the entry of a profile, or the
+    indices of a filter and of its instruction. Calls of one that isn't exact may lie in others, too."""
+
+    answer: Answer | None
+    is_exact: bool
+    place: tuple[int, int]
+    example: Call | None
+    facts: list[Fact]
+
+
+class Listing(NamedTuple):
+    """All that a side answers, and how much of its profile isn't judged. None in place of the regions: the limit was
+    reached."""
+
+    regions: list[Region] | None
+    left_out: LeftOut
+
+
+def _call_of(call: _Call) -> Call:
+    return Call(call.nr, tuple(call.args), call.arch, call.ip)
+
+
+def _left_out(counts: _LeftOut) -> LeftOut:
+    return LeftOut(counts.not_looked_at, counts.skipped)
+
+
+def _finding(result: _Finding) -> Finding:
+    verdict = _member(Verdict, result.verdict)
     if verdict == Verdict.FAILS:
-        call = Call(call.nr, tuple(call.args), call.arch, call.ip)
-        return Comparison(verdict, call, Answer(result.left), Answer(result.right), None, None, report)
+        return Finding(verdict, _call_of(result.call), Answer(result.left), Answer(result.right), None, None)
     side, at = (result.side, result.at) if verdict == Verdict.UNDECIDED else (None, None)
-    return Comparison(verdict, None, None, None, side, at, report)
+    return Finding(verdict, None, None, None, side, at)
+
+
+def _region(region: _Region, facts: list[Fact]) -> Region:
+    place = (region.reason, region.entry) if region.reason else (region.filter, region.index)
+    return Region(Answer(region.answer) if region.is_known else None, bool(region.is_exact), place,
+                  _call_of(region.example) if region.has_example else None, facts)
 
 
 def _text(data: bytes) -> str:
@@ -450,71 +564,51 @@ def decide(filters: Sequence[Buffer], call: Call) -> Answer:
     return Answer(answer.value)
 
 
-def compile(profile: Profile) -> bytes:
-    """A filter that answers every call as the profile does."""
-    return _output_of(1 << 15, _lib.scf_compile, *_profile_arguments(profile))
+def compile(profile: Profile, tables: Sequence[Table]) -> bytes:
+    """A filter that answers every call as the profile does. KILL_PROCESS answers the calls of an architecture that has
+    no table; `ask` says of how many that the profile lists."""
+    arguments, needed, room = (_profile("profile", profile), *_tables(tables)), _SIZE(1 << 15), 0
+    while room < needed.value:
+        room = needed.value
+        filter = ctypes.create_string_buffer(room)
+        _call(_lib.scf_compile, *arguments, filter, room, needed, _LeftOut())
+    return filter.raw[:needed.value]
 
 
-def compile_architectures(profiles: Profiles) -> bytes:
-    """A filter that answers every call as the profile of its architecture does."""
-    return _output_of(1 << 15, _lib.scf_compile_architectures, *_profiles_arguments(profiles))
+def ask(profile: Profile, tables: Sequence[Table], call: Call) -> ProfileAnswer:
+    """A profile's answer to a call; its reason is FOREIGN where the call's architecture has no table."""
+    answer = _Answer()
+    _call(_lib.scf_ask, _profile("profile", profile), *_tables(tables), _record(call), answer)
+    entry = answer.entry if answer.reason == Reason.ENTRY else None
+    return ProfileAnswer(Answer(answer.answer), _member(Reason, answer.reason), entry, _left_out(answer.left_out))
 
 
-def _ask(function: Callable[..., int], profile: tuple[object, ...], call: Call) -> ProfileAnswer:
-    answer, reason = _U32(), _Reason()
-    _call(function, *profile, _record(call), answer, reason)
-    entry = reason.entry if reason.kind == Reason.ENTRY else None
-    return ProfileAnswer(Answer(answer.value), _member(Reason, reason.kind), entry)
-
-
-def ask(profile: Profile, call: Call) -> ProfileAnswer:
-    """A profile's answer to a call."""
-    return _ask(_lib.scf_ask, _profile_arguments(profile), call)
-
-
-def ask_architectures(profiles: Profiles, call: Call) -> ProfileAnswer:
-    """The same of the profile of the call's architecture; its reason is FOREIGN where that has no table."""
-    return _ask(_lib.scf_ask_architectures, _profiles_arguments(profiles), call)
-
-
-def compare(filters: Sequence[Buffer], right: RightSide, scope: Scope = ALL, relation: Relation = Relation.SAME,
-            limit: int = LIMIT) -> Comparison:
-    """Compares a stack of filters, the oldest first, with a profile or with other filters."""
-    _check_type(Scope, scope=scope)
-    _check_type(Relation, relation=relation)
-    _check_bits(32, **{f"scope.{name}": number for name, number in scope._asdict().items()})
-    _check_bits(64, limit=limit)
-    sides = _sides(filters, right, _Question(scope.kind, relation, scope.first, scope.last, limit))
+def compare(left: Side, right: Side, tables: Sequence[Table] = (), scope: Scope = ALL,
+            relation: Relation = Relation.SAME, limit: int = LIMIT, total_limit: int = 2 ** 64 - 1) -> Comparison:
+    """Compares two sides, each filters or a profile, in at most `limit` steps for each architecture or syscall, and
+    `total_limit` for all together. The tables are those of a profile on either side."""
+    arguments = (_side("left", left), _side("right", right), *_tables(tables),
+                 _question(scope, relation, limit, total_limit))
     result = _Comparison()
-    report = _output_of(1 << 13, _lib.scf_compare, *sides, result)
-    return _comparison_of(result, _text(report))
+    each, report = _outputs_of([(_RecordsFinding, 8), (ctypes.c_char, 1 << 13)], _lib.scf_compare, *arguments, result)
+    return Comparison(_finding(result.finding), _left_out(result.left), _left_out(result.right),
+                      [RecordsFinding(records.architecture, records.nr, _finding(records.finding)) for records in each],
+                      _text(report))
 
 
-def compare_architectures(filters: Sequence[Buffer], profiles: Profiles, relation: Relation = Relation.SAME,
-                          limit: int = LIMIT) -> Comparison:
-    """Compares a stack of filters, the oldest first, with a profile over the calls of all architectures that have a
-    table, each in at most `limit` steps."""
-    _check_type(Relation, relation=relation)
-    _check_bits(64, limit=limit)
-    arguments, result = (*_stack("filters", filters), *_profiles_arguments(profiles), relation, limit), _Comparison()
-    report = _output_of(1 << 13, _lib.scf_compare_architectures, *arguments, result)
-    return _comparison_of(result, _text(report))
+def answers(side: Side, tables: Sequence[Table] = (), scope: Scope = ALL, total_limit: int = LIMIT) -> Listing:
+    """All that a side answers to the calls of a scope, by regions, in at most `total_limit` steps."""
+    arguments = _side("side", side), *_tables(tables), _question(scope, Relation.SAME, LIMIT, total_limit)
+    result = _Listing()
+    regions, facts = _outputs_of([(_Region, 1024), (_Fact, 8192)], _lib.scf_answers, *arguments, result)
+    next_facts = iter([Fact(fact.word, fact.kind, fact.low, fact.high) for fact in facts])
+    listed = [_region(region, [next(next_facts) for _ in range(region.fact_count)]) for region in regions]
+    return Listing(listed if result.is_finished else None, _left_out(result.left_out))
 
 
-def compare_calls(filters: Sequence[Buffer], right: RightSide, relation: Relation = Relation.SAME, limit: int = LIMIT,
-                  total_limit: int = 2 ** 64 - 1) -> CallsComparison:
-    """Compares call by call of the table, each by itself in at most `limit` steps, and all together in at most
-    `total_limit`."""
-    _check_type(Relation, relation=relation)
-    _check_bits(64, limit=limit, total_limit=total_limit)
-    sides = _sides(filters, right, _Question(NATIVE.kind, relation, 0, 0, limit, total_limit))
-    room, calls, count = 0, (_CallComparison * 512)(), _SIZE(512)
-    while room < count.value:
-        room = count.value
-        calls = (_CallComparison * room)()
-        report = _output_of(1 << 15, _lib.scf_compare_calls, *sides, calls, room, count)
-    comparisons = [CallComparison(call.nr, _comparison_of(call.comparison)) for call in calls[:count.value]]
-    return CallsComparison(comparisons, _text(report))
+def own_tables() -> list[Table]:
+    """scf's own table of each architecture."""
+    return [Table(architecture, table(architecture)) for architecture in Architecture]
 
 
 def table(architecture: Architecture) -> bytes:

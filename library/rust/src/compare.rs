@@ -1,33 +1,43 @@
 //! Comparisons.
 
-use crate::{list_of, output, sys, Answer, Call, Error, Profile, Profiles, LIMIT};
+use crate::{list_of, outputs, sys, Answer, Architecture, Call, Error, LeftOut, Profile, Table, LIMIT};
 
-/// What filters are compared with.
+/// What is compared.
 #[derive(Clone, Copy, Debug)]
 #[non_exhaustive]
-pub enum RightSide<'a> {
+pub enum Side<'a> {
     /// A profile.
     Profile(Profile<'a>),
-    /// A profile for list_of architectures, over the calls of all that have a table.
-    Profiles(Profiles<'a>),
-    /// Other filters.
-    Filters {
-        /// The oldest first.
-        filters: &'a [&'a [u8]],
-        /// For `run_calls`: the table of the calls.
-        table: &'a [u8],
-    },
+    /// A stack of filters, the oldest first.
+    Filters(&'a [&'a [u8]]),
 }
 
-impl<'a> From<Profile<'a>> for RightSide<'a> {
+impl<'a> From<Profile<'a>> for Side<'a> {
     fn from(profile: Profile<'a>) -> Self {
-        RightSide::Profile(profile)
+        Side::Profile(profile)
     }
 }
 
-impl<'a> From<Profiles<'a>> for RightSide<'a> {
-    fn from(profiles: Profiles<'a>) -> Self {
-        RightSide::Profiles(profiles)
+impl<'a> From<&'a [&'a [u8]]> for Side<'a> {
+    fn from(filters: &'a [&'a [u8]]) -> Self {
+        Side::Filters(filters)
+    }
+}
+
+impl<'a, const N: usize> From<&'a [&'a [u8]; N]> for Side<'a> {
+    fn from(filters: &'a [&'a [u8]; N]) -> Self {
+        Side::Filters(filters)
+    }
+}
+
+impl Side<'_> {
+    pub(crate) fn with<T>(&self, call: impl FnOnce(&sys::Side) -> T) -> T {
+        let (kind, filters, profile) = match self {
+            Side::Profile(profile) => (1, vec![], *profile),
+            Side::Filters(filters) => (2, list_of(filters), Profile::new(b"")),
+        };
+        let (filters, filters_len, profile) = (filters.as_ptr(), filters.len(), profile.raw());
+        call(&sys::Side { kind, reserved: 0, filters, filters_len, profile })
     }
 }
 
@@ -35,25 +45,35 @@ impl<'a> From<Profiles<'a>> for RightSide<'a> {
 #[derive(Clone, Copy, Debug, PartialEq, Eq, Hash)]
 #[non_exhaustive]
 pub enum Scope {
-    /// All, also of other ABIs; with `Profiles` those of the architectures that have a table.
+    /// All, also of architectures that have no table.
     All,
-    /// Those of x86-64.
-    Native,
-    /// Those of x86-64 with this number.
-    OneCall(u32),
-    /// Those of x86-64 with a number of a range, both ends included.
-    Numbers(u32, u32),
+    /// Those of an architecture with a number of a range, as calls have it, both ends included.
+    Numbers(Architecture, u32, u32),
+    /// Those of each architecture that has a table, one after another.
+    EachArchitecture,
+    /// Those of each syscall of each table, one after another.
+    EachCall,
 }
 
-/// What is to hold of the filters' and the right side's answer to each call. Denied < delegated < allowed.
+pub(crate) fn question_of(scope: Scope, relation: u32, limit: u64, total_limit: u64) -> sys::Question {
+    let (scope, architecture, first, last) = match scope {
+        Scope::All => (0, 0, 0, 0),
+        Scope::Numbers(architecture, first, last) => (1, architecture as u32, first, last),
+        Scope::EachArchitecture => (2, 0, 0, 0),
+        Scope::EachCall => (3, 0, 0, 0),
+    };
+    sys::Question { scope, relation, architecture, first, last, unused: 0, limit, total_limit, reserved: [0; 2] }
+}
+
+/// What is to hold of the left and the right side's answer to each call. Denied < delegated < allowed.
 #[derive(Clone, Copy, Debug, PartialEq, Eq, Hash)]
 #[non_exhaustive]
 pub enum Relation {
     /// They are equal.
     Same = 0,
-    /// The filters' is no more permissive.
+    /// The left side's is no more permissive.
     NoMore = 1,
-    /// The filters' is no less permissive.
+    /// The left side's is no less permissive.
     NoLess = 2,
     /// Both are denied, delegated or allowed.
     SameDisposition = 3,
@@ -69,7 +89,7 @@ pub enum Verdict {
     Fails {
         /// The call.
         call: Call,
-        /// The filters' answer.
+        /// The left side's answer.
         left: Answer,
         /// The right side's answer.
         right: Answer,
@@ -81,37 +101,48 @@ pub enum Verdict {
         /// The index of an instruction.
         at: u64,
     },
-    /// The limit was reached.
+    /// A limit was reached.
     Unfinished,
+    /// Nothing was compared: no table has a syscall.
+    Nothing,
     /// One of a later library, by its number: nothing is known.
     Other(u32),
 }
 
-/// A verdict, and what `scf compare` prints of it.
-#[derive(Clone, Debug, PartialEq, Eq)]
-pub struct Comparison {
+/// The verdict on the calls of one architecture or of one syscall.
+#[derive(Clone, Copy, Debug, PartialEq, Eq)]
+pub struct RecordsFinding {
+    /// The architecture's number, 0 of all.
+    pub architecture: u32,
+    /// With `EachCall` the number, as calls have it.
+    pub nr: u32,
     /// The verdict.
     pub verdict: Verdict,
-    /// The printed lines. Names that a profile has are in it as they are.
-    pub report: Vec<u8>,
 }
 
-/// The verdicts on calls by their numbers, and what `scf compare --calls` prints of them.
+/// What a comparison comes to.
 #[derive(Clone, Debug, PartialEq, Eq)]
-pub struct CallsComparison {
-    /// Pairs of a syscall number and the verdict on it.
-    pub calls: Vec<(u32, Verdict)>,
-    /// The printed lines.
+pub struct Comparison {
+    /// The verdict on all: of several the first that fails, else the first that doesn't hold.
+    pub verdict: Verdict,
+    /// How much of a profile on the left side isn't judged.
+    pub left: LeftOut,
+    /// And of one on the right side.
+    pub right: LeftOut,
+    /// The verdict on each architecture or syscall.
+    pub each: Vec<RecordsFinding>,
+    /// What `scf compare` prints of the first. Names that a profile has are in it as they are.
     pub report: Vec<u8>,
 }
 
-/// A comparison of a stack of filters, the oldest first, with a right side: by default over all calls, whether the
-/// answers are the same, in at most [`LIMIT`] steps.
+/// A comparison of two sides: by default over all calls, whether the answers are the same, in at most [`LIMIT`] steps
+/// for each architecture or syscall.
 #[derive(Clone, Copy, Debug)]
 #[must_use]
 pub struct Compare<'a> {
-    filters: &'a [&'a [u8]],
-    right: RightSide<'a>,
+    left: Side<'a>,
+    right: Side<'a>,
+    tables: &'a [Table<'a>],
     scope: Scope,
     relation: Relation,
     limit: u64,
@@ -119,10 +150,16 @@ pub struct Compare<'a> {
 }
 
 impl<'a> Compare<'a> {
-    /// Compares these filters with that.
-    pub fn new(filters: &'a [&'a [u8]], right: impl Into<RightSide<'a>>) -> Self {
+    /// Compares the left side with the right one.
+    pub fn new(left: impl Into<Side<'a>>, right: impl Into<Side<'a>>) -> Self {
         let (scope, relation) = (Scope::All, Relation::Same);
-        Compare { filters, right: right.into(), scope, relation, limit: LIMIT, total_limit: u64::MAX }
+        let (left, right) = (left.into(), right.into());
+        Compare { left, right, tables: &[], scope, relation, limit: LIMIT, total_limit: u64::MAX }
+    }
+
+    /// The tables of a profile on either side.
+    pub fn tables(self, tables: &'a [Table<'a>]) -> Self {
+        Compare { tables, ..self }
     }
 
     /// Compares these calls.
@@ -135,84 +172,39 @@ impl<'a> Compare<'a> {
         Compare { relation, ..self }
     }
 
-    /// Takes at most so many steps: `run_calls` for each call, and over `Profiles` for each architecture.
+    /// Takes at most so many steps for each architecture or syscall.
     pub fn limit(self, limit: u64) -> Self {
         Compare { limit, ..self }
     }
 
-    /// Has `run_calls` take at most so many steps for all calls together.
+    /// Takes at most so many steps for all together.
     pub fn total_limit(self, total_limit: u64) -> Self {
         Compare { total_limit, ..self }
     }
 
-    fn question(&self) -> sys::Question {
-        let (scope, first, last) = match self.scope {
-            Scope::All => (0, 0, 0),
-            Scope::Native => (1, 0, 0),
-            Scope::OneCall(nr) => (2, nr, 0),
-            Scope::Numbers(first, last) => (3, first, last),
-        };
-        let (relation, limit, total_limit) = (self.relation as u32, self.limit, self.total_limit);
-        sys::Question { scope, relation, first, last, limit, total_limit, reserved: [0; 2] }
-    }
-
-    /// The right side of a comparison with a profile or with filters.
-    fn with_right_side<T>(&self, call: impl FnOnce(&sys::RightSide) -> Result<T, Error>) -> Result<T, Error> {
-        let (kind, beside, profile, table) = match self.right {
-            RightSide::Profile(Profile { text, table }) => (1, vec![], text, table),
-            RightSide::Filters { filters, table } => (2, list_of(filters), &[][..], table),
-            RightSide::Profiles(_) => return Err(Error::WrongArgument),
-        };
-        let (filters, filters_len) = (beside.as_ptr(), beside.len());
-        let (profile, table) = (sys::Bytes::of(profile), sys::Bytes::of(table));
-        call(&sys::RightSide { kind, reserved: 0, filters, filters_len, profile, table })
-    }
-
-    /// Compares over all calls of the scope. With `Profiles` the scope has to be `All`.
+    /// Compares.
     #[rustfmt::skip]
     pub fn run(&self) -> Result<Comparison, Error> {
-        let (left, question, mut result) = (list_of(self.filters), self.question(), sys::Comparison::default());
-        let report = match self.right {
-            RightSide::Profiles(_) if self.scope != Scope::All => Err(Error::WrongArgument),
-            RightSide::Profiles(Profiles { text, tables }) => {
-                let tables = sys::tables_of(tables);
-                output(1 << 13, |out, room, needed, fault| unsafe {
-                    sys::scf_compare_architectures(
-                        left.as_ptr(), left.len(), text.as_ptr(), text.len(), tables.as_ptr(), tables.len(),
-                        question.relation, question.limit, &mut result, out, room, needed, fault)
-                })
-            }
-            _ => self.with_right_side(|right| output(1 << 13, |out, room, needed, fault| unsafe {
-                sys::scf_compare(left.as_ptr(), left.len(), right, &question, &mut result, out, room, needed, fault)
-            })),
-        }?;
-        Ok(Comparison { verdict: verdict_of(&result), report })
-    }
-
-    /// Compares call by call of the right side's table, each by itself. The scope isn't looked at: it is that of
-    /// x86-64. With `Profiles` this is `WrongArgument`.
-    #[rustfmt::skip]
-    pub fn run_calls(&self) -> Result<CallsComparison, Error> {
-        let question = Compare { scope: Scope::Native, ..*self }.question();
-        let (left, mut report) = (list_of(self.filters), vec![]);
-        let calls = self.with_right_side(|right| output(512, |calls, room, calls_needed, fault| {
-            let mut status = 0;
-            report = output(1 << 15, |out, out_room, needed, _| unsafe {
-                status = sys::scf_compare_calls(
-                    left.as_ptr(), left.len(), right, &question, calls, room, calls_needed, out, out_room, needed,
-                    fault);
-                0
+        let question = question_of(self.scope, self.relation as u32, self.limit, self.total_limit);
+        let (tables, mut result) = (sys::tables_of(self.tables), sys::Comparison::default());
+        let (each, report) = self.left.with(|left| self.right.with(|right| {
+            outputs(8, 1 << 13, |each, each_room, each_needed, out, room, needed, fault| unsafe {
+                sys::scf_compare(
+                    left, right, tables.as_ptr(), tables.len(), &question, &mut result, each, each_room, each_needed,
+                    out, room, needed, fault)
             })
-            .unwrap_or_default();
-            status
         }))?;
-        let calls = calls.iter().map(|call: &sys::CallComparison| (call.nr, verdict_of(&call.comparison))).collect();
-        Ok(CallsComparison { calls, report })
+        let each = each.iter().map(|of: &sys::RecordsFinding| RecordsFinding {
+            architecture: of.architecture, nr: of.nr, verdict: verdict_of(&of.finding),
+        });
+        let (left, right) = (result.left.into(), result.right.into());
+        Ok(Comparison { verdict: verdict_of(&result.finding), left, right, each: each.collect(), report })
     }
 }
 
-fn verdict_of(result: &sys::Comparison) -> Verdict {
+fn verdict_of(result: &sys::Finding) -> Verdict {
     match result.verdict {
+        0 => Verdict::Nothing,
         1 => Verdict::Holds,
         2 => Verdict::Fails { call: result.call, left: Answer(result.left), right: Answer(result.right) },
         3 => Verdict::Undecided { side: result.side, at: result.at },

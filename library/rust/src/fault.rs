@@ -1,5 +1,6 @@
 //! Why a call failed.
 
+use crate::sys;
 use std::fmt;
 
 /// An enum of numbers of scf.h, each with a name of `docs/FAULTS.md`, and one for those of a later library.
@@ -19,6 +20,16 @@ macro_rules! numbers {
             fn from(number: u32) -> $name {
                 const ALL: &[$name] = &[$($name::$variant),*];
                 ALL.get((number as usize).wrapping_sub(1)).copied().unwrap_or($name::Other(number))
+            }
+        }
+
+        impl From<$name> for u32 {
+            fn from(name: $name) -> u32 {
+                const ALL: &[$name] = &[$($name::$variant),*];
+                match (name, ALL.iter().position(|&one| one == name)) {
+                    ($name::Other(number), _) => number,
+                    (_, place) => place.map_or(0, |place| place as u32 + 1),
+                }
             }
         }
     };
@@ -50,13 +61,15 @@ pub struct Fault {
     pub numbers: [u64; 3],
 }
 
+/// The line that scf prints, and a line of what that means.
 impl fmt::Display for Fault {
     fn fmt(&self, f: &mut fmt::Formatter<'_>) -> fmt::Result {
-        write!(f, "{:?} is refused: {:?}", self.source, self.kind)?;
-        match self.numbers {
-            [NO_ENTRY, ..] => Ok(()),
-            [first, second, third] => write!(f, " ({first}, {second}, {third})"),
-        }
+        let (source, kind) = (self.source.into(), self.kind.into());
+        let fault = sys::Fault { source, kind, numbers: self.numbers, reserved: [0; 4] };
+        let (mut text, mut needed) = (vec![0; 1024], 0);
+        unsafe { sys::scf_fault_text(&fault, text.as_mut_ptr(), text.len(), &mut needed) };
+        text.truncate(needed);
+        f.write_str(String::from_utf8_lossy(&text).trim_end())
     }
 }
 

@@ -4,12 +4,13 @@
 //! its arguments and may be called in any number of threads.
 //!
 //! ```no_run
-//! use scf::{Architecture, Compare, Profile, Scope, Verdict};
+//! use scf::{Compare, Profile, Reading, Scope, Verdict};
 //!
-//! let (filter, json) = (std::fs::read("box.bpf")?, std::fs::read("box.json")?);
-//! let profile = Profile { text: &json, table: scf::table(Architecture::X86_64) };
-//! let compared = Compare::new(&[&filter], profile).scope(Scope::Native).run()?;
-//! assert_eq!(compared.verdict, Verdict::Holds);
+//! let (filter, json) = (std::fs::read("box.bpf")?, std::fs::read("config.json")?);
+//! let profile = Profile { reading: Reading::Runc, skip_unlisted: true, ..Profile::new(&json) };
+//! let (filters, tables): (&[&[u8]], _) = (&[&filter], scf::own_tables());
+//! let compared = Compare::new(filters, profile).tables(&tables).scope(Scope::EachArchitecture).run()?;
+//! assert_eq!((compared.verdict, compared.right.not_looked_at), (Verdict::Holds, 0));
 //! # Ok::<(), Box<dyn std::error::Error>>(())
 //! ```
 #![warn(missing_docs)]
@@ -19,8 +20,8 @@ mod compare;
 mod fault;
 mod sys;
 
-pub use answer::{Action, Answer, Reason};
-pub use compare::{CallsComparison, Compare, Comparison, Relation, RightSide, Scope, Verdict};
+pub use answer::{answers, Action, Answer, Fact, LeftOut, Listing, Place, ProfileAnswer, Reason, Region};
+pub use compare::{Compare, Comparison, RecordsFinding, Relation, Scope, Side, Verdict};
 pub use fault::{Error, Fault, Kind, Source, NO_ENTRY};
 use sys::Bytes;
 
@@ -44,13 +45,50 @@ pub struct Call {
     pub args: [u64; 6],
 }
 
-/// An OCI profile.
+/// An OCI profile, and how it is read.
 #[derive(Clone, Copy, Debug)]
 pub struct Profile<'a> {
     /// JSON.
     pub text: &'a [u8],
-    /// The table that gives the profile's names their numbers.
-    pub table: &'a [u8],
+    /// How it is read.
+    pub reading: Reading,
+    /// Skip the tables of architectures that it doesn't list; else they are refused.
+    pub skip_unlisted: bool,
+}
+
+/// How a profile is read: by its words, or as a runtime reads it that hands it to libseccomp.
+#[derive(Clone, Copy, Debug, PartialEq, Eq, Hash)]
+#[non_exhaustive]
+pub enum Reading {
+    /// By its words.
+    Strict = 0,
+    /// As runc does.
+    Runc = 1,
+    /// As crun does.
+    Crun = 2,
+}
+
+impl<'a> Profile<'a> {
+    /// Read by its words; tables of architectures that it doesn't list are refused.
+    pub fn new(text: &'a [u8]) -> Self {
+        Profile { text, reading: Reading::Strict, skip_unlisted: false }
+    }
+
+    fn raw(&self) -> sys::Profile {
+        let (reading, flags) = (self.reading as u32, self.skip_unlisted as u32);
+        sys::Profile { text: Bytes::of(self.text), reading, flags, reserved: [0; 2] }
+    }
+}
+
+/// A syscall table.
+#[derive(Clone, Copy, Debug)]
+pub struct Table<'a> {
+    /// The architecture whose syscalls it numbers.
+    pub architecture: Architecture,
+    /// A line for each name.
+    pub text: &'a [u8],
+    /// The first number, as calls have it, that runc's stub answers by ENOSYS.
+    pub stub: Option<u32>,
 }
 
 /// Whose syscalls a table numbers.
@@ -81,13 +119,14 @@ impl Architecture {
     }
 }
 
-/// An OCI profile for several architectures.
-#[derive(Clone, Copy, Debug)]
-pub struct Profiles<'a> {
-    /// JSON.
-    pub text: &'a [u8],
-    /// The tables of the architectures that it is to speak for: one or more, at most one for each.
-    pub tables: &'a [(Architecture, &'a [u8])],
+/// In words, by the names of scf's own tables: `socket(0x2, 0x1, 0x0, 0x0, 0x0, 0x0) of x86-64`.
+impl std::fmt::Display for Call {
+    fn fmt(&self, f: &mut std::fmt::Formatter<'_>) -> std::fmt::Result {
+        let (mut text, mut needed) = (vec![0; 512], 0);
+        unsafe { sys::scf_call_text(self, text.as_mut_ptr(), text.len(), &mut needed) };
+        text.truncate(needed);
+        f.write_str(&String::from_utf8_lossy(&text))
+    }
 }
 
 /// Makes a call of the library; an error says why it failed.
@@ -116,6 +155,25 @@ fn output<T: Copy + Default>(
             return Ok(list);
         }
         list.resize(needed, T::default());
+    }
+}
+
+/// The two lists that a call hands out.
+fn outputs<T: Copy + Default, U: Copy + Default>(
+    first_room: usize,
+    room: usize,
+    mut call: impl FnMut(*mut T, usize, &mut usize, *mut U, usize, &mut usize, &mut sys::Fault) -> u32,
+) -> Result<(Vec<T>, Vec<U>), Error> {
+    let (mut firsts, mut first_needed) = (vec![T::default(); first_room], 0);
+    loop {
+        let list = output(room, |at, room, needed, fault| {
+            call(firsts.as_mut_ptr(), firsts.len(), &mut first_needed, at, room, needed, fault)
+        })?;
+        if first_needed <= firsts.len() {
+            firsts.truncate(first_needed);
+            return Ok((firsts, list));
+        }
+        firsts.resize(first_needed, T::default());
     }
 }
 
@@ -176,51 +234,29 @@ pub fn decide(filters: &[&[u8]], call: &Call) -> Result<Answer, Error> {
     Ok(Answer(answer))
 }
 
-/// A filter that answers every call as the profile does.
-pub fn compile(profile: &Profile) -> Result<Vec<u8>, Error> {
-    let Profile { text, table } = *profile;
-    output(1 << 15, |out, room, needed, fault| unsafe {
-        sys::scf_compile(text.as_ptr(), text.len(), table.as_ptr(), table.len(), out, room, needed, fault)
-    })
+/// A filter that answers every call as the profile does, and how much of that isn't judged: KILL_PROCESS answers the
+/// calls of architectures that have no table.
+pub fn compile(profile: &Profile, tables: &[Table]) -> Result<(Vec<u8>, LeftOut), Error> {
+    let (profile, tables, mut left_out) = (profile.raw(), sys::tables_of(tables), sys::LeftOut::default());
+    let filter = output(1 << 15, |out, room, needed, fault| unsafe {
+        sys::scf_compile(&profile, tables.as_ptr(), tables.len(), out, room, needed, &mut left_out, fault)
+    })?;
+    Ok((filter, left_out.into()))
 }
 
-/// A filter that answers every call as the profile of its architecture does.
-pub fn compile_architectures(profiles: &Profiles) -> Result<Vec<u8>, Error> {
-    let (text, tables) = (profiles.text, sys::tables_of(profiles.tables));
-    output(1 << 15, |out, room, needed, fault| unsafe {
-        let (tables, count) = (tables.as_ptr(), tables.len());
-        sys::scf_compile_architectures(text.as_ptr(), text.len(), tables, count, out, room, needed, fault)
-    })
+/// A profile's answer to a call; the reason is `Foreign` where the call's architecture has no table.
+pub fn ask(profile: &Profile, tables: &[Table], call: &Call) -> Result<ProfileAnswer, Error> {
+    let (profile, tables, mut answer) = (profile.raw(), sys::tables_of(tables), sys::Answer::default());
+    invoke(|fault| unsafe { sys::scf_ask(&profile, tables.as_ptr(), tables.len(), call, &mut answer, fault) })?;
+    let reason = Reason::of(answer.reason, answer.entry);
+    Ok(ProfileAnswer { answer: Answer(answer.answer), reason, left_out: answer.left_out.into() })
 }
 
-/// The answer and the reason that a call hands out.
-fn answer_of(call: impl FnOnce(&mut u32, &mut sys::Reason, &mut sys::Fault) -> u32) -> Result<(Answer, Reason), Error> {
-    let (mut answer, mut reason) = (0, sys::Reason::default());
-    invoke(|fault| call(&mut answer, &mut reason, fault))?;
-    let reason = match reason.kind {
-        1 => Reason::Default,
-        2 => Reason::Entry(reason.entry),
-        3 => Reason::Foreign,
-        other => Reason::Other(other),
-    };
-    Ok((Answer(answer), reason))
-}
-
-/// A profile's answer to a call, and why it is this.
-pub fn ask(profile: &Profile, call: &Call) -> Result<(Answer, Reason), Error> {
-    let Profile { text, table } = *profile;
-    answer_of(|answer, reason, fault| unsafe {
-        sys::scf_ask(text.as_ptr(), text.len(), table.as_ptr(), table.len(), call, answer, reason, fault)
-    })
-}
-
-/// The same of the profile of the call's architecture; the reason is `Foreign` where that has no table.
-pub fn ask_architectures(profiles: &Profiles, call: &Call) -> Result<(Answer, Reason), Error> {
-    let (text, tables) = (profiles.text, sys::tables_of(profiles.tables));
-    answer_of(|answer, reason, fault| unsafe {
-        let (tables, count) = (tables.as_ptr(), tables.len());
-        sys::scf_ask_architectures(text.as_ptr(), text.len(), tables, count, call, answer, reason, fault)
-    })
+/// scf's own tables of all architectures.
+pub fn own_tables() -> Vec<Table<'static>> {
+    use Architecture::*;
+    let own = |architecture| Table { architecture, text: table(architecture), stub: None };
+    [X86_64, X86, X32, Aarch64, Arm].map(own).to_vec()
 }
 
 /// The syscall table that scf has of an architecture. Its first line says of which kernel it is.

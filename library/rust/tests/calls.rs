@@ -1,9 +1,9 @@
 //! Each call once, and what refuses it. The answers are those of linux/seccomp.h and of the OCI specification.
 
 use scf::{
-    ask, ask_architectures, assemble, check, compile, compile_architectures, decide, list, load, run, table, trace,
-    version, Action, Answer, Architecture, Call, Compare, Error, Fault, Kind, Profile, Profiles, Reason, Relation,
-    RightSide, Scope, Source, Verdict, NO_ENTRY,
+    answers, ask, assemble, check, compile, decide, list, load, own_tables, run, table, trace, version, Action, Answer,
+    Architecture, Call, Compare, Error, Fault, Kind, LeftOut, Place, Profile, ProfileAnswer, Reading, Reason, Relation,
+    Scope, Source, Table, Verdict, NO_ENTRY,
 };
 
 const ALLOW: [u8; 8] = [6, 0, 0, 0, 0, 0, 0xff, 0x7f];
@@ -16,8 +16,11 @@ const RET_EPERM: Answer = Answer(0x0005_0001);
 const X86_64: u32 = 0xc000_003e;
 const PROFILE: Profile = Profile {
     text: br#"{"defaultAction": "SCMP_ACT_ERRNO", "syscalls": [{"names": ["read"], "action": "SCMP_ACT_ALLOW"}]}"#,
-    table: b"read 0\nwrite 1\n",
+    reading: Reading::Strict,
+    skip_unlisted: false,
 };
+const NATIVE: Table = Table { architecture: Architecture::X86_64, text: b"read 0\nwrite 1\n", stub: None };
+const NOTHING: LeftOut = LeftOut { not_looked_at: 0, skipped: 0 };
 
 fn refused<T>(source: Source, kind: Kind, numbers: [u64; 3]) -> Result<T, Error> {
     Err(Error::Refused(Fault { source, kind, numbers }))
@@ -46,75 +49,126 @@ fn texts() {
     assert_eq!(assemble(&list(&DENY).unwrap()), Ok(DENY.to_vec()));
 }
 
+fn answered(answer: Answer, reason: Reason) -> Result<ProfileAnswer, Error> {
+    Ok(ProfileAnswer { answer, reason, left_out: NOTHING })
+}
+
 #[test]
 fn profiles() {
-    assert_eq!(ask(&PROFILE, &call(0)), Ok((RET_ALLOW, Reason::Entry(0))));
-    assert_eq!(ask(&PROFILE, &call(1)), Ok((RET_EPERM, Reason::Default)));
-    assert_eq!(ask(&PROFILE, &Call::default()), Ok((Answer(0x8000_0000), Reason::Foreign)));
-    let empty = Profile { text: b"{}", table: b"" };
-    assert_eq!(compile(&empty), refused(Source::Profile, Kind::Missing, [NO_ENTRY, 0, 0]));
-    let filter = compile(&PROFILE).unwrap();
-    let compared = Compare::new(&[&filter], PROFILE).run().unwrap();
+    let tables = [NATIVE];
+    assert_eq!(ask(&PROFILE, &tables, &call(0)), answered(RET_ALLOW, Reason::Entry(0)));
+    assert_eq!(ask(&PROFILE, &tables, &call(1)), answered(RET_EPERM, Reason::Default));
+    assert_eq!(ask(&PROFILE, &tables, &Call::default()), answered(Answer(0x8000_0000), Reason::Foreign));
+    let empty = Profile::new(b"{}");
+    assert_eq!(compile(&empty, &tables), refused(Source::Profile, Kind::Missing, [NO_ENTRY, 0, 0]));
+    let (filter, left_out) = compile(&PROFILE, &tables).unwrap();
+    let filters: &[&[u8]] = &[&filter];
+    let compared = Compare::new(filters, PROFILE).tables(&tables).run().unwrap();
     assert_eq!((compared.verdict, compared.report.as_slice()), (Verdict::Holds, b"same\n".as_slice()));
+    assert_eq!((left_out, compared.each.len()), (NOTHING, 1));
+}
+
+/// A runtime leaves out the entry whose answer is the default's; the stub answers from 1 on.
+#[test]
+fn readings() {
+    let text = br#"{"defaultAction": "SCMP_ACT_ERRNO", "syscalls": [
+        {"names": ["write"], "action": "SCMP_ACT_ALLOW"}, {"names": ["write"], "action": "SCMP_ACT_ERRNO"}]}"#;
+    let strict = Profile::new(text);
+    assert_eq!(compile(&strict, &[NATIVE]), refused(Source::Profile, Kind::Conflict, [1, 0, 1]));
+    for reading in [Reading::Runc, Reading::Crun] {
+        let profile = Profile { reading, ..strict };
+        assert_eq!(ask(&profile, &[NATIVE], &call(1)), answered(RET_ALLOW, Reason::Entry(0)));
+        let stubbed = [Table { stub: Some(1), ..NATIVE }];
+        assert_eq!(ask(&profile, &stubbed, &call(1)), answered(Answer(0x0005_0026), Reason::Stub));
+    }
 }
 
 #[test]
 fn comparisons() {
-    let filters: &[&[u8]] = &[&ALLOW];
-    let allow = Compare::new(filters, PROFILE);
+    let (filters, tables): (&[&[u8]], _) = (&[&ALLOW], [NATIVE]);
+    let allow = Compare::new(filters, PROFILE).tables(&tables);
     let verdict = |compare: Compare| compare.run().map(|compared| compared.verdict);
-    assert_eq!(verdict(allow.scope(Scope::OneCall(0))), Ok(Verdict::Holds));
-    assert_eq!(verdict(allow.scope(Scope::Native).relation(Relation::NoLess)), Ok(Verdict::Holds));
-    match verdict(allow.scope(Scope::Numbers(1, 1)).relation(Relation::NoMore)) {
+    let numbers = |first, last| Scope::Numbers(Architecture::X86_64, first, last);
+    assert_eq!(verdict(allow.scope(numbers(0, 0))), Ok(Verdict::Holds));
+    assert_eq!(verdict(allow.scope(Scope::EachArchitecture).relation(Relation::NoLess)), Ok(Verdict::Holds));
+    match verdict(allow.scope(numbers(1, 1)).relation(Relation::NoMore)) {
         Ok(Verdict::Fails { call, left, right }) => {
             assert_eq!((call.nr, call.arch, left, right), (1, X86_64, RET_ALLOW, RET_EPERM))
         }
         other => panic!("{other:?}"),
     }
     assert_eq!(verdict(allow.limit(0)), Ok(Verdict::Unfinished));
+    assert_eq!(verdict(allow.scope(numbers(1, 0))), Err(Error::WrongArgument));
     let unknown: Vec<u8> = UNKNOWN.iter().flat_map(|instruction| instruction.to_le_bytes()).collect();
-    let undecided = Compare::new(&[&unknown], PROFILE).scope(Scope::OneCall(1)).run().unwrap().verdict;
-    assert_eq!(undecided, Verdict::Undecided { side: 1, at: 8 });
-    let both = RightSide::Filters { filters: &[&ALLOW, &DENY], table: PROFILE.table };
-    let deny = Compare::new(&[&DENY], both);
-    assert_eq!(verdict(deny.relation(Relation::SameDisposition)), Ok(Verdict::Holds));
-    let compared = allow.run_calls().unwrap();
-    assert!(matches!(compared.calls[..], [(0, Verdict::Holds), (1, Verdict::Fails { .. })]));
-    assert!(compared.report.starts_with(b"differs\n1 write differs "));
-    assert_eq!(deny.run_calls().unwrap().report, b"same\n");
-    let none = allow.total_limit(0).run_calls().unwrap();
-    assert!(none.calls.iter().all(|&(_, verdict)| verdict == Verdict::Unfinished));
-    let cut = RightSide::Filters { filters: &[&[6]], table: b"" };
-    assert_eq!(Compare::new(&[], cut).run(), refused(Source::Beside, Kind::Truncated, [0; 3]));
+    let undecided: &[&[u8]] = &[&unknown];
+    let undecided = Compare::new(undecided, PROFILE).tables(&tables).scope(numbers(1, 1)).run().unwrap();
+    assert_eq!(undecided.verdict, Verdict::Undecided { side: 1, at: 8 });
+    let (deny, both): (&[&[u8]], &[&[u8]]) = (&[&DENY], &[&ALLOW, &DENY]);
+    assert_eq!(verdict(Compare::new(deny, both).relation(Relation::SameDisposition)), Ok(Verdict::Holds));
+    let compared = allow.scope(Scope::EachCall).run().unwrap();
+    let each: Vec<_> = compared.each.iter().map(|own| (own.architecture, own.nr, own.verdict)).collect();
+    assert!(matches!(each[..], [(1, 0, Verdict::Holds), (1, 1, Verdict::Fails { .. })]));
+    let none = allow.scope(Scope::EachCall).total_limit(0).run().unwrap();
+    assert!(none.each.iter().all(|own| own.verdict == Verdict::Unfinished));
+    let (nothing, cut): (&[&[u8]], &[&[u8]]) = (&[], &[&[6]]);
+    assert_eq!(Compare::new(nothing, cut).run(), refused(Source::Beside, Kind::Truncated, [0; 3]));
+    assert_eq!(verdict(Compare::new(nothing, nothing).scope(Scope::EachCall)), Ok(Verdict::Nothing));
+}
+
+#[test]
+fn regions() {
+    let numbers = Scope::Numbers(Architecture::X86_64, 0, 1);
+    let listing = answers(PROFILE.into(), &[NATIVE], numbers, 1000).unwrap();
+    let regions = listing.regions.unwrap();
+    assert_eq!((regions.len(), listing.left_out), (2, NOTHING));
+    for region in &regions {
+        let asked = ask(&PROFILE, &[NATIVE], &region.example.unwrap()).unwrap();
+        assert_eq!((region.answer, region.place), (Some(asked.answer), Place::Profile(asked.reason)));
+        assert!(region.is_exact && !region.facts.is_empty());
+    }
+    assert_eq!(answers(PROFILE.into(), &[NATIVE], Scope::All, 0).unwrap().regions, None);
 }
 
 #[test]
 fn architectures() {
     const I386: u32 = Architecture::X86.audit();
-    let text = br#"{"defaultAction": "SCMP_ACT_ERRNO", "architectures": ["SCMP_ARCH_X86_64", "SCMP_ARCH_X86"],
-        "syscalls": [{"names": ["read"], "action": "SCMP_ACT_ALLOW"}]}"#;
-    let native = (Architecture::X86_64, &b"read 0\n"[..]);
-    let both = Profiles { text, tables: &[native, (Architecture::X86, b"read 3\n")] };
-    let asked = |nr, arch| ask_architectures(&both, &Call { nr, arch, ..Call::default() });
-    assert_eq!(asked(0, X86_64), Ok((RET_ALLOW, Reason::Entry(0))));
-    assert_eq!(asked(3, I386), Ok((RET_ALLOW, Reason::Entry(0))));
-    assert_eq!(asked(0, I386), Ok((RET_EPERM, Reason::Default)));
-    assert_eq!(asked(1 << 30, X86_64), Ok((Answer(0x8000_0000), Reason::Foreign)));
-    let compared = |filter: &[u8]| Compare::new(&[filter], both).run().unwrap();
-    let result = compared(&compile_architectures(&both).unwrap());
+    let profile = Profile::new(
+        br#"{"defaultAction": "SCMP_ACT_ERRNO", "architectures": ["SCMP_ARCH_X86_64", "SCMP_ARCH_X86"],
+        "syscalls": [{"names": ["read"], "action": "SCMP_ACT_ALLOW"}]}"#,
+    );
+    let native = Table { text: b"read 0\n", ..NATIVE };
+    let both = [native, Table { architecture: Architecture::X86, text: b"read 3\n", stub: None }];
+    let asked = |nr, arch| ask(&profile, &both, &Call { nr, arch, ..Call::default() });
+    assert_eq!(asked(0, X86_64), answered(RET_ALLOW, Reason::Entry(0)));
+    assert_eq!(asked(3, I386), answered(RET_ALLOW, Reason::Entry(0)));
+    assert_eq!(asked(0, I386), answered(RET_EPERM, Reason::Default));
+    assert_eq!(asked(1 << 30, X86_64), answered(Answer(0x8000_0000), Reason::Foreign));
+    let compared = |filter: &[u8]| {
+        let filters: &[&[u8]] = &[filter];
+        Compare::new(filters, profile).tables(&both).scope(Scope::EachArchitecture).run().unwrap()
+    };
+    let result = compared(&compile(&profile, &both).unwrap().0);
     assert_eq!((result.verdict, result.report.as_slice()), (Verdict::Holds, b"same\n".as_slice()));
-    let one = compile_architectures(&Profiles { text, tables: &[native] }).unwrap();
+    let (one, left_out) = compile(&profile, &[native]).unwrap();
+    assert_eq!(left_out, LeftOut { not_looked_at: 1, skipped: 0 });
     assert!(matches!(compared(&one).verdict, Verdict::Fails { call: Call { arch: I386, .. }, .. }));
-    assert_eq!(Compare::new(&[&one], both).scope(Scope::Native).run(), Err(Error::WrongArgument));
-    assert_eq!(Compare::new(&[&one], both).run_calls(), Err(Error::WrongArgument));
-    let compiled = |tables: &[_]| compile_architectures(&Profiles { text, tables });
-    assert_eq!(compiled(&[native, (Architecture::Arm, b"")]), refused(Source::Profile, Kind::NotListed, [1, 0, 0]));
-    assert_eq!(compiled(&[native, native]), Err(Error::WrongArgument));
-    assert_eq!(compiled(&[]), Err(Error::WrongArgument));
+    let arm = Table { architecture: Architecture::Arm, text: b"", stub: None };
+    assert_eq!(compile(&profile, &[native, arm]), refused(Source::Profile, Kind::NotListed, [1, 0, 0]));
+    let skipping = Profile { skip_unlisted: true, ..profile };
+    assert_eq!(ask(&skipping, &own_tables(), &call(0)), answered(RET_ALLOW, Reason::Entry(0)));
+    assert_eq!(compile(&profile, &[native, native]), Err(Error::WrongArgument));
+    assert_eq!(compile(&profile, &[]), Err(Error::WrongArgument));
 }
 
 #[test]
-fn answers() {
+fn fault_texts() {
+    let fault = Fault { source: Source::Profile, kind: Kind::Conflict, numbers: [308, 1, 10] };
+    assert!(fault.to_string().starts_with("fault profile Conflict number 308 first 1 second 10\nTwo entries, "));
+    assert_eq!(Fault { source: Source::Other(99), ..fault }.to_string(), "");
+}
+
+#[test]
+fn texts_of_answers() {
     assert_eq!((RET_EPERM.action(), RET_EPERM.data(), RET_EPERM.to_string()), (Action::Errno, 1, "ERRNO 1".into()));
     assert_eq!(
         (RET_ALLOW.to_string(), Answer(0x7ffe_0001).to_string()),
@@ -154,7 +208,7 @@ fn a_loaded_filter() {
 fn threads() {
     std::thread::scope(|scope| {
         for _ in 0..16 {
-            scope.spawn(|| assert!(check(&compile(&PROFILE).unwrap()).is_ok()));
+            scope.spawn(|| assert!(check(&compile(&PROFILE, &[NATIVE]).unwrap().0).is_ok()));
         }
     });
 }
