@@ -14,7 +14,7 @@ import kernel_profiles
 from kernel_child import Kernel, Setting
 from kernel_programs import HARMLESS, Calls
 from scftools import bundles, client, tables
-from scftools.answers import I386, MAX_ERRNO, X86_64, Answer
+from scftools.answers import I386_NUMBER, MAX_ERRNO, X86_64, Answer
 from scftools.calls import Call
 
 # So many programs that scf refuses are handed to one child: none of them leaves anything behind.
@@ -289,7 +289,8 @@ def abilities(kernel: Kernel) -> Abilities:
     call = kernel_child.call_at(kernel_child.SITE, own, ())
     traced = kernel.ask([allow[:4] + trace], [call], Setting(traced=True)).texts
     listened = kernel.ask([allow[:4] + notify], [call], Setting(listener=0)).texts
-    return Abilities(makes(kernel_child.GATE, HARMLESS[I386]["getpid"]), makes(kernel_child.SITE, 0x40000000 + own),
+    return Abilities(makes(kernel_child.GATE, HARMLESS[I386_NUMBER]["getpid"]),
+                     makes(kernel_child.SITE, 0x40000000 + own),
                      traced != [] and traced[0].startswith("the tracer"),
                      listened != [] and listened[0].startswith("the listener"),
                      has_filters() or strange != [kernel_child.returns(-ENOSYS)] or not makes(kernel_child.SITE, own))

@@ -19,7 +19,7 @@ import time
 from collections.abc import Sequence
 from typing import NamedTuple
 
-from scftools.answers import I386, X86_64
+from scftools.answers import I386_NUMBER, X86_64
 from scftools.calls import Call
 
 # asm/unistd_64.h, linux/sched.h, linux/prctl.h, linux/seccomp.h, sys/ptrace.h
@@ -29,7 +29,9 @@ PR_SET_DUMPABLE, PR_SET_NO_NEW_PRIVS = 4, 38
 SECCOMP_SET_MODE_FILTER, SECCOMP_FILTER_FLAG_NEW_LISTENER = 1, 8
 SECCOMP_IOCTL_NOTIF_RECV, SECCOMP_IOCTL_NOTIF_SEND = 0xC0502100, 0xC0182101
 SECCOMP_USER_NOTIF_FLAG_CONTINUE = 1
-PTRACE_TRACEME, PTRACE_CONT, PTRACE_SETOPTIONS, PTRACE_GETEVENTMSG = 0, 7, 0x4200, 0x4201
+PTRACE_TRACEME, PTRACE_POKEUSER, PTRACE_CONT, PTRACE_SETOPTIONS, PTRACE_GETEVENTMSG = 0, 6, 7, 0x4200, 0x4201
+# Where the number of a call stands in struct user (sys/user.h), which -1 has the kernel skip (seccomp(2)).
+ORIG_RAX = 15 * 8
 PTRACE_O_TRACESECCOMP, PTRACE_O_EXITKILL, PTRACE_EVENT_SECCOMP = 0x80, 0x100000, 7
 WALL = 0x40000000
 SA_SIGINFO, SA_RESTORER, SA_NODEFER = 0x4, 0x04000000, 0x40000000
@@ -155,21 +157,23 @@ def is_gate(site: int) -> bool:
 
 def call_at(site: int, number: int, arguments: Sequence[int]) -> Call:
     """The call that this site makes, with the record that a filter sees of it."""
-    return Call(number, I386 if is_gate(site) else X86_64, site + 2, (*arguments, *[0] * (6 - len(arguments))))
+    return Call(number, I386_NUMBER if is_gate(site) else X86_64, site + 2, (*arguments, *[0] * (6 - len(arguments))))
 
 
 def registers(call: Call) -> tuple[int, ...]:
     """What stands in a record for a call."""
     a = call.arguments
-    if call.architecture == I386:
+    if call.architecture == I386_NUMBER:
         return (call.number, a[0], a[1], a[2], a[3], a[4], a[5], 0, 0, 0, call.pointer - 2)
     return (call.number, 0, 0, a[2], a[1], a[0], 0, a[4], a[5], a[3], call.pointer - 2)
 
 
 class Setting(NamedTuple):
-    """Who is beside the child: a tracer, or a listener of one of its filters."""
+    """Who is beside the child: a tracer, which may have the kernel skip each call that it is told of, or a listener of
+    one of its filters."""
     traced: bool = False
     listener: int | None = None
+    skips: bool = False
 
 
 class Came(NamedTuple):
@@ -265,7 +269,7 @@ class Kernel:
         signal.setitimer(signal.ITIMER_REAL, PATIENCE)
         try:
             if setting.traced:
-                status = self._traced(len(first), told)
+                status = self._traced(len(first), told, setting.skips)
             elif setting.listener is not None:
                 status = self._listened(len(first), len(first) - len(filters) + setting.listener, told)
             else:
@@ -314,11 +318,11 @@ class Kernel:
         """The place of the record whose call is being made."""
         return (self._long(CURRENT) - RECORDS) // RECORD
 
-    def _ptrace(self, request: int, data: int) -> None:
-        if self.library.ptrace(request, self.process, None, data) < 0:
+    def _ptrace(self, request: int, data: int, place: int | None = None) -> None:
+        if self.library.ptrace(request, self.process, place, data) < 0:
             raise Unavailable(f"a child can't be traced: {os.strerror(ctypes.get_errno())}")
 
-    def _traced(self, count: int, told: dict[int, str]) -> int:
+    def _traced(self, count: int, told: dict[int, str], skips: bool) -> int:
         """Lets a traced child run, and keeps what its tracer is told."""
         message = ctypes.c_ulong()
         while True:
@@ -329,6 +333,8 @@ class Kernel:
             if status >> 16 == PTRACE_EVENT_SECCOMP:
                 self._ptrace(PTRACE_GETEVENTMSG, ctypes.addressof(message))
                 told[self._place() - count] = told.get(self._place() - count, "") + tracer_told(message.value)
+                if skips:
+                    self._ptrace(PTRACE_POKEUSER, -1, ORIG_RAX)
             elif self._place() < count:
                 self._ptrace(PTRACE_SETOPTIONS, PTRACE_O_TRACESECCOMP | PTRACE_O_EXITKILL)
             else:
@@ -384,7 +390,7 @@ class Kernel:
                 break
             if state == RETURNED:
                 value = self._long(record + RESULT)
-                what = returns(signed(value % WORD, 32) if call.architecture == I386 else signed(value))
+                what = returns(signed(value % WORD, 32) if call.architecture == I386_NUMBER else signed(value))
             elif state == SIGNALLED:
                 told_by = ctypes.string_at(record + SIGINFO, SIGSYS.size)
                 data, code, pointer, number, arch = SIGSYS.unpack(told_by)

@@ -8,11 +8,11 @@ from typing import Any
 
 from kernel_child import SITE, call_at
 from kernel_programs import Calls
-from scftools.answers import X32, X86_64, Answer
+from scftools.answers import FIRST_X32, X86_64, Answer
 from scftools.calls import Call
 
 # Numbers that no kernel has, and calls that do nothing.
-TABLE = {**{f"t{number}": number for number in (*range(400000, 400012), 500000, 0x10000, X32 - 1, 1000)},
+TABLE = {**{f"t{number}": number for number in (*range(400000, 400012), 500000, 0x10000, FIRST_X32 - 1, 1000)},
          "t400003_too": 400003, "getpid": 39, "getppid": 110, "gettid": 186}
 ACTIONS = ("ALLOW", "ALLOW", "ERRNO", "ERRNO", "ERRNO", "TRAP", "TRACE", "NOTIFY", "LOG", "KILL", "KILL_THREAD",
            "KILL_PROCESS")
@@ -45,7 +45,7 @@ def answer_named(action: str, errno: int | None) -> Answer:
 
 def answer_of(profile: bytes, call: Call) -> Answer:
     """What the profile says of a call: a foreign one ends the process, others have an entry's answer or the default."""
-    if call.architecture != X86_64 or call.number >= X32:
+    if call.architecture != X86_64 or call.number >= FIRST_X32:
         return Answer("KILL_PROCESS", 0)
     said = json.loads(profile)
     for entry in said["syscalls"]:

@@ -7,7 +7,7 @@ from collections.abc import Iterator, Sequence
 from typing import NamedTuple
 
 from kernel_child import NR_SECCOMP, SITE, SITES, call_at, is_gate
-from scftools.answers import I386, X86_64
+from scftools.answers import I386_NUMBER, X86_64
 from scftools.calls import Call
 from scftools.values import replace
 
@@ -31,8 +31,9 @@ KILL_PROCESS, KILL_THREAD, TRAP, ERRNO = 0x80000000, 0x00000000, 0x00030000, 0x0
 USER_NOTIF, TRACE, LOG, ALLOW = 0x7FC00000, 0x7FF00000, 0x7FFC0000, 0x7FFF0000
 UNNAMED = (0x00010000, 0x00040000, 0x0FFF0000, 0x7FFE0000, 0x80010000, 0xC0000000, 0xFFFF0000)
 DATA = (0, 1, 2, 13, 38, 4094, 4095, 4096, 4097, 0x7FFF, 0x8000, 0xFFFF)
-# Calls that do nothing wherever they are let through: those of a process's own numbers, and numbers that no kernel has.
-HARMLESS = {X86_64: {"getpid": 39, "getppid": 110, "gettid": 186}, I386: {"getpid": 20, "getppid": 64, "gettid": 224}}
+# Calls that do nothing wherever they are allowed: those of a process's own numbers, and numbers that no kernel has.
+HARMLESS = {X86_64: {"getpid": 39, "getppid": 110, "gettid": 186},
+            I386_NUMBER: {"getpid": 20, "getppid": 64, "gettid": 224}}
 UNUSED, X32 = 1000, 0x40000000
 NUMBERS = (39, 110, 186, 20, 64, 224, UNUSED, UNUSED + 1, 0xFFFF, 0x10000, 400000, 400001, 400007, X32 - 1, X32,
            X32 + UNUSED, 0x7FFFFFFF, 0x800003E8, 0xFFFFFFFF)
@@ -186,7 +187,7 @@ class Maker:
         if self.word == 0:
             return (choose(NUMBERS) + about) % WORD
         if self.word == 1:
-            return (choose((X86_64, X86_64, I386)) + about) % WORD
+            return (choose((X86_64, X86_64, I386_NUMBER)) + about) % WORD
         if self.word < 4:
             pointer = choose(tuple(SITES)) + 2
             return ((pointer >> 32 if self.word == 3 else pointer) + about) % WORD
@@ -279,9 +280,9 @@ def random_filter(random_of: random.Random, begin: Sequence[Insn] = ()) -> list[
 def i386_filter(random_of: random.Random) -> list[Insn]:
     """A filter for i386 syscalls, as compilers make them: rules of numbers, with tests of halves of arguments."""
     maker = Maker(random_of, 1)
-    program = [Insn(LD_WORD, 4), Insn(JEQ, I386, 1, 0), Insn(RET, maker.answer())]
+    program = [Insn(LD_WORD, 4), Insn(JEQ, I386_NUMBER, 1, 0), Insn(RET, maker.answer())]
     for _ in range(random_of.randint(1, 8)):
-        number = random_of.choice((*HARMLESS[I386].values(), *NUMBERS))
+        number = random_of.choice((*HARMLESS[I386_NUMBER].values(), *NUMBERS))
         tests = [(4 * random_of.randrange(4, WORDS), random_of.choice(TESTS), random_of.choice((*CORNERS, *maker.pool)))
                  for _ in range(random_of.choice((0, 1, 1, 2, 3)))]
         program += [Insn(LD_WORD, 0), Insn(JEQ, number, 0, 2 * len(tests) + 1)]
@@ -362,14 +363,14 @@ def constants(stack: Sequence[Sequence[Insn]]) -> dict[int, set[int]]:
 
 
 class Calls:
-    """Makes calls that do nothing where they are let through: on this kernel, with or without these."""
+    """Makes calls that do nothing where they are allowed: on this kernel, with or without these."""
 
     def __init__(self, i386: bool, x32: bool) -> None:
         self.sites = [site for site in SITES if i386 or not is_gate(site)]
         self.x32 = x32
 
     def does_nothing(self, site: int, number: int) -> bool:
-        arch = I386 if is_gate(site) else X86_64
+        arch = I386_NUMBER if is_gate(site) else X86_64
         if number in HARMLESS[arch].values() or number % X32 >= UNUSED:
             return True
         return number >= X32 and arch == X86_64 and not self.x32
@@ -381,7 +382,7 @@ class Calls:
     def one(self, random_of: random.Random, known: dict[int, set[int]]) -> Call:
         choose = random_of.choice
         site = self.site(random_of)
-        arch = I386 if is_gate(site) else X86_64
+        arch = I386_NUMBER if is_gate(site) else X86_64
 
         def word(place: int) -> int:
             own = sorted(known.get(place, known[-1]) if random_of.random() < 0.7 else known[-1])

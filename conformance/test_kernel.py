@@ -8,8 +8,10 @@ import random
 import re
 import shutil
 import struct
+import subprocess
 import sys
 import unittest
+from unittest import mock
 
 HERE = os.path.dirname(os.path.abspath(__file__))
 TOOLS = os.path.join(os.path.dirname(HERE), "tools")
@@ -20,8 +22,10 @@ import kernel_child  # noqa: E402
 import kernel_exceptions  # noqa: E402
 import kernel_profiles  # noqa: E402
 import kernel_programs as programs  # noqa: E402
+import kernel_regions  # noqa: E402
 from kernel_child import Setting  # noqa: E402
-from scftools.answers import DENIED, X86_64, Answer  # noqa: E402
+from scftools import filter_loads, regions, strace  # noqa: E402
+from scftools.answers import ALLOW as ALLOWED, DENIED, I386_NUMBER, X86_64, Answer  # noqa: E402
 from scftools.calls import Call  # noqa: E402
 from scftools.values import replace  # noqa: E402
 from support.common import ALLOW, Case, insn, jeq, load, ret, taken  # noqa: E402
@@ -117,6 +121,82 @@ class Gate(Asked):
             text = file.read().split("## Where the kernel differs")[1]
         rows = re.findall(r"^\| ([^|]+?) \|", text.split("\n## ")[0], re.M)
         self.assertEqual(rows[1:], list(kernel_exceptions.ROWS))
+
+
+# Programs that load filters, each with words by which it does so without a network and ends; and how strace shows them.
+LOADING = (("man", "-P", "cat", "ls"), ("chronyd", "-Q", "-F", "1", "-t", "1", "server 127.0.0.1"),
+           ("tor", "--Sandbox", "1", "--DisableNetwork", "1", "--SocksPort", "0", "--DataDirectory", "{folder}/tor",
+            "-f", "{folder}/none"),
+           ("firejail", "--noprofile", "--quiet", "--seccomp", "true"))
+STRACE = ("strace", "-f", "-v", "-e", f"trace={filter_loads.TRACED_CALLS}", "-e", "signal=none", "-o")
+# Answers to numbers whose syscalls would end or change the child if they were executed.
+EACH = {231: ALLOW, 59: 0x7FFC0000, 57: 0x7FF00007, 9: 0x7FC00000, 11: 0x00050001, 3: 0x0005FFFF, 1: 0x00030005,
+        0: 0x00000000, 60: 0x80000000, 62: 0x7FBF0000, 63: 0x7FFB0000}
+
+
+class Regions(Asked):
+    """A record of each region of a filter, on the running kernel."""
+
+    def loaded_by(self, words):
+        """The stacks of filters that a program loads, each as files."""
+        log = os.path.join(self.folder, "log")
+        # (strace goes on as long as the program, and tor may stay after SIGTERM)
+        program = [word.format(folder=self.folder) for word in words]
+        subprocess.run([*STRACE, log, "timeout", "--signal=KILL", "3", *program],
+                       stdin=subprocess.DEVNULL, stdout=subprocess.DEVNULL, stderr=subprocess.DEVNULL, check=False)
+        stacks = filter_loads.stacks_in(strace.lines(log, filter_loads.LONGEST_LINE))
+        return [[self.file(f"{words[0]}.{stack}.{at}", data) for at, data in enumerate(filters)]
+                for stack, filters in enumerate(stacks)]
+
+    def test_filters_of_programs(self):
+        self.file("none", b"")
+        there = [words for words in LOADING if shutil.which("strace") and shutil.which(words[0])]
+        stacks = [names for words in there for names in self.loaded_by(words)]
+        if not stacks:
+            self.skipTest("no program here loads a filter under strace")
+        status, lines = self.asked(*(word for names in stacks for word in ("--regions", *names)))
+        self.assertEqual((status, lines[-1]), (0, f"{len(stacks)} passed, 0 failed"), lines)
+        for line in lines[1:-1]:
+            count, tried = map(int, re.search(": ([0-9]+) regions, tried ([0-9]+): ", line).groups())
+            left_out = sum(map(int, re.findall("(?:^|, )([0-9]+) ", line.partition("; left out: ")[2])))
+            self.assertEqual(tried + left_out, count, line)
+            self.assertGreater(tried, 0.9 * count, line)
+
+    def test_each_answer(self):
+        """By the number, and by a word of each kind; nothing is executed."""
+        tests = b"".join(jeq(number, 0, 1) + ret(answer) for number, answer in EACH.items())
+        by_words = (load(16) + jeq(7, 0, 1) + ret(0x00050002) + load(20) + jeq(9, 0, 1) + ret(0x00050003)
+                    + load(8) + jeq((kernel_child.SITE + 2) % WORD, 0, 1) + ret(0x00050004) + ret(ALLOW))
+        for_i386 = load(4) + jeq(I386_NUMBER, 0, 1) + ret(0x00050026)
+        trial = kernel_regions.Trial(the_kernel(), [load(0) + tests + for_i386 + by_words], True)
+        self.assertEqual(trial.differences, [])
+        self.assertLessEqual({"ALLOW", "LOG", "TRACE", "USER_NOTIF", "ERRNO", "TRAP", "KILL_THREAD", "KILL_PROCESS",
+                              "UNNAMED"}, set(trial.tried))
+        self.assertEqual(sum(trial.tried.values()) + sum(trial.left_out.values()), len(trial.regions))
+
+    def test_what_differs_is_seen(self):
+        """Regions that have the answer of another one."""
+        data = refusing(9)
+        wrong = [regions.Region(it.line, ALLOWED, it.entry, True, it.words, str(kernel_cases.line_of(it.call)))
+                 for it in regions.of_filters([data])]
+        with mock.patch.object(regions, "of_filters", lambda _: wrong):
+            trial = kernel_regions.Trial(the_kernel(), [data], True)
+        self.assertEqual(len(trial.differences), 1)
+        self.assertRegex(trial.differences[0], r"nr 9 .*: scf says ALLOW, the kernel: returns -1\Z")
+
+    def test_what_is_left_out(self):
+        """What no process does here, and what isn't known; it is counted by its reason."""
+        one_or_other = ret(0x00050001) + ret(0x00050002)
+        for code, why in ((load(4) + jeq(0xC00000B7, 0, 1) + one_or_other,
+                           "architectures whose syscalls no process makes here"),
+                          (load(0) + jeq(0x80000001, 0, 1) + one_or_other, "numbers that no process has"),
+                          (load(8) + jeq(7, 0, 1) + one_or_other, "places from which no call is made here"),
+                          (load(0) + jeq(NR_SECCOMP, 0, 1) + ret(ALLOW) + ret(0x00050002),
+                           "the syscall that loads filters, where it is executed"),
+                          (load(0) + insn(0x16, 0), "answers that aren't known")):
+            trial = kernel_regions.Trial(the_kernel(), [code], True)
+            self.assertEqual(trial.differences, [])
+            self.assertIn(why, trial.left_out, trial.describe())
 
 
 # Actions without a name, on both sides of each that linux/seccomp.h names.
