@@ -1,4 +1,4 @@
-"""What scf's tools share: a module for each subject, each fact once, and only Python's standard library.
+"""The modules that scf's tools share: a module for each subject, each fact once, and only Python's standard library.
 
 A program tools/NAME has launch.py start the module tool_NAME: its docstring is the tool's manual, it parses the command
 line, and it combines the other modules, which import each other without a cycle. The first line of each says what it

@@ -10,17 +10,16 @@ from collections.abc import Iterator
 
 from . import answers, constants, entries, filters
 from .client import Refusal
-from .entries import Object
+from .entries import GREATEST_VALUE, LOW_HALF, Object
 from .events import Event
-from .filters import LONGEST
+from .filters import BPF_MAXINSNS
 from .reasons import Reason
 from .trials import Trial
 from .values import dataclass
 from .verdicts import SAME
 
-ALLOW = "SCMP_ACT_ALLOW"
+ALLOW_ACTION = "SCMP_ACT_ALLOW"
 EQUAL, MASKED, UNEQUAL = "SCMP_CMP_EQ", "SCMP_CMP_MASKED_EQ", "SCMP_CMP_NE"
-HALF, WORD = (1 << 32) - 1, (1 << 64) - 1
 
 
 @dataclass(frozen=True)
@@ -35,7 +34,7 @@ class Amendment:
     profile: bytes
 
     def steps(self) -> Iterator[str]:
-        """What to do to the profile, in order."""
+        """The edits of the profile, in order."""
         for index, is_alone in self.taken_out:
             yield f"remove entry {index}" if is_alone else f"take {self.name} out of the names of entry {index}"
         for entry in self.added:
@@ -43,7 +42,8 @@ class Amendment:
 
     def describe(self) -> str:
         """The calls that it allows."""
-        where = " and ".join(f"argument {index} " + (f"& {mask:#x} " if mask != WORD else "") + f"is {value & mask:#x}"
+        where = " and ".join(f"argument {index} " + (f"& {mask:#x} " if mask != GREATEST_VALUE
+                                                     else "") + f"is {value & mask:#x}"
                              for index, mask, value in self.conditions)
         return f"{self.name} where {where}" if where else f"every {self.name}"
 
@@ -53,18 +53,18 @@ class Amendment:
 
 def conditions_of(event: Event, name: str) -> list[dict[str, object]]:
     """Conditions that hold of the known arguments that the syscall has and that are no addresses."""
-    kinds, found = constants.kinds().get(name, ""), []
+    kinds, words = constants.kinds().get(name, ""), []
     for index, values in enumerate(event.arguments[:len(kinds)]):
         if values is None or kinds[index] == constants.ADDRESS:
             continue
         if len(values) == 1:
-            found.append({"index": index, "value": values[0], "op": EQUAL})
-        elif kinds[index] == constants.HALF and len({value & HALF for value in values}) == 1:
-            found.append({"index": index, "value": HALF, "valueTwo": values[0] & HALF, "op": MASKED})
-    return found
+            words.append({"index": index, "value": values[0], "op": EQUAL})
+        elif kinds[index] == constants.HALF and len({value & LOW_HALF for value in values}) == 1:
+            words.append({"index": index, "value": LOW_HALF, "valueTwo": values[0] & LOW_HALF, "op": MASKED})
+    return words
 
 
-class Search:
+class AmendmentSearch:
     """Tries changes of a profile that allow a syscall of one name."""
 
     def __init__(self, profile: bytes, top: Object, trial: Trial, name: str, number: int):
@@ -74,24 +74,24 @@ class Search:
     def _changed(self, taken_out: list[int], added: list[dict[str, object]],
                  conditions: list[dict[str, object]]) -> Amendment:
         """A change, which isn't proved yet."""
-        known = self.trial.tables.native.names_of(self.number)
-        found, gone = [], []
+        own_names = self.trial.tables.native.names_of(self.number)
+        changed_entries, gone = [], []
         for index, entry in enumerate(self.top.get("syscalls", [])):
             if index not in taken_out:
-                found.append(entry)
+                changed_entries.append(entry)
                 continue
-            names = [it for it in entry["names"] if it not in known]
+            names = [name for name in entry["names"] if name not in own_names]
             gone.append((index, not names))
-            found += [Object({**entry, "names": names})] if names else []
-        changed = {**self.top, "syscalls": [*found, *added]}
-        tests = tuple((it["index"], it["value"], it["valueTwo"]) if it["op"] == MASKED else
-                      (it["index"], WORD, it["value"]) for it in conditions)
+            changed_entries += [Object({**entry, "names": names})] if names else []
+        changed = {**self.top, "syscalls": [*changed_entries, *added]}
+        tests = tuple((condition["index"], condition["value"], condition["valueTwo"]) if condition["op"] == MASKED else
+                      (condition["index"], GREATEST_VALUE, condition["value"]) for condition in conditions)
         return Amendment(self.name, tuple(gone), tuple(added), tests, json.dumps(changed).encode())
 
     def _is_proved(self, change: Amendment) -> bool:
         """Whether scf proves that the changed profile allows these calls, and answers all others as before."""
         excepted = filters.with_exception(self.filter, self.number, change.conditions, answers.ALLOW.word)
-        if len(excepted) > LONGEST * filters.INSTRUCTION.size:
+        if len(excepted) > BPF_MAXINSNS * filters.INSTRUCTION.size:
             return False
         try:
             verdict = self.trial.verdict([excepted], change.profile, "--native")
@@ -100,7 +100,7 @@ class Search:
         return verdict.word == SAME
 
     def _with(self, taken_out: list[int], conditions: list[dict[str, object]]) -> Iterator[Amendment]:
-        allowed: dict[str, object] = {"names": [self.name], "action": ALLOW}
+        allowed: dict[str, object] = {"names": [self.name], "action": ALLOW_ACTION}
         if conditions:
             allowed["args"] = conditions
         yield self._changed(taken_out, [allowed], conditions)
@@ -109,24 +109,24 @@ class Search:
         """Changes of an entry that denies, to one that doesn't deny the calls with all of these arguments. Each of its
         own conditions must be on one of them, and for one value."""
         entry = self.top["syscalls"][place]
-        own = {it["index"]: it for it in entry.get("args") or []}
-        known = {it["index"] for it in conditions}
-        if any(it["op"] != EQUAL for it in (*conditions, *own.values())) or own.keys() - known:
+        present = {condition["index"]: condition for condition in entry.get("args") or []}
+        indices = {condition["index"] for condition in conditions}
+        if any(condition["op"] != EQUAL for condition in (*conditions, *present.values())) or present.keys() - indices:
             return
         denial = {key: entry[key] for key in ("action", "errnoRet") if key in entry}
-        others = [{"names": [self.name], **denial, "args": [*own.values(), {**it, "op": UNEQUAL}]}
-                  for it in conditions if it["index"] not in own]
-        allowed: dict[str, object] = {"names": [self.name], "action": ALLOW, "args": conditions}
-        if self.top["defaultAction"] == ALLOW:
+        others = [{"names": [self.name], **denial, "args": [*present.values(), {**condition, "op": UNEQUAL}]}
+                  for condition in conditions if condition["index"] not in present]
+        allowed: dict[str, object] = {"names": [self.name], "action": ALLOW_ACTION, "args": conditions}
+        if self.top["defaultAction"] == ALLOW_ACTION:
             yield self._changed([place], others, conditions)
         yield self._changed([place], [allowed, *others], conditions)
 
     def _of_entry(self, place: int) -> Iterator[Amendment]:
         """The change of an entry with conditions to one that allows."""
-        own = [dict(it) for it in self.top["syscalls"][place].get("args") or []]
-        if own and all(it["op"] in (EQUAL, MASKED) for it in own):
-            conditions = [{**it, "valueTwo": it.get("valueTwo", 0)} for it in own]
-            yield self._changed([place], [{"names": [self.name], "action": ALLOW, "args": own}], conditions)
+        present = [dict(condition) for condition in self.top["syscalls"][place].get("args") or []]
+        if present and all(condition["op"] in (EQUAL, MASKED) for condition in present):
+            conditions = [{**condition, "valueTwo": condition.get("valueTwo", 0)} for condition in present]
+            yield self._changed([place], [{"names": [self.name], "action": ALLOW_ACTION, "args": present}], conditions)
 
     def candidates(self, reason: Reason, conditions: list[dict[str, object]]) -> Iterator[Amendment]:
         """Changes that allow the calls with these arguments, the smallest first."""
@@ -139,14 +139,15 @@ class Search:
             yield from self._of_entry(reason.entry)
         if not conditions:
             naming = [index for index, entry in enumerate(self.top.get("syscalls", []))
-                      if any(self.trial.tables.number_of(it) == self.number for it in entry["names"])]
-            if self.top["defaultAction"] == ALLOW:
+                      if any(self.trial.tables.number_of(name) == self.number for name in entry["names"])]
+            if self.top["defaultAction"] == ALLOW_ACTION:
                 yield self._changed(naming, [], conditions)
             yield from self._with(naming, conditions)
 
     def run(self, reason: Reason, conditions: list[dict[str, object]]) -> Amendment | None:
         """The first change that scf proves, None if it proves none."""
-        return next((it for it in self.candidates(reason, conditions) if self._is_proved(it)), None)
+        return next((candidate for candidate in self.candidates(reason, conditions) if self._is_proved(candidate)),
+                    None)
 
 
 def amendments(profile: bytes, event: Event, reason: Reason, trial: Trial) -> Iterator[Amendment]:
@@ -158,9 +159,11 @@ def amendments(profile: bytes, event: Event, reason: Reason, trial: Trial) -> It
     top = entries.read(profile)
     if top is None:
         return
-    search = Search(profile, top, trial, names[0], event.call.number)
+    search = AmendmentSearch(profile, top, trial, names[0], event.call.number)
     conditions = conditions_of(event, names[0])
-    for some in ([conditions] if conditions else []) + [[]]:
-        found = search.run(reason, some)
-        if found is not None:
-            yield found
+    of_known = search.run(reason, conditions) if conditions else None
+    of_all = search.run(reason, [])
+    if of_known is not None:
+        yield of_known
+    if of_all is not None and (of_known is None or of_known.conditions != of_all.conditions):
+        yield of_all

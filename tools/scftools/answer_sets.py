@@ -7,78 +7,79 @@ what is printed was compared by scf.
 """
 from __future__ import annotations
 
-from collections.abc import Iterable, Sequence
+from collections.abc import Sequence
 
-from .argument_sets import ALL, NONE, OTHERS, Sets
+from .argument_sets import EMPTY_SET, FIRST_UNTESTED, FULL_SET, Sets
 from .listing import ARCHITECTURE, ARGUMENTS, END
-from .regions import Numbers, Region, Word
+from .regions import GREATEST_WORD, Numbers, Region, Word
 
-EVERY = (1 << 32) - 1
 # The first variable of the upper halves of arguments, and of open regions.
-UPPER, OPEN = OTHERS + 32 * ARGUMENTS, OTHERS + 32 * END
+FIRST_UPPER, FIRST_OPEN = FIRST_UNTESTED + 32 * ARGUMENTS, FIRST_UNTESTED + 32 * END
 # The answers to the syscalls of a number, each with its arguments; the first is None if it is computed.
 Answers = "tuple[tuple[int | None, int], ...]"
 
 
-def _bits_of(sets: Sets, word: int) -> Iterable[int]:
-    """The bits of a word of a record, the lowest first."""
-    if word >= ARGUMENTS and 32 * (word % 2) < sets.bits:
-        return reversed(sets.bits_of((word - ARGUMENTS) // 2, word % 2))
-    return (sets.node(OTHERS + 32 * word + at, NONE, ALL) for at in reversed(range(32)))
+def _variables(sets: Sets, word: int) -> range:
+    """The variables of a word of a record, the highest bit first."""
+    index, half = divmod(word - ARGUMENTS, 2)
+    is_tested = index >= 0 and 32 * half < sets.bits
+    first = sets.bits * (index + 1) - 32 * (half + 1) if is_tested else FIRST_UNTESTED + 32 * word
+    return range(first, first + 32)
 
 
-def _where(sets: Sets, word: int, value: int, mask: int = EVERY, greater: int = NONE) -> int:
-    """Where a word agrees with a value in the bits of a mask; if `greater` is ALL, or is greater."""
-    found = ALL
-    for at, bit in enumerate(_bits_of(sets, word)):
-        if mask >> at & 1:
-            is_set = value >> at & 1
-            found = sets.both(bit if is_set else sets.complement(bit), found)
-            if greater and not is_set:
-                found = sets.either(bit, found)
-    return found
-
-
-def _of_word(sets: Sets, word: int, one: Word) -> int:
+def _of_word(sets: Sets, word: int, values: Word) -> int:
     """Where a word has one of these values."""
-    found = NONE
-    for low, high in one.intervals:
-        if low == high:
-            those = _where(sets, word, low)
-        else:
-            those = _where(sets, word, low, greater=ALL) if low else ALL
-            if high < EVERY:
-                those = sets.without(those, _where(sets, word, high + 1, greater=ALL))
-        found = sets.either(found, those)
-    found = sets.both(found, _where(sets, word, one.bits, one.mask))
-    for mask, bits in one.refuted:
-        found = sets.without(found, _where(sets, word, bits, mask))
-    return found
+    variables, node = _variables(sets, word), EMPTY_SET
+
+    def where(value: int, mask: int = GREATEST_WORD, greater: int = EMPTY_SET) -> int:
+        # a node and its parts for each bit
+        sets.spend(2 * len(variables))
+        return sets.agreeing(variables, value, mask, greater)
+
+    for low, high in values.intervals:
+        above = where(low, greater=FULL_SET) if low else FULL_SET
+        range_node = where(low) if low == high else above if high == GREATEST_WORD else \
+            sets.without(above, where(high + 1, greater=FULL_SET))
+        node = sets.either(node, range_node)
+    if values.mask:
+        node = sets.both(node, where(values.bits, values.mask))
+    for mask, bits in values.refuted:
+        node = sets.without(node, where(bits, mask))
+    return node
 
 
-def arguments_of(sets: Sets, one: Region) -> int:
+def arguments_of(sets: Sets, region: Region) -> int:
     """The arguments of a region's records. Raises TooMany."""
-    found = ALL
-    for word, values in one.words.items():
-        found = sets.both(found, _of_word(sets, word, values)) if word > ARCHITECTURE else found
-    return found
+    node = FULL_SET
+    for word, values in region.words.items():
+        node = sets.both(node, _of_word(sets, word, values)) if word > ARCHITECTURE else node
+    return node
 
 
-def of_numbers(sets: Sets, found: Numbers, numbers: Sequence[int]) -> list[Answers]:
+def of_numbers(sets: Sets, by_number: Numbers, numbers: Sequence[int]) -> list[Answers]:
     """For each of an architecture's numbers the answers to its syscalls. Raises TooMany."""
     memo: dict[int, int] = {}
 
-    def of_region(one: Region) -> int:
-        if id(one) not in memo:
-            which = ALL if one.is_exact else sets.node(OPEN + len(memo), NONE, ALL)
-            memo[id(one)] = sets.both(which, arguments_of(sets, one))
-        return memo[id(one)]
+    def of_region(region: Region) -> int:
+        if id(region) not in memo:
+            which = FULL_SET if region.is_exact else sets.node(FIRST_OPEN + len(memo), EMPTY_SET, FULL_SET)
+            memo[id(region)] = sets.both(which, arguments_of(sets, region))
+        return memo[id(region)]
 
+    def of(regions: Sequence[Region]) -> Answers:
+        answers: dict[int | None, int] = {}
+        for region in regions:
+            word = None if region.answer is None else region.answer.word
+            answers[word] = sets.either(answers.get(word, EMPTY_SET), of_region(region))
+        return tuple(answers.items())
+
+    # many numbers have the same regions
+    alike: dict[tuple[int, ...], Answers] = {}
     listed: list[Answers] = []
     for number in numbers:
-        answers: dict[int | None, int] = {}
-        for one in found.of(number):
-            word = None if one.answer is None else one.answer.word
-            answers[word] = sets.either(answers.get(word, NONE), of_region(one))
-        listed.append(tuple(answers.items()))
+        here = by_number.of(number)
+        key = tuple(map(id, here))
+        if key not in alike:
+            alike[key] = of(here)
+        listed.append(alike[key])
     return listed

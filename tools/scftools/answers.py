@@ -23,26 +23,27 @@ DOES = {
     "UNNAMED": "the process is killed, since seccomp(2) has no such action",
 }
 # The actions that allow a syscall, and those that deny it.
-ALLOWING = ("ALLOW", "LOG")
-DENYING = ("ERRNO", "TRAP", "KILL_THREAD", "KILL_PROCESS", "UNNAMED")
+ALLOWING_ACTIONS = ("ALLOW", "LOG")
+DENYING_ACTIONS = ("ERRNO", "TRAP", "KILL_THREAD", "KILL_PROCESS", "UNNAMED")
 # The disposition of a syscall, the strictest first. It follows from the action alone; the rank of an answer only says
 # which of a stack's answers decides.
 DISPOSITIONS = DENIED, DELEGATED, ALLOWED = "denied", "delegated", "allowed"
 # Actions whose data a profile gives, as an errno or a number, 1 if it gives none (the OCI specification).
-WITH_ERRNO = ("ERRNO", "TRACE")
+ACTIONS_WITH_DATA = ("ERRNO", "TRACE")
 # Actions whose data is always printed, even if it is 0.
 HAS_DATA = ("ERRNO", "TRACE", "TRAP", "UNNAMED")
 # Linux's names of errno(3); of two names for a number, the one that the header defines by the number.
+NUMBERS_OF_ERRNOS = {name: number for number, name in errno.errorcode.items()}
 ERRNOS = {**errno.errorcode, errno.EAGAIN: "EAGAIN", errno.EDEADLK: "EDEADLK", errno.EOPNOTSUPP: "EOPNOTSUPP"}
 # The greatest errno that the kernel returns (MAX_ERRNO in linux/err.h).
 MAX_ERRNO = 4095
 
 # linux/audit.h: x86-64, and the other architecture of its kernel.
-X86_64, I386 = 0xC000003E, 0x40000003
+X86_64, I386_NUMBER = 0xC000003E, 0x40000003
 # The first x32 syscall number (__X32_SYSCALL_BIT in asm/unistd.h).
-X32 = 0x40000000
+FIRST_X32 = 0x40000000
 
-PRINTED = Pattern(r"([A-Z_]+) (0x[0-9a-f]{8}|[0-9]+)")
+PRINTED_ANSWER = Pattern(r"([A-Z_]+) (0x[0-9a-f]{8}|[0-9]+)")
 
 
 @dataclass(frozen=True)
@@ -55,14 +56,19 @@ class Answer:
     @classmethod
     def read(cls, text: str) -> Answer | None:
         """Parses an answer as scf prints it; None if it isn't one."""
-        found = PRINTED.fullmatch(text)
-        return cls(found[1], int(found[2], 0)) if found and found[1] in (*DOES, "ERRNO") else None
+        match = PRINTED_ANSWER.fullmatch(text)
+        return cls(match[1], int(match[2], 0)) if match and match[1] in (*DOES, "ERRNO") else None
 
     @classmethod
     def of_word(cls, word: int) -> Answer:
         """The answer of the 32 bits that a filter returns."""
         action = ACTIONS.get(word >> 16)
         return cls("UNNAMED", word) if action is None else cls(action, word & 0xFFFF)
+
+    @property
+    def line(self) -> str:
+        """The answer as scf prints it."""
+        return str(self) if self.action == "UNNAMED" else f"{self.action} {self.data}"
 
     def __str__(self) -> str:
         """The action, with its data unless that means nothing."""
@@ -72,11 +78,11 @@ class Answer:
 
     @property
     def allows(self) -> bool:
-        return self.action in ALLOWING
+        return self.action in ALLOWING_ACTIONS
 
     @property
     def denies(self) -> bool:
-        return self.action in DENYING
+        return self.action in DENYING_ACTIONS
 
     @property
     def word(self) -> int:
@@ -91,7 +97,7 @@ class Answer:
         return ALLOWED if self.allows else DENIED if self.denies else DELEGATED
 
     def does(self) -> str:
-        """What the kernel does with it."""
+        """The kernel's treatment of a syscall with this answer, as a sentence."""
         if self.action != "ERRNO":
             return DOES[self.action]
         if self.data == 0:
@@ -112,7 +118,7 @@ class Answer:
         """The answer of an action of the OCI specification with its number, None if it has none."""
         word = action.removeprefix("SCMP_ACT_")
         word = {"NOTIFY": "USER_NOTIF", "KILL": "KILL_THREAD"}.get(word, word)
-        return cls(word, number if isinstance(number, int) else int(word in WITH_ERRNO))
+        return cls(word, number if isinstance(number, int) else int(word in ACTIONS_WITH_DATA))
 
     @property
     def oci(self) -> str:
@@ -122,11 +128,11 @@ class Answer:
     @property
     def is_of_profiles(self) -> bool:
         """Whether a profile can give it."""
-        return self.action in WITH_ERRNO or self.action != "UNNAMED" and not self.data
+        return self.action in ACTIONS_WITH_DATA or self.action != "UNNAMED" and not self.data
 
     def members(self, action: str = "action", number: str = "errnoRet") -> dict[str, object]:
         """The members of an entry, or of the default, that give it."""
-        return {action: self.oci, **({number: self.data} if self.action in WITH_ERRNO else {})}
+        return {action: self.oci, **({number: self.data} if self.action in ACTIONS_WITH_DATA else {})}
 
     def default(self) -> dict[str, object]:
         """The members of a profile whose default it is."""
@@ -140,10 +146,10 @@ class Answer:
         return json.dumps({**self.default(), "architectures": list(architectures)}).encode()
 
     def as_json(self, explains: bool = False) -> dict[str, object]:
-        found: dict[str, object] = {"action": self.action, "data": self.data}
+        value: dict[str, object] = {"action": self.action, "data": self.data}
         if self.action == "ERRNO" and self.data in ERRNOS:
-            found["errno"] = ERRNOS[self.data]
-        return {**found, "does": self.does()} if explains else found
+            value["errno"] = ERRNOS[self.data]
+        return {**value, "does": self.does()} if explains else value
 
 
 ALLOW, KILL_PROCESS, ENOSYS = Answer("ALLOW", 0), Answer("KILL_PROCESS", 0), Answer("ERRNO", 38)

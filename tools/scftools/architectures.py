@@ -11,7 +11,7 @@ from .answers import X86_64
 from .values import dataclass
 
 PREFIX = "SCMP_ARCH_"
-NATIVE, X32, I386, AARCH64, ARM = (f"{PREFIX}{it}" for it in ("X86_64", "X32", "X86", "AARCH64", "ARM"))
+NATIVE, X32, I386, AARCH64, ARM = (f"{PREFIX}{name}" for name in ("X86_64", "X32", "X86", "AARCH64", "ARM"))
 # By the names of libseccomp (seccomp.h), the numbers of linux/audit.h: a machine of linux/elf-em.h, with 0x80000000
 # where it has 64 bits, 0x40000000 where it is little-endian, and 0x20000000 for the N32 calls of MIPS. The record of an
 # x32 syscall has x86-64's.
@@ -43,7 +43,7 @@ class Architecture:
     @property
     def last(self) -> int:
         """The last number that a record of it may have."""
-        return answers.X32 - 1 if self.oci == NATIVE else 0xFFFFFFFF
+        return answers.FIRST_X32 - 1 if self.oci == NATIVE else 0xFFFFFFFF
 
     @property
     def greatest(self) -> int:
@@ -61,9 +61,9 @@ class Architecture:
 
 
 # Those that scf judges, by OCI names, in scf's order.
-JUDGED = {it.oci: it for it in (
+JUDGED = {architecture.oci: architecture for architecture in (
     Architecture(NATIVE, "x86-64", "table"), Architecture(I386, "i386", "table-x86", bits=32),
-    Architecture(X32, "x32", "table-x32", first=answers.X32, bits=32),
+    Architecture(X32, "x32", "table-x32", first=answers.FIRST_X32, bits=32),
     Architecture(AARCH64, "aarch64", "table-aarch64"),
     Architecture(ARM, "arm", "table-arm", bits=32))}
 
@@ -77,29 +77,31 @@ def of_record(number: int, nr: int) -> str | None:
     """The OCI name of the architecture that a record with this audit number and this syscall number is of, None if that
     isn't known. Numbers from 0x40000000 on are x32's on x86-64."""
     if number == X86_64:
-        return X32 if nr >= answers.X32 else NATIVE
+        return X32 if nr >= answers.FIRST_X32 else NATIVE
     return profile_name(number)
 
 
 def shown_name(number: int) -> str | None:
-    """What people call the architecture with this number of linux/audit.h, if scf judges it."""
-    return next((it.name for it in JUDGED.values() if it.number == number and it.oci != X32), None)
+    """The common name of the architecture with this number of linux/audit.h, if scf judges it."""
+    return next((each.name for oci, each in JUDGED.items() if each.number == number and oci != X32), None)
 
 
 def bounds_of(name: str) -> tuple[int, int, int]:
-    """Of an architecture its number of linux/audit.h, and the first and the last syscall number of its records."""
-    known = JUDGED.get(name)
-    return (NUMBERS[name], 0, 0xFFFFFFFF) if known is None else (known.number, known.first, known.last)
+    """An architecture's number of linux/audit.h, and the first and the last syscall number of its records."""
+    architecture = JUDGED.get(name)
+    if architecture is None:
+        return NUMBERS[name], 0, 0xFFFFFFFF
+    return architecture.number, architecture.first, architecture.last
 
 
 def names_of(judged: Sequence[str]) -> list[str]:
-    """What people call architectures that scf judges."""
-    return [JUDGED[it].name for it in judged]
+    """The common names of architectures that scf judges, given their OCI names."""
+    return [JUDGED[oci].name for oci in judged]
 
 
 def profile_name(number: int) -> str | None:
     """The OCI name of an architecture number."""
-    return next((name for name, it in NUMBERS.items() if it == number), None)
+    return next((name for name, known_number in NUMBERS.items() if known_number == number), None)
 
 
 def name_in(text: str) -> str | None:
@@ -114,7 +116,7 @@ def judged_in(text: str | None) -> Architecture:
     name = of_machine() if text is None else name_in(text)
     if name not in JUDGED:
         raise program.ToolError(f"no table of the architecture '{text}': scf has those of "
-                                f"{', '.join(it.name for it in JUDGED.values())}")
+                                f"{', '.join(architecture.name for architecture in JUDGED.values())}")
     return JUDGED[name]
 
 

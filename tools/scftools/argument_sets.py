@@ -15,17 +15,19 @@ from collections.abc import Iterable, Sequence
 from .entries import Condition
 
 # The sets without and with all arguments.
-NONE, ALL = 0, 1
-ARGUMENTS = 6
+EMPTY_SET, FULL_SET = 0, 1
+ARGUMENT_COUNT = 6
 # The first variable that isn't a bit of an argument; the most steps of a run without --limit, of which real filters
 # take a hundredth; and for how many steps there may be a node.
-OTHERS, STEPS, NODE = 64 * ARGUMENTS, 1 << 19, 2
+FIRST_UNTESTED, STEPS, NODE = 64 * ARGUMENT_COUNT, 1 << 19, 2
+# Behind all variables.
+LEAF_VARIABLE = 1 << 32
 # The most alternatives for a set, and for all sets of a table together; the first of a set are tried in so many orders
 # of the arguments, and the later ones in two.
 ALTERNATIVES, ALL_ALTERNATIVES, FIRST, ORDERS = 64, 512, 16, 6
 # Values that follow each other are listed one by one up to so many; and a set's up to so many, if masks say it in fewer
 # alternatives.
-LISTED, ALL_LISTED = 3, 8
+MOST_LISTED_VALUES, ALL_LISTED = 3, 8
 
 Alternative = tuple[Condition, ...]
 
@@ -53,13 +55,14 @@ class Sets:
     def __init__(self, bits: int, steps: Steps) -> None:
         self.bits, self.most = bits, (1 << bits) - 1
         # of each set the variable that divides it, and its parts where that is 0 and 1
-        self.nodes: list[tuple[int, int, int]] = [(1 << 32, NONE, NONE), (1 << 32, ALL, ALL)]
+        self.nodes: list[tuple[int, int, int]] = [(LEAF_VARIABLE, EMPTY_SET, EMPTY_SET),
+                                                  (LEAF_VARIABLE, FULL_SET, FULL_SET)]
         self._numbers: dict[tuple[int, int, int], int] = {}
         self._memo: dict[tuple[int, int, int], int] = {}
-        self._negated = {NONE: ALL, ALL: NONE}
-        self._weights = {NONE: 0, ALL: 1 << OTHERS}
+        self._negated = {EMPTY_SET: FULL_SET, FULL_SET: EMPTY_SET}
+        self._weights = {EMPTY_SET: 0, FULL_SET: 1 << FIRST_UNTESTED}
         # of each projection, by its bounds, the sets that were projected
-        self._projected: dict[tuple[int, int, bool], dict[int, int]] = {}
+        self._projected: dict[tuple[int, int], dict[int, int]] = {}
         self._variables: dict[int, frozenset[int]] = {}
         self.steps = steps
         self.spend = steps.spend
@@ -69,70 +72,66 @@ class Sets:
         if low == high:
             return low
         key = variable, low, high
-        found = self._numbers.get(key)
-        if found is None:
+        number = self._numbers.get(key)
+        if number is None:
             if NODE * len(self.nodes) > self.steps.most:
                 raise TooMany
-            found = self._numbers[key] = len(self.nodes)
+            number = self._numbers[key] = len(self.nodes)
             self.nodes.append(key)
-        return found
+        return number
 
-    def _join(self, one: int, other: int, end: int) -> int:
+    def _join(self, first_node: int, second_node: int, end: int) -> int:
         """The intersection of two sets, if `end` is NONE, which ends it, or the union, if it is ALL."""
-        if one > other:
-            one, other = other, one
-        if one in (end, other):
-            return one
-        if one <= ALL:
-            return other
-        key = one, other, end
-        found = self._memo.get(key)
-        if found is None:
+        if first_node > second_node:
+            first_node, second_node = second_node, first_node
+        if first_node in (end, second_node):
+            return first_node
+        if first_node <= FULL_SET:
+            return second_node
+        key = first_node, second_node, end
+        joined = self._memo.get(key)
+        if joined is None:
             self.spend(1)
-            first, low, high = self.nodes[one]
-            second, other_low, other_high = self.nodes[other]
+            first, low, high = self.nodes[first_node]
+            second, other_low, other_high = self.nodes[second_node]
             if first > second:
-                low = high = one
+                low = high = first_node
             elif second > first:
-                other_low = other_high = other
-            found = self._memo[key] = self.node(min(first, second), self._join(low, other_low, end),
+                other_low = other_high = second_node
+            joined = self._memo[key] = self.node(min(first, second), self._join(low, other_low, end),
                                                 self._join(high, other_high, end))
-        return found
+        return joined
 
-    def both(self, one: int, other: int) -> int:
+    def both(self, first: int, second: int) -> int:
         """The intersection."""
-        return self._join(one, other, NONE)
+        return self._join(first, second, EMPTY_SET)
 
-    def either(self, one: int, other: int) -> int:
+    def either(self, first: int, second: int) -> int:
         """The union."""
-        return self._join(one, other, ALL)
+        return self._join(first, second, FULL_SET)
 
-    def complement(self, one: int) -> int:
+    def complement(self, node: int) -> int:
         """The complement."""
-        found = self._negated.get(one)
-        if found is None:
+        negated = self._negated.get(node)
+        if negated is None:
             self.spend(1)
-            variable, low, high = self.nodes[one]
-            found = self.node(variable, self.complement(low), self.complement(high))
-            self._negated[one], self._negated[found] = found, one
-        return found
+            variable, low, high = self.nodes[node]
+            negated = self.node(variable, self.complement(low), self.complement(high))
+            self._negated[node], self._negated[negated] = negated, node
+        return negated
 
-    def without(self, one: int, other: int) -> int:
-        return self.both(one, self.complement(other))
+    def without(self, node: int, excluded: int) -> int:
+        return self.both(node, self.complement(excluded))
 
-    def differ(self, one: int, other: int) -> int:
-        """What is in exactly one of both."""
-        return self.either(self.without(one, other), self.without(other, one))
+    def union(self, nodes: Iterable[int]) -> int:
+        joined = EMPTY_SET
+        for node in nodes:
+            joined = self.either(joined, node)
+        return joined
 
-    def union(self, those: Iterable[int]) -> int:
-        found = NONE
-        for one in those:
-            found = self.either(found, one)
-        return found
-
-    def copy(self, one: int, theirs: Sets) -> int:
+    def copy(self, node: int, theirs: Sets) -> int:
         """A set of others."""
-        memo = {NONE: NONE, ALL: ALL}
+        memo = {EMPTY_SET: EMPTY_SET, FULL_SET: FULL_SET}
 
         def visit(now: int) -> int:
             if now not in memo:
@@ -141,176 +140,133 @@ class Sets:
                 memo[now] = self.node(variable, visit(low), visit(high))
             return memo[now]
 
-        return visit(one)
+        return visit(node)
 
-    def weight(self, one: int) -> int:
+    def weight(self, node: int) -> int:
         """How many arguments a set has; one that depends on other variables has no whole number of them."""
-        found = self._weights.get(one)
-        if found is None:
+        weight = self._weights.get(node)
+        if weight is None:
             self.spend(1)
-            _, low, high = self.nodes[one]
-            found = self._weights[one] = (self.weight(low) + self.weight(high)) >> 1
-        return found
+            _, low, high = self.nodes[node]
+            weight = self._weights[node] = (self.weight(low) + self.weight(high)) >> 1
+        return weight
 
-    def variables(self, one: int) -> frozenset[int]:
+    def variables(self, node: int) -> frozenset[int]:
         """The variables that a set depends on."""
-        if one not in self._variables:
-            seen, left = {NONE, ALL}, [one]
-            while left:
-                now = left.pop()
+        if node not in self._variables:
+            seen, pending = {EMPTY_SET, FULL_SET}, [node]
+            while pending:
+                now = pending.pop()
                 if now not in seen:
                     seen.add(now)
-                    left += self.nodes[now][1:]
+                    pending += self.nodes[now][1:]
             self.spend(len(seen))
-            self._variables[one] = frozenset(self.nodes[it][0] for it in seen if it > ALL)
-        return self._variables[one]
+            self._variables[node] = frozenset(self.nodes[visited][0] for visited in seen if visited > FULL_SET)
+        return self._variables[node]
 
-    def _project(self, one: int, first: int, end: int, is_for_all: bool = False) -> int:
-        """A set without the variables before `first` and from `end` on: what is in it for some value of these, or for
-        all of the later ones."""
-        memo = self._projected.setdefault((first, end, is_for_all), {})
+    def for_some(self, node: int, first: int, end: int = LEAF_VARIABLE) -> int:
+        """The projection of a set: what is in it for some values of the variables from `first` up to `end`, on which it
+        doesn't depend."""
+        memo = self._projected.setdefault((first, end), {})
 
         def visit(now: int) -> int:
             variable, low, high = self.nodes[now]
             if variable >= end:
-                return ALL if now == ALL or now and not is_for_all else NONE
-            if now not in memo:
-                self.spend(1)
-                parts = visit(low), visit(high)
-                memo[now] = self.node(variable, *parts) if variable >= first else self.either(*parts)
-            return memo[now]
-
-        return visit(one)
-
-    def possible(self, one: int) -> int:
-        """The arguments that are in a set for some value of the variables that aren't bits of arguments."""
-        return self._project(one, 0, OTHERS)
-
-    def for_some_upper(self, one: int, index: int) -> int:
-        """The arguments that are in a set with some upper half of one of 64 bits."""
-        first, memo = 64 * index, {}
-
-        def visit(now: int) -> int:
-            variable, low, high = self.nodes[now]
-            if variable >= first + 32:
                 return now
+            if variable >= first and end == LEAF_VARIABLE:
+                return FULL_SET
             if now not in memo:
                 self.spend(1)
                 parts = visit(low), visit(high)
                 memo[now] = self.either(*parts) if variable >= first else self.node(variable, *parts)
             return memo[now]
 
-        return visit(one)
+        return visit(node)
 
-    def of_argument(self, one: int, index: int) -> int:
+    def possible(self, node: int) -> int:
+        """The arguments that are in a set for some value of the variables that aren't bits of arguments."""
+        return self.for_some(node, FIRST_UNTESTED)
+
+    def of_argument(self, node: int, index: int) -> int:
         """The values of an argument in a set, as the set of all arguments with such a value."""
-        return self._project(one, self.bits * index, self.bits * (index + 1))
+        return self.for_some(self.for_some(node, self.bits * (index + 1)), 0, self.bits * index)
 
-    def _from(self, one: int, index: int, value: int, flip: int) -> int | None:
-        """The least value of an argument from this one on that is in a set, or None; with every bit flipped if `flip`
-        is 1."""
-        found, now = 0, one
-        # where to go on if the bits of `value` lead nowhere
-        greater: tuple[int, int, int] | None = None
-        for at in range(self.bits):
-            variable, *parts = self.nodes[now]
-            if variable != self.bits * index + at:
-                parts = [now, now]
-            low, high = parts[flip], parts[1 - flip]
-            if value >> (self.bits - 1 - at) & 1:
-                found, now = found << 1 | 1, high
-            else:
-                greater = (at + 1, found << 1 | 1, high) if high else greater
-                found, now = found << 1, low
-            if not now:
-                return None if greater is None else self._least(index, *greater, flip)
-        return found
-
-    def _least(self, index: int, at: int, found: int, now: int, flip: int) -> int:
-        """The least value in a set that isn't empty, from a bit on, after the bits found before."""
-        for place in range(at, self.bits):
-            variable, *parts = self.nodes[now]
-            if variable != self.bits * index + place:
-                found <<= 1
-                continue
-            low = parts[flip]
-            found, now = (found << 1, low) if low else (found << 1 | 1, parts[1 - flip])
-        return found
-
-    def run_around(self, one: int, index: int, value: int) -> tuple[int, int]:
+    def run_around(self, node: int, index: int, value: int) -> tuple[int, int]:
         """The first and the last value of the longest run of values of an argument around one that is in a set."""
-        others = self.complement(one)
-        after = self._from(others, index, value, 0)
-        before = self._from(others, index, value ^ self.most, 1)
-        return 0 if before is None else (before ^ self.most) + 1, self.most if after is None else after - 1
+        others, above = self.complement(node), self.cube(index, value, self.most, FULL_SET)
+        before, after = self.without(others, above), self.both(others, above)
+        return (self.least(before, True)[index] + 1 if before else 0,
+                self.least(after)[index] - 1 if after else self.most)
 
-    def _has(self, one: int, index: int, value: int) -> bool:
+    def _has(self, node: int, index: int, value: int) -> bool:
         """Whether a set of an argument's values has this one."""
-        while one > ALL:
-            variable, *parts = self.nodes[one]
-            one = parts[value >> (self.bits * (index + 1) - 1 - variable) & 1]
-        return one == ALL
+        while node > FULL_SET:
+            variable, *parts = self.nodes[node]
+            node = parts[value >> (self.bits * (index + 1) - 1 - variable) & 1]
+        return node == FULL_SET
 
-    def widest_mask(self, one: int, index: int, value: int, lowest: int, kept: int) -> int:
+    def widest_mask(self, node: int, index: int, value: int, lowest: int, kept_bits: int) -> int:
         """A mask such that all values of an argument that agree in it with one are in a set of its values.
 
         It has the bits to be kept. It lacks the lowest bits, so many of them, which must be possible, those that don't
         matter, and as many others as can be dropped, from the highest on.
         """
-        mask, now = kept, self._project(one, 0, self.bits * (index + 1) - lowest, is_for_all=True)
-        while now > ALL:
+        some_other = self.for_some(self.complement(node), self.bits * (index + 1) - lowest)
+        mask, now = kept_bits, self.complement(some_other)
+        while now > FULL_SET:
             variable, *parts = self.nodes[now]
             bit = 1 << (self.bits * (index + 1) - 1 - variable)
-            without = NONE if kept & bit else self.both(*parts)
+            without = EMPTY_SET if kept_bits & bit else self.both(*parts)
             if without and self._has(without, index, value):
                 now = without
             else:
                 mask, now = mask | bit, parts[bool(value & bit)]
         return mask
 
-    def least(self, one: int) -> tuple[int, ...]:
-        """The least arguments of a set that isn't empty."""
-        found, now = [0] * ARGUMENTS, one
-        while now != ALL:
-            variable, low, high = self.nodes[now]
-            if not low:
+    def least(self, node: int, is_greatest: bool = False) -> tuple[int, ...]:
+        """The least, or the greatest, arguments of a set that isn't empty."""
+        arguments, now = [self.most if is_greatest else 0] * ARGUMENT_COUNT, node
+        while now != FULL_SET:
+            variable, *parts = self.nodes[now]
+            side = is_greatest if parts[is_greatest] else not is_greatest
+            if side != is_greatest:
                 index, at = divmod(variable, self.bits)
-                found[index] |= 1 << (self.bits - 1 - at)
-            now = low or high
-        return tuple(found)
+                arguments[index] ^= 1 << (self.bits - 1 - at)
+            now = parts[side]
+        return tuple(arguments)
 
-    def bits_of(self, index: int, half: int) -> tuple[int, ...]:
-        """The bits of an argument's upper (1) or lower (0) half, the highest first, each as the set where it is 1."""
-        first = self.bits * (index + 1) - 32 * (half + 1)
-        return tuple(self.node(variable, NONE, ALL) for variable in range(first, first + 32))
-
-    def cube(self, index: int, value: int, mask: int, greater: int = NONE) -> int:
-        """The arguments of which one agrees with a value in these bits; if `greater` is ALL, or is greater in them."""
-        found = ALL
-        for at in range(self.bits):
+    def agreeing(self, variables: range, value: int, mask: int, greater: int = EMPTY_SET) -> int:
+        """Where variables, the highest bit first, agree with a value in these bits; if `greater` is ALL, or are greater
+        in them."""
+        node = FULL_SET
+        for at, variable in enumerate(reversed(variables)):
             if mask >> at & 1:
-                parts = (NONE, found) if value >> at & 1 else (found, greater)
-                found = self.node(self.bits * (index + 1) - 1 - at, *parts)
-        return found
+                parts = (EMPTY_SET, node) if value >> at & 1 else (node, greater)
+                node = self.node(variable, *parts)
+        return node
 
-    def of_condition(self, one: Condition) -> int:
+    def cube(self, index: int, value: int, mask: int, greater: int = EMPTY_SET) -> int:
+        """The arguments of which one agrees with a value in these bits; if `greater` is ALL, or is greater in them."""
+        return self.agreeing(range(self.bits * index, self.bits * (index + 1)), value, mask, greater)
+
+    def of_condition(self, condition: Condition) -> int:
         """The arguments that meet a condition."""
-        index, op, value, two = one.index, one.op, one.value, one.two
+        index, op, value, two = condition.index, condition.op, condition.value, condition.two
         if op == "SCMP_CMP_MASKED_EQ":
-            return self.cube(index, two, value) if value & two <= self.most else NONE
+            return self.cube(index, two, value) if value & two <= self.most else EMPTY_SET
         if op in ("SCMP_CMP_EQ", "SCMP_CMP_NE"):
-            found = self.cube(index, value, self.most) if value <= self.most else NONE
-            return found if op == "SCMP_CMP_EQ" else self.complement(found)
+            node = self.cube(index, value, self.most) if value <= self.most else EMPTY_SET
+            return node if op == "SCMP_CMP_EQ" else self.complement(node)
         # at least `value`, or above it
         least = value + (op in ("SCMP_CMP_GT", "SCMP_CMP_LE"))
-        found = self.cube(index, least, self.most, ALL) if least <= self.most else NONE
-        return found if op in ("SCMP_CMP_GE", "SCMP_CMP_GT") else self.complement(found)
+        node = self.cube(index, least, self.most, FULL_SET) if least <= self.most else EMPTY_SET
+        return node if op in ("SCMP_CMP_GE", "SCMP_CMP_GT") else self.complement(node)
 
-    def of_conditions(self, those: Iterable[Condition]) -> int:
-        found = ALL
-        for one in those:
-            found = self.both(found, self.of_condition(one))
-        return found
+    def of_conditions(self, conditions: Iterable[Condition]) -> int:
+        node = FULL_SET
+        for condition in conditions:
+            node = self.both(node, self.of_condition(condition))
+        return node
 
 
 class TooManyAlternatives(Exception):
@@ -332,76 +288,78 @@ class _Cover:
         """
         (first, last), width = run, self.sets.bits
         lowest = 0
-        while last - first >= LISTED and value & ~((2 << lowest) - 1) >= first and value | (2 << lowest) - 1 <= last:
+        while last - first >= MOST_LISTED_VALUES and value & ~((2 << lowest) - 1) >= first and \
+                value | (2 << lowest) - 1 <= last:
             lowest += 1
         matter = {width - 1 - variable % width for variable in self.sets.variables(values)}
-        kept = 0
+        kept_bits = 0
         for half in range(0, width, 32):
-            bits = range(min((it for it in matter if half <= it < half + 32), default=half + 32), half + 32)
+            bits = range(min((bit for bit in matter if half <= bit < half + 32), default=half + 32), half + 32)
             if self.is_listing and matter.issuperset(bits):
-                kept |= sum(1 << bit for bit in bits if bit >= lowest)
-        mask = self.sets.widest_mask(values, index, value, lowest, kept)
+                kept_bits |= sum(1 << bit for bit in bits if bit >= lowest)
+        mask = self.sets.widest_mask(values, index, value, lowest, kept_bits)
         return Condition(index, "SCMP_CMP_MASKED_EQ", mask, value & mask)
 
     def _widest(self, values: int, index: int, value: int) -> Condition | None:
         """The widest condition on an argument that holds of a value, and only of some values; None if of all."""
-        if values == ALL:
+        if values == FULL_SET:
             return None
         others = self.sets.complement(values)
-        if self.sets.weight(others) << self.sets.bits == self.sets.weight(ALL):
+        if self.sets.weight(others) << self.sets.bits == self.sets.weight(FULL_SET):
             return Condition(index, "SCMP_CMP_NE", self.sets.least(others)[index], 0)
         first, last = self.sets.run_around(values, index, value)
-        found = [Condition(index, "SCMP_CMP_EQ", value, 0)]
+        candidates = [Condition(index, "SCMP_CMP_EQ", value, 0)]
         if first == 0 and last:
-            found.append(Condition(index, "SCMP_CMP_LE", last, 0))
+            candidates.append(Condition(index, "SCMP_CMP_LE", last, 0))
         if last == self.sets.most and first < last:
-            found.append(Condition(index, "SCMP_CMP_GE", first, 0))
-        found.append(self._cube(values, index, value, (first, last)))
-        return max(found, key=lambda it: self.sets.weight(self.sets.of_condition(it)))
+            candidates.append(Condition(index, "SCMP_CMP_GE", first, 0))
+        candidates.append(self._cube(values, index, value, (first, last)))
+        return max(candidates, key=lambda candidate: self.sets.weight(self.sets.of_condition(candidate)))
 
     def _alternative(self, arguments: Sequence[int], order: Sequence[int]) -> Alternative:
         """An alternative that holds of these arguments, made as wide as the set allows, in this order."""
         sets = self.sets
-        found: dict[int, Condition | None] = {index: Condition(index, "SCMP_CMP_EQ", arguments[index], 0)
+        conditions: dict[int, Condition | None] = {index: Condition(index, "SCMP_CMP_EQ", arguments[index], 0)
                                               for index in self.indices}
         for index in order:
-            others = sets.of_conditions(it for at, it in found.items() if at != index and it is not None)
+            others = sets.of_conditions(condition for at, condition in conditions.items() if at != index
+                                        and condition is not None)
             values = sets.complement(sets.of_argument(sets.both(others, self.outside), index))
-            found[index] = self._widest(values, index, arguments[index])
-        return tuple(it for it in found.values() if it is not None)
+            conditions[index] = self._widest(values, index, arguments[index])
+        return tuple(condition for condition in conditions.values() if condition is not None)
 
-    def _best(self, left: int, is_late: bool) -> Alternative:
+    def _best(self, uncovered: int, is_late: bool) -> Alternative:
         """The alternative that covers the most of what is left, of those that begin at its least arguments."""
-        arguments = self.sets.least(left)
+        arguments = self.sets.least(uncovered)
         orders = itertools.islice(itertools.permutations(self.indices), ORDERS)
         if is_late:
             orders = iter([self.indices, self.indices[::-1]])
-        found = {self._alternative(arguments, order): None for order in orders}
-        return max(found, key=lambda it: (
-            self.sets.weight(self.sets.both(left, self.sets.of_conditions(it))), -len(it)))
+        candidates = {self._alternative(arguments, order): None for order in orders}
+        return max(candidates, key=lambda candidate: (
+            self.sets.weight(self.sets.both(uncovered, self.sets.of_conditions(candidate))), -len(candidate)))
 
     def find(self) -> list[Alternative]:
-        left, found = self.whole, []
-        while left != NONE:
-            if len(found) == ALTERNATIVES:
+        uncovered, alternatives = self.whole, []
+        while uncovered != EMPTY_SET:
+            if len(alternatives) == ALTERNATIVES:
                 raise TooManyAlternatives
-            found.append(self._best(left, len(found) >= FIRST))
-            left = self.sets.without(left, self.sets.of_conditions(found[-1]))
-        return self._without_needless(found)
+            alternatives.append(self._best(uncovered, len(alternatives) >= FIRST))
+            uncovered = self.sets.without(uncovered, self.sets.of_conditions(alternatives[-1]))
+        return self._without_needless(alternatives)
 
-    def _without_needless(self, found: list[Alternative]) -> list[Alternative]:
-        """Those that cover something which the others don't."""
-        sets, those = self.sets, [self.sets.of_conditions(it) for it in found]
+    def _without_needless(self, alternatives: list[Alternative]) -> list[Alternative]:
+        """The alternatives that cover something which the others don't."""
+        sets, nodes = self.sets, [self.sets.of_conditions(alternative) for alternative in alternatives]
         # what the later ones cover
-        behind = [NONE]
-        for one in reversed(those[1:]):
-            behind.append(sets.either(behind[-1], one))
-        kept, before = [], NONE
-        for at, one in enumerate(those):
-            if sets.without(one, sets.either(before, behind[-1 - at])):
-                kept.append(found[at])
-                before = sets.either(before, one)
-        return kept
+        behind = [EMPTY_SET]
+        for node in reversed(nodes[1:]):
+            behind.append(sets.either(behind[-1], node))
+        needed, before = [], EMPTY_SET
+        for at, node in enumerate(nodes):
+            if sets.without(node, sets.either(before, behind[-1 - at])):
+                needed.append(alternatives[at])
+                before = sets.either(before, node)
+        return needed
 
 
 class Covers:
@@ -409,27 +367,28 @@ class Covers:
 
     def __init__(self, sets: Sets):
         self.sets, self._count = sets, 0
-        self._found: dict[int, list[Alternative] | None] = {ALL: [()]}
+        self._found: dict[int, list[Alternative] | None] = {FULL_SET: [()]}
 
     def _of(self, arguments: int) -> list[Alternative] | None:
         if self._count > ALL_ALTERNATIVES:
             return None
-        found = self._search(arguments, True)
-        if found is None or len(found) > ALL_LISTED:
+        alternatives = self._search(arguments, True)
+        if alternatives is None or len(alternatives) > ALL_LISTED:
             joined = self._search(arguments, False)
-            found = joined if found is None or joined is not None and len(joined) < len(found) else found
-        return found
+            if alternatives is None or joined is not None and len(joined) < len(alternatives):
+                return joined
+        return alternatives
 
     def _search(self, arguments: int, is_listing: bool) -> list[Alternative] | None:
         steps = Steps(self.sets.steps.left // 2)
         sets = Sets(self.sets.bits, steps)
         try:
-            found = _Cover(sets, sets.copy(arguments, self.sets), is_listing).find()
+            alternatives = _Cover(sets, sets.copy(arguments, self.sets), is_listing).find()
         except (TooMany, TooManyAlternatives):
-            found = None
+            alternatives = None
         self.sets.spend(steps.most - max(steps.left, 0))
-        self._count += ALTERNATIVES if found is None else len(found)
-        return found
+        self._count += ALTERNATIVES if alternatives is None else len(alternatives)
+        return alternatives
 
     def of_set(self, arguments: int) -> list[Alternative] | None:
         """Alternatives that together hold of exactly these arguments; None if they are too many."""

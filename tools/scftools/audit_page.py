@@ -7,9 +7,10 @@ import shlex
 from collections.abc import Iterator
 
 from . import audit_output, client, compare_output, output, pages, surfaces
-from .audit import (AS_CONFIGURED, NOT_KNOWN, OTHERWISE, STRICTER, UNIT, WEAKER, Audit, Judgement, Part, Row,
-                    stack_digest)
+from .audit import (AS_CONFIGURED, NOT_KNOWN, OTHERWISE, STRICTER, UNIT, WEAKER, Audit, AuditRow, RowPart,
+                    StackJudgement, stack_digest)
 from .architectures import I386
+from .audit_output import Earlier
 from .processes import Stack
 from .surface_output import Groups
 from .pages import Markup, Named, c_call, document, joined, listed, preformatted, table, tag
@@ -18,16 +19,16 @@ from .tables import Table
 
 PROVED = ("Each comparison of a stack of filters with a profile is proved for all x86-64 syscalls and arguments by "
           "scf; what the files of runtimes and systemd say, and which process belongs to what, isn't.")
-COLOURS = {AS_CONFIGURED: "good", STRICTER: "good", OTHERWISE: "warn", NOT_KNOWN: "warn"}
+VERDICT_CLASSES = {AS_CONFIGURED: "good", STRICTER: "good", OTHERWISE: "warn", NOT_KNOWN: "warn"}
 # The digits of a hash that are shown, and the most stacks of a row that are shown unfolded.
 DIGITS, FEW = 12, 3
 
 
 def _coloured(verdict: str) -> Markup:
-    return tag("span", verdict, class_=COLOURS.get(verdict, "bad"))
+    return tag("span", verdict, class_=VERDICT_CLASSES.get(verdict, "bad"))
 
 
-def repeat(row: Row, part: Part) -> list[str]:
+def repeat(row: AuditRow, part: RowPart) -> list[str]:
     """The commands that repeat a comparison of a row's part."""
     process = next(iter(part.threads), None)
     if process is None or row.expected.source is None:
@@ -52,22 +53,22 @@ def _head(audit: Audit) -> Iterator[Markup]:
     yield tag("p", PROVED, class_="faint")
 
 
-def _stacks_of(row: Row, audit: Audit) -> Markup:
+def _stacks_of(row: AuditRow, audit: Audit) -> Markup:
     """The distinct stacks of a row's threads, each with its verdict if they have several."""
     numbers = {id(stack): at for at, stack in enumerate(audit.stacks)}
-    has_several = len({it.judgement.verdict for it in row.parts}) > 1
-    found = []
+    has_several = len({part.judgement.verdict for part in row.parts}) > 1
+    items = []
     for part in row.parts:
         at = numbers.get(id(part.stack))
         shown = part.judgement.why or part.stack.description if at is None else \
             joined([tag("a", f"stack {at}", href=f"#stack-{at}"), f": {part.stack.description}"])
-        found.append(joined([f"{part.judgement.verdict}: " if has_several else "", shown]))
-    if len(found) <= FEW:
-        return listed(found)
-    return tag("details", tag("summary", f"{len(found)} stacks"), listed(found))
+        items.append(joined([f"{part.judgement.verdict}: " if has_several else "", shown]))
+    if len(items) <= FEW:
+        return listed(items)
+    return tag("details", tag("summary", f"{len(items)} stacks"), listed(items))
 
 
-def _row(row: Row, audit: Audit) -> list[object]:
+def _row(row: AuditRow, audit: Audit) -> list[object]:
     capabilities = row.capabilities
     expected, digest = row.expected, row.expected.digest
     source: list[object] = [expected.source or ("nothing is configured" if expected.why is None else
@@ -79,7 +80,7 @@ def _row(row: Row, audit: Audit) -> list[object]:
     return [_coloured(row.verdict), joined([row.kind, " ", tag("strong", row.name, class_="long")]),
             ", ".join(audit_output.about(row)), tag("span", *source, class_="long"), _stacks_of(row, audit),
             tag("details", tag("summary", str(len(capabilities))), " ".join(capabilities)) if capabilities else "none",
-            "yes" if all(it.has_no_new_privileges for it in row.processes) else "no",
+            "yes" if all(process.has_no_new_privileges for process in row.processes) else "no",
             tag("details", tag("summary", count), listed(processes))]
 
 
@@ -87,13 +88,13 @@ def _rows(audit: Audit) -> Iterator[Markup]:
     yield tag("h2", "Containers, units and programs")
     head = ("verdict", "what", "engine, image", "profile", "filters", "capabilities", "NoNewPrivs", "processes")
     if audit.rows:
-        yield table(head, (_row(it, audit) for it in audit.rows), "rows")
+        yield table(head, (_row(row, audit) for row in audit.rows), "rows")
     else:
         yield tag("p", "There is no container, no unit, and no other program with a filter.")
 
 
-def _shown(judgement: Judgement, table_of: Table) -> Iterator[Markup]:
-    """What shows a verdict: the call in C, both answers, the entry and the filter's lines."""
+def _shown(judgement: StackJudgement, table_of: Table) -> Iterator[Markup]:
+    """The evidence of a verdict: the call in C, both answers, the entry and the filter's lines."""
     shown = judgement.shown
     if judgement.why is not None:
         yield tag("p", judgement.why)
@@ -101,7 +102,7 @@ def _shown(judgement: Judgement, table_of: Table) -> Iterator[Markup]:
         return
     yield preformatted([c_call(shown.call, table_of)])
     than = "the baseline" if judgement.is_of_baseline else "the profile"
-    sides = [(it.describe() if it is not None else "unknown") for it in (shown.filters, shown.profile)]
+    sides = [(answer.describe() if answer is not None else "unknown") for answer in (shown.filters, shown.profile)]
     yield listed((f"the filters answer {sides[0]}", f"{than} answers {sides[1]}"))
     lines = list(compare_output.difference_lines(judgement.comparison, shown))
     if lines:
@@ -109,60 +110,66 @@ def _shown(judgement: Judgement, table_of: Table) -> Iterator[Markup]:
 
 
 def _findings(audit: Audit, table_of: Table) -> Iterator[Markup]:
-    """What shows each verdict that isn't `as configured`, once for each row."""
+    """The evidence of each verdict that isn't `as configured`; verdicts with the same reason stand together."""
     yield tag("h2", "What shows the verdicts")
     bad = [(row, part) for row in audit.rows for part in row.parts
            if part.judgement.verdict not in (AS_CONFIGURED, STRICTER) and
            (part.judgement.why is not None or part.judgement.shown is not None)]
     if not bad:
         yield tag("p", "Nothing is weaker than configured, otherwise, or not known.")
+    alike: dict[object, list[tuple[AuditRow, RowPart]]] = {}
     for row, part in bad:
-        yield tag("h3", _coloured(part.judgement.verdict), f" {audit_output.row_text(row)}")
-        yield from _shown(part.judgement, table_of)
-        command = repeat(row, part)
-        if command:
+        judgement = part.judgement
+        reason = (judgement.verdict, judgement.why) if judgement.shown is None else id(judgement)
+        alike.setdefault(reason, []).append((row, part))
+    for pairs in alike.values():
+        names = dict.fromkeys(audit_output.row_text(row) for row, _ in pairs)
+        yield tag("h3", _coloured(pairs[0][1].judgement.verdict), f" {', '.join(names)}")
+        yield from _shown(pairs[0][1].judgement, table_of)
+        commands = [line for row, part in pairs for line in repeat(row, part)]
+        if commands:
             yield tag("p", "To repeat it:")
-            yield preformatted(command)
+            yield preformatted(commands)
 
 
 def _surfaces(stacks: list[Stack], table_of: Table) -> list[Surface | None]:
-    """What each stack allows, with a limit of its own; None if scf refuses it."""
-    found: list[Surface | None] = []
+    """The surface of each stack, with a limit of its own; None if scf refuses the stack."""
+    surfaces_of_stacks: list[Surface | None] = []
     for stack in stacks:
         client.begin_limits()
         try:
-            found.append(surfaces.of_filters(stack.filters, table_of))
+            surfaces_of_stacks.append(surfaces.of_filters(stack.filters, table_of))
         except client.Refusal:
-            found.append(None)
-    return found
+            surfaces_of_stacks.append(None)
+    return surfaces_of_stacks
 
 
-def _since(audit: Audit, before: dict[tuple[str, str], tuple[str, str]] | None) -> Iterator[Markup]:
-    """What changed since an earlier audit."""
-    if before is None:
+def _since(audit: Audit, earlier: Earlier | None) -> Iterator[Markup]:
+    """The changes since an earlier audit."""
+    if earlier is None:
         return
-    yield tag("h2", "Since the earlier audit")
-    found = list(audit_output.changes(before, audit))
-    yield listed(joined([_coloured(str(it["verdict"] or "gone")), f" {it['row']}",
-                         f" (was {it['was']})" if it["was"] is not None else " (new)"]) for it in found) \
-        if found else tag("p", "No row is new, gone or has another verdict.")
+    yield tag("h2", f"Since {output.escaped(earlier.time)}")
+    changes = list(audit_output.changes(earlier, audit))
+    yield listed(joined([_coloured(str(change["verdict"] or "gone")), f" {change['row']}",
+                         f" (was {change['was']})" if change["was"] is not None else " (new)"]) for change in changes) \
+        if changes else tag("p", "No row is new, gone or has another verdict.")
 
 
 def _stacks(audit: Audit, table_of: Table) -> Iterator[Markup]:
-    """What each distinct stack allows."""
+    """The surface of each distinct stack."""
     groups = Groups()
-    found = [Named(f"stack {at}", surface, stack.description, stack_digest(stack)) for at, (stack, surface)
-             in enumerate(zip(audit.stacks, _surfaces(audit.stacks, table_of)))]
-    if not found:
+    stacks = [Named(f"stack {at}", surface, stack.description, stack_digest(stack.filters)) for at, (stack, surface)
+              in enumerate(zip(audit.stacks, _surfaces(audit.stacks, table_of)))]
+    if not stacks:
         return
-    yield from pages.matrix(found, groups)
-    yield from pages.dangerous(found, table_of)
+    yield from pages.matrix(stacks, groups)
+    yield from pages.dangerous(stacks, table_of)
     yield tag("h2", "Distinct stacks")
-    for one in found:
-        yield from pages.stack(one, groups)
+    for stack in stacks:
+        yield from pages.stack(stack, groups)
 
 
-def page(audit: Audit, table_of: Table, before: dict[tuple[str, str], tuple[str, str]] | None = None) -> str:
-    """The page, with what changed since an earlier audit; what each stack allows is asked of scf for it."""
-    return document(f"seccomp audit of {os.uname().nodename}", *_head(audit), *_since(audit, before), *_rows(audit),
+def page(audit: Audit, table_of: Table, earlier: Earlier | None = None) -> str:
+    """The page, with the changes since an earlier audit; scf is asked for the surface of each stack."""
+    return document(f"seccomp audit of {os.uname().nodename}", *_head(audit), *_since(audit, earlier), *_rows(audit),
                     *_findings(audit, table_of), *_stacks(audit, table_of))

@@ -19,6 +19,8 @@ from .values import Pattern, dataclass
 
 ACTIONS_LOGGED = "/proc/sys/kernel/seccomp/actions_logged"
 KERNEL_LOG = "/dev/kmsg"
+# Where auditd keeps the records that it takes from the kernel (log_file of auditd.conf(5)).
+AUDITD_LOG = "/var/log/audit/audit.log"
 # The most bytes of a message in it (PRINTKRB_RECORD_MAX in include/linux/printk.h is less).
 LONGEST = 1 << 13
 # What may stand before a record, in which a process has no word: of dmesg a level, a facility, a time and a thread; of
@@ -178,6 +180,13 @@ def is_own_record(message: bytes) -> bool:
     head, _, text = message.partition(b";")
     number = head.partition(b",")[0]
     return number.isdigit() and int(number) >> 3 == 0 and text.startswith(b"audit: type=")
+
+
+def is_of(line: str, process: int, since: float | None) -> bool:
+    """Whether a line has a record of a process, and none that is older than this."""
+    who, time = WHO.search(line), TIME.search(line)
+    is_older = since is not None and time is not None and float(f"{time[1]}.{time[2]}") < since
+    return who is not None and who[1] == str(process) and not is_older
 
 
 def kernel_lines() -> Iterator[str]:

@@ -7,13 +7,15 @@ from .tables import Tables
 from .values import Pattern
 
 TABLES = ("table", "table-x86", "table-x32", "table-aarch64", "table-arm")
-KINDS = ("filter", "profile", *TABLES)
-# The kind of a filter of the other side, which only `scf compare --beside` reads.
-BESIDE = "beside"
+# Of a table's architecture the first number that runc's stub answers.
+STUBS = tuple(f"stub-{table}" for table in TABLES)
+# The kinds of a filter and of a profile of the other side: `scf compare` reads them, filters with --beside.
+BESIDE, BESIDE_PROFILE = "beside", "beside-profile"
+PART_KINDS = ("filter", "profile", BESIDE, BESIDE_PROFILE, *TABLES, *STUBS)
 # The most bytes that scf reads; it refuses a longer bundle.
-LIMIT = 1 << 24
+LONGEST_BUNDLE = 1 << 24
 # How a bundle begins, and no filter, no text of one and no profile does.
-BEGINNING = Pattern(rb"(?:filter|beside|profile|table(?:-x86|-x32|-aarch64|-arm)?) ")
+BEGINNING = Pattern(rb"(?:filter|beside|(?:beside-)?profile|(?:stub-)?table(?:-x86|-x32|-aarch64|-arm)?) ")
 
 
 def bundle(parts: Iterable[tuple[str, bytes]]) -> bytes:
@@ -23,27 +25,27 @@ def bundle(parts: Iterable[tuple[str, bytes]]) -> bytes:
     for kind, data in parts:
         pieces += b"%s %d\n" % (kind.encode(), len(data)), data
         length += len(pieces[-2]) + len(data)
-        if length > LIMIT:
+        if length > LONGEST_BUNDLE:
             break
     return b"".join(pieces)
 
 
 def of_stack(filters: Sequence[bytes]) -> bytes:
-    """What `scf decide` reads: filters, oldest first."""
+    """The bundle for `scf decide`: filters, oldest first."""
     return bundle(("filter", data) for data in filters)
 
 
 def of_comparison(filters: Sequence[bytes], profile: bytes, tables: Tables) -> bytes:
-    """What `scf compare` reads: filters, oldest first, a profile and tables."""
+    """The bundle for `scf compare`: filters, oldest first, a profile and tables."""
     return bundle([*(("filter", data) for data in filters), ("profile", profile), *tables.parts])
 
 
-def of_stacks(left: Sequence[bytes], right: Sequence[bytes], table: bytes | None = None) -> bytes:
-    """What `scf compare --beside` reads: two stacks, each oldest first, and with --calls a call table."""
+def of_stacks(filters: Sequence[bytes], right: Sequence[bytes], table: bytes | None = None) -> bytes:
+    """The bundle for `scf compare --beside`: two stacks, each oldest first, and with --calls a call table."""
     of_table = [] if table is None else [("table", table)]
-    return bundle([*(("filter", data) for data in left), *((BESIDE, data) for data in right), *of_table])
+    return bundle([*(("filter", data) for data in filters), *((BESIDE, data) for data in right), *of_table])
 
 
 def of_compilation(profile: bytes, tables: Tables) -> bytes:
-    """What `scf compile` and `scf ask` read."""
+    """The bundle for `scf compile` and `scf ask`: a profile and tables."""
     return bundle([("profile", profile), *tables.parts])

@@ -10,17 +10,17 @@ from . import constants, tables
 from .values import Any
 
 # (patterns are compiled when they are first used, which is rare; a comment may lack its end)
-COMMENT = r"(?ms)/\*.*?(\*/|\Z)|//[^\n]*|^[ \t]*#[ \t]*include[^\n]*"
+C_COMMENT = r"(?ms)/\*.*?(\*/|\Z)|//[^\n]*|^[ \t]*#[ \t]*include[^\n]*"
 # What may stand before an array and behind it: `static struct sock_filter filter[] =`, `unsigned int length = 8;`.
 HEAD = r"[A-Za-z_][\w\s]{0,200}\[[\w\s]{0,40}\]\s*=\s*(?={)"
-TAIL = r"\s*;(?:\s*(?:[A-Za-z_]\w*\s+){1,6}=\s*\d+\s*;)?\s*"
+ARRAY_TAIL = r"\s*;(?:\s*(?:[A-Za-z_]\w*\s+){1,6}=\s*\d+\s*;)?\s*"
 CAST = r"\(\s*(?:(?:unsigned|short|int|long|char|__u(?:8|16|32)|uint(?:8|16|32)_t)\s*)+\)"
 OFFSET = (r"(?:__builtin_)?offsetof\s*\(\s*struct\s+seccomp_data\s*,\s*(nr|arch|instruction_pointer|"
           r"args\s*\[\s*([0-5])\s*\])\s*\)")
 # linux/seccomp.h: struct seccomp_data
 FIELDS = {"nr": 0, "arch": 4, "instruction_pointer": 8}
 MACRO = r"(?s)(BPF_STMT|BPF_JUMP)\s*\((.*)\)"
-TOKEN = r"\s*(?:(0[xX][0-9a-fA-F]{1,40}|[0-9]{1,40})[uUlL]*\b|([A-Za-z_]\w*)|(<<|>>|[-|&+~()]))"
+C_TOKEN = r"\s*(?:(0[xX][0-9a-fA-F]{1,40}|[0-9]{1,40})[uUlL]*\b|([A-Za-z_]\w*)|(<<|>>|[-|&+~()]))"
 # The operators, by the names of Python's syntax trees.
 SHIFTS = (operator.lshift, operator.rshift)
 OPERATIONS = {"BitOr": operator.or_, "BitAnd": operator.and_, "LShift": SHIFTS[0], "RShift": SHIFTS[1],
@@ -28,7 +28,7 @@ OPERATIONS = {"BitOr": operator.or_, "BitAnd": operator.and_, "LShift": SHIFTS[0
 X32_BIT = {"__X32_SYSCALL_BIT": 0x40000000, "X32_SYSCALL_BIT": 0x40000000}
 # The most numbers, operators and brackets of an expression; and the most instructions that are read, one more than a
 # filter may have (linux/bpf_common.h: BPF_MAXINSNS).
-LONGEST, MOST = 99, 4097
+MOST_WORDS, MOST_ROWS = 99, 4097
 
 
 class NotAnArray(Exception):
@@ -48,15 +48,15 @@ def _number_of(name: str) -> int:
 
 def _words(text: str) -> Iterator[str]:
     """The numbers, constants and operators of an expression, as Python has them."""
-    bare = re.sub(OFFSET, lambda it: str(16 + 8 * int(it[2]) if it[2] else FIELDS[it[1]]), re.sub(CAST, "", text))
-    bare = bare.strip()
-    at, pattern = 0, re.compile(TOKEN)
+    bare = re.sub(OFFSET, lambda match: str(16 + 8 * int(match[2]) if match[2] else FIELDS[match[1]]),
+                  re.sub(CAST, "", text)).strip()
+    at, pattern = 0, re.compile(C_TOKEN)
     while at < len(bare):
-        found = pattern.match(bare, at)
-        if not found:
+        match = pattern.match(bare, at)
+        if not match:
             raise NotAnArray(f"'{bare[at:at + 20].strip()}' isn't a constant expression")
-        at = found.end()
-        number, name, operator_of = found.groups()
+        at = match.end()
+        number, name, operator_of = match.groups()
         base = 16 if number and number[:2].lower() == "0x" else 8 if number and re.fullmatch("0[0-7]+", number) else 10
         yield operator_of or str(int(number, base) if number else _number_of(name))
 
@@ -71,13 +71,13 @@ def value_of(text: str) -> int:
         operation = OPERATIONS.get(type(getattr(node, "op", None)).__name__)
         if operation is None:
             raise NotAnArray(f"'{text[:60]}' isn't a constant expression")
-        parts = [value(it) for it in ([node.operand] if isinstance(node, ast.UnaryOp) else [node.left, node.right])]
+        parts = list(map(value, [node.operand] if isinstance(node, ast.UnaryOp) else [node.left, node.right]))
         if operation in SHIFTS and (not 0 <= parts[1] < 64 or parts[0] < 0):
-            raise NotAnArray(f"a shift of {parts[0]} by {parts[1]}")
+            raise NotAnArray(f"{parts[0]} can't be shifted by {parts[1]}")
         return operation(*parts)
 
-    words = list(itertools.islice(_words(text), LONGEST + 1))
-    if len(words) > LONGEST:
+    words = list(itertools.islice(_words(text), MOST_WORDS + 1))
+    if len(words) > MOST_WORDS:
         raise NotAnArray("an expression is too long, or nested too deep")
     try:
         return value(ast.parse(" ".join(words), mode="eval").body) % (1 << 64)
@@ -88,13 +88,13 @@ def value_of(text: str) -> int:
 def _split(text: str) -> Iterator[str]:
     """The elements of a list, which commas outside of brackets separate; the last comma may end it."""
     depth = begun = 0
-    for found in re.finditer(r"[(){}\[\],]", text):
-        if found[0] == ",":
+    for match in re.finditer(r"[(){}\[\],]", text):
+        if match[0] == ",":
             if not depth:
-                yield text[begun:found.start()].strip()
-                begun = found.end()
+                yield text[begun:match.start()].strip()
+                begun = match.end()
         else:
-            depth += 1 if found[0] in "({[" else -1
+            depth += 1 if match[0] in "({[" else -1
     if text[begun:].strip():
         yield text[begun:].strip()
 
@@ -113,7 +113,7 @@ def _row(text: str) -> list[str]:
 
 
 def _fields(text: str) -> tuple[int, int, int, int]:
-    values = [value_of(it) for it in _row(text)]
+    values = [value_of(field_text) for field_text in _row(text)]
     # a number of 32 bits, which `~` and `-` make negative here
     values[3] %= 1 << 32 if values[3] >= (1 << 64) - (1 << 32) else 1 << 64
     for name, value, end in zip(("code", "jt", "jf", "k"), values, (1 << 16, 1 << 8, 1 << 8, 1 << 32)):
@@ -127,20 +127,20 @@ def _elements(text: str) -> list[str]:
     head = re.match(HEAD, text)
     if head:
         end = text.rfind("}") + 1
-        if not re.fullmatch(TAIL, text[end:]):
-            raise NotAnArray(f"behind the array stands '{text[end:end + 40].strip()}'")
+        if not re.fullmatch(ARRAY_TAIL, text[end:]):
+            raise NotAnArray(f"text follows the array: '{text[end:end + 40].strip()}'")
         text = text[head.end():end].strip()
-    found = list(_split(text))
-    if len(found) == 1 and found[0][:1] == "{" and found[0][-1:] == "}":
-        inner = list(_split(found[0][1:-1]))
+    pieces = list(_split(text))
+    if len(pieces) == 1 and pieces[0][:1] == "{" and pieces[0][-1:] == "}":
+        inner = list(_split(pieces[0][1:-1]))
         # braces around all elements, or one instruction
-        return inner if head or len(inner) != 4 or inner[0][:1] in ("{", "B") else found
-    return found
+        return inner if head or len(inner) != 4 or inner[0][:1] in ("{", "B") else pieces
+    return pieces
 
 
 def _without_comments(text: str) -> str:
     """A text without its comments and includes. A comment that has no end stays, which no array has."""
-    return re.sub(COMMENT, lambda found: found[0] if found[1] == "" else " ", text).strip()
+    return re.sub(C_COMMENT, lambda match: match[0] if match[1] == "" else " ", text).strip()
 
 
 def packed(rows: Iterable[Sequence[int]]) -> bytes:
@@ -156,12 +156,12 @@ def looks_like_array(text: str) -> bool:
 
 
 def rows_in(text: str) -> list[tuple[int, int, int, int]] | bytes:
-    """The instructions (code, jt, jf and k) of an array, at most MOST, or the bytes of one of bytes; raises NotAnArray
-    if a text isn't one, or only a compiler can read it."""
+    """The instructions (code, jt, jf and k) of an array, at most MOST_ROWS, or the bytes of one of bytes; raises
+    NotAnArray if a text isn't one, or only a compiler can read it."""
     elements = _elements(_without_comments(text))
-    if elements and all(re.fullmatch("0[xX][0-9a-fA-F]{1,2}|[0-9]{1,3}", it) for it in elements):
-        values = [int(it, 0 if it[:2].lower() == "0x" else 10) for it in elements]
+    if elements and all(re.fullmatch("0[xX][0-9a-fA-F]{1,2}|[0-9]{1,3}", element) for element in elements):
+        values = [int(element, 0 if element[:2].lower() == "0x" else 10) for element in elements]
         if max(values) > 255 or len(values) % 8:
-            raise NotAnArray("an array of bytes has a multiple of 8, each below 256")
+            raise NotAnArray("the bytes aren't a multiple of 8, each below 256")
         return bytes(values)
-    return [_fields(it) for it in elements[:MOST]]
+    return [_fields(element) for element in elements[:MOST_ROWS]]

@@ -2,7 +2,7 @@
 from __future__ import annotations
 
 from . import architectures, constants, tables
-from .answers import X32, X86_64
+from .answers import FIRST_X32, X86_64
 from .tables import Table
 from .values import Pattern, dataclass
 
@@ -11,15 +11,15 @@ OPTIONS = ("nr", "arch", "ip", "a0", "a1", "a2", "a3", "a4", "a5")
 # Bit 31, which no kernel's numbers have; and -1, which a tracer sets to skip a syscall, and which filters still see
 # (Documentation/userspace-api/seccomp_filter.rst of Linux; do_syscall_64 of x86 executes no such syscall).
 NO_CALL, SKIPPED = 0x80000000, 0xFFFFFFFF
-PRINTED = Pattern(r"call nr ([0-9]+) arch (0x[0-9a-f]+) ip (0x[0-9a-f]+) args((?: 0x[0-9a-f]+){6})")
+CALL_LINE = Pattern(r"call nr ([0-9]+) arch (0x[0-9a-f]+) ip (0x[0-9a-f]+) args((?: 0x[0-9a-f]+){6})")
 
 
 def number_text(number: int, architecture: int = X86_64) -> str:
     """How a number that no table names is printed."""
     if number == SKIPPED:
         return "number -1, which a tracer sets to skip a syscall"
-    if architecture == X86_64 and X32 <= number < NO_CALL:
-        return f"number 0x40000000 + {number - X32}"
+    if architecture == X86_64 and FIRST_X32 <= number < NO_CALL:
+        return f"number 0x40000000 + {number - FIRST_X32}"
     return f"number {number}"
 
 
@@ -35,14 +35,21 @@ class Call:
     @classmethod
     def read(cls, line: str) -> Call | None:
         """Parses a line of scf, `call nr N arch H ip H args H H H H H H`."""
-        found = PRINTED.fullmatch(line)
-        if not found:
+        match = CALL_LINE.fullmatch(line)
+        if not match:
             return None
-        return cls(int(found[1]), int(found[2], 16), int(found[3], 16), tuple(int(it, 16) for it in found[4].split()))
+        return cls(int(match[1]), int(match[2], 16), int(match[3], 16),
+                   tuple(int(argument, 16) for argument in match[4].split()))
+
+    @property
+    def line(self) -> str:
+        """The same line."""
+        return (f"call nr {self.number} arch {self.architecture:#x} ip {self.pointer or 0:#x} args "
+                f"{' '.join(map(hex, self.arguments))}")
 
     @property
     def is_native(self) -> bool:
-        return self.architecture == X86_64 and self.number < X32
+        return self.architecture == X86_64 and self.number < FIRST_X32
 
     @property
     def abi(self) -> str | None:
@@ -60,8 +67,8 @@ class Call:
         if self.is_native:
             return table.names_of(self.number)
         judged = architectures.JUDGED.get(self.abi or "")
-        own = None if judged is None else tables.of_architecture(judged.oci)
-        return [] if own is None or judged is None else own.names_of(self.number - judged.first)
+        own_table = None if judged is None else tables.of_architecture(judged.oci)
+        return [] if own_table is None or judged is None else own_table.names_of(self.number - judged.first)
 
     def words(self) -> list[str]:
         """The options of scf that give this record."""
@@ -78,8 +85,8 @@ class Call:
             return (f"{named} ({self.number})" if named else f"number {self.number}") + f" of the architecture {shown}"
         if self.number >= NO_CALL:
             return f"number {self.number} ({hex(self.number)}), which no syscall has"
-        if self.number >= X32:
-            return f"{named or f'number {self.number}'} (0x40000000 + {self.number - X32}), an x32 syscall"
+        if self.number >= FIRST_X32:
+            return f"{named or f'number {self.number}'} (0x40000000 + {self.number - FIRST_X32}), an x32 syscall"
         return f"{named} ({self.number})" if named else f"number {self.number}, which the table doesn't name"
 
     def as_c(self, table: Table) -> str | None:
@@ -90,4 +97,4 @@ class Call:
     def as_json(self, table: Table) -> dict[str, object]:
         return {"number": self.number, "names": self.names(table), "c": self.as_c(table),
                 "architecture": hex(self.architecture), "pointer": None if self.pointer is None else hex(self.pointer),
-                "arguments": [hex(it) for it in self.arguments]}
+                "arguments": [hex(argument) for argument in self.arguments]}

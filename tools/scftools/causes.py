@@ -9,8 +9,8 @@ from .amendment import Amendment
 from .answers import ERRNOS
 from .calls import Call
 from .client import Refusal
-from .diagnosis import CONTRADICTS, FITS, UNKNOWN, Case, Stack, cases, rank, verdict_of
-from .events import CORE, EVENTS, RECORD, STRACE, Event, EventLog
+from .diagnosis import CONTRADICTS, FITS, UNKNOWN, Case, AnsweringStack, cases, rank, verdict_of
+from .events import CORE, RECORD, STRACE, Event
 from .filters import Filter
 from .tables import Table, Tables
 from .trials import Trial
@@ -23,8 +23,6 @@ LACKS = {
     CORE: "the core doesn't have the action, nor which filter gave it",
     STRACE: "strace doesn't show which filter gave the answer",
 }
-WANTED = ("no syscall that a filter may have answered is in it: an audit record has type=1326 or type=SECCOMP, and of "
-          "strace the line is wanted of a syscall that failed, or the one before SIGSYS")
 
 
 @dataclass(frozen=True)
@@ -65,14 +63,14 @@ class Inputs:
         return tables.of_profile(self.profile or b"", self.table, self.is_native)
 
     @functools.cached_property
-    def of_filters(self) -> Stack:
+    def of_filters(self) -> AnsweringStack:
         """What the filters answer. Raises Refusal."""
-        return Stack.of_filters([it.data for it in self.filters])
+        return AnsweringStack.of_filters([it.data for it in self.filters])
 
     @functools.cached_property
-    def of_profile(self) -> Stack:
+    def of_profile(self) -> AnsweringStack:
         """What the profile answers. Raises Refusal."""
-        return Stack.of_profile(self.profile or b"", self.judged)
+        return AnsweringStack.of_profile(self.profile or b"", self.judged)
 
 
 @dataclass
@@ -85,6 +83,8 @@ class Cause:
     profile: Side | None = None
     filters: Side | None = None
     changes: list[Amendment] = field(default_factory=list)
+    # of a failed syscall, whether a process that ended with a failure had no other denied one after it
+    has_ended: bool = False
 
     @property
     def sides(self) -> list[Side]:
@@ -96,7 +96,7 @@ class Cause:
         return client.worst(verdicts[it.verdict] if it.refusal is None else it.refusal.status for it in self.sides)
 
 
-def _side(name: str, stack_of: Callable[[], Stack], event: Event) -> Side:
+def _side(name: str, stack_of: Callable[[], AnsweringStack], event: Event) -> Side:
     try:
         found = tuple(cases(stack_of(), event))
     except Refusal as why:
@@ -104,8 +104,8 @@ def _side(name: str, stack_of: Callable[[], Stack], event: Event) -> Side:
     return Side(name, found, verdict_of(found))
 
 
-def of(event: Event, count: int, given: Inputs) -> Cause:
-    """What a profile and filters say of an event."""
+def of(event: Event, count: int, given: Inputs, common: Event | None = None) -> Cause:
+    """What a profile and filters say of an event; of several, with what is `common` to all, which the changes allow."""
     found = Cause(event, count, given)
     if given.filters:
         name = "the filter" if len(given.filters) == 1 else "the filters"
@@ -120,7 +120,7 @@ def of(event: Event, count: int, given: Inputs) -> Cause:
     denied = next((it for it in found.profile.found if not it.answer.allows), None)
     if denied is not None:
         reason = reasons.of(given.profile, given.judged, denied.call.words())
-        found.changes = list(amendment.amendments(given.profile, event, reason, given.trial))
+        found.changes = list(amendment.amendments(given.profile, common or event, reason, given.trial))
     return found
 
 
@@ -133,8 +133,11 @@ def _arguments(call: Call, table: Table) -> str:
 def _of_event(cause: Cause) -> Iterator[str]:
     """What the source says, and what it doesn't."""
     event = cause.event
-    more = f"; such records: {cause.count}" if cause.count > 1 else ""
+    kind = "failures" if event.outcome.is_result else "records"
+    more = f"; such {kind}: {cause.count}" if cause.count > 1 else ""
     yield f"{event.who()}: the syscall is {event.call.describe(cause.given.table)}{more}"
+    if cause.has_ended:
+        yield "it is the last denied syscall of a process that ended with a failure"
     if event.outcome.is_result:
         code = event.outcome.data or 0
         yield (f"it failed with {ERRNOS.get(code, f'errno {code}')}: by ERRNO {code}, by a tracer or a supervisor, or "
@@ -224,7 +227,7 @@ def _of_filters(cause: Cause) -> Iterator[str]:
         yield from refusals.lines_of(side.refusal, b"", given.judged)
         return
     for case in side.found:
-        yield str(case.answer) if case.answer.action == "UNNAMED" else f"{case.answer.action} {case.answer.data}"
+        yield case.answer.line
         yield f"# {case.answer.describe()}"
         yield from output.notes(_of_case(case, cause.event, given.table))
         yield from output.notes(_of_path(case, given))
@@ -274,47 +277,7 @@ def as_json(cause: Cause) -> dict[str, object]:
         for case, shown in zip(cause.filters.found, found["filters"]["cases"]):
             givers = listing.deciding_filters(given.filters, case.call.words(), case.answer)
             shown["filters"] = [it.filter.name for it in givers]
+    if event.outcome.is_result:
+        found["has_ended"] = cause.has_ended
     found["changes"] = [it.as_json() for it in cause.changes]
     return found
-
-
-@dataclass
-class Report:
-    """The causes of all events that were found, and what else was."""
-
-    found: EventLog
-    causes: list[Cause]
-    # what is printed where there is none
-    lacking: Sequence[str] = (WANTED,)
-
-    @property
-    def status(self) -> int:
-        """The worst of all."""
-        statuses = {it.status for it in self.causes}
-        if self.found.faults:
-            statuses.add(program.IO_ERROR)
-        if not self.causes or self.found.left or self.found.suppressed:
-            statuses.add(program.UNKNOWN)
-        return client.worst(statuses)
-
-
-def report_lines(report: Report) -> Iterator[str]:
-    """What is printed of all events, and of what else was found."""
-    found = report.found
-    for cause in report.causes:
-        yield from lines(cause)
-    for number, why in found.faults:
-        yield f"# line {number} isn't judged: {why}" if number else f"# a line isn't judged: {why}"
-    if found.suppressed:
-        yield f"# records that the kernel left out, since too many came at once: {found.suppressed}"
-    if found.left:
-        yield f"# records of more syscalls than {EVENTS} different ones, which aren't judged: {found.left}"
-    if not report.causes and not found.faults:
-        yield from output.notes(report.lacking)
-
-
-def report_as_json(report: Report) -> dict[str, object]:
-    found = report.found
-    return {"status": report.status, "events": [as_json(it) for it in report.causes],
-            "faults": [{"line": number, "why": why} for number, why in found.faults],
-            "suppressed": found.suppressed, "not_judged": found.left}

@@ -22,7 +22,7 @@ PR_SET_PDEATHSIG = 1
 ENDING = (signal.SIGHUP, signal.SIGINT, signal.SIGQUIT, signal.SIGTERM)
 # In seconds: how often the tool looks for signals while it waits for the child, and how long a child may take to end by
 # one; how much later than the tool the child's own timer ends it, and how long a child that was killed is waited for.
-PAUSE, TO_END, TIMER_DELAY, LAST_WAIT = 0.05, 1.0, 0.5, 0.2
+SIGNAL_PAUSE, TO_END, TIMER_DELAY, LAST_WAIT = 0.05, 1.0, 0.5, 0.2
 # The length of a value, which a child writes before it.
 LENGTH = struct.Struct("<Q")
 
@@ -50,7 +50,7 @@ def run(work: Callable[..., Any], seconds: float, receive: Callable[[Any], objec
     """The result or exception of a function run in a child process; it calls `look_for_signals` now and then. With
     `receive` the function is given another one, by which it sends values: each is received, however the child ends."""
     until = time.monotonic() + seconds
-    heeded = {it for it in ENDING if signal.getsignal(it) != signal.SIG_IGN}
+    heeded = {number for number in ENDING if signal.getsignal(number) != signal.SIG_IGN}
     parent = os.getpid()
     mask = set(signal.pthread_sigmask(signal.SIG_BLOCK, signal.valid_signals()))
     ended: list[tuple[bool, Any]] = []
@@ -90,9 +90,9 @@ def _send(file: int, is_well: bool | None, value: object) -> None:
     import pickle  # pylint: disable=import-outside-toplevel
 
     data = pickle.dumps((is_well, value))
-    rest = memoryview(LENGTH.pack(len(data)) + data)
-    while rest:
-        rest = rest[os.write(file, rest):]
+    unsent = memoryview(LENGTH.pack(len(data)) + data)
+    while unsent:
+        unsent = unsent[os.write(file, unsent):]
 
 
 def _values_of(child: int, file: int, heeded: set[int], until: float) -> Iterator[tuple[bool | None, Any]]:
@@ -114,10 +114,10 @@ def _output_of(child: int, file: int, heeded: set[int], until: float) -> Iterato
     """All that the child writes; signals that end this process are passed on to it, and it ends soon then."""
     late: Exception = Late()
     while True:
-        left = until - time.monotonic()
-        if left <= 0:
+        remaining = until - time.monotonic()
+        if remaining <= 0:
             raise late
-        if select.select([file], [], [], min(left, PAUSE))[0]:
+        if select.select([file], [], [], min(remaining, SIGNAL_PAUSE))[0]:
             piece = os.read(file, 1 << 16)
             if not piece:
                 return

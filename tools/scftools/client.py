@@ -13,7 +13,7 @@ from .values import NoReturn, Pattern, dataclass
 SCF = os.path.join(program.TOP, "scf")
 PROGRAMS = (os.path.join(program.TOP, "program", "scf"), os.path.join(program.TOP, "crates", "scf", "out", "scf"))
 # SIGKILL (signal(7)), which ends a process that exceeds its limit of CPU time.
-KILLED = 9
+SIGKILL = 9
 # The most bytes of address space that the tools give scf. The largest real inputs take a sixth; 4 MiB of `{"":0}`
 # would take 530 MB.
 MAX_MEMORY = 256 << 20
@@ -21,7 +21,7 @@ MAX_MEMORY = 256 << 20
 # comparisons have few steps, after the second none.
 SECONDS, ALL_SECONDS, FEW_STEPS = 6, 8, "1000"
 # The options of `scf compare` by which a tool's command line limits each comparison, with their texts.
-LIMITS = {
+LIMIT_OPTIONS = {
     "limit": f"at most N steps for each comparison [default: 1000000, and {SECONDS} s of CPU time for all together]",
     "splits": "at most N splits for each comparison that tests leave undecided; 18446744073709551615 is no limit "
               "[default: 10000]"}
@@ -62,15 +62,15 @@ class Fault:
 
     @classmethod
     def read(cls, line: str) -> Fault | None:
-        found = FAULT.fullmatch(line)
-        if not found:
+        match = FAULT.fullmatch(line)
+        if not match:
             return None
-        words = found[3].split()
-        return cls(line, found[1], found[2], {name: int(value) for name, value in zip(words[::2], words[1::2])})
+        words = match[3].split()
+        return cls(line, match[1], match[2], {name: int(value) for name, value in zip(words[::2], words[1::2])})
 
     def as_json(self, sentences: Iterable[str] | None = None) -> dict[str, object]:
-        found: dict[str, object] = {"source": self.source, "kind": self.kind, "numbers": self.numbers}
-        return found if sentences is None else {**found, "sentences": list(sentences)}
+        value: dict[str, object] = {"source": self.source, "kind": self.kind, "numbers": self.numbers}
+        return value if sentences is None else {**value, "sentences": list(sentences)}
 
 
 class Refusal(Exception):
@@ -105,12 +105,18 @@ class Run:
         return self.text.split("\n", 1)[0]
 
 
-def built() -> str | None:
+def built_program() -> str | None:
     """The program, if it exists without a build."""
     return next((path for path in PROGRAMS if os.access(path, os.X_OK)), None)
 
 
-def holding(data: bytes) -> int:
+def _command() -> tuple[str, list[str]]:
+    """The program and its first words; if it isn't built, those of the launcher, which builds it."""
+    path = built_program()
+    return (SCF, ["scf", "core"]) if path is None else (path, ["scf"])
+
+
+def memory_file(data: bytes) -> int:
     """A file descriptor with these bytes."""
     try:
         file = os.memfd_create("scf")
@@ -149,13 +155,12 @@ def run(words: Sequence[str], given: bytes | None = b"", seconds: float | None =
     After so many seconds of CPU time it is killed, and the result is empty and UNKNOWN. If scf isn't built, its
     launcher builds it first, which takes long; without `may_build` the result is then empty and NOT_BUILT.
     """
-    program_built = built()
-    if program_built is None and not may_build:
+    path, before = _command()
+    if path == SCF and not may_build:
         return Run(NOT_BUILT, b"")
-    path, before = (program_built, ["scf"]) if program_built is not None else (SCF, ["scf", "core"])
     ends = os.pipe()
     actions: list[tuple] = [(os.POSIX_SPAWN_DUP2, ends[1], 1)]
-    source = None if given is None else holding(given)
+    source = None if given is None else memory_file(given)
     if source is not None:
         actions.append((os.POSIX_SPAWN_DUP2, source, 0))
     try:
@@ -165,12 +170,12 @@ def run(words: Sequence[str], given: bytes | None = b"", seconds: float | None =
     os.close(ends[1])
     if source is not None:
         os.close(source)
-    if program_built is not None:
+    if path != SCF:
         _limit(child, seconds)
     with os.fdopen(ends[0], "rb") as printed:
         out = printed.read()
     state = os.waitpid(child, 0)[1]
-    if os.WIFSIGNALED(state) and seconds is not None and os.WTERMSIG(state) == KILLED:
+    if os.WIFSIGNALED(state) and seconds is not None and os.WTERMSIG(state) == SIGKILL:
         return Run(UNKNOWN, b"")
     if os.WIFSIGNALED(state):
         raise ToolError(f"scf was ended by signal {os.WTERMSIG(state)}", 128 + os.WTERMSIG(state))
@@ -182,10 +187,8 @@ def run(words: Sequence[str], given: bytes | None = b"", seconds: float | None =
 
 def become(words: Sequence[str]) -> NoReturn:
     """Runs scf in place of this process, on its standard input."""
-    path, before = built(), ["scf"]
-    if path is None:
-        path, before = SCF, ["scf", "core"]
-    else:
+    path, before = _command()
+    if path != SCF:
         _limit(os.getpid(), None)
     output.flush()
     os.execv(path, [*before, *words])
@@ -206,14 +209,10 @@ def begin_limits(seconds: float = SECONDS, is_reported: bool = True) -> None:
     _is_spent_reported, _seconds_of_scf = not is_reported, SECONDS - seconds
 
 
-def _seconds_taken() -> float:
-    """The CPU time that counts, of this process and its ended children or of scf alone."""
-    return sum(os.times()[:4]) if _seconds_of_scf is None else _seconds_of_scf
-
-
 def _seconds_left(until: float) -> float:
-    """The CPU time that may still be taken, of so many seconds."""
-    return until - _seconds_taken()
+    """The CPU time that may still be taken, of so many seconds for this process and its ended children, or for scf
+    alone."""
+    return until - (sum(os.times()[:4]) if _seconds_of_scf is None else _seconds_of_scf)
 
 
 def is_spent() -> bool:
@@ -238,12 +237,12 @@ def _limited(words: Sequence[str], bundle: bytes) -> Run:
     global _is_spent_reported, _seconds_of_scf  # pylint: disable=global-statement
     if "limit" in limits or not program.is_tool:
         return run(words, bundle)
-    if built() is None:
+    if built_program() is None:
         # the time to build it doesn't count
         run(["--version"])
     for steps, until in (([], SECONDS), ([f"--limit={FEW_STEPS}"], ALL_SECONDS)):
-        left, before = _seconds_left(until), sum(os.times()[2:4])
-        done = run([*words, *steps], bundle, left) if left > 0 else None
+        remaining, before = _seconds_left(until), sum(os.times()[2:4])
+        done = run([*words, *steps], bundle, remaining) if remaining > 0 else None
         if _seconds_of_scf is not None:
             _seconds_of_scf += sum(os.times()[2:4]) - before
         if done is not None and done.out:

@@ -7,16 +7,16 @@ from . import architectures, explanation, listing, newer, other_abis, reasons, r
 from .answers import DENIED
 from .calls import Call
 from .client import Refusal
-from .compare import Comparison, dispositions
+from .compare import Comparison
 from .explanation import join_names
 from .listing import Giver
 from .reasons import Reason
-from .values import dataclass, replace
-from .verdicts import (ALL, CALLS, DIFFERS, LESS, LISTED, MORE, NATIVE, SAME, UNDECIDED, Fault, NamedCall, Report,
-                       Verdict)
+from .values import Any, dataclass, replace
+from .verdicts import (ALL, CALLS, DIFFERS, LESS, LISTED, MORE, NATIVE_SCOPE, NO_LESS, NO_MORE, SAME, UNDECIDED, Fault,
+                       NamedCall, Report, Verdict)
 
 # What is compared in a scope, which leaves out other ABIs.
-COMPARED = {NATIVE: "x86-64 syscalls", CALLS: "each {} syscall in the table{}", LISTED: "{} syscalls"}
+COMPARED = {NATIVE_SCOPE: "x86-64 syscalls", CALLS: "each {} syscall in the table{}", LISTED: "{} syscalls"}
 ABIS_CHECKED = "; other ABIs are only checked for any allowed syscall:"
 # What is printed of syscalls that fail a relation.
 FAILED_RELATIONS = {DIFFERS: "that differ", MORE: "answered more permissively than by {}",
@@ -87,21 +87,33 @@ def call_lines(comparison: Comparison, report: Report) -> tuple[list[str], list[
     return (lines + newer_lines, []) if above.has(report.verdict.call) else ([], lines + newer_lines)
 
 
-def strictness_lines(comparison: Comparison, scope: str) -> Iterator[str]:
-    """A line if filters that differ from the profile are never more permissive."""
+def dispositions(comparison: Any, scope: str) -> list[Verdict | None]:
+    """The verdicts on whether filters are nowhere more permissive than the other side, and whether nowhere stricter."""
+    return [comparison.run(scope, relation)[1].verdict for relation in (NO_MORE, NO_LESS)]
+
+
+def strictness_lines(comparison: Any, scope: str, count: int, side: str = PROFILE) -> Iterator[str]:
+    """A line if filters, so many of them, that differ from another side are never more permissive."""
     no_more, no_less = dispositions(comparison, scope)
-    if no_more is None or not no_more.holds:
-        return
-    they, are, s = ("they", "are", "") if len(comparison.filters) > 1 else ("it", "is", "s")
+    they, are, s = ("they", "are", "") if count > 1 else ("it", "is", "s")
     they = f"over the syscalls in the table: {they}" if scope == CALLS else they
-    if no_less is not None and no_less.holds:
-        yield f"{they} {are} neither more permissive nor stricter than the profile: only the answers differ"
+    if no_more is None or not no_more.holds:
+        if side != PROFILE and no_less is not None and no_less.holds:
+            yield f"{they} {are} more permissive, and never stricter than {side}"
+    elif no_less is not None and no_less.holds:
+        yield f"{they} {are} neither more permissive nor stricter than {side}: only the answers differ"
     elif no_less is not None and no_less.fails:
         is_denied = no_less.call is None or no_less.filters is None or no_less.filters.disposition == DENIED
         less = f"{are} stricter, and" if is_denied else f"delegate{s} more to a supervisor or tracer, and {are}"
-        yield f"{they} {less} never more permissive than the profile"
+        yield f"{they} {less} never more permissive than {side}"
     else:
-        yield f"{they} {are} never more permissive than the profile"
+        yield f"{they} {are} never more permissive than {side}"
+
+
+def strictness_json(comparison: Any, scope: str) -> dict[str, object]:
+    """The same verdicts as members of an object."""
+    return dict(zip(("no_more", "no_less"), (verdict.word if verdict is not None else None
+                                             for verdict in dispositions(comparison, scope))))
 
 
 def fault_sentences(comparison: Comparison, fault: Fault) -> Iterator[str]:
@@ -110,7 +122,7 @@ def fault_sentences(comparison: Comparison, fault: Fault) -> Iterator[str]:
 
 
 def left_out_lines(comparison: Comparison, report: Report) -> Iterator[str]:
-    """What was left out of the profile: skipped names, and architectures that aren't judged."""
+    """Lines on what was left out of the profile: skipped names, and architectures that aren't judged."""
     if report.skipped:
         facts = comparison.facts
         yield from explanation.of_skipped(report, comparison.tables, bool(facts and facts.allows_by_default))
@@ -118,8 +130,8 @@ def left_out_lines(comparison: Comparison, report: Report) -> Iterator[str]:
 
 
 def foreign_lines(comparison: Comparison, report: Report, scope: str, is_quiet: bool = False) -> Iterator[str]:
-    """What is compared, and whether syscalls of other ABIs are allowed, which a scope doesn't cover; if quiet, only if
-    some may be."""
+    """Lines on what is compared, and on whether syscalls of other ABIs, which a scope doesn't cover, are allowed; if
+    quiet, only where some may be."""
     if scope not in COMPARED or report.verdict is None:
         return
     names = comparison.tables.names
@@ -134,12 +146,11 @@ def foreign_lines(comparison: Comparison, report: Report, scope: str, is_quiet: 
 
 @dataclass(frozen=True)
 class Difference:
-    """Why filters and a profile differ on a syscall: the profile's reason, None if runc's stub answers, and the filter
-    whose path is shown."""
+    """Why filters and a profile differ on a syscall: the profile's reason, and the filter whose path is shown."""
 
     comparison: Comparison
     call: Call
-    reason: Reason | None
+    reason: Reason
     giver: Giver | None
 
     @classmethod
@@ -148,24 +159,17 @@ class Difference:
         call = verdict.call
         if call is None or verdict.filters is None or verdict.profile is None:
             return None
-        is_stub = call.number >= comparison.stub.get(call.abi or "", 1 << 32)
-        reason = None if is_stub else reasons.of(comparison.profile, comparison.tables, call.words())
-        return cls(comparison, call, reason,
+        return cls(comparison, call, reasons.of(comparison.profile, comparison.tables, call.words()),
                    listing.to_show(listing.deciding_filters(comparison.filters, call.words(), verdict.filters)))
 
     def lines(self) -> Iterator[str]:
-        """What decides in the profile, and the last tests on the filter's path."""
-        if self.reason is None:
-            yield reasons.BY_STUB
-        else:
-            yield from reasons.describe(self.reason, self.comparison.profile, self.call, self.comparison.origins)
+        """The profile's reason, and the last tests on the filter's path."""
+        yield from reasons.describe(self.reason, self.comparison.profile, self.call, self.comparison.origins)
         if self.giver is not None:
             yield from self.giver.last_tests(self.call, self.comparison.table)
 
     def as_json(self) -> dict[str, object]:
-        reason: dict[str, object] = {"reason": "stub"}
-        if self.reason is not None:
-            reason = reasons.as_json(self.reason, self.comparison.profile, self.call, self.comparison.origins)
+        reason = reasons.as_json(self.reason, self.comparison.profile, self.call, self.comparison.origins)
         return {**reason, "path": self.giver.as_json()} if self.giver is not None else reason
 
 
@@ -183,9 +187,9 @@ def notes(comparison: Comparison, report: Report, scope: str) -> Iterator[str]:
     before: list[str] = []
     after: list[str] = []
     if report.verdict and report.verdict.word == DIFFERS:
-        yield from strictness_lines(comparison, scope)
+        yield from strictness_lines(comparison, scope, count)
     if report.verdict and report.verdict.fails:
-        if scope in (NATIVE, LISTED):
+        if scope in (NATIVE_SCOPE, LISTED):
             before, after = call_lines(comparison, report)
         elif scope == CALLS and comparison.relation == SAME:
             before = list(newer.of_named_calls(comparison, report.calls))
@@ -199,7 +203,7 @@ def notes(comparison: Comparison, report: Report, scope: str) -> Iterator[str]:
 
 
 def as_json(comparison: Comparison, report: Report, scope: str, status: int) -> dict[str, object]:
-    """The same as `notes`, as one object without scf's lines."""
+    """The object with everything that `notes` prints."""
     members: dict[str, object] = {"status": status, "scope": scope,
                                   "verdict": report.verdict.word if report.verdict else None}
     if scope == LISTED:
@@ -214,9 +218,8 @@ def as_json(comparison: Comparison, report: Report, scope: str, status: int) -> 
         members.update(difference.as_json() if difference else {})
     calls = report.calls
     if report.verdict and report.verdict.word == DIFFERS:
-        for member, verdict in zip(("no_more", "no_less"), dispositions(comparison, scope)):
-            members[member] = verdict.word if verdict else None
-    if scope in (NATIVE, LISTED) and report.verdict and report.verdict.fails:
+        members.update(strictness_json(comparison, scope))
+    if scope in (NATIVE_SCOPE, LISTED) and report.verdict and report.verdict.fails:
         calls = comparison.of_calls()
         above = newer.calls_of(comparison)
         if above:
@@ -227,7 +230,7 @@ def as_json(comparison: Comparison, report: Report, scope: str, status: int) -> 
         members["unknown"] = [{"name": name, "nearest": near}
                               for name, near in tables.classify(report.skipped, comparison.tables).unknown]
     if scope in COMPARED and report.verdict is not None:
-        members["foreign"] = [known.as_json() for known in comparison.foreign(scope)]
+        members["foreign"] = [access.as_json() for access in comparison.foreign(scope)]
     files = [name for name, _ in responsible_files(comparison, report, scope)]
     if files:
         members["files"] = files

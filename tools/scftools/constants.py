@@ -6,7 +6,9 @@ number on i386, x32, aarch64 or arm, or none (tables/arguments.unlike). For furt
 """
 from __future__ import annotations
 
+import bisect
 import functools
+import itertools
 import operator
 import re
 from collections.abc import Sequence
@@ -20,9 +22,10 @@ HALF, WHOLE, ADDRESS = "i", "w", "p"
 # The syscalls that have other arguments on an architecture than on x86-64: clone, whose last two are swapped; of 32
 # bits those with a number of 64, which takes two arguments; and on i386 those that read all of theirs from memory.
 SWAPPED = ("clone",)
-SPLIT = (*SWAPPED, "fadvise64", "fallocate", "fanotify_mark", "pread64", "pwrite64", "readahead", "sync_file_range")
-OTHER_KINDS = {AARCH64: SWAPPED, ARM: SPLIT, I386: (*SPLIT, "mmap", "select")}
-NAME = Pattern(r"[A-Za-z_]\w*", re.A)
+SPLIT_SYSCALLS = (*SWAPPED, "fadvise64", "fallocate", "fanotify_mark", "pread64", "pwrite64", "readahead",
+                  "sync_file_range")
+OTHER_KINDS = {AARCH64: SWAPPED, ARM: SPLIT_SYSCALLS, I386: (*SPLIT_SYSCALLS, "mmap", "select")}
+C_IDENTIFIER = Pattern(r"[A-Za-z_]\w*", re.A)
 # Architectures whose registers have 32 bits.
 NARROW = I386, ARM
 
@@ -36,7 +39,7 @@ def kinds() -> dict[str, str]:
 
 @functools.lru_cache(None)
 def kinds_on(name: str) -> dict[str, str]:
-    """The same of another architecture by its OCI name, as far as its syscalls have the arguments of x86-64's."""
+    """The letters of arguments on an architecture by its OCI name, for syscalls whose arguments are those of x86-64."""
     others = OTHER_KINDS.get(name, ())
     return {called: letters for called, letters in kinds().items() if called not in others}
 
@@ -57,10 +60,10 @@ def numbers() -> dict[str, int]:
 @functools.lru_cache(None)
 def _unlike() -> dict[str, set[str]]:
     """By the OCI name of an architecture the constants that aren't there what they are on x86-64."""
-    found: dict[str, set[str]] = {architectures.NATIVE: set()}
+    sets: dict[str, set[str]] = {architectures.NATIVE: set()}
     for architecture, *names in map(str.split, program.lines_of("arguments.unlike")):
-        found.setdefault(architectures.name_in(architecture) or architecture, set()).update(names)
-    return found
+        sets.setdefault(architectures.name_in(architecture) or architecture, set()).update(names)
+    return sets
 
 
 @functools.lru_cache(None)
@@ -72,23 +75,23 @@ def numbers_on(architecture: str) -> dict[str, int]:
 
 def number_of(name: str, architecture: str) -> int:
     """The number of a constant on the architecture of this OCI name; raises ToolError if it isn't known."""
-    known = _unlike().get(architecture)
+    unlike = _unlike().get(architecture)
     shown = architecture.removeprefix(architectures.PREFIX).lower()
-    if known is None:
+    if unlike is None:
         raise program.ToolError(f"constants are known for x86-64, i386, x32, aarch64 and arm: for {shown}, give the "
                               f"number of '{name}'")
     if name not in numbers():
         near = tables.most_like(name.upper(), numbers())
         raise program.ToolError(f"no constant is known by the name '{name}'"
                                 + (f"; the nearest is {near}" if near else ""))
-    if name in known:
+    if name in unlike:
         raise program.ToolError(f"{name} isn't the same on {shown} as on x86-64: give its number")
     return numbers()[name]
 
 
 def _part(text: str, whole: str, architecture: str) -> int:
     number = number_in(text)
-    if number is None and not NAME.fullmatch(text):
+    if number is None and not C_IDENTIFIER.fullmatch(text):
         raise program.ToolError(f"'{whole}' is neither a number nor constants joined by |")
     return number_of(text, architecture) if number is None else number
 
@@ -115,21 +118,21 @@ def argument_in(text: str, architecture: str) -> str:
     negative = _negative(text, architecture)
     if negative is not None:
         return negative
-    parts = [it.strip() for it in text.split("|")]
-    octal = next((it for it in parts if re.fullmatch("0[0-7]{1,30}", it) and int(it) != int(it, 8)), None)
+    parts = [part.strip() for part in text.split("|")]
+    octal = next((part for part in parts if re.fullmatch("0[0-7]{1,30}", part) and int(part) != int(part, 8)), None)
     if octal is not None:
         raise program.ToolError(f"{octal} is ambiguous: write {hex(int(octal, 8))} for C's octal number, or "
                                 f"{int(octal)} for the decimal one")
-    if "|" not in text and not NAME.fullmatch(text):
+    if "|" not in text and not C_IDENTIFIER.fullmatch(text):
         return text
-    found = (_part(it, text, architecture) for it in parts)
-    return hex(functools.reduce(operator.or_, found) % (1 << _width(architecture)))
+    arguments = (_part(part, text, architecture) for part in parts)
+    return hex(functools.reduce(operator.or_, arguments) % (1 << _width(architecture)))
 
 
 # More constants than these are shown as a number, and of so many zeros at the end of a call each by itself. Numbers
 # below SMALL are shown in decimal, and negative ones down to its negative.
 MOST_NAMES, MOST_ZEROS, SMALL = 6, 2, 1 << 16
-WORD, REGISTER = 1 << 32, 1 << 64
+WORD_VALUES, REGISTER_VALUES = 1 << 32, 1 << 64
 
 
 @dataclass
@@ -149,46 +152,55 @@ class Family:
         if word.startswith("0"):
             self.mask = int(word, 0)
         else:
-            pattern = re.escape(word.removeprefix("-")).replace(r"\*", r"\w*")
-            self.patterns.append((word[0] != "-", pattern))
+            self.patterns.append((word[0] != "-", word.removeprefix("-")))
 
-    def fill(self, known: dict[str, int]) -> None:
-        """Finds its constants. Of two with one number the first in the table is kept."""
-        for name, number in known.items():
-            rank = max((at for at, it in enumerate(self.patterns) if re.fullmatch(it[1], name)), default=None)
+    def fill(self, numbers_by_name: dict[str, int], ordered: Sequence[str]) -> None:
+        """Finds its constants, whose names are also given in order. Of two with one number the first in the table is
+        kept."""
+        rank_of = {}
+        for rank, (_, pattern) in enumerate(self.patterns):
+            prefix = pattern.partition("*")[0]
+            form = re.compile(re.escape(pattern).replace(r"\*", r"\w*"))
+            for name in itertools.islice(ordered, bisect.bisect_left(ordered, prefix), None):
+                if not name.startswith(prefix):
+                    break
+                if form.fullmatch(name):
+                    rank_of[name] = rank
+        for name, number in numbers_by_name.items():
+            rank = rank_of.get(name)
             # a bit of the sign of 32 bits would be 33 bits of a register
             if rank is not None and self.patterns[rank][0] and number > -SMALL:
-                number, self.ranks[name] = number % WORD, rank
+                number, self.ranks[name] = number % WORD_VALUES, rank
                 if number & ~self.mask == 0:
                     self.of_mask.setdefault(number, name)
                 elif number & self.mask == 0:
                     self.bits.setdefault(number, name)
         # what has more bits goes first, as O_SYNC before O_DSYNC
-        self.bits = dict(sorted(self.bits.items(), key=lambda it: (-bin(it[0]).count("1"), it[0])))
+        self.bits = dict(sorted(self.bits.items(), key=lambda item: (-bin(item[0]).count("1"), item[0])))
 
     def describe(self, value: int) -> str | None:
         """A value below 2^32 by its constants, or None if it has none."""
-        low, rest = value & self.mask, value & ~self.mask
-        found = [self.of_mask[low]] if low in self.of_mask and (low or self.mask or not rest) else []
-        named, rest = self._of_bits(rest if found else rest + low)
-        found += named
-        if not found or len(found) > MOST_NAMES:
+        low, remainder = value & self.mask, value & ~self.mask
+        names = [self.of_mask[low]] if low in self.of_mask and (low or self.mask or not remainder) else []
+        named, remainder = self._of_bits(remainder if names else remainder + low)
+        names += named
+        if not names or len(names) > MOST_NAMES:
             return None
-        return "|".join(sorted(found, key=lambda it: self.ranks[it]) + ([hex(rest)] if rest else []))
+        return "|".join(sorted(names, key=lambda name: self.ranks[name]) + ([hex(remainder)] if remainder else []))
 
-    def _of_bits(self, rest: int) -> tuple[list[str], int]:
+    def _of_bits(self, value: int) -> tuple[list[str], int]:
         """The constants of bits, and those bits that have none."""
-        found = []
+        names = []
         for number, name in self.bits.items():
-            if rest & number == number:
-                found.append(name)
-                rest -= number
-        return found, rest
+            if value & number == number:
+                names.append(name)
+                value -= number
+        return names, value
 
     def bit_names(self, value: int) -> str | None:
         """A mask below 2^32 by the constants of its bits, or None if one of them has none."""
-        found, rest = self._of_bits(value)
-        return "|".join(sorted(found, key=lambda it: self.ranks[it])) if found and not rest else None
+        names, remainder = self._of_bits(value)
+        return "|".join(sorted(names, key=lambda name: self.ranks[name])) if names and not remainder else None
 
 
 @functools.lru_cache(None)
@@ -197,31 +209,33 @@ def _families(architecture: str = architectures.NATIVE) -> tuple[dict[str, Famil
     each argument by the syscall, `-` for none."""
     families: dict[str, Family] = {}
     calls: dict[str, list[str]] = {}
-    for first, *rest in map(str.split, program.lines_of("x86_64.constants")):
+    for first, *words in map(str.split, program.lines_of("x86_64.constants")):
         if first == "=":
-            for word in rest[1:]:
-                families.setdefault(rest[0], Family()).add(word)
+            for word in words[1:]:
+                families.setdefault(words[0], Family()).add(word)
         else:
-            calls[first] = rest
+            calls[first] = words
+    numbers_by_name = numbers_on(architecture)
+    ordered = sorted(numbers_by_name)
     for family in families.values():
-        family.fill(numbers_on(architecture))
+        family.fill(numbers_by_name, ordered)
     return families, calls
 
 
 def _number_text(value: int, kind: str) -> str:
     if kind == ADDRESS:
         return hex(value) if value else "NULL"
-    if value >= REGISTER - SMALL:
-        return str(value - REGISTER)
+    if value >= REGISTER_VALUES - SMALL:
+        return str(value - REGISTER_VALUES)
     return str(value) if value < SMALL else hex(value)
 
 
 def _value_text(value: int, kind: str, family: Family | None) -> str:
     """An argument as C would have it. Of an `int` the sign of 64 bits is that of 32."""
-    known = value
-    if kind == HALF and value >= REGISTER - WORD // 2:
-        known = value % WORD
-    named = family.describe(known) if family is not None and known < WORD else None
+    masked = value
+    if kind == HALF and value >= REGISTER_VALUES - WORD_VALUES // 2:
+        masked = value % WORD_VALUES
+    named = family.describe(masked) if family is not None and masked < WORD_VALUES else None
     return _number_text(value, kind) if named is None else named
 
 
@@ -229,7 +243,7 @@ def family_of(name: str, index: int, first: int | None, architecture: str = arch
     """The constants of an argument on the architecture of this OCI name, given the first one, if that is known."""
     families, calls = _families(architecture)
     words = calls.get(name, [])
-    if index and first is not None and words and words[0] in families and first < WORD:
+    if index and first is not None and words and words[0] in families and first < WORD_VALUES:
         words = calls.get(f"{name}[{families[words[0]].describe(first)}]", words)
     return families.get(words[index]) if index < len(words) else None
 

@@ -11,13 +11,12 @@ descendants.
 """
 from __future__ import annotations
 
-import fcntl
 import json
 import os
 import time
 from collections.abc import Callable, Iterable, Iterator
 
-from . import child, containers, engines, owned_files
+from . import child, containers, engines, owned_files, started_profiles
 from .machine import Process
 from .owned_files import ANYONE, Absent, UnreadableFile
 from .ptrace import Kernel, contents, ticks_at_start
@@ -28,47 +27,46 @@ from .values import Any, Pattern, dataclass, field, replace
 ROOTS = ("/run/runc", "/run/crun", "/run/containerd/runc/*", "/run/docker/runtime-runc/*")
 OF_USERS, ROOTS_OF_USERS = "/run/user", ("runc", "crun")
 # The file in such a folder, and which runtime writes it.
-STATES = {"state.json": "runc", "status": "crun"}
+STATE_FILES = {"state.json": "runc", "status": "crun"}
 # systemd's slices of users (systemd.special(7)), in which these may make groups.
-OF_A_USER = Pattern(rb"/user\.slice/user-[0-9]+\.slice/")
+SLICE_OF_A_USER = Pattern(rb"/user\.slice/user-[0-9]+\.slice/")
 # Bundles of containerd, also one that k3s or Docker starts itself, with a namespace for each client; and of the storage
 # of podman and CRI-O.
 CONTAINERD = ("/run/containerd", "/run/k3s/containerd", "/run/docker/containerd/daemon")
-TASK = Pattern(r"/.*/io\.containerd\.runtime\.v2\.task/([^/]+)/[^/]+/?")
-STORAGE = Pattern(r"(.*-containers)/([0-9a-f]{64})/userdata/?")
-DOCKER = "/var/lib/docker/containers"
+TASK_BUNDLE = Pattern(r"/.*/io\.containerd\.runtime\.v2\.task/([^/]+)/[^/]+/?")
+STORAGE_BUNDLE = Pattern(r"(.*-containers)/([0-9a-f]{64})/userdata/?")
+DOCKER_CONTAINERS = "/var/lib/docker/containers"
 # What engines write about a container into its config.json (annotations).
 MANAGER = {"libpod": "podman", "cri-o": "CRI-O"}
-NAME = ("io.kubernetes.container.name", "io.kubernetes.cri.container-name", "io.kubernetes.cri-o.ContainerName",
-        "io.podman.annotations.name")
-IMAGE = ("io.kubernetes.cri.image-name", "io.kubernetes.cri-o.ImageName")
-POD = (("io.kubernetes.pod.namespace", "io.kubernetes.pod.name"),
-       ("io.kubernetes.cri.sandbox-namespace", "io.kubernetes.cri.sandbox-name"))
-SANDBOX = ("io.kubernetes.cri-o.SandboxID", "io.kubernetes.cri.sandbox-id")
+NAME_ANNOTATIONS = ("io.kubernetes.container.name", "io.kubernetes.cri.container-name",
+                    "io.kubernetes.cri-o.ContainerName", "io.podman.annotations.name")
+IMAGE_ANNOTATIONS = ("io.kubernetes.cri.image-name", "io.kubernetes.cri-o.ImageName")
+POD_ANNOTATIONS = (("io.kubernetes.pod.namespace", "io.kubernetes.pod.name"),
+                   ("io.kubernetes.cri.sandbox-namespace", "io.kubernetes.cri.sandbox-name"))
+SANDBOX_ANNOTATIONS = ("io.kubernetes.cri-o.SandboxID", "io.kubernetes.cri.sandbox-id")
 # The most bytes of a runtime's file (runc's has the profile again: 35 KB with podman's) of a user and of root, of a
 # config.json, and of a file of an engine, of which storage has one for all containers.
 STATE_BYTES, STATE_BYTES_OF_ROOT, CONFIG_BYTES, ENGINE_BYTES = 1 << 16, 1 << 22, 1 << 22, 1 << 22
 # The most folders of containers of a user that are looked at; and how long reading what a user's runtimes have in them
 # may take, and of all users, and what each user has in any case, in seconds.
-MOST_OF_A_USER, SECONDS_OF_A_USER, SECONDS_OF_USERS, LEAST_SECONDS = 200, 2.0, 10.0, 0.25
-# linux/nsfs.h: the user ID of a user namespace's owner.
-NS_GET_OWNER_UID = 0xB704
+MOST_OF_A_USER, READING_SECONDS_OF_A_USER, READING_SECONDS_OF_USERS, LEAST_READING_SECONDS = 200, 2.0, 10.0, 0.25
+
 # The count of IDs in the initial user namespace, and the ID that stands for none (user_namespaces(7)).
 NO_USER = (1 << 32) - 1
 # The units that run processes of their own (systemd.exec(5)), as the name of a control group has them; systemd puts `_`
 # before a name that would mean something else there (cg_escape of its basic/cgroup-util.c).
-UNIT = Pattern(rb"_?([A-Za-z0-9:_.\\@-]{1,255}\.(?:service|socket|mount|swap))")
+UNIT_GROUP = Pattern(rb"_?([A-Za-z0-9:_.\\@-]{1,255}\.(?:service|socket|mount|swap))")
 # The hierarchies in which systemd makes the groups of units.
-OF_SYSTEMD = ("name=systemd", "")
+SYSTEMD_HIERARCHIES = ("name=systemd", "")
 # The name or identifier in the name of a container's group, after what its engine puts before it; and whose it is.
-IDENTIFIER = Pattern(rb"(?:(libpod|docker|cri-containerd|crio|runc|crun|machine|lxc\.payload)[-.])?(.+?)"
-                     rb"(?:\.scope)?")
-ENGINES = {b"libpod": "podman", b"docker": "Docker", b"cri-containerd": "containerd", b"crio": "CRI-O",
-           b"machine": "systemd-nspawn", b"lxc.payload": "LXC", b"runc": "runc", b"crun": "crun"}
+GROUP_IDENTIFIER = Pattern(rb"(?:(libpod|docker|cri-containerd|crio|runc|crun|machine|lxc\.payload)[-.])?(.+?)"
+                           rb"(?:\.scope)?")
+ENGINE_OF_PREFIX = {b"libpod": "podman", b"docker": "Docker", b"cri-containerd": "containerd", b"crio": "CRI-O",
+                    b"machine": "systemd-nspawn", b"lxc.payload": "LXC", b"runc": "runc", b"crun": "crun"}
 
 
 @dataclass(frozen=True)
-class Described:
+class ContainerDescription:
     """A container as files describe it; what they don't say is None."""
 
     identifier: str
@@ -82,6 +80,8 @@ class Described:
     config: str
     configuration: Any = None
     why: str | None = None
+    # whether the seccomp settings in it aren't those that the container was started with, which are judged
+    has_changed: bool = False
     name: str | None = None
     image: str | None = None
     pod: str | None = None
@@ -100,7 +100,7 @@ class Described:
         """The bytes of a file that says more about it: of a user's container only one that this user could have
         written, and of root's only one that no user could have."""
         data, users = owned_files.read(path, most)
-        others = {it for it in users - {self.user} if not is_mapped(self.first, it)}
+        others = {user for user in users - {self.user} if not is_mapped(self.first, user)}
         if self.user is not None and (not users or others - {ANYONE}):
             raise UnreadableFile(f"'{path}' isn't user {self.user}'s own")
         if self.user is None and others - {0}:
@@ -110,7 +110,7 @@ class Described:
 
 def named_users(users: Iterable[int]) -> str:
     """Users by their IDs."""
-    return " and ".join("any user" if it == ANYONE else f"user {it}" for it in sorted(users))
+    return " and ".join("any user" if user == ANYONE else f"user {user}" for user in sorted(users))
 
 
 def is_mapped(process: int, user: int) -> bool:
@@ -119,7 +119,7 @@ def is_mapped(process: int, user: int) -> bool:
     return any(first <= user < first + count for _, first, count in ranges if count < NO_USER)
 
 
-def matching(pattern: str) -> list[str]:
+def paths_matching(pattern: str) -> list[str]:
     """The paths that match a pattern (glob(7)), in order; a path without wildcards, whether or not it is there."""
     import glob  # pylint: disable=import-outside-toplevel
 
@@ -129,7 +129,7 @@ def matching(pattern: str) -> list[str]:
 def is_there(pattern: str) -> bool:
     """Whether a folder matches a pattern, or that isn't known soon: a user may answer, and never."""
     try:
-        return child.run(lambda: any(map(os.path.isdir, matching(pattern))), SECONDS_OF_A_USER)
+        return child.run(lambda: any(map(os.path.isdir, paths_matching(pattern))), READING_SECONDS_OF_A_USER)
     except (child.Late, child.Died):
         return True
 
@@ -144,40 +144,29 @@ def _object(read: Callable[[str, int], bytes], path: str, most: int) -> Any:
 
 def _text(value: Any, *names: str) -> str | None:
     """The first of some members of an object that is a text with a letter."""
-    found = (value.get(name) for name in names) if isinstance(value, dict) else ()
-    return next((it for it in found if isinstance(it, str) and it), None)
+    members = (value.get(name) for name in names) if isinstance(value, dict) else ()
+    return next((member for member in members if isinstance(member, str) and member), None)
 
-
-def _owner_of(process: int) -> int | None:
-    """The user ID of the owner of a process's user namespace."""
-    try:
-        file = os.open(f"/proc/{process}/ns/user", os.O_RDONLY | os.O_CLOEXEC)
-        try:
-            return int.from_bytes(fcntl.ioctl(file, NS_GET_OWNER_UID, bytes(4)), "little")
-        finally:
-            os.close(file)
-    except OSError:
-        return None
 
 
 def _is_of_user(kernel: Kernel, process: int, user: int) -> bool:
     """Whether a process is a user's: it runs as that user, or in a user namespace of that user."""
     shown = kernel.status_of(process).get("Uid", "").split()
-    return shown[:2] == [str(user)] * 2 or _owner_of(process) == user != 0
+    return shown[:2] == [str(user)] * 2 or user != 0 and kernel.makers_of_namespaces(process)[:1] == [user]
 
 
 def _of_runc(value: Any) -> tuple[Any, str | None, Any, Any]:
     """The first process, the bundle, the time of the start, and the control groups, of a state.json."""
     config, groups = value.get("config"), value.get("cgroup_paths")
     labels = config.get("labels") if isinstance(config, dict) else None
-    bundles = [it[7:] for it in labels if isinstance(it, str) and it.startswith("bundle=")] \
+    bundles = [label[7:] for label in labels if isinstance(label, str) and label.startswith("bundle=")] \
         if isinstance(labels, list) else []
     return (value.get("init_process_pid"), next(iter(bundles), None), value.get("init_process_start"),
             groups.values() if isinstance(groups, dict) else ())
 
 
 def _of_crun(value: Any) -> tuple[Any, str | None, Any, Any]:
-    """The same of a status."""
+    """The first process, the bundle, the time of the start, and the control groups, of crun's status."""
     return (value.get("pid"), _text(value, "bundle"), value.get("process-start-time"),
             [value.get("cgroup-path")])
 
@@ -195,10 +184,10 @@ def _runs(first: Any, started: Any) -> bool:
     return ticks is not None and not (type(started) is int and started and started != ticks)
 
 
-def _state_in(kernel: Kernel, folder: str) -> Described | None:
+def _state_in(kernel: Kernel, folder: str) -> ContainerDescription | None:
     """The container of a runtime's folder, if its first process runs. Raises UnreadableFile if a file is there that
     isn't the runtime's."""
-    for name, runtime in STATES.items():
+    for name, runtime in STATE_FILES.items():
         path = os.path.join(folder, name)
         try:
             data, users = owned_files.read(path, STATE_BYTES_OF_ROOT, STATE_BYTES)
@@ -215,25 +204,26 @@ def _state_in(kernel: Kernel, folder: str) -> Described | None:
         if not _runs(first, started) or user is not None and not _is_of_user(kernel, first, user):
             return None
         config = os.path.join(bundle, "config.json") if bundle and bundle.startswith("/") else ""
-        stated = tuple(it.encode("utf-8", "backslashreplace") for it in groups if isinstance(it, str) and it.strip("/"))
-        return Described(os.path.basename(folder), runtime, runtime, first, config, folder=folder, groups=stated,
-                         user=user)
+        stated = tuple(group.encode("utf-8", "backslashreplace") for group in groups
+                       if isinstance(group, str) and group.strip("/"))
+        return ContainerDescription(os.path.basename(folder), runtime, runtime, first, config, folder=folder,
+                                    groups=stated, user=user)
     return None
 
 
 @dataclass
-class Found:
+class Descriptions:
     """The containers that files describe, and lines on what couldn't be read."""
 
-    described: list[Described] = field(default_factory=list)
+    containers: list[ContainerDescription] = field(default_factory=list)
     left_out: list[str] = field(default_factory=list)
 
-    def add(self, read: Callable[[], Described | None], path: str) -> None:
+    def add(self, read: Callable[[], ContainerDescription | None], path: str) -> None:
         """Adds what is read of a path; whatever is raised meanwhile concerns no other container."""
         try:
-            one = read()
-            if one is not None:
-                self.described.append(one)
+            container = read()
+            if container is not None:
+                self.containers.append(container)
         except child.Interrupted:
             raise
         except UnreadableFile as why:
@@ -242,7 +232,7 @@ class Found:
             self.left_out.append(f"'{path}' can't be read: {type(error).__name__}")
 
 
-def _of_engine(folder: str) -> Described | None:
+def _of_engine(folder: str) -> ContainerDescription | None:
     """The container of a bundle of containerd's, of which only an engine's own files are known."""
     path = os.path.join(folder, "init.pid")
     try:
@@ -250,40 +240,44 @@ def _of_engine(folder: str) -> Described | None:
     except Absent:
         return None
     first = int(data[:12])
-    return Described(os.path.basename(folder), "containerd", None, first, os.path.join(folder, "config.json"),
-                     folder=folder, user=_user_of(path, users)) if _runs(first, None) else None
+    if not _runs(first, None):
+        return None
+    return ContainerDescription(os.path.basename(folder), "containerd", None, first,
+                                os.path.join(folder, "config.json"), folder=folder, user=_user_of(path, users))
 
 
-def _of_root(kernel: Kernel) -> Found:
+def _of_root(kernel: Kernel) -> Descriptions:
     """The containers that root's own files describe."""
-    found = Found()
-    for folder in (it for root in ROOTS for it in matching(os.path.join(root, "*"))):
-        found.add(lambda folder=folder: _state_in(kernel, folder), folder)
-    for folder in sorted(it for root in CONTAINERD for it in matching(f"{root}/io.containerd.runtime.v2.task/*/*")):
-        found.add(lambda folder=folder: _of_engine(folder), folder)
-    return found
+    containers_found = Descriptions()
+    for folder in (folder for root in ROOTS for folder in paths_matching(os.path.join(root, "*"))):
+        containers_found.add(lambda folder=folder: _state_in(kernel, folder), folder)
+    for folder in sorted(folder for root in CONTAINERD
+                         for folder in paths_matching(f"{root}/io.containerd.runtime.v2.task/*/*")):
+        containers_found.add(lambda folder=folder: _of_engine(folder), folder)
+    return containers_found
 
 
-def _in_roots(kernel: Kernel, patterns: Iterable[str], whose: str) -> Found:
+def _in_roots(kernel: Kernel, patterns: Iterable[str], whose: str) -> Descriptions:
     """The containers in folders of runtimes that may be a user's, with a line for all that can't be read."""
-    found, more = Found(), []
-    for root in (path for it in patterns for path in matching(it)):
+    listing, more = Descriptions(), []
+    for root in (path for pattern in patterns for path in paths_matching(pattern)):
         try:
             names, is_all = owned_files.names_in(root, MOST_OF_A_USER)
         except UnreadableFile as why:
-            found.left_out.append(str(why))
+            listing.left_out.append(str(why))
             continue
-        for folder in (os.path.join(root, it) for it in sorted(names)):
-            found.add(lambda folder=folder: _state_in(kernel, folder), folder)
+        for folder in (os.path.join(root, name) for name in sorted(names)):
+            listing.add(lambda folder=folder: _state_in(kernel, folder), folder)
         if not is_all:
             more = [f"all but {MOST_OF_A_USER} of the folders of containers {whose}"]
-    count = len(found.left_out)
-    found.left_out = [f"{count} of the folders of containers {whose}: {it}" for it in found.left_out[:1]] + more
-    return found
+    count = len(listing.left_out)
+    listing.left_out = [f"{count} of the folders of containers {whose}: {line}" for line in listing.left_out[:1]] + more
+    return listing
 
 
-def _in_child(kernel: Kernel, patterns: Iterable[str], whose: str, seconds: float) -> Found:
-    """The same, read in a child process, which ends in time whatever file system a user has put there."""
+def _in_child(kernel: Kernel, patterns: Iterable[str], whose: str, seconds: float) -> Descriptions:
+    """The containers in these folders, read in a child process, which ends in time whatever file system a user
+    has put there."""
     try:
         return child.run(lambda: _in_roots(kernel, patterns, whose), seconds)
     except child.Interrupted:
@@ -292,41 +286,42 @@ def _in_child(kernel: Kernel, patterns: Iterable[str], whose: str, seconds: floa
         why = f"within {seconds:.2g} seconds"
     except Exception as error:  # pylint: disable=broad-exception-caught
         why = type(error).__name__
-    return Found([], [f"the folders of containers {whose}: they can't be read ({why})"])
+    return Descriptions([], [f"the folders of containers {whose}: they can't be read ({why})"])
 
 
-def all_described(kernel: Kernel, more_roots: tuple[str, ...] = ()) -> Found:
+def descriptions_of(kernel: Kernel, more_roots: tuple[str, ...] = ()) -> Descriptions:
     """The containers that run, each once, those first that only root could have described; `more_roots` are further
     folders in which runtimes keep theirs."""
-    until, every = time.monotonic() + SECONDS_OF_USERS, [_of_root(kernel)]
-    places = [([os.path.abspath(it)], f"in {it}") for it in more_roots]
+    until, every = time.monotonic() + READING_SECONDS_OF_USERS, [_of_root(kernel)]
+    places = [([os.path.abspath(root)], f"in {root}") for root in more_roots]
     try:
         users = owned_files.names_in(OF_USERS, 0)[0]
     except UnreadableFile as why:
-        users, every = [], [*every, Found([], [str(why)])]
-    places += [([os.path.join(OF_USERS, user, it) for it in ROOTS_OF_USERS], f"of user {user}") for user in users]
+        users, every = [], [*every, Descriptions([], [str(why)])]
+    places += [([os.path.join(OF_USERS, user, root) for root in ROOTS_OF_USERS], f"of user {user}") for user in users]
     for patterns, whose in places:
-        left = max(LEAST_SECONDS, min(SECONDS_OF_A_USER, until - time.monotonic()))
-        every.append(_in_child(kernel, patterns, whose, left))
-    first_of: dict[int, Described] = {}
-    for one in sorted((it for found in every for it in found.described), key=lambda it: it.user is not None):
-        first_of.setdefault(one.first, one)
-    return Found(list(first_of.values()), [it for found in every for it in found.left_out])
+        seconds = max(LEAST_READING_SECONDS, min(READING_SECONDS_OF_A_USER, until - time.monotonic()))
+        every.append(_in_child(kernel, patterns, whose, seconds))
+    first_of: dict[int, ContainerDescription] = {}
+    containers_found = (container for listing in every for container in listing.containers)
+    for container in sorted(containers_found, key=lambda container: container.user is not None):
+        first_of.setdefault(container.first, container)
+    return Descriptions(list(first_of.values()), [line for listing in every for line in listing.left_out])
 
 
 class Names:
-    """What the storage of podman or CRI-O says of containers, read once for each storage."""
+    """The names and images of containers in the storage of podman or CRI-O, read once for each storage."""
 
     def __init__(self) -> None:
-        self.known: dict[tuple[str, int | None], dict[str, tuple[str | None, str | None]]] = {}
+        self.of_storage: dict[tuple[str, int | None], dict[str, tuple[str | None, str | None]]] = {}
 
-    def of(self, one: Described, folder: str, identifier: str) -> tuple[str | None, str | None]:
+    def of(self, container: ContainerDescription, folder: str, identifier: str) -> tuple[str | None, str | None]:
         """The name and the image of a container in a storage."""
-        if (folder, one.user) not in self.known:
-            listed = _object(one.read, os.path.join(folder, "containers.json"), ENGINE_BYTES)
-            listed = [it for it in listed if _text(it, "id")] if isinstance(listed, list) else []
-            self.known[folder, one.user] = {it["id"]: self._in(it) for it in listed}
-        return self.known[folder, one.user].get(identifier, (None, None))
+        if (folder, container.user) not in self.of_storage:
+            listed = _object(container.read, os.path.join(folder, "containers.json"), ENGINE_BYTES)
+            listed = [entry for entry in listed if _text(entry, "id")] if isinstance(listed, list) else []
+            self.of_storage[folder, container.user] = {entry["id"]: self._in(entry) for entry in listed}
+        return self.of_storage[folder, container.user].get(identifier, (None, None))
 
     @staticmethod
     def _in(value: dict[str, Any]) -> tuple[str | None, str | None]:
@@ -340,59 +335,78 @@ class Names:
                 _text(metadata, "image-name"))
 
 
-def with_engine(one: Described, names: Names) -> Described:
-    """The same with what the engine says of it."""
-    annotations = one.configuration.get("annotations") if isinstance(one.configuration, dict) else None
-    bundle = os.path.dirname(one.config)
-    task, storage = TASK.fullmatch(bundle), STORAGE.fullmatch(bundle)
+def with_engine(container: ContainerDescription, names: Names) -> ContainerDescription:
+    """The container with the name, image and pod that its engine gives it."""
+    annotations = container.configuration.get("annotations") if isinstance(container.configuration, dict) else None
+    bundle = os.path.dirname(container.config)
+    task, storage = TASK_BUNDLE.fullmatch(bundle), STORAGE_BUNDLE.fullmatch(bundle)
     engine = MANAGER.get(_text(annotations, "io.container.manager") or "")
-    name, image = _text(annotations, *NAME), _text(annotations, *IMAGE)
+    name, image = _text(annotations, *NAME_ANNOTATIONS), _text(annotations, *IMAGE_ANNOTATIONS)
     if storage:
         engine = engine or "podman"
-        known = names.of(one, storage[1], storage[2])
-        name, image = name or known[0], image or known[1]
+        stored = names.of(container, storage[1], storage[2])
+        name, image = name or stored[0], image or stored[1]
     elif task and task[1] == "moby":
         engine = "Docker"
-        value = _object(one.read, os.path.join(DOCKER, one.identifier, "config.v2.json"), ENGINE_BYTES)
+        path = os.path.join(DOCKER_CONTAINERS, container.identifier, "config.v2.json")
+        value = _object(container.read, path, ENGINE_BYTES)
         name = (_text(value, "Name") or "").removeprefix("/") or None
         image = _text(value.get("Config") if isinstance(value, dict) else None, "Image")
     elif task:
         engine = "containerd"
-    pod = next((f"{_text(annotations, space) or ''}/{_text(annotations, its_name)}" for space, its_name in POD
-                if _text(annotations, its_name)), None) or _text(annotations, *SANDBOX)
-    return replace(one, engine=engine or one.engine, name=name, image=image, pod=pod)
+    pods = ((_text(annotations, space) or "", _text(annotations, pod)) for space, pod in POD_ANNOTATIONS)
+    pod = next((f"{space}/{pod}" for space, pod in pods if pod), None) or _text(annotations, *SANDBOX_ANNOTATIONS)
+    return replace(container, engine=engine or container.engine, name=name, image=image, pod=pod)
 
 
-def with_config(one: Described) -> Described:
-    """The same with its config.json, if it isn't known already why there is none."""
-    if one.why is not None:
-        return one
-    if not one.config:
-        return replace(one, why="its runtime's files name no bundle")
+def _as_started(container: ContainerDescription) -> ContainerDescription:
+    """The container with the seccomp settings that runc started it with, if its config.json has others by now."""
+    configuration = container.configuration
+    if container.runtime != "runc" or not container.folder or not isinstance(configuration, dict):
+        return container
+    most = STATE_BYTES_OF_ROOT if container.user is None else STATE_BYTES
+    linux = configuration.get("linux") or {}
     try:
-        return replace(one, configuration=engines.read(one.read(one.config, CONFIG_BYTES)))
+        state = _object(container.read, os.path.join(container.folder, "state.json"), most)
+        started = started_profiles.seccomp_of(state)
+        if started_profiles.state_same(started, linux.get("seccomp")):
+            return container
+    except (LookupError, TypeError, AttributeError):
+        return container
+    return replace(container, has_changed=True, configuration={**configuration, "linux": {**linux, "seccomp": started}})
+
+
+def with_config(container: ContainerDescription) -> ContainerDescription:
+    """The container with its config.json as it was started, or with the reason why that can't be read."""
+    if container.why is not None:
+        return container
+    if not container.config:
+        return replace(container, why="its runtime's files name no bundle")
+    try:
+        return _as_started(replace(container, configuration=engines.read(
+            container.read(container.config, CONFIG_BYTES))))
     except UnreadableFile as why:
-        return replace(one, why=str(why))
+        return replace(container, why=str(why))
     except engines.Refused as why:
-        return replace(one, why=f"'{one.config}': {why}")
+        return replace(container, why=f"'{container.config}': {why}")
 
 
 @dataclass(frozen=True)
 class Place:
     """Where a container's processes are: its control group, its PID namespace, or else its first process alone."""
 
-    container: Described
+    container: ContainerDescription
     group: containers.Group | None
     space: tuple[int, int] | None
 
 
-def _stated_group(one: Described, process: Process) -> containers.Group | None:
+def _stated_group(container: ContainerDescription, process: Process) -> containers.Group | None:
     """The control group that a runtime's file states, if the container's first process is in it or below."""
     paths: dict[str, bytes] = {}
     for hierarchy in (*containers.HIERARCHIES, *process.groups):
         path = process.groups.get(hierarchy, b"/")
         while path not in (b"/", b"") and hierarchy not in paths:
-            if any(it.endswith(path) for it in one.groups):
+            if any(group.endswith(path) for group in container.groups):
                 paths[hierarchy] = path
             path = path.rpartition(b"/")[0]
     return containers.Group.of(next(iter(paths)), paths, process.groups, True) if paths else None
@@ -401,100 +415,103 @@ def _stated_group(one: Described, process: Process) -> containers.Group | None:
 def _named_group(process: Process) -> containers.Group | None:
     """The control group that a runtime names as a container's, at or above a process's."""
     for hierarchy in containers.HIERARCHIES:
-        found = containers.NAMED.match(process.groups.get(hierarchy, b""))
-        if found:
-            return containers.Group.of(hierarchy, {hierarchy: found[0]}, process.groups, True)
+        match = containers.CONTAINER_GROUP.match(process.groups.get(hierarchy, b""))
+        if match:
+            return containers.Group.of(hierarchy, {hierarchy: match[0]}, process.groups, True)
     return None
 
 
-def place_of(kernel: Kernel, one: Described, process: Process) -> Place:
+def place_of(kernel: Kernel, container: ContainerDescription, process: Process) -> Place:
     """Where the processes of a container are, given its first one. A group that has this tool or the machine's first
     process in it isn't the container's own: the container was started without one. What a user's file states isn't
     believed: it could be a group of others."""
-    group = (_stated_group(one, process) if one.user is None else None) or _named_group(process)
-    if group is not None and any(group.has(kernel.groups_of(it)) for it in (1, os.getpid())):
+    group = (_stated_group(container, process) if container.user is None else None) or _named_group(process)
+    if group is not None and any(group.has(kernel.groups_of(number)) for number in (1, os.getpid())):
         group = None
     is_first = process.inner == 1 and len(process.spaces) > 1
-    return Place(one, group, process.spaces[0] if is_first else None)
+    return Place(container, group, process.spaces[0] if is_first else None)
 
 
-class Places:
+class ContainerPlaces:
     """Where some containers are, to find those of processes."""
 
     def __init__(self, places: Iterable[Place], processes: dict[int, Process]) -> None:
         self.processes, places = processes, list(places)
         # the innermost group first
-        self.by_group = sorted((it for it in places if it.group is not None), reverse=True,
-                               key=lambda it: len(it.group.path) if it.group else 0)
+        self.by_group = sorted((place for place in places if place.group is not None), reverse=True,
+                               key=lambda place: len(place.group.path) if place.group else 0)
         # (of two that name one, the first)
-        self.by_space = {it.space: it.container for it in reversed(places) if it.space is not None}
-        self.by_first = {it.container.first: it.container for it in reversed(places)}
+        self.by_space = {place.space: place.container for place in reversed(places) if place.space is not None}
+        self.by_first = {place.container.first: place.container for place in reversed(places)}
 
-    def containers_of(self, process: Process) -> Iterator[Described]:
+    def containers_of(self, process: Process) -> Iterator[ContainerDescription]:
         """The containers that a process may be of, the most likely one first."""
-        yield from (it.container for it in self.by_group if it.group.has(process.groups))
-        yield from (self.by_space[it] for it in process.spaces if it in self.by_space)
+        yield from (place.container for place in self.by_group if place.group.has(process.groups))
+        yield from (self.by_space[space] for space in process.spaces if space in self.by_space)
         seen: set[int] = set()
-        one: Process | None = process
-        while one is not None and one.number not in seen:
-            if one.number in self.by_first:
-                yield self.by_first[one.number]
-            seen.add(one.number)
-            one = self.processes.get(one.parent)
+        ancestor: Process | None = process
+        while ancestor is not None and ancestor.number not in seen:
+            if ancestor.number in self.by_first:
+                yield self.by_first[ancestor.number]
+            seen.add(ancestor.number)
+            ancestor = self.processes.get(ancestor.parent)
 
 
 class Membership:
     """The containers of a machine, by their processes."""
 
-    def __init__(self, kernel: Kernel, described: Iterable[Described], processes: dict[int, Process]) -> None:
+    def __init__(self, kernel: Kernel, descriptions: Iterable[ContainerDescription],
+                 processes: dict[int, Process]) -> None:
         self.kernel = kernel
-        places = [place_of(kernel, it, processes[it.first]) for it in described if it.first in processes]
-        self.of_root = Places((it for it in places if it.container.user is None), processes)
-        self.of_users = Places((it for it in places if it.container.user is not None), processes)
+        places = [place_of(kernel, container, processes[container.first]) for container in descriptions
+                  if container.first in processes]
+        self.of_root = ContainerPlaces((place for place in places if place.container.user is None), processes)
+        self.of_users = ContainerPlaces((place for place in places if place.container.user is not None), processes)
         # the groups of pods, by the containers in them
-        self.pods = {it.group.path.rpartition(b"/")[0] for it in self.of_root.by_group if it.group is not None}
+        self.pods = {place.group.path.rpartition(b"/")[0] for place in self.of_root.by_group if place.group is not None}
 
-    def container_of(self, process: Process, is_stated: bool = False) -> Described | None:
+    def container_of(self, process: Process, is_stated: bool = False) -> ContainerDescription | None:
         """The container of a process, None if it is of none. What root's files say comes first; then the unit of which
         the process is, if it states how its processes are confined, or that isn't known (`is_stated`); then the name of
         a group that only root can have made; then what users' files say, of their own processes; and then the name of a
         user's group, but in no unit of the system."""
-        found = next(self.of_root.containers_of(process), None)
-        if found is not None or is_stated:
-            return found
+        container = next(self.of_root.containers_of(process), None)
+        if container is not None or is_stated:
+            return container
         named = named_container(process, self.kernel)
         if named is not None and named.groups[0] in self.pods:
             named = None
-        if named is not None and not OF_A_USER.match(named.groups[0]):
+        if named is not None and not SLICE_OF_A_USER.match(named.groups[0]):
             if named.user is None:
                 return named
             named = named if unit_of(process) is None else None
-        return next((it for it in self.of_users.containers_of(process)
-                     if _is_of_user(self.kernel, process.number, it.user)), named)
+        return next((container for container in self.of_users.containers_of(process)
+                     if _is_of_user(self.kernel, process.number, container.user)), named)
 
 
-def named_container(process: Process, kernel: Kernel) -> Described | None:
+def named_container(process: Process, kernel: Kernel) -> ContainerDescription | None:
     """The container of a process that only the name of its control group tells; of a user who owns the group or one
     above it, and so may have named it."""
     group = _named_group(process)
     if group is None:
         return None
-    parts = [it for it in group.path.split(b"/") if it not in (b"", b"container", b"payload")]
-    named = IDENTIFIER.fullmatch(parts[-1])
+    parts = [part for part in group.path.split(b"/") if part not in (b"", b"container", b"payload")]
+    named = GROUP_IDENTIFIER.fullmatch(parts[-1])
     prefix, identifier = (named[1], named[2]) if named else (None, parts[-1])
-    return Described(identifier.decode("utf-8", "surrogateescape"), ENGINES.get(prefix or b"", "unknown"), None,
-                     process.number, "", why="no file of a runtime describes it", groups=(group.path,),
-                     user=kernel.group_owner(group.hierarchy, group.path))
+    engine = ENGINE_OF_PREFIX.get(prefix or b"", "unknown")
+    return ContainerDescription(identifier.decode("utf-8", "surrogateescape"), engine, None, process.number, "",
+                                why="no file of a runtime describes it", groups=(group.path,),
+                                user=kernel.group_owner(group.hierarchy, group.path))
 
 
 def unit_of(process: Process) -> str | None:
     """The system's unit of a process, as the name of its control group tells."""
-    for hierarchy in OF_SYSTEMD:
+    for hierarchy in SYSTEMD_HIERARCHIES:
         for part in process.groups.get(hierarchy, b"").split(b"/")[1:]:
             if part.endswith(b".slice"):
                 continue
-            found = UNIT.fullmatch(part)
-            if found:
-                return found[1].decode("ascii")
+            match = UNIT_GROUP.fullmatch(part)
+            if match:
+                return match[1].decode("ascii")
             break
     return None

@@ -12,7 +12,7 @@ from collections.abc import Callable, Iterator, Sequence
 
 from . import output
 from .hold import Unreadable
-from .ptrace import Kernel
+from .ptrace import Kernel, has_ended
 from .values import Pattern, dataclass
 
 # The cgroup hierarchies in which a container is searched for, in this order: that of version 2, which names no
@@ -23,12 +23,13 @@ HIERARCHIES = ("", "name=systemd", "pids")
 # by themselves make NAME.scope of a name; LXC and systemd-nspawn name what is the container's beside what is their own,
 # and the group of conmon, which watches a container of podman or CRI-O, isn't the container's, nor is that of a pod of
 # podman's, which is called by the pod's identifier alone.
-NAMED = Pattern(rb".*/(?![a-z]+-conmon-)(?:(?:[a-z-]+-|(?<!/libpod_parent/))[0-9a-f]{64}(?:\.scope)?(?:/container)?|"
-                rb"(?:runc|crun)-[^/]+\.scope(?:/container)?|"
-                rb"lxc\.payload[./][^/]+|(?:machine-[^/]+\.scope|systemd-nspawn@[^/]+\.service)/payload)(?=/|\Z)")
+CONTAINER_GROUP = Pattern(
+    rb".*/(?![a-z]+-conmon-)(?:(?:[a-z-]+-|(?<!/libpod_parent/))[0-9a-f]{64}(?:\.scope)?(?:/container)?|"
+    rb"(?:runc|crun)-[^/]+\.scope(?:/container)?|"
+    rb"lxc\.payload[./][^/]+|(?:machine-[^/]+\.scope|systemd-nspawn@[^/]+\.service)/payload)(?=/|\Z)")
 # systemd's groups (systemd.special(7)) if they aren't at the top, and aren't those of a user's service manager.
-OF_SYSTEMD = Pattern(rb"(/.*?[^/])/(?:init\.scope|system\.slice)(?:/|\Z)")
-OF_A_USER = Pattern(rb".*/user@[^/]*\.service")
+MANAGER_OF_CONTAINER = Pattern(rb"(/.*?[^/])/(?:init\.scope|system\.slice)(?:/|\Z)")
+MANAGER_OF_A_USER = Pattern(rb".*/user@[^/]*\.service")
 # At most so many processes that weren't checked are listed.
 MOST_SHOWN = 5
 
@@ -94,10 +95,9 @@ def groups_of(kernel: Kernel, process: int) -> dict[str, bytes]:
 
 def living_thread(kernel: Kernel, process: int) -> int:
     """The first thread of a process that hasn't ended; its main thread if all have."""
-    if kernel.status_of(process).get("State", "Z")[:1] not in "ZX":
+    if not has_ended(kernel.status_of(process)):
         return process
-    return next((it for it in kernel.threads_of(process) if kernel.status_of(it).get("State", "Z")[:1] not in "ZX"),
-                process)
+    return next((thread for thread in kernel.threads_of(process) if not has_ended(kernel.status_of(thread))), process)
 
 
 def known_groups(roots: Sequence[bytes], path: bytes) -> Iterator[bytes]:
@@ -106,11 +106,11 @@ def known_groups(roots: Sequence[bytes], path: bytes) -> Iterator[bytes]:
     for root in roots:
         if root != b"/" and is_within(path, root):
             yield root
-    named = NAMED.match(path)
+    named = CONTAINER_GROUP.match(path)
     if named:
         yield named[0]
-    below = OF_SYSTEMD.match(path)
-    if below and not OF_A_USER.fullmatch(below[1]):
+    below = MANAGER_OF_CONTAINER.match(path)
+    if below and not MANAGER_OF_A_USER.fullmatch(below[1]):
         yield below[1]
 
 
@@ -125,9 +125,9 @@ def group_of(kernel: Kernel, process: int) -> Group | None:
     for path in (groups[name] for name in inside):
         if path.startswith(b"/../") or path == b"/..":
             raise Unreadable(why_no_group(process, path))
-    known = {name: min(known_groups(roots, path), key=len, default=b"") for name, path in groups.items()}
-    for name in (it for it in (*HIERARCHIES, *groups) if known.get(it)):
-        return Group.of(name, {it: path for it, path in known.items() if path}, groups, True)
+    paths = {name: min(known_groups(roots, path), key=len, default=b"") for name, path in groups.items()}
+    for name in (hierarchy for hierarchy in (*HIERARCHIES, *groups) if paths.get(hierarchy)):
+        return Group.of(name, {hierarchy: path for hierarchy, path in paths.items() if path}, groups, True)
     if inside:
         return Group.of(inside[0], {inside[0]: groups[inside[0]]}, groups, False)
     if any(name in groups for name in HIERARCHIES) and not kernel.is_root_the_first():
@@ -139,16 +139,19 @@ def container_of(kernel: Kernel, process: int) -> Container:
     """The processes in the group of a process's container and in those below it; if that is the root, those in its PID
     namespace and in those within it."""
     group = group_of(kernel, process)
-    space, own = kernel.namespaces_of(process)[:1], kernel.namespaces_of(os.getpid())[:1]
-    has_space = bool(space) and space != own
+    space, tools_space = kernel.namespaces_of(process)[:1], kernel.namespaces_of(os.getpid())[:1]
+    has_space = bool(space) and space != tools_space
 
     def in_space() -> list[int]:
-        return [it for it in kernel.processes() if has_space and space[0] in kernel.namespaces_of(it)]
+        return [number for number in kernel.processes() if has_space and space[0] in kernel.namespaces_of(number)]
+
+    def is_in_group(number: int) -> bool:
+        return group is not None and group.has(groups_of(kernel, number))
 
     if group is not None:
-        return Container(group.path, lambda: [it for it in kernel.processes() if group.has(groups_of(kernel, it))],
-                         lambda: [it for it in in_space() if not group.has(groups_of(kernel, it))
-                                  and is_unknown(kernel, it)])
+        return Container(group.path, lambda: list(filter(is_in_group, kernel.processes())),
+                         lambda: [number for number in in_space()
+                                  if not is_in_group(number) and is_unknown(kernel, number)])
     if not has_space:
         raise Unreadable(f"process {process} is in no container: its control group is the root, and its PID namespace "
                          f"this tool's")
@@ -169,6 +172,6 @@ def others_note(kernel: Kernel, container: Container) -> str | None:
     others = container.others()
     if not others:
         return None
-    shown = output.some([f"{it} ({output.escaped(kernel.name_of(it))})" for it in others], MOST_SHOWN)
+    shown = output.some([f"{number} ({output.escaped(kernel.name_of(number))})" for number in others], MOST_SHOWN)
     return (f"processes of its PID namespace in other control groups weren't checked: {shown}; whether they are the "
             f"container's can't be known")

@@ -10,22 +10,22 @@ import struct
 from collections.abc import Iterator
 
 from . import inputs, program
-from .answers import I386
+from .answers import I386_NUMBER
 from .calls import Call
 from .events import CORE, KILLS, Event, Outcome
 from .ptrace import REGISTERS
-from .restart import ARGUMENTS
+from .restart import ARGUMENT_REGISTERS
 from .values import dataclass
 
 # linux/elf.h, linux/elf-em.h, linux/elfcore.h
 MAGIC, CORE_FILE, NOTES, MACHINE_386, MACHINE_X86_64 = b"\x7fELF", 4, 4, 3, 62
 PRSTATUS, PRPSINFO, SIGINFO = 1, 3, 0x53494749
 # asm-generic/siginfo.h
-SIGSYS, SYS_SECCOMP, SYS_USER_DISPATCH = 31, 1, 2
+SIGSYS_NUMBER, SYS_SECCOMP, SYS_USER_DISPATCH = 31, 1, 2
 # The registers of a core of i386 (struct user_regs_struct in asm/user_32.h), by the names of x86-64's.
 REGISTERS_386 = ("rbx", "rcx", "rdx", "rsi", "rdi", "rbp", "rax", "ds", "es", "fs", "gs", "orig_rax", "rip")
 # The most notes that are read, and the most bytes of one.
-MOST, LONGEST = 1 << 16, 1 << 12
+MOST_NOTES, LONGEST_NOTE = 1 << 16, 1 << 12
 
 
 @dataclass(frozen=True)
@@ -64,10 +64,10 @@ def layout_of(data: bytes) -> Layout:
     kind, machine = struct.unpack_from("<HH", data, 0x10)
     if kind != CORE_FILE:
         raise refused("isn't one, but a program or a library")
-    found = LAYOUTS.get((data[4], machine))
-    if found is None or data[5] != 1:
+    layout = LAYOUTS.get((data[4], machine))
+    if layout is None or data[5] != 1:
         raise refused(f"is of another machine than x86-64 and i386 (class {data[4]}, machine {machine})")
-    return found
+    return layout
 
 
 def notes_of(data: bytes, layout: Layout) -> Iterator[tuple[int, memoryview]]:
@@ -104,8 +104,8 @@ def _signal(note: bytes, layout: Layout) -> tuple[int, int, int, int]:
     if len(note) < offset + union.size:
         raise refused("has a note of the signal that is cut")
     signal, data, code = struct.unpack_from("<iii", note)
-    if signal != SIGSYS:
-        raise refused(f"is of signal {signal}, and not of SIGSYS ({SIGSYS}), by which a filter ends a process")
+    if signal != SIGSYS_NUMBER:
+        raise refused(f"is of signal {signal}, and not of SIGSYS ({SIGSYS_NUMBER}), by which a filter ends a process")
     if code != SYS_SECCOMP:
         raise refused("is of a SIGSYS that is no filter's: " + (
             "it is of syscall user dispatch" if code == SYS_USER_DISPATCH else f"a process sent it (si_code {code})"))
@@ -116,23 +116,23 @@ def _signal(note: bytes, layout: Layout) -> tuple[int, int, int, int]:
 def event_of(data: bytes) -> Event:
     """The syscall that ended the process of a core."""
     layout = layout_of(data)
-    found: dict[int, bytes] = {}
-    for kind, note in itertools.islice(notes_of(data, layout), MOST):
+    notes: dict[int, bytes] = {}
+    for kind, note in itertools.islice(notes_of(data, layout), MOST_NOTES):
         # the first note of a thread is of the one that the signal ended
-        if kind not in found:
-            found[kind] = bytes(note[:LONGEST])
-    if SIGINFO not in found:
+        if kind not in notes:
+            notes[kind] = bytes(note[:LONGEST_NOTE])
+    if SIGINFO not in notes:
         raise refused("has no note of the signal (NT_SIGINFO)")
-    answered, pointer, number, architecture = _signal(found[SIGINFO], layout)
+    answered, pointer, number, architecture = _signal(notes[SIGINFO], layout)
     offset, registers, names = layout.registers
-    status = found.get(PRSTATUS, b"")
+    status = notes.get(PRSTATUS, b"")
     arguments, process = (None,) * 6, None
-    if len(status) >= offset + registers.size and architecture in ARGUMENTS:
+    if len(status) >= offset + registers.size and architecture in ARGUMENT_REGISTERS:
         values = dict(zip(names, registers.unpack_from(status, offset)))
-        mask = 0xFFFFFFFF if architecture == I386 else 0xFFFFFFFFFFFFFFFF
-        arguments = tuple((values[it] & mask,) for it in ARGUMENTS[architecture])
+        mask = 0xFFFFFFFF if architecture == I386_NUMBER else 0xFFFFFFFFFFFFFFFF
+        arguments = tuple((values[register] & mask,) for register in ARGUMENT_REGISTERS[architecture])
         process = struct.unpack_from("<i", status, layout.process)[0]
-    name = found.get(PRPSINFO, b"")[layout.name:layout.name + 16].partition(b"\0")[0].decode("latin-1")
+    name = notes.get(PRPSINFO, b"")[layout.name:layout.name + 16].partition(b"\0")[0].decode("latin-1")
     outcome = Outcome(("TRAP", *KILLS), data=answered)
     plain = Call(number, architecture, pointer)
     event = Event(CORE, plain, outcome, arguments, process, name)

@@ -1,4 +1,4 @@
-"""What filters or a profile answer to syscalls: the records of a command line, and what gives the answer."""
+"""Answers of filters or a profile to syscalls: the records of a command line, and what gives the answer."""
 from __future__ import annotations
 
 import re
@@ -6,7 +6,7 @@ from collections.abc import Callable, Iterable, Iterator, Sequence
 
 from . import (architectures, bundles, client, explanation, inputs, listing, output, profiles, program, reasons,
                refusals, tables, verdicts)
-from .answers import X32, X86_64, Answer
+from .answers import FIRST_X32, X86_64, Answer
 from .calls import OPTIONS, SKIPPED, Call
 from .client import Fault
 from .constants import argument_in, number_in
@@ -24,7 +24,7 @@ from .words import Parser
 # No name of a syscall and no number is longer; and the most syscalls of a list, for each of which scf is run, and
 # which together take some seconds.
 LONGEST_WORD, MOST_CALLS = 256, 2048
-HELP = {"ip": "the instruction pointer", **{f"a{index}": f"argument {index}" for index in range(6)}}
+FIELD_HELP = {"ip": "the instruction pointer", **{f"a{index}": f"argument {index}" for index in range(6)}}
 
 
 @dataclass(frozen=True)
@@ -41,8 +41,7 @@ class Query:
         """The record, if each text is a number."""
         texts = {"arch": hex(X86_64), **dict(self.texts)}
         numbers = [number_in(texts.get(name, "0")) for name in OPTIONS]
-        found = [number for number in numbers if number is not None]
-        return Call(found[0], found[1], found[2], tuple(found[3:])) if len(found) == len(OPTIONS) else None
+        return None if None in numbers else Call(*numbers[:3], tuple(numbers[3:]))
 
 
 def add_numbers(parser: Parser) -> None:
@@ -51,13 +50,14 @@ def add_numbers(parser: Parser) -> None:
                                                        "number, also as in the audit log (c000003e) [default: x86_64]")
     for name in OPTIONS[2:]:
         takes = "" if name == "ip" else ": a number, or constants such as AF_INET or CLONE_NEWUSER|SIGCHLD"
-        parser.add_argument(f"--{name}", metavar="N", help=f"{HELP[name]}{takes if name == 'a0' else ''} [default: 0]")
+        parser.add_argument(f"--{name}", metavar="N",
+                            help=f"{FIELD_HELP[name]}{takes if name == 'a0' else ''} [default: 0]")
 
 
 def add_options(parser: Parser) -> None:
     """Adds the options that give records, and --json."""
     parser.add_argument("--nr", metavar="NUMBER|NAME", action="append", default=[],
-                        help="a syscall, by number or by name; may be repeated [default: 0]")
+                        help="a syscall, by number or by name, or several, joined by commas; may be repeated")
     parser.add_argument("--calls-from", metavar="FILE",
                         help=f"more syscalls, one a line, at most {MOST_CALLS}: a number or a name, and any arguments "
                              "from the first on; - is standard input")
@@ -88,12 +88,12 @@ class Numbering:
         """The number, as scf takes it, of a syscall given by name or number."""
         is_x32 = self.abi == architectures.X32
         if re.match("[A-Za-z_]", text):
-            return str(self._named(text) + (X32 if is_x32 else 0))
+            return str(self._named(text) + (FIRST_X32 if is_x32 else 0))
         if text == "-1":
             return hex(SKIPPED)
         number = number_in(text)
         # an x32 number has bit 30, whether or not it was given with it
-        return hex(number | X32) if is_x32 and number is not None and number < X32 else text
+        return hex(number | FIRST_X32) if is_x32 and number is not None and number < FIRST_X32 else text
 
     def _named(self, name: str) -> int:
         is_native = self.abi == architectures.NATIVE
@@ -128,7 +128,7 @@ def _lines_of(name: str) -> Iterator[list[str]]:
             yield words
 
 
-def _rest_of(options: Any, numbering: Numbering) -> tuple[tuple[str, str], ...]:
+def rest_of(options: Any, numbering: Numbering) -> tuple[tuple[str, str], ...]:
     """The given fields of a record beside its number."""
     texts = {name: getattr(options, name) for name in OPTIONS[1:] if getattr(options, name) is not None}
     for name, text in texts.items():
@@ -139,49 +139,50 @@ def _rest_of(options: Any, numbering: Numbering) -> tuple[tuple[str, str], ...]:
 def one_query(options: Any, table: Table) -> Query | None:
     """The record that a command line gives, or None."""
     number, numbering = options.nr, Numbering(table, options.arch)
-    rest = _rest_of(options, numbering)
-    if number is None and not rest:
+    fields = rest_of(options, numbering)
+    if number is None and not fields:
         return None
-    return Query((("nr", numbering.number_of("0" if number is None else number)), *rest))
+    return Query((("nr", numbering.number_of("0" if number is None else number)), *fields))
 
 
 def queries(options: Any, table: Table) -> list[Query]:
-    """The records that a command line gives, in order."""
+    """The records that a command line gives, in order; without a syscall the program's default, of number 0."""
     numbering = Numbering(table, options.arch)
-    rest = _rest_of(options, numbering)
-    found = [Query((("nr", numbering.number_of(it)), *rest)) for text in options.nr for it in text.split(",")]
+    fields = rest_of(options, numbering)
+    numbers = [number for text in options.nr for number in text.split(",")]
+    listed = [Query((("nr", numbering.number_of(number)), *fields)) for number in numbers]
     if options.calls_from is not None:
         for number, *arguments in _lines_of(options.calls_from):
-            own = tuple(zip(OPTIONS[3:], map(numbering.argument, arguments)))
-            left = tuple(pair for pair in rest if pair[0] not in dict(own))
-            found.append(Query((("nr", numbering.number_of(number)), *left, *own)))
-        return found
-    return found or [Query((("nr", numbering.number_of("0")), *rest))]
+            own_fields = tuple(zip(OPTIONS[3:], map(numbering.argument, arguments)))
+            other_fields = tuple(pair for pair in fields if pair[0] not in dict(own_fields))
+            listed.append(Query((("nr", numbering.number_of(number)), *other_fields, *own_fields)))
+        return listed
+    return listed or [Query((("nr", numbering.number_of("0")), *fields))]
 
 
 def record_words(options: Any) -> list[str] | None:
     """The options of scf for the record that a command line gives; None if it gives several."""
-    if options.calls_from is not None:
+    if options.calls_from is not None or getattr(options, "expect", None) is not None:
         return None
-    found = queries(options, tables.read(options.table))
-    return found[0].words() if len(found) == 1 else None
+    record_queries = queries(options, tables.read(options.table))
+    return record_queries[0].words() if len(record_queries) == 1 else None
 
 
 def of_givers(filters: Sequence[Filter], givers: Sequence[Giver]) -> Iterator[str]:
     """Which filter of several gives the answer."""
-    found = [it.filter.name for it in givers]
+    names = [giver.filter.name for giver in givers]
     if len(filters) < 2:
         return
-    if len(found) == len(filters):
-        yield f"{'both' if len(found) == 2 else f'all {len(found)}'} filters answer so"
-    elif found:
-        which = "the filter that answers so is" if len(found) == 1 else "the filters that answer so are"
-        yield f"{which} {join_names(found)}"
+    if len(names) == len(filters):
+        yield f"{'both' if len(names) == 2 else f'all {len(names)}'} filters answer so"
+    elif names:
+        which = "the filter that answers so is" if len(names) == 1 else "the filters that answer so are"
+        yield f"{which} {join_names(names)}"
 
 
 @dataclass(frozen=True)
 class Reply:
-    """What filters or a profile answer to a syscall: scf's status and lines, the syscall, and the answer or a fault;
+    """The answer of filters or a profile to a syscall: scf's status and lines, the syscall, and the answer or a fault;
     and what gives the answer, in lines and as members in JSON, which takes time to find."""
 
     status: int
@@ -202,14 +203,14 @@ class Reply:
         yield from self.reasons()
 
     def as_json(self, table: Table) -> dict[str, object]:
-        found: dict[str, object] = {"status": self.status}
+        members: dict[str, object] = {"status": self.status}
         if self.call:
-            found["call"] = self.call.as_json(table)
+            members["call"] = self.call.as_json(table)
         if self.answer:
-            found["answer"] = self.answer.as_json(explains=True)
+            members["answer"] = self.answer.as_json(explains=True)
         if self.fault:
-            found["fault"] = self.fault.as_json(self.sentences())
-        return {**found, **self.members()}
+            members["fault"] = self.fault.as_json(self.sentences())
+        return {**members, **self.members()}
 
 
 def _reply(status: int, lines: Sequence[str], query: Query, decision: Decision, table: Table) -> Reply:
@@ -220,8 +221,8 @@ def _reply(status: int, lines: Sequence[str], query: Query, decision: Decision, 
 
 
 def of_stack(filters: Sequence[Filter], query: Query, table: Table) -> Reply:
-    """What a stack answers to a syscall, which filter gives the answer, and the path through that one."""
-    done = client.run(["decide", *query.words()], bundles.of_stack([it.data for it in filters]))
+    """The reply of a stack, with the filter that gives the answer, and the path through it."""
+    done = client.run(["decide", *query.words()], bundles.of_stack([bpf_filter.data for bpf_filter in filters]))
     decision = verdicts.decision(done.text)
 
     def givers() -> list[Giver]:
@@ -229,15 +230,15 @@ def of_stack(filters: Sequence[Filter], query: Query, table: Table) -> Reply:
 
     def reasons() -> Iterator[str]:
         yield from refusals.of_stack(filters, decision.fault)
-        found = givers()
-        yield from of_givers(filters, found)
-        giver = listing.to_show(found)
+        deciding = givers()
+        yield from of_givers(filters, deciding)
+        giver = listing.to_show(deciding)
         if giver is not None:
             yield f"the path in {giver.describe()}: {giver.path.describe()}"
 
     def members() -> dict[str, object]:
-        found = givers()
-        giver, files = listing.to_show(found), [it.filter.name for it in found]
+        deciding = givers()
+        giver, files = listing.to_show(deciding), [giver.filter.name for giver in deciding]
         if decision.fault:
             files = faulty_filters(filters, decision.fault)
         return {**({"filters": files} if len(filters) > 1 and (giver or decision.fault) else {}),
@@ -247,12 +248,12 @@ def of_stack(filters: Sequence[Filter], query: Query, table: Table) -> Reply:
                    reasons=reasons, members=members)
 
 
-def of_run(one: Filter, query: Query, table: Table, with_path: bool) -> Reply:
-    """What a filter answers to a syscall, in how many instructions, and on request by which path."""
-    path = listing.path_of(one.data, query.words(), with_path)
+def of_run(bpf_filter: Filter, query: Query, table: Table, with_path: bool) -> Reply:
+    """The reply of one filter, with the number of instructions that run, and on request their path."""
+    path = listing.path_of(bpf_filter.data, query.words(), with_path)
     members: dict[str, object] = {} if path.decision.steps is None else {"steps": path.decision.steps}
     if path.indexes:
-        members["path"] = Giver(one, True, path).as_json()
+        members["path"] = Giver(bpf_filter, True, path).as_json()
     return replace(_reply(path.status, path.lines, query, path.decision, table), members=lambda: members)
 
 
@@ -262,7 +263,7 @@ def is_undetermined(reason: Reason, call: Call, profile: bytes, judged: Tables) 
 
 
 def of_profile(profile: bytes, query: Query, judged: Tables, origins: Sequence[Origin] | None = None) -> Reply:
-    """What a profile answers to a syscall, and why; of one that was resolved with the entries' indexes in the file."""
+    """The reply of a profile, with its reason; of a resolved profile with the entries' indexes in the user's file."""
     reason, call = reasons.of(profile, judged, query.words()), query.call
     if call is not None and is_undetermined(reason, call, profile, judged):
         return Reply(program.UNKNOWN, [FOR_OTHER_ABI], call, reasons=lambda: explanation.of_call(call, judged.native),
@@ -276,15 +277,15 @@ def of_profile(profile: bytes, query: Query, judged: Tables, origins: Sequence[O
 
 def print_replies(options: Any, table: Table, answer: Callable[[Query], Reply]) -> int:
     """Prints the reply to each query of a command line; returns the worst status."""
-    statuses, found = [], []
+    statuses, objects = [], []
     for query in queries(options, table):
         reply = answer(query)
         statuses.append(reply.status)
         if options.json:
-            found.append(reply.as_json(table))
+            objects.append(reply.as_json(table))
             continue
         output.put_lines(reply.lines)
         output.put_lines(output.notes(reply.notes(table)))
     if options.json:
-        output.put_json({"status": client.worst(statuses), "calls": found})
+        output.put_json({"status": client.worst(statuses), "calls": objects})
     return client.worst(statuses)

@@ -18,7 +18,7 @@ FITS, CONTRADICTS, UNKNOWN = "fits", "contradicts", "unknown"
 
 @dataclass(frozen=True)
 class Case:
-    """What is answered to a call: to it alone, or to all with the known arguments; and whether that is what is known of
+    """The answer to a call: to it alone, or to all calls with the known arguments; and whether that is what is known of
     the answer. None if neither that nor the contrary was shown."""
 
     call: Call
@@ -33,61 +33,60 @@ def rank(half: int) -> int:
     return half - (1 << 16) if half & 0x8000 else half
 
 
-class Stack:
+class AnsweringStack:
     """The regions of filters, or of a profile, None if they are unfinished, and what answers a single record."""
 
-    def __init__(self, find: Callable[[], list[Region]], answer: Callable[[Call], Answer | None]):
-        self.answer = answer
-        self._regions: list[Region] | None = None
-        try:
-            self._regions = find()
-        except regions.Unfinished:
-            pass
+    def __init__(self, region_list: Sequence[Region] | None, answer: Callable[[Call], Answer | None]):
+        self._regions, self.answer = region_list, answer
 
     @classmethod
-    def of_filters(cls, data: Sequence[bytes]) -> Stack:
+    def of_filters(cls, data: Sequence[bytes]) -> AnsweringStack:
         """Of filters, oldest first. Raises Refusal."""
-        return cls(lambda: regions.of_filters(data), Asker(data).decided)
+        return cls(regions.of_filters(data), Asker(data).decided)
 
     @classmethod
-    def of_profile(cls, profile: bytes, judged: Tables) -> Stack:
+    def of_profile(cls, profile: bytes, judged: Tables) -> AnsweringStack:
         """Of a profile. Raises Refusal."""
-        return cls(lambda: regions.of_profile(profile, judged),
+        return cls(regions.of_profile(profile, judged),
                    lambda call: reasons.of(profile, judged, call.words()).answer)
 
     def regions_of(self, event: Event, values: dict[int, int]) -> list[Region] | None:
         """The regions in which an event may lie, with these arguments."""
         call = event.call
-        known = values if call.pointer is None else {**values, POINTER: call.pointer}
+        known_values = values if call.pointer is None else {**values, POINTER: call.pointer}
         return None if self._regions is None else [
-            it for it in self._regions if it.is_of(call.number, call.architecture) and it.has(known)]
+            region for region in self._regions
+            if region.is_of(call.number, call.architecture) and region.has(known_values)]
 
     def case(self, event: Event, values: dict[int, int]) -> Case | None:
-        """What is answered to an event with these arguments, None if scf doesn't say."""
-        call, found = event.with_values(values), self.regions_of(event, values)
+        """The answer to an event with these arguments, None if scf doesn't say."""
+        call, of_event = event.with_values(values), self.regions_of(event, values)
+        regions_here = of_event or ()
         record = {POINTER: call.pointer or 0, **dict(enumerate(call.arguments))}
-        answer = next((it.answer for it in found or () if it.is_decided and it.has(record)), None) or self.answer(call)
+        answer = next((region.answer for region in regions_here if region.is_decided and region.has(record)), None) \
+            or self.answer(call)
         if answer is None:
             return None
-        fits, are_decided = event.outcome.has(answer), found is not None and all(it.is_decided for it in found)
+        fits = event.outcome.has(answer)
+        are_decided = of_event is not None and all(region.is_decided for region in regions_here)
         is_known = not event.unknown and call.pointer is not None
-        if is_known or are_decided and all(it.answer == answer for it in found):
+        if is_known or are_decided and all(region.answer == answer for region in regions_here):
             return Case(call, answer, True, fits)
         if fits:
             return Case(call, answer, False, True)
-        for it in found or ():
-            if it.is_decided and event.outcome.has(it.answer):
-                return Case(it.call_of(call.number, call.architecture, values), it.answer, False, True)
+        for region in regions_here:
+            if region.is_decided and event.outcome.has(region.answer):
+                return Case(region.call_of(call.number, call.architecture, values), region.answer, False, True)
         return Case(call, answer, False, False if are_decided else None)
 
 
-def cases(stack: Stack, event: Event) -> Iterator[Case]:
-    """What the filters answer to a syscall, in each way that its known arguments may be."""
+def cases(stack: AnsweringStack, event: Event) -> Iterator[Case]:
+    """The answers of filters to a syscall, in each way that its known arguments may be."""
     yield from filter(None, (stack.case(event, values) for values in event.ways()))
 
 
-def verdict_of(found: Sequence[Case]) -> str:
+def verdict_of(cases: Sequence[Case]) -> str:
     """Whether the filters answer as the event was answered, in some way that its arguments may be."""
-    if any(case.fits for case in found):
+    if any(case.fits for case in cases):
         return FITS
-    return CONTRADICTS if all(case.fits is False for case in found) else UNKNOWN
+    return CONTRADICTS if all(case.fits is False for case in cases) else UNKNOWN

@@ -11,8 +11,9 @@ import re
 from collections.abc import Callable, Iterator, Sequence
 
 from . import architectures, output, profiles
+from .answers import ACTIONS_WITH_DATA, Answer
 from .architectures import AARCH64, NATIVE
-from .profiles import NUMBER, SECCOMP, TEXT, VERSION, Origin, where_in
+from .profiles import NUMBER_TYPE, SECCOMP, TEXT_TYPE, VERSION_TYPE, Origin, where_in
 from .values import Any, dataclass, field
 
 # What a container has by default: moby's oci/caps, and containers-common's containers.conf.
@@ -31,12 +32,12 @@ CAPABILITIES = (
 ).split()
 # The machines that engines resolve profiles for: their names in `arches`, and the OCI names of their own syscalls, in
 # `archMap` and `architectures`.
-MACHINES = {"amd64": NATIVE, "arm64": AARCH64}
+MACHINE_NAMES = {"amd64": NATIVE, "arm64": AARCH64}
 
 
 def machine_here() -> str:
     """The engines' name of this machine."""
-    return next(name for name, oci in MACHINES.items() if oci == architectures.of_machine())
+    return next(name for name, oci in MACHINE_NAMES.items() if oci == architectures.of_machine())
 
 
 # The members that an engine doesn't read of those that another one does: moby since version 23, moby 20.10, and
@@ -47,9 +48,9 @@ ENGINES = {
     "podman": ("minKernel",),
 }
 # The members of the top that stay as they are.
-KEPT = ("flags", "listenerPath", "listenerMetadata")
+PASSED_ON = ("flags", "listenerPath", "listenerMetadata")
 # The names of errnos that containers-common takes (pkg/seccomp/errno_list.go).
-ERRNOS = (
+ERRNO_NAMES = (
     "EPERM ENOENT ESRCH EIO ENXIO E2BIG ENOEXEC EBADF ECHILD EDEADLK ENOMEM EACCES EFAULT ENOTBLK EBUSY EEXIST EXDEV "
     "ENODEV ENOTDIR EISDIR EINVAL ENFILE EMFILE ENOTTY ETXTBSY EFBIG ENOSPC ESPIPE EROFS EMLINK EPIPE EDOM ERANGE "
     "EAGAIN EINPROGRESS EALREADY ENOTSOCK EDESTADDRREQ EMSGSIZE EPROTOTYPE ENOPROTOOPT EPROTONOSUPPORT "
@@ -72,7 +73,7 @@ class Refused(Exception):
 
 @dataclass(frozen=True)
 class Setting:
-    """What decides which entries hold: a container's capabilities, its kernel and its machine; and which architectures
+    """The container for which entries are chosen: its capabilities, its kernel and its machine; and which architectures
     are kept."""
 
     capabilities: Sequence[str]
@@ -87,11 +88,13 @@ class Setting:
     source: str | None = None
     # One of MACHINES.
     machine: str = field(default_factory=machine_here)
+    # Whether each entry has a comment that stays: the lines of a sandbox's list.
+    keeps_comments: bool = False
 
     @property
     def native(self) -> str:
         """The OCI name of the machine's own architecture."""
-        return MACHINES[self.machine]
+        return MACHINE_NAMES[self.machine]
 
     @property
     def unread(self) -> Sequence[str]:
@@ -107,18 +110,24 @@ def excerpt(value: Any) -> str:
 
 
 def excerpts(texts: Sequence[Any]) -> str:
-    return output.some([excerpt(it) for it in texts], MAX_LISTED)
+    return output.some([excerpt(text) for text in texts], MAX_LISTED)
+
+
+def answer_of(action: str, number: int | None) -> Answer:
+    """The answer that a runtime hands libseccomp for an action and its errno, of which libseccomp takes 16 bits."""
+    answer = Answer.of_profile(action, None if number is None else number & 0xFFFF)
+    return answer if answer.action in ACTIONS_WITH_DATA else Answer.of_profile(action, None)
 
 
 def members(pairs: list[tuple[str, Any]]) -> dict[str, Any]:
-    found = dict(pairs)
-    if len(found) < len(pairs):
+    members_found = dict(pairs)
+    if len(members_found) < len(pairs):
         seen: set[str] = set()
         for name, _ in pairs:
             if name in seen:
                 raise Refused(f"the member '{excerpt(name)}' is repeated in one object")
             seen.add(name)
-    return found
+    return members_found
 
 
 def refuse_fraction(text: str) -> Any:
@@ -166,23 +175,23 @@ def printed(profile: dict[str, Any]) -> str:
 
 def _check_one(value: Any, kind: str, where: str, name: str) -> None:
     """Refuses a member that isn't a string, a number or a kernel version as the engines read it."""
-    if kind == NUMBER:
+    if kind == NUMBER_TYPE:
         if type(value) is not int or not 0 <= value < 1 << 64:
             raise Refused(f"{where_in(where, name)} isn't an integer from 0 to 2^64-1")
     elif not isinstance(value, str):
-        what = "isn't a string" if kind == TEXT else "isn't a kernel version such as 4.8"
+        what = "isn't a string" if kind == TEXT_TYPE else "isn't a kernel version such as 4.8"
         raise Refused(f"{where_in(where, name)} {what}")
-    elif kind == VERSION:
+    elif kind == VERSION_TYPE:
         version_of(value, where_in(where, name))
 
 
 def _check_list(value: Any, kind: Any, where: str, setting: Setting) -> None:
-    if not isinstance(value, list) or (kind == TEXT and not all(isinstance(it, str) for it in value)):
-        raise Refused(f"{where} isn't a list" + " of strings" * (kind == TEXT))
-    if kind != TEXT:
+    if not isinstance(value, list) or (kind == TEXT_TYPE and not all(isinstance(item, str) for item in value)):
+        raise Refused(f"{where} isn't a list" + " of strings" * (kind == TEXT_TYPE))
+    if kind != TEXT_TYPE:
         parent, _, name = where.rpartition(": ")
-        for index, one in enumerate(value):
-            check(one, kind, where_in(parent or "the profile", name, index), setting)
+        for index, element in enumerate(value):
+            check(element, kind, where_in(parent or "the profile", name, index), setting)
 
 
 def check(value: Any, members: dict[str, Any], where: str, setting: Setting) -> None:
@@ -190,38 +199,38 @@ def check(value: Any, members: dict[str, Any], where: str, setting: Setting) -> 
     spelled. A member that is null is absent."""
     if not isinstance(value, dict):
         raise Refused(f"{where} isn't an object")
-    for name, one in value.items():
+    for name, member in value.items():
         kind = members.get(name)
         if kind is None:
-            read_as = next((it for it in members if profiles.folded(it) == profiles.folded(name)), None)
+            read_as = next((member for member in members if profiles.folded(member) == profiles.folded(name)), None)
             if read_as is not None:
                 raise Refused(profiles.Misread(where, name, read_as).describe())
-        elif one is None or name in setting.unread:
+        elif member is None or name in setting.unread:
             pass
         elif isinstance(kind, dict):
-            check(one, kind, where_in(where, name), setting)
+            check(member, kind, where_in(where, name), setting)
         elif isinstance(kind, list):
-            _check_list(one, kind[0], where_in(where, name), setting)
+            _check_list(member, kind[0], where_in(where, name), setting)
         else:
-            _check_one(one, kind, where, name)
+            _check_one(member, kind, where, name)
 
 
 def unknown_members(value: Any, members: dict[str, Any], where: str) -> Iterator[tuple[str, str]]:
     """The members of an object and of those in it that no engine reads, each with where it stands."""
-    for name, one in value.items():
+    for name, member in value.items():
         kind = members.get(name)
         if kind is None:
             yield where, name
-        elif one is not None and isinstance(kind, dict):
-            yield from unknown_members(one, kind, where_in(where, name))
-        elif one is not None and isinstance(kind, list) and isinstance(kind[0], dict):
-            for index, inner in enumerate(one):
+        elif member is not None and isinstance(kind, dict):
+            yield from unknown_members(member, kind, where_in(where, name))
+        elif member is not None and isinstance(kind, list) and isinstance(kind[0], dict):
+            for index, inner in enumerate(member):
                 yield from unknown_members(inner, kind[0], where_in(where, name, index))
 
 
 def members_of(value: dict[str, Any] | None, setting: Setting) -> dict[str, Any]:
     """The members of an object that aren't null and that the engine reads."""
-    return {name: it for name, it in (value or {}).items() if it is not None and name not in setting.unread}
+    return {name: member for name, member in (value or {}).items() if member is not None and name not in setting.unread}
 
 
 def version_of(text: str, where: str) -> tuple[int, int]:
@@ -229,18 +238,18 @@ def version_of(text: str, where: str) -> tuple[int, int]:
     if not text:
         return 0, 0
     parts = re.fullmatch(r"([0-9]+)\.([0-9]+)", text) if len(text) <= MAX_TOLD else None
-    found = (int(parts[1]), int(parts[2])) if parts else (0, 0)
-    if found == (0, 0) or max(found) > 255:
+    version = (int(parts[1]), int(parts[2])) if parts else (0, 0)
+    if version == (0, 0) or max(version) > 255:
         raise Refused(f"{where} isn't a kernel version such as 4.8")
-    return found
+    return version
 
 
 def why_left_out(entry: dict[str, Any], setting: Setting, where: str) -> str | None:
     """Why the engines leave an entry out, or None where they keep it."""
     excludes, includes = (members_of(entry.get(name), setting) for name in ("excludes", "includes"))
     held = setting.capabilities
-    without = [it for it in excludes.get("caps", ()) if it in held]
-    lacking = [it for it in includes.get("caps", ()) if it not in held]
+    without = [capability for capability in excludes.get("caps", ()) if capability in held]
+    lacking = [capability for capability in includes.get("caps", ()) if capability not in held]
     arches, most, least = includes.get("arches"), excludes.get("minKernel"), includes.get("minKernel")
     if setting.machine in excludes.get("arches", ()):
         return f"not on {setting.machine}"
@@ -285,7 +294,7 @@ class Resolver:
         if not text:
             return holder.get(number)
         is_number = len(text) <= MAX_TOLD and re.fullmatch("[0-9]+", text) and int(text) < 1 << 32
-        if not is_number and text not in ERRNOS:
+        if not is_number and text not in ERRNO_NAMES:
             raise Refused(f"{where}: {name} '{excerpt(text)}' isn't an errno that podman knows")
         value = int(text) if is_number else getattr(errno, text)
         if holder.get(number) not in (None, value):
@@ -294,19 +303,19 @@ class Resolver:
 
     def architectures_of(self, top: dict[str, Any]) -> list[str]:
         """The architectures that the engine hands on."""
-        names, mapped, own = top.get("architectures", []), top.get("archMap", []), self.setting.native
+        names, mapped, native = top.get("architectures", []), top.get("archMap", []), self.setting.native
         if names and mapped:
             raise Refused("the profile has both architectures and archMap, and the engines take one")
-        for one in mapped:
-            if one.get("architecture") == own:
-                names = [own, *(one.get("subArchitectures") or [])]
+        for mapping in mapped:
+            if mapping.get("architecture") == native:
+                names = [native, *(mapping.get("subArchitectures") or [])]
                 break
-        others = [it for it in names if it != own]
+        others = [name for name in names if name != native]
         if self.setting.is_native and others:
-            if own not in names:
-                raise Refused(f"the profile isn't for {own}")
+            if native not in names:
+                raise Refused(f"the profile isn't for {native}")
             self.note(f"architectures left out: {excerpts(others)}")
-            return [own]
+            return [native]
         return names
 
     def entry_of(self, entry: dict[str, Any], where: str) -> dict[str, Any] | None:
@@ -314,13 +323,15 @@ class Resolver:
         if entry.get("name") and entry.get("names"):
             raise Refused(f"{where} has both name and names, and the engines take one")
         names = [entry["name"]] if entry.get("name") else entry.get("names", [])
-        found = {"names": names, "action": entry.get("action", "")}
+        members = {"names": names, "action": entry.get("action", "")}
         number = self.errno_of(entry, "errno", "errnoRet", where)
         if number is not None:
-            found["errnoRet"] = number
+            members["errnoRet"] = number
         if entry.get("args"):
-            found["args"] = [members_of(it, self.setting) for it in entry["args"]]
-        return found if names else None
+            members["args"] = [members_of(condition, self.setting) for condition in entry["args"]]
+        if self.setting.keeps_comments:
+            members["comment"] = entry["comment"]
+        return members if names else None
 
     def seccomp_of(self, value: Any) -> Any:
         """The seccomp object of a profile, or of a whole config.json."""
@@ -347,7 +358,8 @@ class Resolver:
         seen = set()
         for index, entry in [(None, top), *enumerate(top.get("syscalls") or [])]:
             where = "the profile" if index is None else f"entry {index}"
-            holders = [(where, entry), *((f"{where}: {it}", entry.get(it) or {}) for it in ("includes", "excludes"))]
+            filters = [(f"{where}: {name}", entry.get(name) or {}) for name in ("includes", "excludes")]
+            holders = [(where, entry), *filters]
             for inner, holder in holders[:1] if index is None else holders:
                 for name in self.setting.unread:
                     if holder.get(name) is not None and name not in seen:
@@ -362,20 +374,21 @@ class Resolver:
         if not top.get("defaultAction"):
             raise Refused("there is no defaultAction")
         self.tell_unread(value)
-        found = {"defaultAction": top["defaultAction"]}
+        profile = {"defaultAction": top["defaultAction"]}
         number = self.errno_of(top, "defaultErrno", "defaultErrnoRet", "the profile")
         if number is not None:
-            found["defaultErrnoRet"] = number
+            profile["defaultErrnoRet"] = number
         architectures = self.architectures_of(top)
         if architectures:
-            found["architectures"] = architectures
-        found.update((name, top[name]) for name in KEPT if name in top)
-        found["syscalls"] = [made for at, one in enumerate(top.get("syscalls", [])) for made in self.kept(at, one)]
-        return found
+            profile["architectures"] = architectures
+        profile.update((name, top[name]) for name in PASSED_ON if name in top)
+        profile["syscalls"] = [made for at, entry in enumerate(top.get("syscalls", []))
+                               for made in self.kept(at, entry)]
+        return profile
 
-    def kept(self, at: int, one: dict[str, Any]) -> list[dict[str, Any]]:
+    def kept(self, at: int, raw_entry: dict[str, Any]) -> list[dict[str, Any]]:
         """The entry at this index, where the engine keeps it."""
-        entry = members_of(one, self.setting)
+        entry = members_of(raw_entry, self.setting)
         why = why_left_out(entry, self.setting, f"entry {at}")
         made = None if why else self.entry_of(entry, f"entry {at}")
         origin = Origin(at, excerpts([entry["name"]] if entry.get("name") else entry.get("names", [])))
@@ -386,21 +399,27 @@ class Resolver:
         return [made]
 
     def keep_first(self, profile: dict[str, Any]) -> None:
-        """Leaves names out of an entry without conditions that an earlier such entry answers otherwise."""
-        first: dict[str, tuple[Any, Any]] = {}
-        kept = []
-        for entry, origin in zip(profile["syscalls"], self.origins):
-            answer = (entry["action"], entry.get("errnoRet"))
+        """Leaves names out of an entry without conditions that another such entry answers otherwise: the first one
+        whose answer isn't the default's. Runtimes give libseccomp no entry with the default's."""
+        default = answer_of(profile["defaultAction"], profile.get("defaultErrnoRet"))
+        answers = [answer_of(entry["action"], entry.get("errnoRet")) for entry in profile["syscalls"]]
+        first: dict[str, Answer] = {}
+        for entry, answer in zip(profile["syscalls"], answers):
+            if not entry.get("args") and answer != default:
+                for name in entry["names"]:
+                    first.setdefault(name, answer)
+        kept_entries = []
+        for entry, answer, origin in zip(profile["syscalls"], answers, self.origins):
             if not entry.get("args"):
                 for name in entry["names"]:
-                    if first.setdefault(name, answer) != answer:
-                        self.note(f"{excerpt(name)} left out of an entry with {excerpt(entry['action'])}: an earlier "
-                                  f"entry has it with {excerpt(first[name][0])}")
-                entry["names"] = [name for name in entry["names"] if first[name] == answer]
+                    if first.get(name, answer) != answer:
+                        self.note(f"{excerpt(name)} left out of an entry with {excerpt(entry['action'])}: another "
+                                  f"entry has it with {first[name].oci}")
+                entry["names"] = [name for name in entry["names"] if first.get(name, answer) == answer]
             if entry["names"]:
-                kept.append((entry, origin))
-        profile["syscalls"] = [entry for entry, _ in kept]
-        self.origins = [origin for _, origin in kept]
+                kept_entries.append((entry, origin))
+        profile["syscalls"] = [entry for entry, _ in kept_entries]
+        self.origins = [origin for _, origin in kept_entries]
 
 
 def resolve(value: Any, setting: Setting, tell: Callable[[str], None],
@@ -418,14 +437,14 @@ def resolve(value: Any, setting: Setting, tell: Callable[[str], None],
 def capabilities_of(text: str) -> list[str]:
     """The capabilities of a list of names, with or without CAP_, in which a name of a set stands for it; a ValueError
     where there is no such capability."""
-    found: list[str] = []
-    for word in filter(None, (it.strip() for it in text.split(","))):
+    names: list[str] = []
+    for word in filter(None, (word.strip() for word in text.split(","))):
         name = word.upper()
         name = name[4:] if name.startswith("CAP_") else name
         if word not in SETS and name not in CAPABILITIES:
             raise ValueError(f"'{word}' isn't a capability")
-        found += SETS.get(word, [name])
-    return sorted({f"CAP_{it}" for it in found})
+        names += SETS.get(word, [name])
+    return sorted({f"CAP_{name}" for name in names})
 
 
 def capabilities_in(mask: int) -> list[str]:

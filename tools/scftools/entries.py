@@ -8,7 +8,8 @@ from .answers import Answer
 from .profiles import HOLDS, LONGEST_NUMBER
 from .values import Any, dataclass
 
-MOST = (1 << 64) - 1
+# The greatest value of an argument, and of its lower half.
+GREATEST_VALUE, LOW_HALF = (1 << 64) - 1, (1 << 32) - 1
 
 
 @dataclass(frozen=True)
@@ -36,16 +37,18 @@ class Entry:
 
     def is_met(self, arguments: Sequence[int]) -> bool:
         """Whether arguments meet its conditions."""
-        return all(HOLDS[it.op](arguments[it.index], it.value, it.two) for it in self.conditions)
+        return all(HOLDS[condition.op](arguments[condition.index], condition.value, condition.two)
+                   for condition in self.conditions)
 
     def as_json(self) -> dict[str, object]:
-        return {"names": list(self.names), **self.answer.members(), "args": [it.as_json() for it in self.conditions]}
+        return {"names": list(self.names), **self.answer.members(),
+                "args": [condition.as_json() for condition in self.conditions]}
 
 
 def profile_of(default: Answer, entries: Iterable[Entry], architectures: Iterable[str] = ()) -> bytes:
     """The text of a profile for these architectures, by default x86-64, without entries that have no names."""
     return json.dumps({**default.default(), "architectures": list(architectures),
-                       "syscalls": [it.as_json() for it in entries if it.names]}).encode()
+                       "syscalls": [entry.as_json() for entry in entries if entry.names]}).encode()
 
 
 class Object(dict):
@@ -85,12 +88,12 @@ def default_of(top: Object) -> Answer:
 
 def entry_of(place: int, entry: Object, number_of: Callable[[str], int | None]) -> Entry:
     """An entry as scf reads it, with those of its names that a table has."""
-    conditions = tuple(Condition(it["index"], it["op"], it["value"], it.get("valueTwo", 0))
-                       for it in entry.get("args", []))
+    conditions = tuple(Condition(condition["index"], condition["op"], condition["value"], condition.get("valueTwo", 0))
+                       for condition in entry.get("args", []))
     names = dict.fromkeys(entry["names"])
-    known = tuple(name for name in names if number_of(name) is not None)
+    known_names = tuple(name for name in names if number_of(name) is not None)
     answer = Answer.of_profile(entry["action"], entry.get("errnoRet"))
-    return Entry(place, known, answer, conditions, len(known) < len(names))
+    return Entry(place, known_names, answer, conditions, len(known_names) < len(names))
 
 
 def entries_of(top: Object, number_of: Callable[[str], int | None]) -> list[Entry]:

@@ -1,31 +1,34 @@
-"""Events: syscalls that a filter denied, delegated or logged, as far as a log, a core or strace tells of them."""
+"""Events: syscalls that a filter denied, delegated or logged, as far as a log, a core or strace tells of them; and the
+syscalls of a strace log that failed."""
 from __future__ import annotations
 
-import errno
 import itertools
 import re
 from collections.abc import Iterable, Iterator
 
-from . import audit_records, strace, tables
-from .answers import ACTIONS, DOES, MAX_ERRNO, Answer
+from . import audit_records, filter_loads, journals, strace, tables
+from .answers import ACTIONS, DOES, MAX_ERRNO, NUMBERS_OF_ERRNOS, Answer
 from .architectures import JUDGED, Architecture
 from .audit_records import Malformed
 from .calls import Call
+from .confinement import Confinement
 from .tables import Table
 from .values import Pattern, dataclass, field, replace
 
-# The most distinct events that are kept of a text, and the most values that unknown bits of arguments may take.
-EVENTS, WAYS = 200, 8
+# The most distinct events and failed syscalls that are kept of a text, the most failed ones of a process that are
+# remembered for its end, and the most values that unknown bits of arguments may take.
+EVENTS, FAILURES, OF_PROCESS, WAYS = 200, 1000, 100, 8
 RECORD, CORE, STRACE = "the record", "the core", "strace's line"
 # What may end a process with a core, and with SIGSYS that strace doesn't show as a signal first (`__seccomp_filter` of
 # kernel/seccomp.c: TRAP sends SIGSYS, and the others end the process themselves).
 KILLS = ("KILL_THREAD", "KILL_PROCESS", "UNNAMED")
 # What may let a syscall fail.
 FAILS = ("ERRNO", "TRACE", "USER_NOTIF")
-NUMBERS_OF_ERRNOS = {name: number for number, name in errno.errorcode.items()}
 SIGSYS = Pattern(r"--- SIGSYS \{([^}]{0,1000})\} ---")
 MEMBER = Pattern(r"\b(si_\w+)=(\w+)")
 KILLED = Pattern(r"\+\+\+ killed by SIGSYS")
+# How a process ends that failed: by a signal, or with another status than 0.
+ENDED_BADLY = Pattern(r"\+\+\+ (?:killed by|exited with [1-9])")
 FAILED = Pattern(r" *= -1 (?:(E[A-Z0-9]+) \(|\(errno ([0-9]{1,4})\))")
 
 
@@ -110,14 +113,54 @@ class Event:
 
 
 @dataclass
+class Failure:
+    """A syscall that failed: how often, and where it failed last, by the order of all failures of the log."""
+
+    event: Event
+    count: int = 0
+    last: int = 0
+
+
+@dataclass
+class Failures:
+    """The failed syscalls of a strace log that are behind the loading of a filter, if the log shows one."""
+
+    of: dict[tuple[object, ...], Failure] = field(default_factory=dict)
+    # those of each process that ended with a failure, the last one first
+    of_ended: list[list[tuple[object, ...]]] = field(default_factory=list)
+    # how many there are, how many stand before the loading of a filter, and how many are of more kinds than are kept
+    count: int = 0
+    before_load: int = 0
+    left: int = 0
+
+    def add(self, event: Event) -> None:
+        self.count += 1
+        if event.key not in self.of and len(self.of) >= FAILURES:
+            self.left += 1
+            return
+        failure = self.of.setdefault(event.key, Failure(event))
+        failure.event, failure.count, failure.last = event, failure.count + 1, self.count
+
+    def shows_load(self) -> None:
+        """The first filter is loaded: what failed before isn't its answer."""
+        self.before_load += self.count
+        self.of, self.of_ended, self.count, self.left = {}, [], 0, 0
+
+
+@dataclass
 class EventLog:
-    """What a text has: its events with how often each stands in it, faulty records, and records that the kernel left
-    out."""
+    """What a text has: its events with how often each stands in it, faulty records, records that the kernel left out,
+    and what failed in a strace log."""
 
     events: dict[tuple[object, ...], list] = field(default_factory=dict)
+    failures: Failures = field(default_factory=Failures)
+    # the last syscall of a strace log, if it failed and may be under a filter
+    last_failure: Event | None = None
     # each with its line, from 1 on
     faults: list[tuple[int, str]] = field(default_factory=list)
     suppressed: int = 0
+    # what coredumpctl lists
+    cores: journals.Cores = field(default_factory=journals.Cores)
     # events beyond the most that are kept
     left: int = 0
 
@@ -139,20 +182,26 @@ def of_record(record: audit_records.Record) -> Event:
 
 
 class _Ends(strace.Log):
-    """A strace log, of which the last syscall of each process is kept, and those that SIGSYS ended."""
+    """A strace log, of which the last syscall of each process is kept, those that SIGSYS ended, and those that
+    failed."""
 
     def __init__(self, known: dict[str, Table]):
         super().__init__(lambda *_: (), known)
-        # the last syscall, and that of each process
-        self.final: _Printed | None = None
+        # the last syscall of each process
         self.last: dict[str | None, _Printed] = {}
         self.killed: list[_Printed] = []
         # each SIGSYS: the process, the signal's members, and the syscall before it
         self.signals: list[tuple[str | None, str, _Printed | None]] = []
+        self.failures, self.confinement = Failures(), Confinement()
+        # the last syscall, if it failed and may be under a filter
+        self.last_failure: Event | None = None
+        # of each process what failed, the last at the end
+        self._failed: dict[str | None, dict[tuple[object, ...], None]] = {}
 
     def _call(self, who: str | None, line: strace.Line, name: re.Match[str], is_cut: bool = False) -> None:
         if line.text.startswith(strace.FORKS):
             self._forked(who, line.text)
+        self._confine(who, line, name, is_cut)
         self.last.pop(who, None)
         architecture = self.architecture_of(who, name[1], line.nr)
         nr = self.number_of(architecture, name[1])
@@ -160,16 +209,56 @@ class _Ends(strace.Log):
         if nr is None or line.nr not in (None, nr):
             self._count(self.foreign, line.number)
             return
-        self.last[who] = self.final = _Printed(who, line.text[:strace.BEGINNING], name, nr, JUDGED[architecture])
+        printed = _Printed(who, line.text[:strace.LONGEST_BEGINNING], name, nr, JUDGED[architecture])
+        self.last[who] = printed
         if len(self.last) > strace.PENDING:
             self.last.pop(next(iter(self.last)))
+        self.last_failure = None
+        if " = -1 " in line.text:
+            self._fails(who, printed.failure())
+
+    def _confine(self, who: str | None, line: strace.Line, name: re.Match[str], is_cut: bool) -> None:
+        was_shown = self.confinement.is_shown
+        self.confinement.takes(who, line.text, name, is_cut or self._is_long)
+        if self.confinement.is_shown and not was_shown:
+            self._failed = {}
+            self.failures.shows_load()
+
+    def _fails(self, who: str | None, event: Event | None) -> None:
+        if event is None:
+            return
+        if self.confinement.is_shown and not self.confinement.has(who):
+            self.failures.before_load += 1
+            return
+        self.last_failure = event
+        self.failures.add(event)
+        failed = self._failed.setdefault(self.confinement.process_of(who), {})
+        failed.pop(event.key, None)
+        failed[event.key] = None
+        for every, most in ((failed, OF_PROCESS), (self._failed, strace.PENDING)):
+            if len(every) > most:
+                every.pop(next(iter(every)))
+
+    def _ends(self, who: str | None, text: str) -> None:
+        """A process or thread ends, or goes on as another."""
+        superseded = filter_loads.SUPERSEDED.match(text)
+        if superseded:
+            self.confinement.supersedes(who, superseded[1])
+            return
+        process, is_bad = self.confinement.process_of(who), ENDED_BADLY.match(text) is not None
+        failed = self._failed.pop(process, None) if is_bad or process == who else None
+        if failed and is_bad and len(self.failures.of_ended) < EVENTS:
+            self.failures.of_ended.append([*reversed(failed)])
+        self.confinement.ends(who)
 
     def _add(self, who: str | None, line: strace.Line) -> None:
+        self.confinement.begins(who, self._makers)
         super()._add(who, line)
         signal = SIGSYS.match(line.text)
         if signal and len(self.signals) < EVENTS:
             self.signals.append((who, signal[1], self.last.pop(who, None)))
         elif line.text.startswith("+++ "):
+            self._ends(who, line.text)
             ended = self.last.pop(who, None)
             if ended and KILLED.match(line.text) and len(self.killed) < EVENTS:
                 self.killed.append(ended)
@@ -207,6 +296,14 @@ class _Printed:
         return Event(STRACE, Call(*self.record, pointer), outcome, tuple(shown.get(at) for at in range(6)),
                      int(self.who) if self.who else None)
 
+    def failure(self) -> Event | None:
+        """Its failure, if it failed: by a filter, a supervisor or tracer, or the kernel itself."""
+        match = FAILED.match(self.text, self.end)
+        if match is None:
+            return None
+        code = NUMBERS_OF_ERRNOS.get(match[1]) if match[1] else int(match[2])
+        return None if code is None else self.event(Outcome(FAILS, data=code, is_result=True))
+
 
 def _of_signal(who: str | None, members: str, call: _Printed | None, known: dict[str, Table]) -> Event:
     """SIGSYS as strace shows it: by TRAP, with the data as si_errno."""
@@ -228,17 +325,8 @@ def _of_signal(who: str | None, members: str, call: _Printed | None, known: dict
                  process=int(who) if who else None)
 
 
-def _of_failed(ends: _Ends) -> Event | None:
-    """The last syscall of a log, if it failed: a filter, a supervisor or tracer, or the kernel itself let it fail."""
-    found = FAILED.match(ends.final.text, ends.final.end) if ends.final is not None else None
-    if ends.final is None or found is None:
-        return None
-    code = NUMBERS_OF_ERRNOS.get(found[1]) if found[1] else int(found[2])
-    return None if code is None else ends.final.event(Outcome(FAILS, data=code, is_result=True))
-
-
 def _of_ends(ends: _Ends, found: EventLog) -> None:
-    """The events of a strace log: each SIGSYS, or else the last syscall."""
+    """The events of a strace log: each SIGSYS; and what failed."""
     for who, members, call in ends.signals:
         try:
             found.add(_of_signal(who, members, call, ends.tables))
@@ -249,26 +337,47 @@ def _of_ends(ends: _Ends, found: EventLog) -> None:
         # of a process with several threads all are killed, and the syscalls of the others don't end
         for printed in numbered or ends.killed:
             found.add(printed.event(Outcome(KILLS if numbered else ("KILL_THREAD",))))
-    failed = None if found.events else _of_failed(ends)
-    if failed is not None:
-        found.add(failed)
+    found.failures, found.last_failure = ends.failures, ends.last_failure
+
+
+class _Reader:
+    """What the lines of a log of any kind have."""
+
+    def __init__(self, lines: Iterable[str], table: Table):
+        self.log, self._lines, self._ends = EventLog(), iter(lines), _Ends(tables.of_architectures(JUDGED, table).of)
+
+    def _take(self, number: int, line: str) -> None:
+        """Takes a line."""
+        is_entry = line.startswith('{"')
+        if line == "[" or line.startswith("[{"):
+            self.log.cores.take_list(line, self._lines)
+        elif not self._is_record(journals.message_in(line) if is_entry else line) and not is_entry and \
+                not self.log.cores.take(line):
+            self._ends.add(number, line)
+
+    def _is_record(self, line: str) -> bool:
+        """Takes what the kernel writes; whether it is that."""
+        kind, suppressed = audit_records.kind_of(line), audit_records.SUPPRESSED.search(line)
+        # a text that a program writes may look like a record
+        if (kind is None and suppressed is None) or strace.is_own(line):
+            return False
+        if suppressed:
+            self.log.suppressed += int(suppressed[1])
+        elif kind is not None and kind[0] in audit_records.SECCOMP:
+            self.log.add(of_record(audit_records.record_in(line, kind[1], self._ends.tables)))
+        return True
+
+    def read(self) -> EventLog:
+        for number, line in enumerate(self._lines, 1):
+            try:
+                self._take(number, line)
+            except Malformed as why:
+                self.log.faults += [(number, str(why))] * (len(self.log.faults) < EVENTS)
+        self._ends.end()
+        _of_ends(self._ends, self.log)
+        return self.log
 
 
 def read(lines: Iterable[str], table: Table) -> EventLog:
     """The events in the lines of a log of any kind."""
-    found, ends = EventLog(), _Ends(tables.of_architectures(JUDGED, table).of)
-    for number, line in enumerate(lines, 1):
-        kind, suppressed = audit_records.kind_of(line), audit_records.SUPPRESSED.search(line)
-        # a text that a program writes may look like a record
-        if (kind is None and suppressed is None) or strace.is_own(line):
-            ends.add(number, line)
-        elif suppressed:
-            found.suppressed += int(suppressed[1])
-        elif kind is not None and kind[0] in audit_records.SECCOMP:
-            try:
-                found.add(of_record(audit_records.record_in(line, kind[1], ends.tables)))
-            except Malformed as why:
-                found.faults += [(number, str(why))] * (len(found.faults) < EVENTS)
-    ends.end()
-    _of_ends(ends, found)
-    return found
+    return _Reader(lines, table).read()

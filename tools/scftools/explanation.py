@@ -1,7 +1,8 @@
-"""What scf's answers, verdicts and faults mean: the lines that the tools add after scf's. Those of faults, `undecided`
-and `unfinished` are the rows of docs/FAULTS.md."""
+"""Explanations of scf's answers, verdicts and faults: the lines that the tools add after scf's. Those of faults,
+`undecided` and `unfinished` are the rows of docs/FAULTS.md."""
 from __future__ import annotations
 
+import itertools
 import re
 from collections.abc import Iterator, Sequence
 
@@ -31,8 +32,9 @@ def _rows() -> dict[str, list[str]]:
     """For each line in the page, by its words without numbers, the two sentences that stand below it."""
     rows: dict[str, list[str]] = {}
     with open(program.FAULTS, encoding="utf-8") as file:
-        for lines, *sentences in re.findall(r"^- (`.*)\n  (.*)\n  (.*)$", file.read(), re.M):
-            rows.update((_key(line), sentences) for line in re.findall(r"`([^`]+)`", lines))
+        for line, *sentences in re.findall(r"^- `(.*)`\n  (.*)\n  (.*)$", file.read(), re.M):
+            alternatives = (word.split("|") for word in _key(line).split())
+            rows.update((" ".join(words), sentences) for words in itertools.product(*alternatives))
     return rows
 
 
@@ -47,14 +49,15 @@ def what_a_row_says(line: str) -> list[str]:
 
 
 def of_fault(fault: Fault, table: Table | None = None) -> Iterator[str]:
-    """What a fault is and what to do; with a table also the x86-64 syscall of which two entries conflict."""
+    """The explanation of a fault, and what to do; with a table also the x86-64 syscall of which two entries
+    conflict."""
     yield from what_a_row_says(fault.line)
     if (fault.source, fault.kind) == ("profile", "Conflict") and table is not None:
         yield f"the syscall is {Call(fault.numbers['number']).describe(table)}"
 
 
 def of_line(line: str) -> Iterator[str]:
-    """What a line of scf means if it is a fault."""
+    """The explanation of a line of scf, if it is a fault."""
     fault = Fault.read(line)
     yield from of_fault(fault) if fault is not None else ()
 
@@ -79,13 +82,13 @@ def of_differing(verdict: verdicts.Verdict, table: Table, is_native: bool, count
     if verdict.profile:
         yield f"the profile answers {verdict.profile.describe()}"
     if verdict.word != verdicts.DIFFERS and verdict.filters and verdict.profile:
-        filters, profile = (it.disposition + " to a supervisor or tracer" * (it.disposition == DELEGATED)
-                            for it in (verdict.filters, verdict.profile))
+        filters, profile = (answer.disposition + " to a supervisor or tracer" * (answer.disposition == DELEGATED)
+                            for answer in (verdict.filters, verdict.profile))
         yield f"the syscall is {filters} by the filter{'s' * (count > 1)}, and {profile} by the profile"
 
 
 def of_verdict(report: Report, table: Table, is_native: bool, count: int) -> Iterator[str]:
-    """What a verdict on `count` filters means, except for what was left out of the profile."""
+    """The explanation of a verdict on `count` filters, except for what was left out of the profile."""
     verdict = report.verdict
     if verdict is None:
         return
@@ -97,28 +100,30 @@ def of_verdict(report: Report, table: Table, is_native: bool, count: int) -> Ite
 
 
 def of_skipped(report: Report, judged: Tables, default_lets_through: bool) -> Iterator[str]:
-    """What the skipped names are, and what is lost with them."""
+    """Lines on the skipped names, and on what is lost with them."""
     if not report.skipped:
         return
-    found = tables.classify(report.skipped, judged)
+    classified = tables.classify(report.skipped, judged)
     why = "the table doesn't have them" if len(judged.of) == 1 else "no table has them"
     yield (f"names in the profile that were skipped because {why}: {len(report.skipped)}"
-           + (", all of them syscalls of other architectures" if not found.left_out and not found.unknown else ""))
-    for name in found.left_out[:tables.MOST_LISTED]:
+           + (", all of them syscalls of other architectures" if not classified.left_out and not classified.unknown
+              else ""))
+    for name in classified.left_out[:tables.MOST_LISTED]:
         yield f"{name} is an x86-64 syscall that this table leaves out"
-    for name, near in found.unknown[:tables.MOST_LISTED]:
+    for name, near in classified.unknown[:tables.MOST_LISTED]:
         nearest = f"; the nearest name in the table is {near}" if near else ""
         yield f"no known syscall is named {output.cut(name)}{nearest}"
-    more = max(len(found.left_out) - tables.MOST_LISTED, 0) + max(len(found.unknown) - tables.MOST_LISTED, 0)
+    more = max(len(classified.left_out) - tables.MOST_LISTED, 0) + max(len(classified.unknown) - tables.MOST_LISTED, 0)
     if more:
         yield f"more such names: {more}"
-    if default_lets_through and (found.left_out or found.unknown):
+    if default_lets_through and (classified.left_out or classified.unknown):
         yield "the profile's default allows syscalls: the rules for these names are lost"
 
 
 def of_architectures(report: Report) -> Iterator[str]:
     """Which architectures of a profile aren't judged, and why."""
-    left_out = [it for it in dict.fromkeys(report.architectures) if it in architectures.JUDGED]
+    left_out = [architecture
+                for architecture in dict.fromkeys(report.architectures) if architecture in architectures.JUDGED]
     if left_out:
         yield f"--native leaves out {join_names(left_out)}, which the profile also names"
     if len(left_out) < len(set(report.architectures)):

@@ -12,8 +12,8 @@ from . import c_arrays, strace
 from .values import Pattern, dataclass, field
 
 # The most filters that are loaded in a log, and the most bytes of a line, which holds a filter of 4096 instructions.
-MOST, LINE = 4096, 1 << 20
-CALLS = "seccomp,prctl,clone,clone3,fork,vfork"
+MOST_LOADS, LONGEST_LINE = 4096, 1 << 20
+TRACED_CALLS = "seccomp,prctl,clone,clone3,fork,vfork"
 PROGRAM = Pattern(r"\{len=([0-9]{1,5}), filter=(?:\[(.*)\]|(0x[0-9a-f]+|NULL))\}", re.S)
 # The different stacks of filters, oldest first, but for that without a filter, each with the numbers of the processes
 # and threads that ended with it; one that was alone may have no number.
@@ -22,8 +22,8 @@ SUPERSEDED = Pattern(r"\+\+\+ superseded by execve in pid ([0-9]{1,10}) \+\+\+")
 
 
 @dataclass
-class Event:
-    """What a process or thread does: it loads a filter, for the others of its process too or not; it makes another
+class LoadEvent:
+    """A step of a process or thread: it loads a filter, for the others of its process too or not; it makes another
     process or thread; it ends; another thread goes on as it."""
 
     who: str | None
@@ -44,7 +44,7 @@ def _instructions(text: str) -> bytes:
 def _loaded(text: str, begin: int, name: str) -> tuple[bytes, bool] | None:
     """The filter that a whole call loaded with success, and whether for all threads; None if it loaded none."""
     arguments, end = strace.arguments_in(text, begin)
-    words = [it.strip() for it in arguments]
+    words = [argument.strip() for argument in arguments]
     is_load = words[:1] == ["SECCOMP_SET_MODE_FILTER"] if name == "seccomp" else \
         words[:2] == ["PR_SET_SECCOMP", "SECCOMP_MODE_FILTER"]
     result = strace.RESULT.match(text, end) if is_load and end and len(words) >= 3 else None
@@ -64,21 +64,21 @@ def _loaded(text: str, begin: int, name: str) -> tuple[bytes, bool] | None:
 class Reader:
     """Reads a log's lines into events."""
 
-    events: list[Event] = field(default_factory=list)
+    events: list[LoadEvent] = field(default_factory=list)
     # calls that aren't finished yet, and their events
-    _pending: dict[str | None, tuple[str, Event]] = field(default_factory=dict)
+    _pending: dict[str | None, tuple[str, LoadEvent]] = field(default_factory=dict)
     _loads: int = 0
 
     def add(self, line: str) -> None:
         leader = strace.LEADER.match(line)
         assert leader
         who, text = leader[1] or leader[2], line[leader.end():]
-        call, resumed = strace.CALL.match(text), strace.RESUMED.match(text)
-        if call and call[1] in CALLS.split(","):
-            event = Event(who)
+        call, resumed = strace.CALL_NAME.match(text), strace.RESUMED.match(text)
+        if call and call[1] in TRACED_CALLS.split(","):
+            event = LoadEvent(who)
             self.events.append(event)
-            if text.endswith(strace.UNFINISHED):
-                self._pending[who] = text.removesuffix(strace.UNFINISHED), event
+            if text.endswith(strace.UNFINISHED_MARK):
+                self._pending[who] = text.removesuffix(strace.UNFINISHED_MARK), event
             else:
                 self._call(text, event)
         elif resumed and who in self._pending:
@@ -87,25 +87,25 @@ class Reader:
         elif text.startswith("+++ "):
             superseded = SUPERSEDED.match(text)
             self._pending.pop(superseded[1] if superseded else who, None)
-            self.events.append(Event(who, superseding=superseded[1] if superseded else None, is_end=not superseded))
+            self.events.append(LoadEvent(who, superseding=superseded[1] if superseded else None, is_end=not superseded))
 
-    def _call(self, text: str, event: Event) -> None:
-        call = strace.CALL.match(text)
+    def _call(self, text: str, event: LoadEvent) -> None:
+        call = strace.CALL_NAME.match(text)
         assert call
         if call[1] in ("seccomp", "prctl"):
             loaded = _loaded(text, call.end(), call[1])
             if loaded:
                 self._loads += 1
                 event.filter, event.is_for_all = loaded
-            if self._loads > MOST:
-                raise c_arrays.NotAnArray(f"it has more than {MOST} filters")
+            if self._loads > MOST_LOADS:
+                raise c_arrays.NotAnArray(f"it has more than {MOST_LOADS} filters")
         else:
             result = strace.RESULT.match(text, text.rfind(")") + 1)
             if result and result[1].isdigit():
                 event.child, event.is_thread = result[1], "CLONE_THREAD" in text
 
 
-def _stacks(events: Iterable[Event]) -> Stacks:
+def _stacks(events: Iterable[LoadEvent]) -> Stacks:
     """The stacks that processes ended with."""
     current: dict[str | None, tuple[bytes, ...]] = {}
     group: dict[str | None, str | None] = {}
@@ -125,8 +125,8 @@ def _stacks(events: Iterable[Event]) -> Stacks:
         current.setdefault(who, ())
         if event.filter is not None:
             current[who] += (event.filter,)
-            for other in [it for it in current if event.is_for_all and group[it] == group[who]]:
-                current[other] = current[who]
+            for thread in [thread for thread in current if event.is_for_all and group[thread] == group[who]]:
+                current[thread] = current[who]
         elif event.child is not None:
             current[event.child] = current[who]
             group[event.child] = group[who] if event.is_thread else event.child

@@ -10,14 +10,15 @@ from .forms import Filter
 
 # linux/filter.h: struct sock_filter, and BPF_MAXINSNS.
 INSTRUCTION = struct.Struct("<HBBI")
-LONGEST = 4096
+BPF_MAXINSNS = 4096
 # linux/bpf_common.h: the codes that the tools write or read.
 LOAD_WORD, LOAD_CONSTANT, RETURN_CONSTANT, JUMP, AND = 0x20, 0x00, 0x06, 0x05, 0x54
 # The offsets of the halves of the instruction pointer in struct seccomp_data (linux/seccomp.h).
-POINTER = (8, 12)
+POINTER_OFFSETS = (8, 12)
 JEQ, JGT, JGE, JSET, BY_X = 0x10, 0x20, 0x30, 0x40, 0x08
 # The 41 codes that the kernel takes (seccomp_check_filter of kernel/seccomp.c).
-CODES = frozenset(bytes.fromhex("208081000160610203040c141c242c343c444c545c646c747ca4ac8405151d252d353d454d06160787"))
+KERNEL_CODES = frozenset(bytes.fromhex(
+    "208081000160610203040c141c242c343c444c545c646c747ca4ac8405151d252d353d454d06160787"))
 # The most instructions of a stack, in which each older filter counts some more (MAX_INSNS_PER_PATH in
 # kernel/seccomp.c, which counts the kernel's own translation).
 LONGEST_STACK, MORE_OF_OLDER = 32768, 4
@@ -26,13 +27,13 @@ LONGEST_STACK, MORE_OF_OLDER = 32768, 4
 def are_codes(data: bytes) -> bool:
     """Whether bytes are complete instructions with codes that the kernel takes."""
     whole = bool(data) and len(data) % INSTRUCTION.size == 0
-    return whole and CODES.issuperset(data[::INSTRUCTION.size]) and not any(data[1::INSTRUCTION.size])
+    return whole and KERNEL_CODES.issuperset(data[::INSTRUCTION.size]) and not any(data[1::INSTRUCTION.size])
 
 
 def read(name: str) -> Filter:
     """The filter of a file, a pipe or standard input: raw, or a text in one of the forms of `forms`, whose name
     is printed on standard error."""
-    return filter_in(name, inputs.read(name, "filter", most=forms.LONGEST))
+    return filter_in(name, inputs.read(name, "filter", most=forms.LONGEST_TEXT))
 
 
 def filter_in(name: str, data: bytes) -> Filter:
@@ -46,7 +47,7 @@ def filter_in(name: str, data: bytes) -> Filter:
         if forms.is_text(data):
             program.say(f"{inputs.label(name)} is text, in none of the forms that `check --help` names")
         return raw
-    count = form.count if form.count <= LONGEST else f"more than {LONGEST}"
+    count = form.count if form.count <= BPF_MAXINSNS else f"more than {BPF_MAXINSNS}"
     program.say(f"{inputs.label(name)} is read as {form.name}, instructions: {count}")
     return Filter(name, form.data)
 
@@ -54,21 +55,22 @@ def filter_in(name: str, data: bytes) -> Filter:
 def saved_in(folder: str) -> list[str]:
     """The filters in a folder, as `scf filters-of` writes them: its *.bpf, in the order of their names."""
     try:
-        return sorted(os.path.join(folder, it) for it in os.listdir(folder) if it.endswith(".bpf") and it[0] != ".")
+        return sorted(os.path.join(folder, name) for name in os.listdir(folder)
+                      if name.endswith(".bpf") and name[0] != ".")
     except OSError:
         return []
 
 
 def read_stack(names: Sequence[str]) -> list[Filter]:
     """The filters of some files; if they exceed what scf reads, only as many as show that."""
-    found: list[Filter] = []
+    filters_read: list[Filter] = []
     length = 0
     for name in names:
-        if length > bundles.LIMIT:
+        if length > bundles.LONGEST_BUNDLE:
             break
-        found.append(read(name))
-        length += len(found[-1].data)
-    return found
+        filters_read.append(read(name))
+        length += len(filters_read[-1].data)
+    return filters_read
 
 
 def instruction(code: int, k: int, if_true: int = 0, if_false: int = 0) -> bytes:
@@ -78,7 +80,7 @@ def instruction(code: int, k: int, if_true: int = 0, if_false: int = 0) -> bytes
 def looks_at_pointer(data: bytes) -> bool:
     """Whether any instruction loads a half of the instruction pointer."""
     whole = data[:len(data) // INSTRUCTION.size * INSTRUCTION.size]
-    return any(code == LOAD_WORD and k in POINTER for code, _, _, k in INSTRUCTION.iter_unpack(whole))
+    return any(code == LOAD_WORD and k in POINTER_OFFSETS for code, _, _, k in INSTRUCTION.iter_unpack(whole))
 
 
 def _tests(number: int, conditions: Sequence[tuple[int, int, int]]) -> bytes:

@@ -6,18 +6,17 @@ the word that lead to each target; the instructions before them belong to it. Al
 from __future__ import annotations
 
 import heapq
-from collections.abc import Iterator, Sequence
+from collections.abc import Iterable, Iterator, Sequence
 
 from . import answers, architectures, output
-from .answers import X32
+from .answers import FIRST_X32
 from .filters import BY_X, JEQ, JGE, JGT, JUMP, RETURN_CONSTANT
-from .listing import (ARCHITECTURE, NUMBER, RETURNS, Instruction, Known, instructions, known_facts, name_of,
-                      word_name)
+from .listing import ARCHITECTURE, NUMBER, RETURNS, Instruction, Known, instructions, known_facts, name_of, word_name
 from .tables import Table
 from .values import dataclass, field
 
 # The greatest value of a word, and the most ranges that an edge names.
-GREATEST, MOST_RANGES = 0xFFFFFFFF, 12
+GREATEST_WORD, MOST_RANGES = 0xFFFFFFFF, 12
 # Ranges of values, in their order, each with its first and its last one.
 Ranges = list[tuple[int, int]]
 MARK = ", penwidth=3, color=red"
@@ -30,26 +29,26 @@ def split(ranges: Ranges, first: int) -> tuple[Ranges, Ranges]:
             [(max(low, first), high) for low, high in ranges if high >= first])
 
 
-def merged(one: Ranges, other: Ranges) -> Ranges:
+def merged(first: Ranges, second: Ranges) -> Ranges:
     """The values of both, with neighbours as one range."""
-    found: Ranges = []
-    for low, high in heapq.merge(one, other):
-        if found and low <= found[-1][1] + 1:
-            found[-1] = found[-1][0], max(high, found[-1][1])
+    ranges: Ranges = []
+    for low, high in heapq.merge(first, second):
+        if ranges and low <= ranges[-1][1] + 1:
+            ranges[-1] = ranges[-1][0], max(high, ranges[-1][1])
         else:
-            found.append((low, high))
-    return found
+            ranges.append((low, high))
+    return ranges
 
 
 def _sides(insn: Instruction, ranges: Ranges) -> tuple[Ranges, Ranges]:
     """The values for which a test holds, and the others."""
     test = insn.code & 0xF0
     if test == JEQ:
-        below, rest = split(ranges, insn.k)
-        equal, above = split(rest, insn.k + 1)
+        below, remaining = split(ranges, insn.k)
+        equal, above = split(remaining, insn.k + 1)
         return equal, merged(below, above)
-    below, rest = split(ranges, insn.k + (test == JGT))
-    return rest, below
+    below, remaining = split(ranges, insn.k + (test == JGT))
+    return remaining, below
 
 
 @dataclass
@@ -106,11 +105,11 @@ class Graph:
         word = self._word_tested(index)
         if word is not None:
             return self._switch(indexes, index, word)
-        return Node(indexes, targets={self.behind_jumps(it): [] for it in self.insns[index].targets(index)})
+        return Node(indexes, targets={self.behind_jumps(target): [] for target in self.insns[index].targets(index)})
 
     def _switch(self, indexes: list[int], index: int, word: int) -> Node:
         """The tests of a word from there on: no jump goes backwards, so each is met after all that lead to it."""
-        node, waiting = Node(indexes, word, self.known[index]), {index: [(0, GREATEST)]}
+        node, waiting = Node(indexes, word, self.known[index]), {index: [(0, GREATEST_WORD)]}
         while waiting:
             at = min(waiting)
             ranges = waiting.pop(at)
@@ -129,7 +128,7 @@ class Graph:
 def _value_text(value: int, node: Node, table: Table) -> str:
     if node.word == NUMBER:
         its = node.known.architectures
-        return "x32" if value == X32 and its.has(answers.X86_64) else name_of(value, its, table)
+        return "x32" if value == FIRST_X32 and its.has(answers.X86_64) else name_of(value, its, table)
     if node.word == ARCHITECTURE:
         return architectures.shown_name(value) or hex(value)
     return hex(value)
@@ -139,7 +138,7 @@ def _range_text(low: int, high: int, node: Node, table: Table) -> str:
     first = _value_text(low, node, table)
     if low == high:
         return first
-    return f"from {first} on" if high == GREATEST else f"{first} to {_value_text(high, node, table)}"
+    return f"from {first} on" if high == GREATEST_WORD else f"{first} to {_value_text(high, node, table)}"
 
 
 def _edge_text(ranges: Ranges, is_rest: bool, node: Node, table: Table) -> str:
@@ -151,10 +150,22 @@ def _edge_text(ranges: Ranges, is_rest: bool, node: Node, table: Table) -> str:
     return "\n".join([*shown, *[more] * bool(more)])
 
 
-def _quoted(text: str) -> str:
+def quoted(text: str) -> str:
     """A text of dot's language, each line of it at the left."""
     lines = [output.escaped(line).replace("\\", "\\\\").replace('"', '\\"') for line in text.split("\n")]
     return '"' + "".join(f"{line}\\l" for line in lines) + '"'
+
+
+def digraph(statements: Iterable[str]) -> str:
+    """The text of a graph with these nodes and edges."""
+    head = ["digraph filter {", "    node [shape=box, fontname=monospace];", "    edge [fontname=monospace];"]
+    return "\n".join([*head, *(f"    {statement}" for statement in statements), "}"]) + "\n"
+
+
+def answer_node(name: str, label: str, disposition: str | None, more: str = "") -> str:
+    """The node of an answer, coloured by its disposition, None if that isn't known."""
+    return (f"{name} [shape=ellipse, style=filled, fillcolor={COLOURS.get(disposition, 'white')}, "
+            f"label={quoted(label)}{more}];")
 
 
 class Drawing:
@@ -163,7 +174,7 @@ class Drawing:
     def __init__(self, graph: Graph, lines: Sequence[str], table: Table, path: Sequence[int] = ()) -> None:
         self.graph, self.table = graph, table
         # the lines of a listing, each without the spaces that align it
-        self.lines = [" ".join(it.split()) for it in lines]
+        self.lines = [" ".join(line.split()) for line in lines]
         # the nodes on the path, in their order, and the edges between them
         self.way = list(map(graph.behind_jumps, path[:1]))
         for index in map(graph.behind_jumps, path[1:]):
@@ -181,8 +192,8 @@ class Drawing:
 
     def _label(self, node: Node) -> str:
         if node.word is None:
-            return "\n".join(self.lines[it] for it in node.indexes)
-        before = [self.lines[it] for it in node.indexes if not self.graph.insns[it].is_test]
+            return "\n".join(self.lines[index] for index in node.indexes)
+        before = [self.lines[index] for index in node.indexes if not self.graph.insns[index].is_test]
         tests = len(node.indexes) - len(before)
         shown = f"{tests} tests, the last is {max(node.indexes)}" if tests > 1 else f"{node.indexes[-1]}"
         return "\n".join([*before, f"{word_name(node.word)}? ({shown})"])
@@ -193,24 +204,22 @@ class Drawing:
             insn = self.graph.insns[index]
             if insn.code == RETURN_CONSTANT:
                 answer = answers.Answer.of_word(insn.k)
-                yield (f"    {name} [shape=ellipse, style=filled, fillcolor={COLOURS[answer.disposition]}, "
-                       f"label={_quoted(answer.named())}{mark}];")
+                yield answer_node(name, answer.named(), answer.disposition, mark)
             else:
-                yield f"    {name} [label={_quoted(self._label(node))}{mark}];"
+                yield f"{name} [label={quoted(self._label(node))}{mark}];"
 
     def _edges(self) -> Iterator[str]:
         for index, node in sorted(self.graph.nodes.items()):
             sizes = {target: sum(high - low + 1 for low, high in ranges) for target, ranges in node.targets.items()}
-            rest = max(sizes, key=lambda it: sizes[it], default=None) if node.word is not None else None
+            fallback = max(sizes, key=lambda target: sizes[target], default=None) if node.word is not None else None
             for at, (target, ranges) in enumerate(node.targets.items()):
                 if node.word is not None:
-                    label = _edge_text(ranges, target == rest and len(ranges) > 1, node, self.table)
+                    label = _edge_text(ranges, target == fallback and len(ranges) > 1, node, self.table)
                 else:
                     label = ("yes", "no")[at] if len(node.targets) > 1 else ""
                 mark = MARK if (index, target) in self.edges else ""
-                yield f"    {self.name_of(index)} -> {self.name_of(target)} [label={_quoted(label)}{mark}];"
+                yield f"{self.name_of(index)} -> {self.name_of(target)} [label={quoted(label)}{mark}];"
 
     def text(self) -> str:
         """The graph in dot's language."""
-        head = ["digraph filter {", "    node [shape=box, fontname=monospace];", "    edge [fontname=monospace];"]
-        return "\n".join([*head, *self._nodes(), *self._edges(), "}"]) + "\n"
+        return digraph([*self._nodes(), *self._edges()])

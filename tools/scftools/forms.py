@@ -16,17 +16,17 @@ from . import c_arrays, client, program
 from .values import Pattern, dataclass
 
 # The bytes of an instruction, and the most of a filter as text.
-SIZE, LONGEST = 8, 1 << 20
+SIZE, LONGEST_TEXT = 8, 1 << 20
 MNEMONICS = "ld ldx st stx add sub mul div or and lsh rsh xor neg ja jeq jgt jge jset ret tax txa raw".split()
 # What may stand before the first mnemonic: blanks, empty statements, comments; and a word, of which a colon makes a
 # label.
-BEFORE, WORD = Pattern(r"[\s;]+|//[^\n]*\n"), Pattern(r"([A-Za-z_]\w*)\s*(:?)")
-HEXADECIMAL, ARRAY, DECIMALS, ASSEMBLER, LOG = ("hexadecimal text", "a C array", "decimals of tcpdump -ddd",
-                                                "scf's assembler text", "a strace log")
+BEFORE_MNEMONIC, MNEMONIC = Pattern(r"[\s;]+|//[^\n]*\n"), Pattern(r"([A-Za-z_]\w*)\s*(:?)")
+HEXADECIMAL_TEXT, ARRAY, DECIMALS, ASSEMBLER, LOG = ("hexadecimal text", "a C array", "decimals of tcpdump -ddd",
+                                                     "scf's assembler text", "a strace log")
 LOADING = Pattern(r"(?m)^[\[\]pid 0-9]{0,30}(?:seccomp\(SECCOMP_SET_MODE_FILTER|prctl\(PR_SET_SECCOMP), ")
 # What isn't a filter: how it begins, what it is, and what to do.
 OF_PROFILE = ": `scf compare FILTER PROFILE` compares a profile with a filter, `scf compile` makes its filter"
-OTHERS = (
+NOT_FILTERS = (
     (rb"\x7fELF", "an ELF file (a program, library or object)", ""),
     (rb"\x1f\x8b", "compressed by gzip", ": unpack it first"),
     (rb"(?:filter|profile|table) [0-9]{1,8}\n", "a bundle", ": scf itself reads it, on standard input"),
@@ -64,9 +64,9 @@ def _of_line(line: str, offset: int) -> bytes:
         data = bytes.fromhex(digits)
     except ValueError:
         return b""
-    own = "".join(chr(it) if 32 <= it < 127 else "." for it in data).rstrip(" |")
+    letters_of_data = "".join(chr(byte) if 32 <= byte < 127 else "." for byte in data).rstrip(" |")
     letters = letters.rstrip(" |")
-    return data if letters.endswith(own) and not letters.removesuffix(own).strip() else b""
+    return data if letters.endswith(letters_of_data) and not letters.removesuffix(letters_of_data).strip() else b""
 
 
 def _of_dump(text: str) -> bytes | None:
@@ -86,7 +86,7 @@ def _of_hexadecimal(text: str) -> bytes | None:
     stripped = text.strip()
     if re.fullmatch(r'"?(?:\\x[0-9a-fA-F]{2})+"?', stripped):
         data = bytes.fromhex(stripped.strip('"').replace("\\x", ""))
-    elif re.fullmatch(r"[0-9a-fA-F\s]+", text) and all(len(it) % 2 == 0 for it in text.split()):
+    elif re.fullmatch(r"[0-9a-fA-F\s]+", text) and all(len(word) % 2 == 0 for word in text.split()):
         data = bytes.fromhex(text)
     else:
         data = _of_dump(text) or b""
@@ -97,10 +97,10 @@ def _of_decimals(text: str) -> bytes | None:
     """A count, and so many rows of four numbers; as of `bpf_asm`, commas may end the rows."""
     if not re.fullmatch(r"[0-9\s,]+", text):
         return None
-    rows = [it.split() for it in re.split("[\n,]", text.strip().rstrip(",")) if it.strip()]
-    if [len(it) for it in rows] != [1] + [4] * (len(rows) - 1):
+    rows = [row.split() for row in re.split("[\n,]", text.strip().rstrip(",")) if row.strip()]
+    if [len(row) for row in rows] != [1] + [4] * (len(rows) - 1):
         return None
-    values = [[int(it) if len(it) < 11 else 1 << 32 for it in row] for row in rows[1:]]
+    values = [[int(word) if len(word) < 11 else 1 << 32 for word in row] for row in rows[1:]]
     fits = all(not (code >> 16 or jt >> 8 or jf >> 8 or k >> 32) for code, jt, jf, k in values)
     if rows[0][0].lstrip("0") != str(len(values)) or not fits:
         return None
@@ -110,16 +110,16 @@ def _of_decimals(text: str) -> bytes | None:
 def _of_array(text: str) -> bytes | None:
     if not c_arrays.looks_like_array(text):
         return None
-    found = c_arrays.rows_in(text)
-    return found if isinstance(found, bytes) else c_arrays.packed(found)
+    rows = c_arrays.rows_in(text)
+    return rows if isinstance(rows, bytes) else c_arrays.packed(rows)
 
 
 def _first_word(text: str) -> str:
     """The first word of an assembler's text that isn't a label; nothing if none comes."""
     at = 0
     while True:
-        before = BEFORE.match(text, at)
-        word = None if before else WORD.match(text, at)
+        before = BEFORE_MNEMONIC.match(text, at)
+        word = None if before else MNEMONIC.match(text, at)
         if word and not word[2]:
             return word[1]
         if not before and not word:
@@ -144,11 +144,11 @@ def _of_log(text: str) -> bytes | None:
 
     filters = {data for stack in filter_loads.stacks_in(text.split("\n")) for data in stack}
     if len(filters) != 1:
-        raise c_arrays.NotAnArray(f"{len(filters)} filters are loaded in it, which `scf filters-of --log` writes")
+        raise c_arrays.NotAnArray(f"it loads {len(filters)} filters: `scf filters-of --log` writes each to a file")
     return filters.pop()
 
 
-FORMS = ((HEXADECIMAL, _of_hexadecimal), (DECIMALS, _of_decimals), (ARRAY, _of_array), (ASSEMBLER, _of_assembler),
+FORMS = ((HEXADECIMAL_TEXT, _of_hexadecimal), (DECIMALS, _of_decimals), (ARRAY, _of_array), (ASSEMBLER, _of_assembler),
          (LOG, _of_log))
 
 
@@ -170,7 +170,7 @@ def is_text(data: bytes) -> bool:
 def form_of(data: bytes, label: str) -> Filter | None:
     """The form of a filter that isn't raw, or None if the bytes are to be judged as they are. `label` names the input.
     Raises ToolError if they are known to be something else, or can be read in two ways."""
-    for begins, what, hint in OTHERS:
+    for begins, what, hint in NOT_FILTERS:
         if re.match(begins, data):
             raise program.ToolError(f"{label} is {what}, not a filter{hint}")
     try:
@@ -179,10 +179,10 @@ def form_of(data: bytes, label: str) -> Filter | None:
         return None
     if "\0" in text or not text.strip():
         return None
-    if len(data) > LONGEST:
-        raise program.ToolError(f"{label} has more than {LONGEST} bytes, the most of a filter as text")
-    found = list(_forms_of(text, label))
-    if len({it.data for it in found}) > 1:
-        names = " and as ".join(it.name for it in found)
+    if len(data) > LONGEST_TEXT:
+        raise program.ToolError(f"{label} has more than {LONGEST_TEXT} bytes, the most of a filter as text")
+    filters = list(_forms_of(text, label))
+    if len({form.data for form in filters}) > 1:
+        names = " and as ".join(form.name for form in filters)
         raise program.ToolError(f"{label} can be read as {names}: give the raw filter")
-    return found[0] if found else None
+    return filters[0] if filters else None

@@ -12,7 +12,7 @@ import time
 from collections.abc import Callable
 
 from . import child, restart
-from .filters import INSTRUCTION, LONGEST
+from .filters import BPF_MAXINSNS, INSTRUCTION
 from .ptrace import (PTRACE_DETACH, PTRACE_EVENT_STOP, PTRACE_INTERRUPT, PTRACE_SECCOMP_GET_FILTER, PTRACE_SEIZE,
                      Kernel, contents)
 
@@ -57,10 +57,10 @@ def why_no_filters(kernel: Kernel) -> str | None:
         return "processes can only be inspected on x86-64, and with a 64-bit Python"
     if not kernel.is_proc_ours():
         return "/proc isn't mounted, or isn't of this tool's PID namespace"
-    own = kernel.status_of(os.getpid())
-    if own.get("Seccomp", "0") != "0":
+    status = kernel.status_of(os.getpid())
+    if status.get("Seccomp", "0") != "0":
         return "this tool runs under a filter itself, so the kernel shows it none: run it outside of containers"
-    if not int(own.get("CapEff", "0"), 16) >> CAP_SYS_ADMIN & 1:
+    if not int(status.get("CapEff", "0"), 16) >> CAP_SYS_ADMIN & 1:
         return ("the kernel shows filters only to a process with CAP_SYS_ADMIN: run this as root, outside of "
                 "containers")
     return None
@@ -130,7 +130,7 @@ class Hold:
             self.until = max(self.until, time.monotonic() + HELD_FOR_ONE)
             # (a thread that sleeps uninterruptibly doesn't stop soon)
             while time.monotonic() < self.until and any(
-                    self.kernel.status_of(it).get("State", "D")[:1] != "D" for it in self.stopping):
+                    self.kernel.status_of(thread).get("State", "D")[:1] != "D" for thread in self.stopping):
                 self.settle(PAUSE)
             self.let_stopped_go()
         finally:
@@ -157,8 +157,8 @@ class Hold:
         finally:
             self.lock.acquire()
             states, self.states = self.states, {}
-            for other, state in states.items():
-                self.note(other, state)
+            for waiting_thread, state in states.items():
+                self.note(waiting_thread, state)
 
     def stop_all(self) -> None:
         """Stops threads until all that are listed are stopped."""
@@ -180,12 +180,12 @@ class Hold:
 
     def waiting(self) -> list[int]:
         """The threads that aren't to be stopped, since their calls would go to their supervisors again."""
-        return [] if self.is_forced else [it for it in sorted(self.seized) if self.kernel.waits_for_supervisor(it)]
+        return [] if self.is_forced else list(filter(self.kernel.waits_for_supervisor, sorted(self.seized)))
 
     def seize_listed(self) -> bool:
         """Traces each thread that is listed, and says whether the list was another one than what is held."""
-        own = {os.getpid()} - {self.kernel.tool}
-        listed = {thread: process for thread, process in self.listed().items() if process not in own}
+        this_process = {os.getpid()} - {self.kernel.tool}
+        listed = {thread: process for thread, process in self.listed().items() if process not in this_process}
         held = {*self.seized, *self.stopping, *self.stopped}
         others = held - set(listed)
         for thread in sorted(others):
@@ -342,10 +342,10 @@ def filter_at(kernel: Kernel, thread: int, process: int, index: int) -> bytes | 
     """
     import ctypes  # pylint: disable=import-outside-toplevel
 
-    room = ctypes.create_string_buffer(LONGEST * INSTRUCTION.size)
+    room = ctypes.create_string_buffer(BPF_MAXINSNS * INSTRUCTION.size)
     try:
         count = kernel.ptrace(PTRACE_SECCOMP_GET_FILTER, thread, index, None)
-        if count <= LONGEST:
+        if count <= BPF_MAXINSNS:
             again = kernel.ptrace(PTRACE_SECCOMP_GET_FILTER, thread, index, room)
     except OSError as error:
         if error.errno == errno.ENOENT:
@@ -356,7 +356,7 @@ def filter_at(kernel: Kernel, thread: int, process: int, index: int) -> bytes | 
         if error.errno == errno.EINVAL and index == 0 and mode in ("0", "1"):
             return None
         raise Unreadable(why_no_filter(kernel, thread, process, index, error)) from error
-    if count > LONGEST:
+    if count > BPF_MAXINSNS:
         raise Unreadable(f"filter {index} of {called(thread, process)} has {count} instructions, more than a filter "
                          f"may have")
     if again != count:

@@ -19,20 +19,21 @@ import stat
 import time
 from collections.abc import Callable, Iterator, Sequence
 
-from . import compare, containers, engines, hold, inputs, output, processes, program, verdicts, verify
+from . import containers, engines, hold, inputs, output, processes, program, verdicts, verify
 from .processes import Inspection, Kernel
+from .ptrace import has_ended
 from .values import Any, dataclass
 from .verify import ContainerError
 from .watchdog import Watchdog, Worker
 
-CONFIG = "config.json"
+
 # The container's own program isn't executed yet; runc calls a poststart hook so.
 CREATED = "created"
 # How often the threads of a process without a filter are read again, in seconds: a runtime may call its hooks
 # before the filter is loaded.
-PAUSE = 0.02
+READING_PAUSE = 0.02
 # A hook has no environment but the one that is named.
-PATH = "PATH=/usr/local/sbin:/usr/local/bin:/usr/sbin:/usr/bin:/sbin:/bin"
+HOOK_PATH = "PATH=/usr/local/sbin:/usr/local/bin:/usr/sbin:/usr/bin:/sbin:/bin"
 # Seconds to wait for the container's state, for killed processes to end, and for the explanation of what is known
 # already; and how much later than the hook, which may be killing then, the watchdog acts.
 STATE_SECONDS, KILL_SECONDS, EXPLANATION_SECONDS, GRACE = 5.0, 2.0, 10.0, 4.0
@@ -74,7 +75,7 @@ def container_of(data: bytes) -> ContainerState:
     if not isinstance(state, dict):
         raise ContainerError("the container's state isn't an object")
     _member(state, "ociVersion")
-    name, status, bundle = (_member(state, it) for it in ("id", "status", "bundle"))
+    name, status, bundle = (_member(state, member) for member in ("id", "status", "bundle"))
     pid = state.get("pid")
     if type(pid) is not int or not 0 < pid < 2**31:
         raise ContainerError(f"the state of container {name} has no pid")
@@ -84,9 +85,9 @@ def container_of(data: bytes) -> ContainerState:
 
 
 def state(seconds: float) -> bytes:
-    """What the runtime writes to standard input before it closes it, within so many seconds."""
-    until, found = time.monotonic() + seconds, b""
-    while len(found) <= inputs.LIMITS["state"]:
+    """The bytes that the runtime writes to standard input before it closes it, within so many seconds."""
+    until, data = time.monotonic() + seconds, b""
+    while len(data) <= inputs.LIMITS["state"]:
         try:
             if not select.select([0], [], [], max(0.0, until - time.monotonic()))[0]:
                 raise ContainerError(f"the container's state didn't come on standard input within {seconds:g} seconds")
@@ -94,8 +95,8 @@ def state(seconds: float) -> bytes:
         except OSError as error:
             raise ContainerError(inputs.why("-", "state", error)) from error
         if not piece:
-            return found
-        found += piece
+            return data
+        data += piece
     raise ContainerError(f"the state on standard input has more than {inputs.LIMITS['state']} bytes")
 
 
@@ -110,9 +111,9 @@ def contents(name: str) -> bytes:
     return inputs.read_whole(name, "profile")
 
 
-def configured(container: ContainerState) -> dict[str, Any] | None:
-    """What the container's config.json says about seccomp, as `verify.seccomp_in`."""
-    name = os.path.join(container.bundle, CONFIG)
+def configuration_of(container: ContainerState) -> dict[str, Any] | None:
+    """The seccomp configuration of the container's config.json, as `verify.seccomp_in`."""
+    name = os.path.join(container.bundle, verify.CONFIG)
     try:
         value = engines.read(contents(name))
     except (program.ToolError, engines.Refused) as why:
@@ -124,13 +125,13 @@ def members_of(kernel: Kernel, pid: int) -> containers.Container:
     """The processes of a container whose first one this is: those of its PID namespace if it is also the first one
     there, else those of its control group if this tool isn't in that group itself."""
     if kernel.status_of(pid).get("NSpid", "").split()[1:][-1:] == ["1"]:
-        space = kernel.namespaces_of(pid)[:1]
-        return containers.Container(None, lambda: [it for it in kernel.processes()
-                                                   if set(space) & set(kernel.namespaces_of(it))], end_together=True)
+        space = set(kernel.namespaces_of(pid)[:1])
+        return containers.Container(None, lambda: [number for number in kernel.processes()
+                                                   if space & set(kernel.namespaces_of(number))], end_together=True)
     try:
-        found = processes.container_of(kernel, pid)
-        if found.group is not None and os.getpid() not in found.processes():
-            return found
+        container = processes.container_of(kernel, pid)
+        if container.group is not None and os.getpid() not in container.processes():
+            return container
     except processes.Unreadable:
         pass
     return containers.Container(None, lambda: descendants(kernel, pid), remarks=(OF_NO_GROUP,))
@@ -138,12 +139,12 @@ def members_of(kernel: Kernel, pid: int) -> containers.Container:
 
 def descendants(kernel: Kernel, pid: int) -> list[int]:
     """A process and its descendants."""
-    parents = {it: kernel.status_of(it).get("PPid") for it in kernel.processes()}
-    found, last = [pid], [pid]
+    parents = {number: kernel.status_of(number).get("PPid") for number in kernel.processes()}
+    numbers, last = [pid], [pid]
     while last:
-        last = [it for it, parent in parents.items() if parent in set(map(str, last)) and it not in found]
-        found += last
-    return found
+        last = [number for number, parent in parents.items() if parent in set(map(str, last)) and number not in numbers]
+        numbers += last
+    return numbers
 
 
 def send_signal(file: int, number: int) -> int | None:
@@ -219,37 +220,37 @@ class ContainerProcess:
         return {pid: file for pid, file in held.items() if pid in still}
 
     def running_others(self) -> list[int]:
-        return [it for it in self.members.processes()
-                if it != self.container.pid and self.kernel.status_of(it).get("State", "Z")[:1] not in "ZX"]
+        return [number for number in self.members.processes()
+                if number != self.container.pid and not has_ended(self.kernel.status_of(number))]
 
     def threads(self) -> dict[int, int]:
         """The threads of all processes of the container; of the first one, before the container's program is executed,
         only the thread that will execute it."""
         pid = self.container.pid
         threads = self.kernel.threads_of(pid)
-        found = {it: pid for it in threads if it == pid or self.container.status != CREATED}
-        for other in self.members.processes():
-            found.update((it, other) for it in self.kernel.threads_of(other) if other != pid)
-        return found
+        processes_of = {thread: pid for thread in threads if thread == pid or self.container.status != CREATED}
+        for member in self.members.processes():
+            processes_of.update((thread, member) for thread in self.kernel.threads_of(member) if member != pid)
+        return processes_of
 
     def look(self, is_forced: bool = False) -> Inspection:
-        """What all threads have."""
+        """The filters of all threads."""
         pid = self.container.pid
-        found = processes.look(self.kernel, self.threads, processes.PATIENCE, is_forced)
-        if pid not in found.names or self.has_ended():
-            raise processes.Unreadable(f"process {pid} {found.passed_over.get(pid, 'has ended')}")
-        return found
+        inspection = processes.look(self.kernel, self.threads, processes.PATIENCE, is_forced)
+        if pid not in inspection.names or self.has_ended():
+            raise processes.Unreadable(f"process {pid} {inspection.passed_over.get(pid, 'has ended')}")
+        return inspection
 
     def has_filters(self) -> bool:
         """Whether every thread has a filter, as far as that can be known without stopping it."""
-        of_threads = [self.kernel.status_of(it) for it in self.threads()]
-        return all(it.get("Seccomp") != "0" or it.get("State", "Z")[:1] in "ZX" for it in of_threads)
+        of_threads = [self.kernel.status_of(thread) for thread in self.threads()]
+        return all(status.get("Seccomp") != "0" or has_ended(status) for status in of_threads)
 
     def confined(self, seconds: float, is_forced: bool) -> Inspection:
-        """What all threads have, once each has a filter or the time is up."""
+        """The filters of all threads, once each has one or the time is up."""
         until = time.monotonic() + seconds
         while not self.has_ended() and not self.has_filters() and time.monotonic() < until:
-            time.sleep(PAUSE)
+            time.sleep(READING_PAUSE)
         return self.look(is_forced)
 
 
@@ -263,7 +264,7 @@ class Kill:
 
 @dataclass
 class HookResult:
-    """What is known about a container: a status and a verdict; and the explanation, which may take long to find, as
+    """The finding on a container: a status and a verdict; and the explanation, which may take long to find, as
     lines and as an object."""
 
     status: int
@@ -272,9 +273,9 @@ class HookResult:
     value: Callable[[], dict[str, object]]
 
 
-def finding_of(found: Inspection, request: verify.Request, process: ContainerProcess) -> HookResult:
+def finding_of(inspection: Inspection, request: verify.Request, process: ContainerProcess) -> HookResult:
     """The result for all distinct stacks. Its text has no line for each name or architecture that was left out."""
-    blocks, others = verify.blocks(found, request), containers.others_note(process.kernel, process.members)
+    blocks, others = verify.blocks(inspection, request), containers.others_note(process.kernel, process.members)
     status, verdict = blocks[0].status, blocks[0].verdict
     if others is not None and status == program.SUCCESS:
         status, verdict = program.UNKNOWN, None
@@ -284,20 +285,20 @@ def finding_of(found: Inspection, request: verify.Request, process: ContainerPro
         remarks += filter(None, [verify.other_runtime([process.container.name], runtime)])
 
     def lines() -> list[str]:
-        own = [line for line in verify.lines(blocks, found, request)
-               if line and not line.startswith(verdicts.LEFT_OUT)]
-        return own + [f"# {it}" for it in remarks]
+        report_lines = [line for line in verify.lines(blocks, inspection, request)
+                        if line and not line.startswith(verdicts.LEFT_OUT)]
+        return report_lines + [f"# {remark}" for remark in remarks]
 
     def value() -> dict[str, object]:
-        own = verify.as_json(blocks, found, request, None)
-        return {**own, "status": status, "verdict": verdict, "remarks": remarks}
+        report_value = verify.as_json(blocks, inspection, request, None)
+        return {**report_value, "status": status, "verdict": verdict, "remarks": remarks}
 
     return HookResult(status, verdict, lines, value)
 
 
 def plain_finding(status: int, verdict: str | None, line: str) -> HookResult:
     """A finding of a single line."""
-    value: dict[str, object] = {"status": status, "scope": compare.NATIVE, "verdict": verdict}
+    value: dict[str, object] = {"status": status, "scope": verdicts.NATIVE_SCOPE, "verdict": verdict}
     return HookResult(status, verdict, lambda: [line], lambda: value if verdict else {**value, "why": line})
 
 
@@ -306,7 +307,7 @@ def failure(why: str, status: int = program.IO_ERROR) -> HookResult:
 
 
 def report(finding: HookResult, is_json: bool, send: Callable[[object], None]) -> None:
-    """What a worker sends: first the status and the verdict, then the explanation."""
+    """Sends a worker's finding: first the status and the verdict, then the explanation."""
     send([finding.status, finding.verdict])
     send(finding.lines())
     if is_json:
@@ -314,18 +315,18 @@ def report(finding: HookResult, is_json: bool, send: Callable[[object], None]) -
 
 
 def result_of(worker: Worker, seconds: float, is_json: bool, settle: Callable[[int], None]) -> HookResult:
-    """What a worker finds within this many seconds. `settle` is called as soon as the status is known."""
-    known = worker.receive(time.monotonic() + seconds)
-    if known is None:
+    """The finding of a worker within this many seconds. `settle` is called as soon as the status is known."""
+    outcome = worker.receive(time.monotonic() + seconds)
+    if outcome is None:
         finding = unknown(worker.status(), seconds)
         settle(finding.status)
         return finding
-    status, verdict = known
+    status, verdict = outcome
     settle(status)
     until = time.monotonic() + EXPLANATION_SECONDS
-    found = plain_finding(status, verdict, f"no explanation: it takes longer than {EXPLANATION_SECONDS:g} seconds")
-    lines = worker.receive(until) or found.lines()
-    value = is_json and worker.receive(until) or found.value()
+    late = plain_finding(status, verdict, f"no explanation: it takes longer than {EXPLANATION_SECONDS:g} seconds")
+    lines = worker.receive(until) or late.lines()
+    value = is_json and worker.receive(until) or late.value()
     return HookResult(status, verdict, lambda: lines, lambda: value)
 
 
@@ -408,30 +409,30 @@ def dry_run_line(status: int, kills: bool) -> str:
 def hook_words(words: Sequence[str]) -> list[str]:
     """The words that the hook is called with. A runtime calls it in a folder of its own, so the table's path is the
     absolute one."""
-    found: list[str] = []
+    words_of_hook: list[str] = []
     for word in words:
         name = word.removeprefix("--table=")
-        if found[-1:] == ["--table"]:
-            found.append(os.path.abspath(word))
+        if words_of_hook[-1:] == ["--table"]:
+            words_of_hook.append(os.path.abspath(word))
         elif name != word:
-            found.append(f"--table={os.path.abspath(name)}")
+            words_of_hook.append(f"--table={os.path.abspath(name)}")
         elif word != "--print-hook":
-            found.append(word)
-    return found
+            words_of_hook.append(word)
+    return words_of_hook
 
 
 def hook_file(path: str, words: Sequence[str], seconds: float) -> str:
     """The text of a file for hooks.d, as oci-hooks(5) has it, that calls this tool for each container. The runtime must
     wait longer than the tool itself, which takes this many seconds to know."""
     longest = seconds + STATE_SECONDS + KILL_SECONDS + EXPLANATION_SECONDS + GRACE
-    hook = {"path": path, "args": [os.path.basename(path), *hook_words(words)], "env": [PATH],
+    hook = {"path": path, "args": [os.path.basename(path), *hook_words(words)], "env": [HOOK_PATH],
             "timeout": math.ceil(longest) + STARTUP}
     return json.dumps({"version": "1.0.0", "hook": hook, "when": {"always": True}, "stages": ["poststart"]},
                       indent=4) + "\n"
 
 
 def run_safely(find: Callable[[], HookResult]) -> HookResult:
-    """What is found; if anything fails, why."""
+    """The finding; if anything fails, one that says why."""
     try:
         return find()
     except (ContainerError, program.ToolError) as why:

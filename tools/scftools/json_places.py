@@ -8,10 +8,10 @@ from collections.abc import Collection, Iterator, Sequence
 from .values import Pattern
 
 # How a token begins: a string, which ends at a quote that has no backslash, and others, which end here.
-TOKEN = Pattern(r'"|[\[\]{},:]|[^\s\[\]{},:"]+')
-NAME = Pattern(r"[A-Za-z_]\w*", re.A)
+JSON_TOKEN = Pattern(r'"|[\[\]{},:]|[^\s\[\]{},:"]+')
+MEMBER_NAME = Pattern(r"[A-Za-z_]\w*", re.A)
 # At most so many characters of a member's name are printed; and so many tokens are read, which no honest profile has.
-LONGEST, MOST = 40, 1 << 20
+LONGEST_STEP, MOST_TOKENS = 40, 1 << 20
 
 # The names of members and the indexes in arrays that lead to a value.
 Path = Sequence["str | int"]
@@ -19,16 +19,16 @@ Path = Sequence["str | int"]
 
 def path_text(path: Path) -> str:
     """A path as JavaScript has it; of the whole text nothing."""
-    found = ""
+    text = ""
     for step in path:
         if isinstance(step, int):
-            found += f"[{step}]"
-        elif NAME.fullmatch(step) and len(step) <= LONGEST:
-            found += f".{step}" if found else step
+            text += f"[{step}]"
+        elif MEMBER_NAME.fullmatch(step) and len(step) <= LONGEST_STEP:
+            text += f".{step}" if text else step
         else:
-            shown = step if len(step) <= LONGEST else f"{step[:LONGEST]}.."
-            found += f"[{json.dumps(shown)}]"
-    return found
+            shown = step if len(step) <= LONGEST_STEP else f"{step[:LONGEST_STEP]}.."
+            text += f"[{json.dumps(shown)}]"
+    return text
 
 
 def line_and_column(text: str, at: int) -> tuple[int, int]:
@@ -42,7 +42,7 @@ def place(text: str, at: int) -> str:
 
 
 class TooManyTokens(Exception):
-    """The text has more than MOST tokens."""
+    """The text has more than MOST_TOKENS tokens."""
 
 
 def _end_of_string(text: str, begin: int) -> int:
@@ -59,11 +59,11 @@ def _end_of_string(text: str, begin: int) -> int:
 def tokens(text: str) -> Iterator[tuple[int, str]]:
     """The tokens of a text, each with its index. Raises TooManyTokens."""
     end = 0
-    for _ in range(MOST):
-        found = TOKEN.search(text, end)
-        if not found:
+    for _ in range(MOST_TOKENS):
+        match = JSON_TOKEN.search(text, end)
+        if not match:
             return
-        begin, end = found.span()
+        begin, end = match.span()
         if text[begin] == '"':
             end = _end_of_string(text, begin)
         yield begin, text[begin:end]
@@ -106,14 +106,14 @@ def values(text: str) -> Iterator[tuple[int, list[str | int], str]]:
 
 def indexes_of(text: str, paths: Collection[Path]) -> dict[Path, int]:
     """Where the values at some paths begin, as far as they are found; of a member that is repeated, the last."""
-    found = {}
+    indexes = {}
     try:
         for begin, here, _ in values(text):
             if tuple(here) in paths:
-                found[tuple(here)] = begin
+                indexes[tuple(here)] = begin
     except TooManyTokens:
         return {}
-    return found
+    return indexes
 
 
 def place_of(text: str, path: Path) -> str | None:

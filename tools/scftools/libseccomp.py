@@ -8,7 +8,7 @@ from .architectures import NATIVE, NUMBERS, X32
 # SCMP_ARCH_X32 (seccomp.h), whose records have x86-64's number.
 TOKENS = {**NUMBERS, X32: 0x4000003E}
 # __NR_SCMP_ERROR (seccomp.h), which stands for a name that it doesn't know.
-UNKNOWN = -1
+UNKNOWN_NAME = -1
 
 
 class Library:
@@ -30,15 +30,15 @@ class Library:
         self._name_of.restype, self._name_of.argtypes = ctypes.c_void_p, [ctypes.c_uint32, ctypes.c_int]
         self._free.restype, self._free.argtypes = None, [ctypes.c_void_p]
         version_of.restype = ctypes.POINTER(ctypes.c_uint * 3)
-        found = version_of()
-        self.version = ".".join(map(str, found.contents)) if found else "of unknown version"
+        version = version_of()
+        self.version = ".".join(map(str, version.contents)) if version else "of unknown version"
 
     def number_of(self, name: str, architecture: str = NATIVE) -> int | None:
         """The number of a name on an architecture, as in a record; below 0 if the architecture has no such syscall and
         others do, None if it isn't known."""
         data = name.encode("utf-8", "surrogatepass")
-        number = self._number_of(TOKENS[architecture], data) if b"\0" not in data else UNKNOWN
-        return None if number == UNKNOWN else number
+        number = self._number_of(TOKENS[architecture], data) if b"\0" not in data else UNKNOWN_NAME
+        return None if number == UNKNOWN_NAME else number
 
     def knows(self, name: str) -> bool:
         """Whether it knows a syscall by this name, of any architecture."""
@@ -46,11 +46,11 @@ class Library:
 
     def name_of(self, number: int) -> str | None:
         """The name of an x86-64 syscall's number."""
-        found = self._name_of(X86_64, number)
-        if not found:
+        name_in_library = self._name_of(X86_64, number)
+        if not name_in_library:
             return None
-        name = self._string_at(found).decode("utf-8", "surrogateescape")
-        self._free(found)
+        name = self._string_at(name_in_library).decode("utf-8", "surrogateescape")
+        self._free(name_in_library)
         return name
 
 

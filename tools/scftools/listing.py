@@ -5,7 +5,7 @@ from __future__ import annotations
 from collections.abc import Iterator, Sequence
 
 from . import client, output, verdicts
-from .answers import ACTIONS, X32, X86_64, Answer
+from .answers import ACTIONS, FIRST_X32, X86_64, Answer
 from .architectures import shown_name
 from .calls import Call, number_text
 from .filters import BY_X, INSTRUCTION, JEQ, JGE, JGT, JSET, JUMP, LOAD_WORD, RETURN_CONSTANT, Filter
@@ -20,7 +20,7 @@ WORDS = {NUMBER: "the syscall number", ARCHITECTURE: "the architecture", 2: "the
 # The most architectures whose names of one number are listed.
 MOST_NAMED = 3
 # linux/bpf_common.h: instruction classes, and the one BPF_MISC code that changes the accumulator.
-LOADS, ALU, JUMPS, RETURNS, TXA = 0, 4, 5, 6, 0x87
+LOAD_CLASS, ALU, JUMPS, RETURNS, TXA = 0, 4, 5, 6, 0x87
 PATH = Pattern(r"path((?: [0-9]+)+)")
 # At most so many of the last tests are printed.
 MOST_TESTS = 12
@@ -50,7 +50,7 @@ class Instruction:
 
     @property
     def changes_a(self) -> bool:
-        return self.kind in (LOADS, ALU) or self.code == TXA
+        return self.kind in (LOAD_CLASS, ALU) or self.code == TXA
 
     def targets(self, index: int) -> list[int]:
         """The indexes of its successors, given its own."""
@@ -99,37 +99,38 @@ class Architectures:
 
 @dataclass(frozen=True)
 class Known:
-    """What holds at an instruction on every path to it: the word in A, and which architectures the record may have."""
+    """Facts that hold at an instruction on every path to it: the word in A, and which architectures the record may
+    have."""
 
     word: int | None = None
     architectures: Architectures = Architectures()
 
     def beside(self, other: Known) -> Known:
-        """What holds where two paths meet."""
+        """The facts where two paths meet."""
         return Known(self.word if self.word == other.word else None, self.architectures.beside(other.architectures))
 
 
-def _after(insn: Instruction, known: Known) -> Iterator[Known]:
-    """What holds after an instruction, for each of its targets."""
+def _after(insn: Instruction, facts: Known) -> Iterator[Known]:
+    """The facts after an instruction, for each of its targets."""
     if insn.changes_a:
-        yield replace(known, word=insn.word)
-    elif insn.code == JUMP | JEQ and known.word == ARCHITECTURE:
-        yield replace(known, architectures=known.architectures.only(insn.k))
-        yield replace(known, architectures=known.architectures.without(insn.k))
+        yield replace(facts, word=insn.word)
+    elif insn.code == JUMP | JEQ and facts.word == ARCHITECTURE:
+        yield replace(facts, architectures=facts.architectures.only(insn.k))
+        yield replace(facts, architectures=facts.architectures.without(insn.k))
     else:
-        yield known
-        yield known
+        yield facts
+        yield facts
 
 
 def known_facts(insns: Sequence[Instruction]) -> list[Known]:
-    """What holds at each instruction; all jumps go forwards."""
-    found: dict[int, Known] = {0: Known()}
+    """The facts at each instruction; all jumps go forwards."""
+    facts: dict[int, Known] = {0: Known()}
     for index, insn in enumerate(insns):
-        if index in found:
-            for target, after in zip(insn.targets(index), _after(insn, found[index])):
+        if index in facts:
+            for target, after in zip(insn.targets(index), _after(insn, facts[index])):
                 if not after.architectures.is_empty:
-                    found[target] = found[target].beside(after) if target in found else after
-    return [found.get(index, Known()) for index in range(len(insns))]
+                    facts[target] = facts[target].beside(after) if target in facts else after
+    return [facts.get(index, Known()) for index in range(len(insns))]
 
 
 def _name_on(k: int, architecture: int, table: Table) -> str:
@@ -137,7 +138,7 @@ def _name_on(k: int, architecture: int, table: Table) -> str:
     named = " or ".join(Call(k, architecture).names(table))
     if architecture != X86_64:
         return f"{named or f'number {k}'} of {shown_name(architecture) or hex(architecture)}"
-    return f"x32 {named}" if named and k >= X32 else named or number_text(k)
+    return f"x32 {named}" if named and k >= FIRST_X32 else named or number_text(k)
 
 
 def name_of(k: int, its: Architectures, table: Table) -> str:
@@ -147,29 +148,30 @@ def name_of(k: int, its: Architectures, table: Table) -> str:
         return _name_on(k, X86_64, table) if its.has(X86_64) else f"number {k} of other architectures"
     if len(its.numbers) > MOST_NAMED:
         return f"number {k} of several architectures"
-    return " or ".join(_name_on(k, it, table) for it in sorted(its.numbers, key=lambda it: (it != X86_64, it)))
+    return " or ".join(_name_on(k, number, table)
+                       for number in sorted(its.numbers, key=lambda number: (number != X86_64, number)))
 
 
 def word_name(word: int) -> str:
-    """What a word of a record is, by its index."""
+    """The name of a word of a record, by its index."""
     at = word - ARGUMENTS
     return WORDS.get(word) or f"argument {at // 2}, {'high' if at % 2 else 'low'} half"
 
 
-def _tested(insn: Instruction, known: Known, table: Table) -> str | None:
-    """What a test of the syscall number, or of the architecture, compares with."""
+def _tested(insn: Instruction, facts: Known, table: Table) -> str | None:
+    """The syscall or architecture that a test compares with."""
     test = insn.code & 0xF0
-    if insn.code & BY_X or known.word not in (NUMBER, ARCHITECTURE):
+    if insn.code & BY_X or facts.word not in (NUMBER, ARCHITECTURE):
         return None
-    if known.word == ARCHITECTURE:
+    if facts.word == ARCHITECTURE:
         return shown_name(insn.k) if test == JEQ else None
-    if insn.k == X32 and test in (JGE, JSET) and known.architectures.has(X86_64):
+    if insn.k == FIRST_X32 and test in (JGE, JSET) and facts.architectures.has(X86_64):
         return "x32"
-    name = name_of(insn.k, known.architectures, table)
+    name = name_of(insn.k, facts.architectures, table)
     return {JEQ: name, JGT: f"above {name}", JGE: f"from {name} on"}.get(test)
 
 
-def _meaning(index: int, insn: Instruction, known: Known, table: Table, count: int) -> str | None:
+def _meaning(index: int, insn: Instruction, facts: Known, table: Table, count: int) -> str | None:
     """The comment on an instruction, or None."""
     if insn.word is not None:
         return word_name(insn.word)
@@ -178,16 +180,16 @@ def _meaning(index: int, insn: Instruction, known: Known, table: Table, count: i
         return Answer(action, data).named() if data or action == "ERRNO" else action
     if insn.kind != JUMPS or (insn.code != JUMP and insn.code & 0xF0 not in (JEQ, JGT, JGE, JSET)):
         return None
-    shown = [f"{it}" if it < count else f"{it}, which is out of range" for it in insn.targets(index)]
-    what = _tested(insn, known, table) if insn.code != JUMP else None
+    shown = [f"{target}" if target < count else f"{target}, which is out of range" for target in insn.targets(index)]
+    what = _tested(insn, facts, table) if insn.code != JUMP else None
     return (f"{what}: " if what else "") + f"to {shown[0]}" + (f", else {shown[1]}" if len(shown) > 1 else "")
 
 
 def meanings(data: bytes, table: Table) -> list[str | None]:
-    """What each instruction means, None where the instruction alone says as much."""
+    """The meaning of each instruction, None where the instruction alone says as much."""
     insns = instructions(data)
-    return [_meaning(index, insn, known, table, len(insns))
-            for index, (insn, known) in enumerate(zip(insns, known_facts(insns)))]
+    return [_meaning(index, insn, facts, table, len(insns))
+            for index, (insn, facts) in enumerate(zip(insns, known_facts(insns)))]
 
 
 def listing_lines(data: bytes, lines: Sequence[str], table: Table) -> Iterator[str]:
@@ -199,7 +201,7 @@ def listing_lines(data: bytes, lines: Sequence[str], table: Table) -> Iterator[s
 
 @dataclass(frozen=True)
 class Path:
-    """What a filter answers to a syscall, and the indexes of the instructions that run; none after a fault."""
+    """A filter's answer to a syscall, and the indexes of the instructions that run; none after a fault."""
 
     status: int
     lines: tuple[str, ...]
@@ -215,9 +217,9 @@ class Path:
 def path_of(data: bytes, words: Sequence[str], with_path: bool = True) -> Path:
     """A filter's answer to the record that scf's options give, and on request the path to it."""
     done = client.run(["run", *["--path"] * with_path, *words], data)
-    found = PATH.fullmatch("".join(done.lines[1:2]))
+    match = PATH.fullmatch("".join(done.lines[1:2]))
     return Path(done.status, tuple(done.lines), verdicts.decision(done.text),
-                tuple(map(int, found[1].split())) if found else ())
+                tuple(map(int, match[1].split())) if match else ())
 
 
 @dataclass(frozen=True)
@@ -247,26 +249,26 @@ def deciding_filters(filters: Sequence[Filter], words: Sequence[str], answer: An
 
     It runs the newest first, and of equal actions keeps the one that it has (seccomp_run_filters in kernel/seccomp.c).
     """
-    runs = (Giver(one, len(filters) == 1, path_of(one.data, words)) for one in filters)
-    return [it for it in runs if it.path.decision.answer == answer and it.path.indexes]
+    runs = (Giver(bpf_filter, len(filters) == 1, path_of(bpf_filter.data, words)) for bpf_filter in filters)
+    return [giver for giver in runs if giver.path.decision.answer == answer and giver.path.indexes]
 
 
-def to_show(found: Sequence[Giver]) -> Giver | None:
-    """Of the filters with the same answer, the one whose path is shown: the newest, whose answer the kernel takes.
+def to_show(givers: Sequence[Giver]) -> Giver | None:
+    """The filter whose path is shown, of several that give the answer: the newest, whose answer the kernel takes.
 
     The kernel begins with ALLOW and takes it from no filter: then it is the one that runs the most instructions, since
     others may not even load the syscall number.
     """
-    if not found:
+    if not givers:
         return None
-    answer = found[-1].path.decision.answer
+    answer = givers[-1].path.decision.answer
     is_allowed = answer is not None and answer.action == "ALLOW"
-    return max(reversed(found), key=lambda it: len(it.path.indexes)) if is_allowed else found[-1]
+    return max(reversed(givers), key=lambda giver: len(giver.path.indexes)) if is_allowed else givers[-1]
 
 
 def _tests(insns: Sequence[Instruction], indexes: Sequence[int], call: Call) -> Iterator[tuple[int, str]]:
     """The indexes of the tests on a path and of its end, each with the value loaded and the branch taken."""
-    halves = (half for it in (call.pointer or 0, *call.arguments) for half in (it & 0xFFFFFFFF, it >> 32))
+    halves = (half for value in (call.pointer or 0, *call.arguments) for half in (value & 0xFFFFFFFF, value >> 32))
     # the 32-bit words of the record, in order (struct seccomp_data in linux/seccomp.h)
     words, loaded = [call.number, call.architecture, *halves], ""
     for at, index in enumerate(indexes):
@@ -287,5 +289,5 @@ def last_tests(data: bytes, path: Path, call: Call, table: Table) -> tuple[int, 
     """The last tests on a path and its end, as lines of the listing; and the number of tests before them."""
     insns = instructions(data)
     lines = list(listing_lines(data, client.run(["dis"], data).lines, table))
-    found = [f"{lines[index]}{way}" for index, way in _tests(insns, path.indexes, call)]
-    return max(len(found) - MOST_TESTS, 0), found[-MOST_TESTS:]
+    lines_of_tests = [f"{lines[index]}{way}" for index, way in _tests(insns, path.indexes, call)]
+    return max(len(lines_of_tests) - MOST_TESTS, 0), lines_of_tests[-MOST_TESTS:]

@@ -13,14 +13,12 @@ from collections.abc import Iterable
 from . import machine_pass, output
 from .hold import PF_KTHREAD, why_no_filters
 from .processes import Kernel, Stack
-from .ptrace import contents
+from .ptrace import PROC_PID_INIT_INO, contents, has_ended
 from .values import Pattern, dataclass, field
 
-# linux/proc_ns.h: the number of the initial PID namespace.
-PROC_PID_INIT_INO = 0xEFFFFFFC
 # How often processes that started meanwhile are looked for.
 LISTINGS = 3
-SECCOMP = Pattern(rb"^Seccomp:\t([0-2])", re.M)
+SECCOMP_MODE = Pattern(rb"^Seccomp:\t([0-2])", re.M)
 
 
 @dataclass(frozen=True)
@@ -66,6 +64,12 @@ class Snapshot:
     def add(self, key: tuple[tuple[bytes, ...], bool], process: int, threads: Iterable[int]) -> None:
         self.stacks.setdefault(key, Stack(*key)).threads.setdefault(process, []).extend(threads)
 
+    @property
+    def unconfined(self) -> dict[int, list[int]]:
+        """The threads that have neither a filter nor the strict mode, by their processes."""
+        stack = self.stacks.get(((), False))
+        return stack.threads if stack is not None else {}
+
     def forget(self, process: int) -> None:
         """Forgets a process that has ended, or is read again."""
         self.processes.pop(process, None)
@@ -76,15 +80,15 @@ class Snapshot:
     def stacks_of(self, numbers: Iterable[int]) -> list[tuple[Stack, dict[int, list[int]]]]:
         """The distinct stacks of some processes, each with the threads of these that have it."""
         wanted = set(numbers)
-        found = [(stack, {it: threads for it, threads in sorted(stack.threads.items()) if it in wanted})
-                 for stack in self.stacks.values()]
-        return [(stack, threads) for stack, threads in found if threads]
+        stacks = [(stack, {number: threads for number, threads in sorted(stack.threads.items()) if number in wanted})
+                  for stack in self.stacks.values()]
+        return [(stack, threads) for stack, threads in stacks if threads]
 
 
 def _mode_of(thread: int) -> int:
     """The mode of seccomp(2) that a thread is in, 0 for none."""
-    found = SECCOMP.search(contents(f"/proc/{thread}/status"))
-    return int(found[1]) if found else 0
+    match = SECCOMP_MODE.search(contents(f"/proc/{thread}/status"))
+    return int(match[1]) if match else 0
 
 
 def _executable_of(process: int) -> bytes:
@@ -94,20 +98,20 @@ def _executable_of(process: int) -> bytes:
         return b""
 
 
-def described(kernel: Kernel, number: int) -> Process | None:
+def process_of_number(kernel: Kernel, number: int) -> Process | None:
     """A process, or None if all of its threads have ended or it is the kernel's."""
     status, threads = kernel.status_of(number), kernel.threads_of(number)
     if status.get("Tgid") != str(number) or kernel.flags_of(number) & PF_KTHREAD:
         return None
     first, inner = number, status.get("NSpid", str(number)).split()[-1]
-    if status["State"][:1] in "ZX":
+    if has_ended(status):
         # the kernel has let go what the main thread had: another one shows the executable and the control groups
-        states = {it: kernel.status_of(it) for it in threads}
-        threads = [it for it, its_status in states.items() if its_status.get("State", "Z")[:1] not in "ZX"]
+        statuses = {thread: kernel.status_of(thread) for thread in threads}
+        threads = [thread for thread in threads if not has_ended(statuses[thread])]
         if not threads:
             return None
-        first, status = threads[0], states[threads[0]]
-    is_confined = status.get("Seccomp", "0") != "0" or any(_mode_of(it) for it in threads if it != first)
+        first, status = threads[0], statuses[threads[0]]
+    is_confined = status.get("Seccomp", "0") != "0" or any(_mode_of(thread) for thread in threads if thread != first)
     is_stuck = is_confined and status["State"][:1] == "D"
     user = int(status["Uid"].split()[1])
     return Process(number, int(status["PPid"]), kernel.name_of(number), _executable_of(first), user,
@@ -117,27 +121,27 @@ def described(kernel: Kernel, number: int) -> Process | None:
 
 
 def _left_out(kernel: Kernel, why: str | None) -> list[str]:
-    """What this tool can't see."""
-    found = [] if why is None else [f"no filters could be read: {why}"]
+    """Lines on what this tool can't see."""
+    lines = [] if why is None else [f"no filters could be read: {why}"]
     try:
         is_first = os.stat("/proc/self/ns/pid").st_ino == PROC_PID_INIT_INO
     except OSError:
         is_first = False
     if not is_first:
-        found.append("processes outside of the PID namespace that this tool runs in")
+        lines.append("processes outside of the PID namespace that this tool runs in")
     if not kernel.is_root_the_first():
-        found.append("control groups outside of the cgroup namespace that this tool runs in, so containers and units "
+        lines.append("control groups outside of the cgroup namespace that this tool runs in, so containers and units "
                      "may not be known as such")
-    return found
+    return lines
 
 
 def read(kernel: Kernel, is_forced: bool = False) -> Snapshot:
     """All processes, each as it was at some moment of the pass."""
-    why, until = why_no_filters(kernel), time.monotonic() + machine_pass.LONGEST
+    why, until = why_no_filters(kernel), time.monotonic() + machine_pass.LONGEST_PASS
     snapshot = Snapshot(left_out=_left_out(kernel, why))
     for _ in range(LISTINGS):
-        if not read_more(kernel, snapshot, [it for it in kernel.processes() if it not in snapshot.processes], is_forced,
-                         why, until):
+        unread = [number for number in kernel.processes() if number not in snapshot.processes]
+        if not read_more(kernel, snapshot, unread, is_forced, why, until):
             break
     return snapshot
 
@@ -146,37 +150,38 @@ def read_more(kernel: Kernel, snapshot: Snapshot, numbers: Iterable[int], is_for
               until: float | None = None) -> bool:
     """Adds processes to a snapshot; whether some of them are confined. `why` says why no filters can be read, `until`
     when the pass ends."""
-    own = {os.getpid(), kernel.tool}
-    found = [one for one in (described(kernel, it) for it in numbers if it not in own) if one is not None]
-    for one in found:
-        snapshot.processes[one.number] = one
-        if not one.is_confined:
-            snapshot.add(((), False), one.number, one.threads)
+    excluded = {os.getpid(), kernel.tool}
+    descriptions = (process_of_number(kernel, number) for number in numbers if number not in excluded)
+    processes = [process for process in descriptions if process is not None]
+    for process in processes:
+        snapshot.processes[process.number] = process
+        if not process.is_confined:
+            snapshot.add(((), False), process.number, process.threads)
     # (those that may take long come last)
-    confined = sorted((one for one in found if one.is_confined),
-                      key=lambda it: (it.is_stuck, len(it.threads) > machine_pass.MOST_HELD, it.number))
+    confined = sorted((process for process in processes if process.is_confined), key=lambda process: (
+        process.is_stuck, len(process.threads) > machine_pass.MOST_HELD, process.number))
     if why is not None:
-        snapshot.unread.update((one.number, why) for one in confined)
+        snapshot.unread.update((process.number, why) for process in confined)
     elif confined:
         _add_filters(kernel, snapshot, confined, is_forced,
-                     time.monotonic() + machine_pass.LONGEST if until is None else until)
+                     time.monotonic() + machine_pass.LONGEST_PASS if until is None else until)
     return bool(confined) and why is None
 
 
 def _add_filters(kernel: Kernel, snapshot: Snapshot, confined: list[Process], is_forced: bool, until: float) -> None:
     """Adds the filters of processes of a snapshot to it; those that have ended meanwhile are forgotten."""
-    passed = machine_pass.read(kernel, {one.number: one.owner for one in confined}, is_forced, until)
+    passed = machine_pass.read(kernel, {process.number: process.owner for process in confined}, is_forced, until)
     for key, stack in passed.stacks.items():
-        for process, threads in stack.threads.items():
-            snapshot.add(key, process, threads)
-    read_ones = {process for stack in passed.stacks.values() for process in stack.threads}
-    for one in confined:
-        if one.number in passed.unread and described(kernel, one.number) is not None:
-            snapshot.unread[one.number] = passed.unread[one.number]
-        elif one.number not in read_ones:
-            snapshot.forget(one.number)
+        for number, threads in stack.threads.items():
+            snapshot.add(key, number, threads)
+    read_numbers = {number for stack in passed.stacks.values() for number in stack.threads}
+    for number in (process.number for process in confined):
+        if number in passed.unread and process_of_number(kernel, number) is not None:
+            snapshot.unread[number] = passed.unread[number]
+        elif number not in read_numbers:
+            snapshot.forget(number)
     for why in machine_pass.NOT_LOOKED_AT:
-        left = [f"process {one.number}" for one in confined if snapshot.unread.get(one.number) == why]
-        if left:
-            snapshot.left_out.append(f"the filters of {output.some(left, 3)}: {why}")
+        unread = [f"process {process.number}" for process in confined if snapshot.unread.get(process.number) == why]
+        if unread:
+            snapshot.left_out.append(f"the filters of {output.some(unread, 3)}: {why}")
     snapshot.notes += passed.notes

@@ -22,12 +22,12 @@ from .hold import Unreadable
 from .processes import Kernel, Stack
 from .ptrace import PTRACE_SEIZE, contents, is_executing
 from .restart import Restarts
-from .values import Any, Pattern, dataclass, field
+from .values import Any, Pattern, dataclass
 
 # How long the threads of a process may take to stop, and at the second attempt, for a machine that does much else; how
 # long the kernel may make this tool wait; how long threads may be held; how long is waited for programs that are being
 # executed; and how long a pass may take, in seconds.
-TO_STOP, TO_STOP_AGAIN, TO_ANSWER, TO_READ, TO_EXECUTE, LONGEST = 1.0, 6.0, 1.0, 8.0, 2.0, 30.0
+SECONDS_TO_STOP, TO_STOP_AGAIN, TO_ANSWER, TO_READ, TO_EXECUTE, LONGEST_PASS = 1.0, 6.0, 1.0, 8.0, 2.0, 30.0
 # How many threads of a process are stopped at a time, so that none is for long; how many it may have, and filters in
 # all threads together; and how many threads may be read that started meanwhile.
 MOST_HELD, MOST_THREADS, MOST_FILTERS, MOST_NEW = 200, 5000, 20000, 400
@@ -42,7 +42,7 @@ WAITED = "the kernel made a tracer wait, as for a thread that executes a program
 HELD = f"its threads couldn't be read within {TO_READ:g} seconds"
 # The same, where that is due to the limits of a pass.
 NOT_LOOKED_AT = TOO_LATE, TOO_OFTEN, TOO_MANY_THREADS, TOO_MANY_FILTERS = (
-    f"the pass over all processes took longer than {LONGEST:g} seconds",
+    f"the pass over all processes took longer than {LONGEST_PASS:g} seconds",
     "the process that reads filters was ended again and again", f"it has more than {MOST_THREADS} threads",
     f"its threads have more than {MOST_FILTERS} filters in all")
 FILTERS = Pattern(rb"^Seccomp_filters:\t([0-9]+)", re.M)
@@ -52,8 +52,8 @@ Key = "tuple[tuple[bytes, ...], bool]"
 
 def _number_of_filters(thread: int) -> int:
     """The number of a thread's filters; 1 before Linux 5.9, where the kernel doesn't tell it."""
-    found = FILTERS.search(contents(f"/proc/{thread}/status"))
-    return int(found[1]) if found else 1
+    match = FILTERS.search(contents(f"/proc/{thread}/status"))
+    return int(match[1]) if match else 1
 
 
 class _Tracer(Kernel):
@@ -77,10 +77,10 @@ class _Tracer(Kernel):
 
     def is_executing(self, number: int) -> bool:
         """Whether a thread of a process executes a program."""
-        return any(self.soon(lambda it=it: is_executing(it)) for it in self.threads_of(number))
+        return any(self.soon(lambda thread=thread: is_executing(thread)) for thread in self.threads_of(number))
 
     def soon(self, ask: Callable[[], Any]) -> Any:
-        """What the kernel answers, if it does soon."""
+        """The kernel's answer; the timer ends this process if it takes longer than TO_ANSWER."""
         signal.setitimer(signal.ITIMER_REAL, TO_ANSWER)
         self.shared[8:] = b"\1"
         try:
@@ -104,7 +104,7 @@ class _Reader:
 
     def read_all(self, users: dict[int, int], used: dict[int, float]) -> None:
         """Reads processes, one after another; those that may take long at the end."""
-        again = {number: users[number] for number in in_turns(users, used) if not self.read(number, TO_STOP)}
+        again = {number: users[number] for number in in_turns(users, used) if not self.read(number, SECONDS_TO_STOP)}
         until = time.monotonic() + TO_EXECUTE
         for number in in_turns(again, used):
             self.kernel.begin(number)
@@ -121,7 +121,7 @@ class _Reader:
         except Unreadable as error:
             why, is_asleep = str(error), self.kernel.status_of(number).get("State", "D")[:1] == "D"
             is_final = why in (FROZEN, *NOT_LOOKED_AT) or is_asleep and why != EXECUTES
-            if patience == TO_STOP and not is_final:
+            if patience == SECONDS_TO_STOP and not is_final:
                 return False
             self.send((number, None, why))
         return True
@@ -138,14 +138,14 @@ class _Reader:
             raise Unreadable(EXECUTES)
         self.restarts.begin()
         parts, notes = [], []
-        for one in list(self.slices(number, patience)):
-            for stack in one.stacks:
+        for inspection in list(self.slices(number, patience)):
+            for stack in inspection.stacks:
                 key = stack.filters, stack.is_strict
                 is_known = key in self.numbers
                 parts.append((self.numbers.setdefault(key, len(self.numbers)), None if is_known else key,
                               stack.threads[number]))
             notes += [f"the syscall of thread {thread} of process {process} restarts, and its seccomp supervisor gets "
-                      f"it a second time" for process, thread in one.asked_again]
+                      f"it a second time" for process, thread in inspection.asked_again]
         self.send((number, parts, notes))
 
     def slices(self, number: int, patience: float) -> Iterator[processes.Inspection]:
@@ -153,7 +153,7 @@ class _Reader:
         seen: set[int] = set()
         most, filters = len(self.kernel.threads_of(number)) + MOST_NEW, 0
         while len(seen) < most:
-            now = [it for it in self.kernel.threads_of(number) if it not in seen][:MOST_HELD]
+            now = [thread for thread in self.kernel.threads_of(number) if thread not in seen][:MOST_HELD]
             if not now:
                 return
             seen.update(now)
@@ -164,7 +164,8 @@ class _Reader:
             # (those that end meanwhile aren't listed again)
             yield processes.read_threads(
                 self.kernel,
-                lambda those=now: {it: number for it in those if os.path.exists(f"/proc/{number}/task/{it}")},
+                lambda threads=now: {thread: number for thread in threads
+                                     if os.path.exists(f"/proc/{number}/task/{thread}")},
                 patience, self.is_forced, self.restarts)
 
 
@@ -187,71 +188,65 @@ def in_turns(users: dict[int, int], used: dict[int, float]) -> Iterator[int]:
             heapq.heappush(turns, (used[user], user))
 
 
-@dataclass
-class Passed:
-    """What a pass found: the distinct stacks with their threads, why processes weren't read, and notes."""
-
-    stacks: dict[Key, Stack] = field(default_factory=dict)
-    unread: dict[int, str] = field(default_factory=dict)
-    notes: list[str] = field(default_factory=list)
-
-
-class _Received:
-    """What children sent, and what is yet to be read."""
+class PassResult:
+    """The result of a pass: what children have read, and the processes that wait to be read."""
 
     def __init__(self, users: dict[int, int]) -> None:
-        self.passed = Passed()
-        # The users of the processes that are left, in their order; the seconds that a user's processes took from
-        # children that were ended; and how often a process ended one.
-        self.left, self.used, self.ended = dict(users), {}, {}
-        # The numbers of the distinct stacks.
+        # The distinct stacks with their threads, why processes weren't read, and notes.
+        self.stacks: dict[Key, Stack] = {}
+        self.unread: dict[int, str] = {}
+        self.notes: list[str] = []
+        # The users of the processes that wait, in their order; the seconds that a user's processes took from children
+        # that were ended; and how often a process ended one.
+        self.waiting, self.used, self.ended = dict(users), {}, {}
+        # The distinct stacks by the numbers that children give them.
         self.numbers: dict[Key, int] = {}
-        self.stacks: list[Stack] = []
+        self.numbered: list[Stack] = []
 
     def receive(self, value: tuple[int, Any, Any]) -> None:
-        """Takes what a child sent of a process."""
-        number, parts, rest = value
-        self.left.pop(number, None)
+        """Takes what a child sent of a process: its stacks and notes, or why it was not read."""
+        number, parts, detail = value
+        self.waiting.pop(number, None)
         if parts is None:
-            self.passed.unread[number] = rest
+            self.unread[number] = detail
             return
         for at, key, threads in parts:
             if key is not None:
                 self.numbers[key] = at
-                self.stacks.append(self.passed.stacks.setdefault(key, Stack(*key)))
-            self.stacks[at].threads.setdefault(number, []).extend(threads)
-        self.passed.notes += rest
+                self.numbered.append(self.stacks.setdefault(key, Stack(*key)))
+            self.numbered[at].threads.setdefault(number, []).extend(threads)
+        self.notes += detail
 
     def delay(self, number: int, why: str, seconds: float) -> None:
         """A process that ended a child is read at the end, unless it did before."""
         self.ended[number] = self.ended.get(number, 0) + 1
-        if number in self.left:
-            user = self.left.pop(number)
+        if number in self.waiting:
+            user = self.waiting.pop(number)
             self.used[user] = self.used.get(user, 0.0) + seconds
             if self.ended[number] < MOST_ENDED:
-                self.left[number] = user
+                self.waiting[number] = user
             else:
-                self.passed.unread[number] = why
+                self.unread[number] = why
 
 
-def read(kernel: Kernel, users: dict[int, int], is_forced: bool, until: float) -> Passed:
+def read(kernel: Kernel, users: dict[int, int], is_forced: bool, until: float) -> PassResult:
     """Reads processes, given the users who answer for them, until this time at the latest."""
-    received = _Received(users)
+    result = PassResult(users)
     with mmap.mmap(-1, 9) as shared:
         def work(send: Callable[[Any], object]) -> None:
             tracer = _Tracer(kernel.tool, shared)
-            reader = _Reader(tracer, is_forced, until, received.numbers, send, Restarts(tracer))
-            reader.read_all(received.left, received.used)
+            reader = _Reader(tracer, is_forced, until, result.numbers, send, Restarts(tracer))
+            reader.read_all(result.waiting, result.used)
 
-        while received.left and sum(received.ended.values()) < LONGEST / TO_ANSWER:
+        while result.waiting and sum(result.ended.values()) < LONGEST_PASS / TO_ANSWER:
             shared[:] = bytes(9)
             try:
-                child.run(work, max(until - time.monotonic(), 0) + TO_READ, received.receive)
+                child.run(work, max(until - time.monotonic(), 0) + TO_READ, result.receive)
                 break
             except (child.Late, child.Died):
                 number, (why, seconds) = int.from_bytes(shared[:8], "little"), \
                     (WAITED, TO_ANSWER) if shared[8] else (HELD, TO_READ)
-                received.delay(number, why, seconds)
+                result.delay(number, why, seconds)
     why = TOO_LATE if time.monotonic() > until else TOO_OFTEN
-    received.passed.unread.update(dict.fromkeys(received.left, why))
-    return received.passed
+    result.unread.update(dict.fromkeys(result.waiting, why))
+    return result

@@ -1,4 +1,4 @@
-"""What a line means that scf or a tool printed, whatever a log puts before it."""
+"""The meaning of a line that scf or a tool printed, whatever a log puts before it."""
 from __future__ import annotations
 
 import re
@@ -12,16 +12,16 @@ from .client import FAULT, Fault
 from .tables import Table, Tables
 from .values import Pattern
 
-ORDER = "denied < delegated < allowed"
+RANKS = "denied < delegated < allowed"
 # What verdicts mean: those of comparisons, and of `audit` and `verify-process`.
 VERDICTS = {
     "same": "every syscall that was compared gets the same answer from both sides, action and data: status 0",
     "differs": "some syscall gets another answer; the next lines are such a call, and both answers to it: status 1",
-    "no more": f"with --no-more: nowhere are the filters more permissive ({ORDER}) than the other side: status 0",
-    "more": f"with --no-more: to some call the filters are more permissive ({ORDER}) than the other side, as the next "
+    "no more": f"with --no-more: nowhere are the filters more permissive ({RANKS}) than the other side: status 0",
+    "more": f"with --no-more: to some call the filters are more permissive ({RANKS}) than the other side, as the next "
             "lines show: status 1",
-    "no less": f"with --no-less: nowhere are the filters stricter ({ORDER}) than the other side: status 0",
-    "less": f"with --no-less: to some call the filters are stricter ({ORDER}) than the other side, as the next lines "
+    "no less": f"with --no-less: nowhere are the filters stricter ({RANKS}) than the other side: status 0",
+    "less": f"with --no-less: to some call the filters are stricter ({RANKS}) than the other side, as the next lines "
             "show: status 1",
     "same disposition": "with --disposition: both sides deny, delegate and allow the same syscalls: status 0",
     "undetermined": "it hangs on a syscall of an architecture that the profile names, and of which scf has no table: "
@@ -55,14 +55,14 @@ STATUSES = {
 COLOUR = Pattern(r"\x1b\[[0-9;]*m")
 # What a log may put before a line: anything up to a mark or a time.
 BEFORE = Pattern(r".*?(?:[]:|>]|[0-9]Z|\d\d:\d\d:\d\d\S*)\s+")
-ANSWERED = Pattern(r"(?:filter |profile |beside )?([A-Z_]+ (?:0x[0-9a-f]+|[0-9]+))"
+ANSWER_LINE = Pattern(r"(?:filter |profile |beside )?([A-Z_]+ (?:0x[0-9a-f]+|[0-9]+))"
                    r"(?: (steps [0-9]+|entry [0-9]+|default|foreign))?")
 STATUS = Pattern(r"(?:.*\b)?(?:exit(?:ed)?|status|code)\b\D*([0-9]{1,3})\D*", re.I)
 
 
 def _of_fault(line: str, table: Table) -> Iterator[str]:
-    found = FAULT.search(line)
-    fault = Fault.read(found[0]) if found else None
+    match = FAULT.search(line)
+    fault = Fault.read(match[0]) if match else None
     if fault is not None and explanation.has_row(fault.line):
         yield from explanation.of_fault(fault, table)
 
@@ -78,12 +78,12 @@ def _of_verdict(line: str) -> Iterator[str]:
 
 
 def _of_answer(line: str) -> Iterator[str]:
-    found = ANSWERED.fullmatch(line)
-    answer = Answer.read(found[1]) if found else None
-    if found is None or answer is None:
+    match = ANSWER_LINE.fullmatch(line)
+    answer = Answer.read(match[1]) if match else None
+    if match is None or answer is None:
         return
     yield answer.describe()
-    word, _, number = (found[2] or "").partition(" ")
+    word, _, number = (match[2] or "").partition(" ")
     if word == "steps":
         yield f"the filter ran {number} instruction{'s' * (number != '1')}"
     elif word == "entry":
@@ -94,14 +94,14 @@ def _of_answer(line: str) -> Iterator[str]:
 
 
 def _of_call(line: str, table: Table) -> Iterator[str]:
-    found = re.fullmatch(r"call nr (\S+) arch (\S+) ip (\S+) args((?: \S+){6})", line)
+    match = re.fullmatch(r"call nr (\S+) arch (\S+) ip (\S+) args((?: \S+){6})", line)
     try:
-        numbers = [int(it, 0) for it in (*found.groups()[:3], *found[4].split())] if found else []
+        numbers = [int(number, 0) for number in (*match.groups()[:3], *match[4].split())] if match else []
     except ValueError:
         return
     if numbers:
         yield from explanation.of_call(Call(*numbers[:3], tuple(numbers[3:])), table)
-    named = verdicts.NAMED.fullmatch(line)
+    named = verdicts.NAMED_CALL_LINE.fullmatch(line)
     if named:
         yield f"of syscall {named[1]}, {named[2]}: {OF_A_SYSCALL[named[3]]}"
         for side, text in re.findall(r"(filter|profile|beside) ([A-Z_]+ \w+)", named[4]):
@@ -113,24 +113,23 @@ def _of_call(line: str, table: Table) -> Iterator[str]:
 def _of_left_out(line: str, table: Table) -> Iterator[str]:
     word, _, name = line.partition(" ")
     if word == "skipped" and name:
-        found = tables.classify([name], Tables({NATIVE: table}))
+        classified = tables.classify([name], Tables({NATIVE: table}))
         yield "the profile names a syscall that no table has: its entries are taken without it"
         yield from (f"no known syscall has this name{f'; the nearest is {near}' if near else ''}"
-                    for _, near in found.unknown)
+                    for _, near in classified.unknown)
     elif word == "other" and re.fullmatch("[A-Z0-9_]+", name):
         yield "the profile also names this architecture, whose syscalls weren't compared"
 
 
 def _of_finding(line: str) -> Iterator[str]:
-    kinds = dict(re.findall(r"(?m)^    ([a-z0-9-]+) +(\S.*(?:\n {20,}.*)*)", tool_lint.__doc__ or ""))
-    kind = line.partition(":")[0]
-    if kind in kinds:
-        yield f"a finding of lint: {' '.join(kinds[kind].split())}"
+    what = tool_lint.kinds().get(line.partition(":")[0])
+    if what is not None:
+        yield f"a finding of lint: {what}"
 
 
 def _of_status(line: str) -> Iterator[str]:
-    found = re.fullmatch("[0-9]{1,3}", line) or STATUS.fullmatch(line)
-    number = int(found[found.lastindex or 0]) if found else None
+    match = re.fullmatch("[0-9]{1,3}", line) or STATUS.fullmatch(line)
+    number = int(match[match.lastindex or 0]) if match else None
     if number in STATUSES:
         yield STATUSES[number]
     elif number is not None and 128 < number < 193:
@@ -138,18 +137,18 @@ def _of_status(line: str) -> Iterator[str]:
 
 
 def _of_whole(line: str, table: Table) -> list[str]:
-    """What a line means that nothing stands before."""
+    """The meaning of a line without anything before it."""
     ways = (_of_verdict(line), _of_answer(line), _of_call(line, table), _of_left_out(line, table), _of_finding(line),
             _of_status(line))
-    return next((found for found in map(list, ways) if found), [])
+    return next((sentences for sentences in map(list, ways) if sentences), [])
 
 
 def of(line: str, table: Table) -> list[str]:
     """The sentences on a line; none if nothing is known of it."""
     line = COLOUR.sub("", line).strip().strip("`'\"")
-    found = list(_of_fault(line, table))
-    while not found and line:
-        found = _of_whole(line, table)
+    sentences = list(_of_fault(line, table))
+    while not sentences and line:
+        sentences = _of_whole(line, table)
         before = BEFORE.match(line)
         line = line[before.end():] if before else ""
-    return found
+    return sentences

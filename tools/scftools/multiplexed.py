@@ -14,7 +14,7 @@ from .engines import MAX_RULES, Refused
 from .values import Any
 
 # By the multiplexer the number of each syscall: linux/net.h and linux/ipc.h.
-NUMBERS = {
+CALL_NUMBERS = {
     "socketcall": {name: number for number, name in enumerate((
         "socket", "bind", "connect", "listen", "accept", "getsockname", "getpeername", "socketpair", "send", "recv",
         "sendto", "recvfrom", "shutdown", "setsockopt", "getsockopt", "sendmsg", "recvmsg", "accept4", "recvmmsg",
@@ -26,40 +26,45 @@ NUMBERS = {
 
 def is_multiplexed(name: str) -> bool:
     """Whether socketcall or ipc makes a syscall, too."""
-    return any(name in numbers for numbers in NUMBERS.values())
+    return any(name in numbers for numbers in CALL_NUMBERS.values())
 
 
-def rules_of(entry: dict[str, Any]) -> Iterator[dict[str, Any]]:
-    """The entries of socketcall and ipc that an entry has beside itself."""
-    others = [it for it in entry.get("args", ()) if it.get("index", 0) != 0]
+def rules_of(entry: dict[str, Any], most: int | None = None) -> Iterator[dict[str, Any]]:
+    """The entries of socketcall and ipc that an entry has beside itself, of whose conditions at most so many are read.
+    If two of these are on one argument, each is handed to libseccomp alone."""
+    conditions = entry.get("args", [])[:most]
+    indices = [condition.get("index", 0) for condition in conditions]
+    alternatives = [conditions] if len(set(indices)) == len(indices) else [[condition] for condition in conditions]
     for name in dict.fromkeys(entry["names"]):
-        for multiplexer, numbers in NUMBERS.items():
-            if name in numbers:
-                first = {"index": 0, "value": numbers[name], "op": "SCMP_CMP_EQ"}
+        for multiplexer, numbers in CALL_NUMBERS.items():
+            first = {"index": 0, "value": numbers.get(name), "op": "SCMP_CMP_EQ"}
+            for all_of in alternatives if name in numbers else ():
+                others = [condition for condition in all_of if condition.get("index", 0) != 0]
                 yield {**entry, "names": [multiplexer], "args": [first, *others]}
 
 
-def with_rules(profile: dict[str, Any],
-               note: Callable[[str], None] = lambda _: None) -> tuple[dict[str, Any], list[int]]:
+def with_rules(profile: dict[str, Any], note: Callable[[str], None] = lambda _: None,
+               most: int | None = None) -> tuple[dict[str, Any], list[int]]:
     """A resolved profile with the entries that libseccomp makes for i386, each behind its own, and for each entry the
-    index of its own. Engines pass on no entry whose answer is the default's."""
+    index of its own; at most so many conditions of an entry are read. Engines pass on no entry whose answer is the
+    default's."""
     entries_of = profile["syscalls"]
     if I386 not in profile.get("architectures", ()):
         note(f"no rule of socketcall or ipc is added: architectures lacks {I386}")
         return profile, list(range(len(entries_of)))
     default = Answer.of_profile(profile["defaultAction"], profile.get("defaultErrnoRet"))
-    differs = [Answer.of_profile(it["action"], it.get("errnoRet")) != default for it in entries_of]
+    differs = [Answer.of_profile(entry["action"], entry.get("errnoRet")) != default for entry in entries_of]
     unconditional = {name for entry, is_passed_on in zip(entries_of, differs)
-                     if is_passed_on and not entry.get("args") for name in entry["names"] if name in NUMBERS}
+                     if is_passed_on and not entry.get("args") for name in entry["names"] if name in CALL_NUMBERS}
     for name in sorted(unconditional):
         note(f"no rule of {name} is added: an entry without conditions covers all of its calls")
-    found: list[dict[str, Any]] = []
+    entries: list[dict[str, Any]] = []
     places, count = [], 0
     for place, (entry, is_passed_on) in enumerate(zip(entries_of, differs)):
-        rules = [rule for rule in rules_of(entry) if is_passed_on and rule["names"][0] not in unconditional]
+        rules = [rule for rule in rules_of(entry, most) if is_passed_on and rule["names"][0] not in unconditional]
         count += sum(len(rule["args"]) for rule in rules)
         if count > MAX_RULES:
             raise Refused(f"the rules of socketcall and ipc have more than {MAX_RULES} conditions")
-        found += [entry, *rules]
+        entries += [entry, *rules]
         places += [place] * (1 + len(rules))
-    return {**profile, "syscalls": found}, places
+    return {**profile, "syscalls": entries}, places

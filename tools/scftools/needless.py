@@ -7,11 +7,11 @@ together, and each by itself.
 """
 from __future__ import annotations
 
-from collections.abc import Iterable, Iterator, Sequence
+from collections.abc import Iterator, Sequence
 
 from .answers import Answer
 from .architectures import JUDGED
-from .argument_sets import ALL, Sets, Steps, TooMany
+from .argument_sets import FULL_SET, Sets, Steps, TooMany
 from .calls import Call
 from .entries import Entry
 from .findings import Owners
@@ -70,7 +70,7 @@ class Met:
             self._found[key] = self.of(name).of_conditions(entry.conditions)
         return self._found[key]
 
-    def are_all(self, others: Sequence[Entry], name: str, those: int = ALL) -> bool:
+    def are_all(self, others: Sequence[Entry], name: str, those: int = FULL_SET) -> bool:
         """Whether some arguments, or all, each meet one of some entries. Takes away what meets an entry that the least
         of them meet, until none are left or these meet no entry."""
         sets = self.of(name)
@@ -97,14 +97,13 @@ class Search:
         self.entries = {it.place: it for it in entries}
         self.gone: set[Named] = set()
         self.undecided: list[Undecided] = []
+        names = dict.fromkeys(name for entry in entries for name in entry.names)
+        self._syscalls: dict[str, Sequence[Syscall]] = {it: tuple(trial.tables.numbers_of(it).items()) for it in names}
         self._having: dict[Syscall, dict[Named, Entry]] = {}
         for entry in entries:
             for name in entry.names:
-                for call in self._syscalls(name):
+                for call in self._syscalls[name]:
                     self._having.setdefault(call, {})[entry.place, name] = entry
-
-    def _syscalls(self, name: str) -> Iterable[Syscall]:
-        return self.trial.tables.numbers_of(name).items()
 
     def _beside(self, entry: Entry, call: Syscall) -> list[Entry]:
         """The other entries that have a syscall, without what is removed."""
@@ -114,7 +113,7 @@ class Search:
         """Whether an entry alone answers some syscall by a name, and differently than the default."""
         try:
             return entry.answer != self.default and not all(
-                self.met.is_within(entry, self._beside(entry, call), call[0]) for call in self._syscalls(name))
+                self.met.is_within(entry, self._beside(entry, call), call[0]) for call in self._syscalls[name])
         except TooMany:
             return True
 
@@ -136,7 +135,7 @@ class Search:
     def _why(self, entry: Entry, names: Sequence[str]) -> tuple[str, tuple[int, ...]]:
         if entry.answer == self.default:
             return BY_DEFAULT, ()
-        calls = [call for name in names for call in self._syscalls(name)]
+        calls = [call for name in names for call in self._syscalls[name]]
         having = [{it.place for it in self._beside(entry, call)} for call in calls]
         try:
             if all(self.met.is_within(entry, [], one) for one, _ in calls):

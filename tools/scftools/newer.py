@@ -1,23 +1,25 @@
 """Syscalls with numbers above all that a profile names, which the filters deny with another answer than the profile.
 
-The results hold for every such syscall: they are comparisons of scf, of filters that give one answer on the other side
-of these numbers.
+The results hold for every such syscall: they are looked up in the regions of the filters.
 """
 from __future__ import annotations
 
+import itertools
 from collections.abc import Iterator, Sequence
 
+from . import regions
 from .answers import Answer
 from .architectures import JUDGED
 from .calls import Call
-from .compare import Bounds, Comparison, default_of
+from .compare import Comparison, default_of
 from .explanation import join_names
+from .regions import Numbers
 from .tables import Table
 from .values import dataclass
 from .verdicts import DIFFERS, SAME, NamedCall, Verdict
 
 
-def _bounds_of(comparison: Comparison) -> Bounds:
+def _bounds_of(comparison: Comparison) -> dict[str, int]:
     """For each architecture the number behind the greatest that the profile names."""
     facts, bounds = comparison.facts, {}
     for name, table in comparison.tables.of.items() if facts is not None else ():
@@ -37,7 +39,7 @@ def _difference_above(what: str, are_all: bool, firsts: Sequence[Call], table: T
 class Newer:
     """Every syscall from these numbers on, all above those that a profile names, and both answers."""
 
-    bounds: Bounds
+    bounds: dict[str, int]
     filters: Answer
     profile: Answer
 
@@ -55,45 +57,30 @@ class Newer:
 
 
 def calls_of(comparison: Comparison) -> Newer | None:
-    """The syscalls above all that the profile names, of each architecture from the first that differs on, if both sides
-    deny them all with one answer each."""
-    default, bounds = default_of(comparison.profile), _bounds_of(comparison)
+    """The syscalls above all that the profile names, of each architecture from the first that differs on, if the
+    filters deny all of these with one answer, and those before them with the profile's default."""
+    default = default_of(comparison.profile)
     if comparison.relation != SAME or comparison.stub or default is None or not default.denies:
         return None
-    if not comparison.has_room(bounds):
-        return None
+    filter_regions = regions.of_filters(comparison.data)
     firsts, answers = {}, set()
-    for name, first in bounds.items():
-        verdict = comparison.beyond({name: first}, default).run()[1].verdict
-        if verdict is None or not verdict.holds and (verdict.call is None or not verdict.both_deny):
-            return None
-        if not verdict.holds:
-            answers.add(verdict.filters)
-            firsts[name] = _first_of(comparison, name, first, verdict)
-    if len(answers) != 1 or None in firsts.values():
-        return None
-    return Newer(firsts, answers.pop(), default)
-
-
-def _first_of(comparison: Comparison, name: str, least: int, verdict: Verdict) -> int | None:
-    """The number of an architecture from which on all get the answer of an example, where those before are answered by
-    default: the least that may be, or the example's; None if neither is."""
-    assert verdict.call is not None and verdict.filters is not None and verdict.profile is not None
-    if verdict.filters.as_profile() is None:
-        return None
-    for first in dict.fromkeys((least, verdict.call.number)):
-        alike = comparison.beyond({name: first}, verdict.filters).run()[1].verdict
-        between = comparison.split_at({name: first}, verdict.profile, False)
-        below = between.beyond({name: least}, verdict.profile).run()[1].verdict if first > least else alike
-        if alike is not None and alike.holds and below is not None and below.holds:
-            return first
-    return None
+    for name, least in _bounds_of(comparison).items():
+        ranges = Numbers(filter_regions, JUDGED[name]).ranges
+        above = [(max(low, least), {region.answer if region.is_decided else None for region in here})
+                 for low, high, here in ranges or () if high >= least]
+        differing = list(itertools.dropwhile(lambda part: part[1] == {default}, above))
+        if differing:
+            firsts[name] = differing[0][0]
+            answers.update(*(given for _, given in differing))
+    answer = answers.pop() if len(answers) == 1 and filter_regions is not None else None
+    return Newer(firsts, answer, default) if answer is not None and answer.denies else None
 
 
 def another_call(comparison: Comparison, above: Newer) -> Verdict | None:
     """The verdict on the syscalls that aren't among these, or None if they are the same."""
-    verdict = comparison.below(above.bounds).run()[1].verdict or Verdict(DIFFERS)
-    return None if verdict.word == SAME else verdict
+    of_others = (comparison.of_numbers(name, JUDGED[name].first, above.bounds.get(name, JUDGED[name].last + 1) - 1)
+                 for name in comparison.tables.of)
+    return next((verdict for verdict in of_others if not verdict.holds), None)
 
 
 def of_named_calls(comparison: Comparison, calls: Sequence[NamedCall]) -> Iterator[str]:

@@ -4,23 +4,23 @@ from __future__ import annotations
 import re
 
 from . import libseccomp, program
-from .answers import X32
+from .answers import FIRST_X32
 from .values import Pattern, dataclass, field
 
 # A number, one with something added to it, or another syscall's name.
 VALUE = r"([0-9]+)|\([ \t]*(\w+)[ \t]*\+[ \t]*([0-9]+)[ \t]*\)|__NR_([A-Za-z_]\w*)"
 DEFINE = Pattern(rf"^[ \t]*#[ \t]*define[ \t]+__(?:ARM_)?NR_([A-Za-z_]\w*)[ \t]+(?:{VALUE})[ \t\r\f\v]*$",
                  re.M | re.A)
-COMMENT = Pattern(r"/\*.*?(?:\*/|\Z)|//[^\n]*", re.S)
-NAME = Pattern(r"[A-Za-z_]\w*", re.A)
+HEADER_COMMENT = Pattern(r"/\*.*?(?:\*/|\Z)|//[^\n]*", re.S)
+SYSCALL_NAME = Pattern(r"[A-Za-z_]\w*", re.A)
 # The first row that isn't empty and no comment.
-FIRST = Pattern(r"^[ \t\r]*([^ \t\r\n#][^\n]*)", re.M)
+FIRST_LINE = Pattern(r"^[ \t\r]*([^ \t\r\n#][^\n]*)", re.M)
 # A count, and names in capital letters, such as SYSCALL_BASE, are no syscalls.
 COUNT = "syscalls"
 
 
 @dataclass(frozen=True)
-class Numbering:
+class HeaderNumbering:
     """How sources number an architecture's syscalls: what its header adds to some numbers, as far as the table has it;
     whether it names a syscall by another one; and the ABIs of the kernel's table whose rows are its own."""
 
@@ -32,27 +32,27 @@ class Numbering:
 # asm/unistd_64.h, unistd_32.h and unistd_x32.h of x86, unistd_64.h of arm64, unistd-eabi.h and unistd.h of arm. A table
 # of x32 has the numbers without __X32_SYSCALL_BIT.
 NUMBERINGS = {
-    "x86_64": Numbering(abis=("common", "64")), "i386": Numbering(),
-    "x32": Numbering({"__X32_SYSCALL_BIT": 0}, abis=("common", "x32")), "aarch64": Numbering(),
-    "arm": Numbering({"__NR_SYSCALL_BASE": 0, "__ARM_NR_BASE": 0x0F0000}, has_aliases=True),
+    "x86_64": HeaderNumbering(abis=("common", "64")), "i386": HeaderNumbering(),
+    "x32": HeaderNumbering({"__X32_SYSCALL_BIT": 0}, abis=("common", "x32")), "aarch64": HeaderNumbering(),
+    "arm": HeaderNumbering({"__NR_SYSCALL_BASE": 0, "__ARM_NR_BASE": 0x0F0000}, has_aliases=True),
 }
 # The numbers that are asked of libseccomp; x86-64's end far below.
-NUMBERS = 4096
+MOST_NUMBERS = 4096
 
 
 def _add(calls: dict[str, int], name: str, digits: str, base: int = 0, line: int | None = None) -> None:
     at = "" if line is None else f"line {line}: "
     digits = digits.lstrip("0") or "0"
-    number = base + int(digits) if len(digits) <= 10 else X32
-    if number >= X32:
-        raise program.ToolError(f"{at}the number of {name} isn't below {X32}")
+    number = base + int(digits) if len(digits) <= 10 else FIRST_X32
+    if number >= FIRST_X32:
+        raise program.ToolError(f"{at}the number of {name} isn't below {FIRST_X32}")
     if calls.setdefault(name, number) != number:
         raise program.ToolError(f"{at}{name} has two numbers, {calls[name]} and {number}")
 
 
-def of_header(text: str, numbering: Numbering) -> dict[str, int]:
+def of_header(text: str, numbering: HeaderNumbering) -> dict[str, int]:
     """The syscalls of a header such as asm/unistd_64.h: its lines `#define __NR_NAME NUMBER`."""
-    bare = COMMENT.sub(lambda found: "\n" if "\n" in found[0] else " ", text)
+    bare = HEADER_COMMENT.sub(lambda match: "\n" if "\n" in match[0] else " ", text)
     calls: dict[str, int] = {}
     for name, digits, base, more, alias in DEFINE.findall(bare):
         if name == COUNT or name.isupper():
@@ -66,7 +66,7 @@ def of_header(text: str, numbering: Numbering) -> dict[str, int]:
     return calls
 
 
-def of_source_table(text: str, numbering: Numbering) -> dict[str, int]:
+def of_source_table(text: str, numbering: HeaderNumbering) -> dict[str, int]:
     """The syscalls of syscall_64.tbl: its rows of a number, an ABI, a name and entry points. The rows of x86-64 are
     `common` and `64`, those of x32 `common` and `x32`."""
     calls: dict[str, int] = {}
@@ -78,7 +78,7 @@ def of_source_table(text: str, numbering: Numbering) -> dict[str, int]:
             raise program.ToolError(f"line {line} has no number, ABI and name: '{row[:80]}'")
         if fields[1] not in ("common", "64", "x32"):
             raise program.ToolError(f"line {line}: the ABI '{fields[1][:80]}' isn't common, 64 or x32")
-        if not NAME.fullmatch(fields[2]):
+        if not SYSCALL_NAME.fullmatch(fields[2]):
             raise program.ToolError(f"line {line}: '{fields[2][:80]}' isn't a name")
         if fields[1] in numbering.abis:
             _add(calls, fields[2], fields[0], 0, line)
@@ -89,7 +89,7 @@ def calls_of(data: bytes, architecture: str = "x86_64") -> dict[str, int]:
     """The syscalls of an architecture in a header, or in a table if no line defines anything."""
     text, numbering = data.decode("utf-8", "surrogateescape"), NUMBERINGS[architecture]
     calls = of_header(text, numbering)
-    first = FIRST.search(text)
+    first = FIRST_LINE.search(text)
     if not calls and numbering.abis and first and re.match(r"[0-9]+[ \t]+[A-Za-z0-9]+[ \t]", first[1]):
         calls = of_source_table(text, numbering)
     if not calls:
@@ -101,5 +101,5 @@ def calls_of(data: bytes, architecture: str = "x86_64") -> dict[str, int]:
 def of_libseccomp() -> tuple[str, dict[str, int]]:
     """The version of the installed libseccomp, and the syscalls that it knows."""
     library = libseccomp.Library()
-    named = ((library.name_of(number), number) for number in range(NUMBERS))
+    named = ((library.name_of(number), number) for number in range(MOST_NUMBERS))
     return library.version, {name: number for name, number in named if name}

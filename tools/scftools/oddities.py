@@ -12,7 +12,7 @@ from .answers import ERRNOS, MAX_ERRNO
 from .architectures import NATIVE, NUMBERS, PREFIX, X32
 from .entries import Object
 from .findings import MOST, Finding, listed
-from .profiles import ACTIONS, ALLOWING, HOLDS
+from .profiles import ALLOWING, HOLDS, OCI_ACTIONS
 from .tables import Tables
 from .values import dataclass
 
@@ -57,7 +57,7 @@ def of_names(top: Object, judged: Tables) -> Iterator[Finding]:
 def _near(name: str, prefix: str, known: Sequence[str], count: int) -> str | None:
     """The word most like a name behind their common prefix, if one is much like it; none for a name that comes after so
     many."""
-    if count >= tables.MOST_LISTED or len(name) > tables.LONGEST:
+    if count >= tables.MOST_LISTED or len(name) > tables.LONGEST_NAME:
         return None
     last = name.upper().removeprefix(prefix)
     likely = tables.most_like(ALIASES.get(last, last), [it[len(prefix):] for it in known])
@@ -83,7 +83,7 @@ def _words(top: Object) -> Iterator[tuple[str, str, object]]:
 
 def of_words(top: Object) -> Iterator[Finding]:
     """Unknown actions and operators, for which scf refuses a profile."""
-    known = {"action": ACTIONS, "operator": tuple(HOLDS)}
+    known = {"action": OCI_ACTIONS, "operator": tuple(HOLDS)}
     wrong = (it for it in _words(top) if isinstance(it[2], str) and it[2] not in known[it[1]])
     for at, (where, kind, word) in enumerate(wrong):
         near = _near(str(word), "SCMP_ACT_" if kind == "action" else "SCMP_CMP_", known[kind], at)
@@ -102,15 +102,16 @@ def of_flags(top: Object) -> Iterator[Finding]:
 
 
 def of_architecture_names(top: Object) -> Iterator[Finding]:
-    """Architectures that the OCI specification doesn't have, and a list with x86-64 and without x32."""
+    """Architectures that the OCI specification doesn't have, and a list with x86-64 and without x32, which matters
+    unless the default denies."""
     architectures = top.get("architectures", [])
     unknown = (it for it in dict.fromkeys(architectures) if it not in ARCHITECTURES)
     for at, name in enumerate(unknown):
         near = _near(name, PREFIX, ARCHITECTURES, at)
         yield Finding("unknown-architecture", f"architectures: the OCI specification has no {output.cut(name)}, and "
                       f"runc and crun refuse what they don't know{_nearest(near)}", {"name": name, "nearest": near})
-    if NATIVE in architectures and X32 not in architectures:
-        default = top["defaultAction"]
+    default = top["defaultAction"]
+    if NATIVE in architectures and X32 not in architectures and default in (*ALLOWING, *SUPERVISORS):
         then = f"the default, {default}, allows them all" if default in ALLOWING else \
             f"the default, {default}, answers them all"
         yield Finding("x32", f"architectures has no {X32}: x32 syscalls are those of x86-64 with 0x40000000 added. "

@@ -11,6 +11,7 @@ from . import architectures, client, regions
 from .answers import ALLOWED, DENIED, KILL_PROCESS, Answer
 from .architectures import I386, JUDGED, X32, Architecture
 from .calls import NO_CALL, Call, number_text
+from .explanation import join_names
 from .filters import split
 from .questions import IS_ALLOWED, IS_DENIED, Asker
 from .regions import Numbers, Region
@@ -18,29 +19,31 @@ from .tables import Table
 from .values import dataclass
 
 ABIS = (JUDGED[I386], JUDGED[X32])
-OTHERS = "other ABIs: the kernel has no others"
-NONE = "other ABIs: every i386 and x32 syscall is denied; the kernel has no others"
+NO_OTHER_ABIS = "other ABIs: the kernel has no others"
+EVERY_SYSCALL_DENIED = "other ABIs: every {} syscall is denied; the kernel has no others"
 
 
-def _last(one: Architecture) -> int:
+def _last(architecture: Architecture) -> int:
     """The last number of a record that a kernel makes of a syscall."""
-    return min(one.last, NO_CALL - 1)
+    return min(architecture.last, NO_CALL - 1)
 
 
-def filter_of(one: Architecture) -> bytes:
+def filter_of(architecture: Architecture) -> bytes:
     """The filter that allows only the syscalls of an architecture."""
-    return split(IS_ALLOWED.filter, [(one.number, one.first, _last(one))], KILL_PROCESS.word, True)
+    return split(IS_ALLOWED.filter, [(architecture.number, architecture.first, _last(architecture))], KILL_PROCESS.word,
+                 True)
 
 
 def denial_filters(names: Iterable[str]) -> list[bytes]:
-    """What denies every record of the architectures with these OCI names, and allows all others: a filter, or none."""
-    bounds = [architectures.bounds_of(it) for it in dict.fromkeys(names) if it in architectures.NUMBERS]
+    """A filter that denies every record of the architectures with these OCI names and allows all others, or none."""
+    bounds = [architectures.bounds_of(name) for name in dict.fromkeys(names) if name in architectures.NUMBERS]
     return [split(IS_ALLOWED.filter, bounds, KILL_PROCESS.word, False)] if bounds else []
 
 
 @dataclass(frozen=True)
-class Known:
-    """What is known of an ABI's syscalls: that every one is denied, or one that isn't, with its answer; or neither."""
+class AbiAccess:
+    """An ABI's access: that each of its syscalls is denied, or one that isn't, with its answer; or that neither is
+    known."""
 
     abi: Architecture
     not_denied: tuple[Call, Answer] | None = None
@@ -57,8 +60,8 @@ class Known:
 
     def describe(self) -> str:
         if self.not_denied is None:
-            said = "every syscall is denied" if self.is_decided else "undecided whether any syscall is allowed"
-            return f"{self.abi.name}: {said}"
+            access = "every syscall is denied" if self.is_decided else "undecided whether any syscall is allowed"
+            return f"{self.abi.name}: {access}"
         call, answer = self.not_denied
         which = "some syscalls are allowed" if answer.disposition == ALLOWED else "not every syscall is denied"
         text = number_text(call.number, call.architecture)
@@ -71,53 +74,53 @@ class Known:
         return {"kind": self.abi.name, "is_decided": self.is_decided, "not_denied": shown}
 
 
-def _asked(asker: Asker) -> Known:
-    """What a comparison says of the syscalls of an ABI."""
-    one = asker.architecture
-    verdict = asker.of_numbers(IS_DENIED, 0, _last(one) - one.first)
+def _asked(asker: Asker) -> AbiAccess:
+    """The access of an ABI, by a comparison."""
+    architecture = asker.architecture
+    verdict = asker.of_numbers(IS_DENIED, 0, _last(architecture) - architecture.first)
     if verdict.call is not None and verdict.filters is not None:
-        return Known(one, (verdict.call, verdict.filters))
-    return Known(one, is_decided=verdict.holds)
+        return AbiAccess(architecture, (verdict.call, verdict.filters))
+    return AbiAccess(architecture, is_decided=verdict.holds)
 
 
-def of_abi(filters: Sequence[bytes], found: Sequence[Region] | None, one: Architecture) -> Known:
+def of_abi(filters: Sequence[bytes], filter_regions: Sequence[Region] | None, architecture: Architecture) -> AbiAccess:
     """Whether filters with these regions, or None if they are unfinished, allow a syscall of an ABI."""
-    numbers = Numbers(found or (), one, _last(one))
-    if found is None or numbers.ranges is None:
-        return Known(one, is_decided=False)
+    numbers = Numbers(filter_regions, architecture, _last(architecture))
+    if filter_regions is None or numbers.ranges is None:
+        return AbiAccess(architecture, is_decided=False)
     for low, _, here in numbers.ranges:
         for region in here:
             if region.is_decided and region.answer.disposition != DENIED:
-                return Known(one, (region.call_of(low, one.number), region.answer))
-    are_decided = all(it.answer is not None and it.answer.denies for _, _, here in numbers.ranges for it in here)
-    return Known(one) if are_decided else _asked(Asker(filters, one))
+                return AbiAccess(architecture, (region.call_of(low, architecture.number), region.answer))
+    are_decided = all(region.answer is not None and region.answer.denies for _, _, here in numbers.ranges
+                      for region in here)
+    return AbiAccess(architecture) if are_decided else _asked(Asker(filters, architecture))
 
 
-def of_regions(filters: Sequence[bytes], found: Sequence[Region] | None, judged: Collection[str] = ()) -> list[Known]:
-    """The same of each other ABI of an x86-64 kernel that isn't judged otherwise."""
-    return [of_abi(filters, found, one) for one in ABIS if one.oci not in judged]
+def of_regions(filters: Sequence[bytes], filter_regions: Sequence[Region] | None,
+               judged: Collection[str] = ()) -> list[AbiAccess]:
+    """The access of each other ABI of an x86-64 kernel, but for those that are judged otherwise."""
+    return [of_abi(filters, filter_regions, architecture) for architecture in ABIS if architecture.oci not in judged]
 
 
-def known_of(filters: Sequence[bytes], judged: Collection[str] = ()) -> list[Known]:
-    """The same of filters, oldest first; nothing if scf refuses them."""
-    if all(one.oci in judged for one in ABIS):
+def known_of(filters: Sequence[bytes], judged: Collection[str] = ()) -> list[AbiAccess]:
+    """The access that filters, oldest first, give other ABIs; none if scf refuses the filters."""
+    if all(architecture.oci in judged for architecture in ABIS):
         return []
     try:
         return of_regions(filters, regions.of_filters(filters), judged)
-    except regions.Unfinished:
-        return of_regions(filters, None, judged)
     except client.Refusal:
         return []
 
 
-def are_none(found: Sequence[Known]) -> bool:
+def are_none(accesses: Sequence[AbiAccess]) -> bool:
     """Whether it is proved that every foreign syscall is denied."""
-    return all(one.are_denied for one in found)
+    return all(access.are_denied for access in accesses)
 
 
-def describe(found: Sequence[Known], profile_names: Sequence[str] = ()) -> list[str]:
-    """A line for each ABI, given a profile that names these other architectures."""
-    if are_none(found):
-        return [NONE]
+def describe(accesses: Sequence[AbiAccess], profile_names: Sequence[str] = ()) -> list[str]:
+    """A line for each ABI, or one for all that are denied, given a profile that names these other architectures."""
+    if are_none(accesses):
+        return [EVERY_SYSCALL_DENIED.format(join_names([access.abi.name for access in accesses]))]
     named = {name: f"; the profile also names {name}, which is judged without --native" for name in profile_names}
-    return [*(one.describe() + named.get(one.abi.oci, "") for one in found), OTHERS]
+    return [*(access.describe() + named.get(access.abi.oci, "") for access in accesses), NO_OTHER_ABIS]

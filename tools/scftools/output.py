@@ -21,9 +21,9 @@ CONTROL = Pattern("[\x00-\x1f\x7f-\x9f\u061c\u200e\u200f\u2028-\u202e\u2066-\u20
 def _of_surrogates(error: UnicodeError) -> tuple[bytes, int]:
     """The byte that a surrogate escape stands for, or the three bytes of any other surrogate."""
     assert isinstance(error, UnicodeEncodeError)
-    found = error.object[error.start:error.end]
-    return b"".join(bytes([ord(it) - 0xDC00]) if "\udc80" <= it <= "\udcff" else it.encode("utf-8", "surrogatepass")
-                    for it in found), error.end
+    surrogates = error.object[error.start:error.end]
+    return b"".join(bytes([ord(letter) - 0xDC00]) if "\udc80" <= letter <= "\udcff" else
+                    letter.encode("utf-8", "surrogatepass") for letter in surrogates), error.end
 
 
 codecs.register_error("surrogates", _of_surrogates)
@@ -32,7 +32,7 @@ codecs.register_error("surrogates", _of_surrogates)
 def escaped(text: str | bytes) -> str:
     """The text as one line: control characters and bytes that aren't UTF-8 become `\\xNN`."""
     data = text.encode("utf-8", "surrogates") if isinstance(text, str) else text
-    return CONTROL.sub(lambda it: "".join(f"\\x{byte:02x}" for byte in it[0].encode()),
+    return CONTROL.sub(lambda match: "".join(f"\\x{byte:02x}" for byte in match[0].encode()),
                        data.decode("utf-8", "backslashreplace"))
 
 
@@ -48,19 +48,19 @@ def some(texts: Sequence[str], most: int) -> str:
 
 def runs(numbers: Iterable[int]) -> list[tuple[int, int]]:
     """Numbers by runs of neighbours, each its first and its last one."""
-    found: list[tuple[int, int]] = []
+    spans: list[tuple[int, int]] = []
     for number in numbers:
-        if found and number == found[-1][1] + 1:
-            found[-1] = found[-1][0], number
+        if spans and number == spans[-1][1] + 1:
+            spans[-1] = spans[-1][0], number
         else:
-            found.append((number, number))
-    return found
+            spans.append((number, number))
+    return spans
 
 
 # Verdicts, and how other lines begin that say as much: in green, in red and in yellow (ECMA-48), where there is colour.
-VERDICTS = {"same": 32, "no more": 32, "no less": 32, "differs": 31, "more": 31, "less": 31, "unfinished": 33,
-            "unconfined by configuration": 31, "unconfined though configured": 31}
-BEGINNINGS = {"accepted ": 32, "fault ": 31, "undecided at ": 33, "undetermined: ": 33}
+VERDICT_COLOURS = {"same": 32, "no more": 32, "no less": 32, "differs": 31, "more": 31, "less": 31, "unfinished": 33,
+                   "unconfined by configuration": 31, "unconfined though configured": 31}
+BEGINNING_COLOURS = {"accepted ": 32, "fault ": 31, "undecided at ": 33, "undetermined: ": 33}
 # `always`, `never`, or `auto`, which colours at a terminal unless NO_COLOR is set (no-color.org).
 color = "auto"
 
@@ -70,10 +70,11 @@ def _colored(line: str) -> str:
     is_auto = color == "auto" and sys.stdout is not None and sys.stdout.isatty() and not os.environ.get("NO_COLOR")
     if not is_auto and color != "always":
         return line
-    found = VERDICTS.get(line) or next((it for word, it in BEGINNINGS.items() if line.startswith(word)), None)
-    if found is None and not line.startswith("# "):
+    colours = (colour for beginning, colour in BEGINNING_COLOURS.items() if line.startswith(beginning))
+    colour = VERDICT_COLOURS.get(line) or next(colours, None)
+    if colour is None and not line.startswith("# "):
         return line
-    return f"\x1b[{f'1;{found}' if found else 2}m{line}\x1b[0m"
+    return f"\x1b[{f'1;{colour}' if colour else 2}m{line}\x1b[0m"
 
 
 class Failed(OSError):
@@ -126,14 +127,14 @@ def flush() -> None:
 
 
 # The version of docs/JSON.md: members may be added to it; one that goes or changes its meaning makes another version.
-SCHEMA = 2
+SCHEMA_VERSION = 2
 
 
 def put_json(value: dict[str, object]) -> None:
     """Prints an object as a line of JSON, in which control characters and those beyond ASCII are escaped."""
     import json  # pylint: disable=import-outside-toplevel
 
-    put(json.dumps({"schema": SCHEMA, **value}).replace("\x7f", "\\u007f") + "\n")
+    put(json.dumps({"schema": SCHEMA_VERSION, **value}).replace("\x7f", "\\u007f") + "\n")
 
 
 def replace_file(path: str, text: str) -> None:

@@ -59,8 +59,8 @@ def _writers(file: int, status: os.stat_result) -> set[int]:
 
 def _refuse_users_mount(path: str, file: int) -> None:
     """Refuses what is in a file system in user space of a user, which may answer anything, or never. It isn't asked."""
-    found = MOUNT.search(contents(f"/proc/self/fdinfo/{file}"))
-    start = b"%s " % (found[1] if found else b"")
+    match = MOUNT.search(contents(f"/proc/self/fdinfo/{file}"))
+    start = b"%s " % (match[1] if match else b"")
     # (whole: users may mount so much that a part of it wouldn't tell)
     with open("/proc/self/mountinfo", "rb") as mounts:
         of_user = FUSE.search(next((line for line in mounts if line.startswith(start)), b""))
@@ -69,7 +69,7 @@ def _refuse_users_mount(path: str, file: int) -> None:
 
 
 def _opened(path: str) -> OwnedFile:
-    """What stands at an absolute path. Links are followed where only root could have made them."""
+    """A file or folder at an absolute path. Links are followed where only root could have made them."""
     users, parts, links = frozenset(), path.split("/")[::-1], 0
     files = [os.open("/", BY_PATH)]
     try:
@@ -97,7 +97,7 @@ def _opened(path: str) -> OwnedFile:
 
 
 def opened(path: str) -> OwnedFile:
-    """The same; an UnreadableFile where it can't be opened."""
+    """A file descriptor of a path; raises UnreadableFile if it can't be opened."""
     try:
         if not path.startswith("/"):
             raise UnreadableFile(f"'{path}' isn't an absolute path")
@@ -138,7 +138,7 @@ def names_in(path: str, most_of_users: int) -> tuple[list[str], bool]:
         return [], True
     try:
         with os.scandir(f"/proc/self/fd/{place.file}") as entries:
-            names = [it.name for it in (islice(entries, most_of_users + 1) if place.users else entries)]
+            names = [entry.name for entry in (islice(entries, most_of_users + 1) if place.users else entries)]
     except OSError as error:
         raise UnreadableFile(f"'{path}' can't be read: {error.strerror}") from error
     finally:

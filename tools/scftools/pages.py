@@ -6,16 +6,18 @@ text is escaped here; what is made of other pieces is a `Markup`.
 from __future__ import annotations
 
 import base64
+import functools
 import hashlib
 import html
 import time
+from collections import Counter
 from collections.abc import Iterable, Iterator, Sequence
 
 from . import client, output, surface_output, surfaces, watchlist
 from .answers import ALLOWED, DELEGATED, DENIED
 from .calls import Call
 from .compare import Comparison
-from .stack_surfaces import Block
+from .stack_surfaces import StackSurface
 from .surface_output import Groups
 from .surfaces import DEPENDS, Surface
 from .tables import Table
@@ -72,7 +74,12 @@ class Markup(str):
 
 def escaped(text: object) -> Markup:
     """Text as HTML, in which control characters are shown as their bytes; what is HTML already stays."""
-    return text if isinstance(text, Markup) else Markup(html.escape(output.escaped(str(text))))
+    return text if isinstance(text, Markup) else _escaped(str(text))
+
+
+@functools.lru_cache(1 << 12)
+def _escaped(text: str) -> Markup:
+    return Markup(html.escape(output.escaped(text)))
 
 
 def joined(pieces: Iterable[object], between: str = "") -> Markup:
@@ -161,14 +168,14 @@ class Named:
 
 
 def _cell(rows: list[surfaces.Row]) -> str:
-    said = {it.said for it in rows}
-    if said == {DENIED}:
+    counts = Counter(row.said for row in rows)
+    if set(counts) == {DENIED}:
         return ALL_DENIED
-    if said == {ALLOWED}:
+    if set(counts) == {ALLOWED}:
         return ALL_ALLOWED
-    counts = [sum(1 for it in rows if it.said == one) for one in (ALLOWED, DEPENDS, DELEGATED)]
-    shown = [f"{count} {one}" for count, one in zip(counts, (ALLOWED, DEPENDS, DELEGATED)) if count]
-    unknown = len(rows) - sum(counts) - sum(1 for it in rows if it.said == DENIED)
+    shown = [f"{counts[disposition]} {disposition}" for disposition in (ALLOWED, DEPENDS, DELEGATED)
+             if counts[disposition]]
+    unknown = len(rows) - sum(counts[disposition] for disposition in (ALLOWED, DEPENDS, DELEGATED, DENIED))
     return f"{SOME}: {', '.join(shown + [f'{unknown} not known'] * bool(unknown)) or 'denied'} of {len(rows)}"
 
 
@@ -214,16 +221,16 @@ def dangerous(found: Sequence[Named], table_of: Table) -> Iterator[Markup]:
     yield table(["syscall", *(it.name for it in found), "why"], lines, "scroll")
 
 
-def of_blocks(blocks: Sequence[Block]) -> Iterator[Named]:
+def of_blocks(blocks: Sequence[StackSurface]) -> Iterator[Named]:
     """The stacks of `scf surface`, and those that they are compared with."""
     for at, block in enumerate(block for block in blocks if block.filters):
         told = ", ".join(it.name for it in block.filters)
         yield Named(f"stack {at}", block.surface, told)
         if block.beside is not None:
-            yield Named(f"beside {at}", block.beside.other, "the filters beside it")
+            yield Named(f"beside {at}", block.beside.sides[1], "the filters beside it")
 
 
-def of_surfaces(blocks: Sequence[Block], table_of: Table) -> str:
+def of_surfaces(blocks: Sequence[StackSurface], table_of: Table) -> str:
     """The page of blocks."""
     groups, found = Groups(), list(of_blocks(blocks))
     return document("What these filters allow", tag("h1", "What these filters allow"), _made_by(),

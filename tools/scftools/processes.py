@@ -37,7 +37,7 @@ NEEDS = (f"This needs CAP_SYS_ADMIN and CAP_SYS_PTRACE, which root has outside o
 
 @dataclass
 class Stack:
-    """What some threads have in common: their filters, oldest first, as bytes."""
+    """The filters that some threads have in common, oldest first, as bytes."""
 
     filters: tuple[bytes, ...]
     # Whether they are in the strict mode of seccomp(2), which isn't a filter.
@@ -53,9 +53,14 @@ class Stack:
 
     def as_json(self, names: dict[int, bytes]) -> dict[str, object]:
         """The lengths of its filters, and the threads that have it, given the names of processes."""
-        return {"filters": [one.count for one in self.named],
+        return {"filters": [filter_.count for filter_ in self.named],
                 "processes": [{"process": process, "name": output.escaped(names[process]), "threads": threads}
                               for process, threads in self.threads.items()]}
+
+    @property
+    def is_unconfined(self) -> bool:
+        """Whether the threads have neither a filter nor the strict mode."""
+        return not self.filters and not self.is_strict
 
     @property
     def description(self) -> str:
@@ -64,13 +69,13 @@ class Stack:
             return "no filter, but seccomp's strict mode"
         if not self.filters:
             return "no filter"
-        sizes = ", ".join(str(one.count) for one in self.named)
+        sizes = ", ".join(str(filter_.count) for filter_ in self.named)
         return f"{len(self.filters)} filter{'s' * (len(self.filters) > 1)}, of {sizes} instructions"
 
 
 @dataclass
 class Inspection:
-    """What was read while all threads were stopped."""
+    """The stacks of threads, read while all of these were stopped."""
 
     # The distinct stacks, in the order of their first threads.
     stacks: list[Stack]
@@ -96,12 +101,12 @@ def threads_text(threads: Sequence[int]) -> str:
     return f"thread{'s' * (len(threads) > 1)} {shown}"
 
 
-def found_in(kernel: Kernel, hold: Hold) -> Inspection:
-    """What the stopped threads have. An equal filter of another thread is kept once."""
+def inspection_of(kernel: Kernel, hold: Hold) -> Inspection:
+    """The stacks of the stopped threads. An equal filter of another thread is kept once."""
     stacks: dict[tuple[tuple[bytes, ...], bool], Stack] = {}
     names: dict[int, bytes] = {}
     asked_again = []
-    for thread in sorted(hold.stopped, key=lambda it: (hold.process_of[it], it)):
+    for thread in sorted(hold.stopped, key=lambda number: (hold.process_of[number], number)):
         process = hold.process_of[thread]
         key = stack_of(kernel, thread, process)
         stack = stacks.setdefault(key, Stack(*key))
@@ -125,7 +130,7 @@ def read_threads(kernel: Kernel, listed: Callable[[], dict[int, int]], patience:
         while True:
             hold.stop_all()
             try:
-                return found_in(kernel, hold)
+                return inspection_of(kernel, hold)
             except Ended as ended:
                 hold.drop(ended.args[0])
 
@@ -155,15 +160,15 @@ def look_at_process(kernel: Kernel, process: int, thread: int | None = None, pat
 
     def listed() -> dict[int, int]:
         threads = kernel.threads_of(process)
-        return {it: process for it in threads if thread in (None, it)}
+        return {number: process for number in threads if thread in (None, number)}
 
     if thread is not None and thread not in kernel.threads_of(process):
         raise Unreadable(f"process {process} has no thread {thread}")
-    found = look(kernel, listed, patience, is_forced)
-    if not found.stacks:
+    inspection = look(kernel, listed, patience, is_forced)
+    if not inspection.stacks:
         who = called(process if thread is None else thread, process)
-        raise Unreadable(f"{who} {found.passed_over.get(process, 'has ended')}")
-    return found
+        raise Unreadable(f"{who} {inspection.passed_over.get(process, 'has ended')}")
+    return inspection
 
 
 def look_at_container(kernel: Kernel, container: Container, patience: float = PATIENCE,
@@ -173,10 +178,10 @@ def look_at_container(kernel: Kernel, container: Container, patience: float = PA
     def listed() -> dict[int, int]:
         return {thread: process for process in container.processes() for thread in kernel.threads_of(process)}
 
-    found = look(kernel, listed, patience, is_forced)
-    if not found.stacks:
+    inspection = look(kernel, listed, patience, is_forced)
+    if not inspection.stacks:
         raise Unreadable("the processes of the container have ended")
-    return found
+    return inspection
 
 
 def number_in(text: str, parser: Parser) -> int:
@@ -187,13 +192,13 @@ def number_in(text: str, parser: Parser) -> int:
         parser.error("'0' isn't a process ID: it is what `podman inspect` prints of a container that doesn't run, and "
                      "systemctl of a unit")
     if not (text.isascii() and text.isdigit()) or len(text) > 10 or not 0 < int(text) < 2**31:
-        parser.error(f"'{text}' isn't a process ID: of a container `podman inspect -f '{{{{.State.Pid}}}}' NAME` "
-                     "prints it, and `docker inspect` so, of a unit `systemctl show -p MainPID --value NAME`")
+        parser.error(f"'{text}' isn't a process ID: for a container `podman inspect -f '{{{{.State.Pid}}}}' NAME` "
+                     "prints it, as docker does, for a unit `systemctl show -p MainPID --value NAME`")
     return int(text)
 
 
 def read_or_end(read: Callable[[], Any], has_force: bool = False, is_json: bool = False) -> Any:
-    """What is read; ends the tool where that can't be, with an object that says so where one is wanted, or where a
+    """The result of `read`; ends the tool where that fails, with an object that says so where one is wanted, or where a
     signal came that ends it."""
     try:
         return read()

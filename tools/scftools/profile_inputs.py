@@ -1,6 +1,6 @@
 """Profiles as commands take them: a profile or a whole config.json, Kubernetes' SeccompProfile objects (of the Security
-Profiles Operator), as JSON or YAML, whose spec is one, and with --caps an engine's own. What is known to be something
-else is refused, and named."""
+Profiles Operator), as JSON or YAML, whose spec is one, lists of other sandboxes, and with --caps an engine's own. What
+is known to be something else is refused, and named."""
 from __future__ import annotations
 
 import os
@@ -10,19 +10,25 @@ from collections.abc import Sequence
 
 from . import engines, filters, inputs, output, profiles, program, tables
 from .engines import Refused
+from .kubernetes import KIND
 from .profiles import DerivedProfile, Origin
-from .values import Any, Pattern, dataclass, field
+from .tables import Table, Tables
+from .values import Any, Pattern, dataclass, field, replace
+
+TYPE_CHECKING = False
+if TYPE_CHECKING:
+    from .sandboxes import Sandbox
 
 # What `podman inspect`, `docker inspect` and `crictl inspect` print, by members that they have.
 OF_PODMAN, OF_DOCKER, OF_CRI = b'"OCIConfigPath"', b'"HostConfig"', b'"runtimeSpec"'
 TASK = "/run/containerd/io.containerd.runtime.v2.task/moby/{}/config.json"
 ID = Pattern(rb'"Id":\s*"([0-9a-f]{64})"')
-KIND = "SeccompProfile"
 # The most bytes of YAML, which takes a Python reader four seconds, and 350 times its size; real ones have a tenth.
 LONGEST_YAML = 1 << 18
 # Where distributions put PyYAML. The tools don't look where others than root may write.
 FOLDERS = ("/usr/lib/python3/dist-packages",
-           *(f"/usr/{it}/python{sys.version_info[0]}.{sys.version_info[1]}/site-packages" for it in ("lib", "lib64")))
+           *(f"/usr/{folder}/python{sys.version_info[0]}.{sys.version_info[1]}/site-packages"
+             for folder in ("lib", "lib64")))
 NO_YAML = ("it is YAML, and PyYAML isn't installed (Debian's python3-yaml): convert it to JSON, as `kubectl get -o "
            "json` does")
 # Members of a SeccompProfile's spec that aren't a profile's; and how similar a member must be to be the nearest.
@@ -79,7 +85,7 @@ def _value(node: Any, seen: set[int]) -> Any:
     if node.id == "scalar":
         return _scalar(node)
     if node.id == "sequence":
-        return [_value(it, seen) for it in node.value]
+        return [_value(item, seen) for item in node.value]
     pairs = [(_value(key, seen), _value(value, seen)) for key, value in node.value]
     if not all(isinstance(key, str) for key, _ in pairs):
         raise Refused(f"line {node.start_mark.line + 1} of the YAML has a member whose name isn't a string")
@@ -139,6 +145,10 @@ class ProfileInput:
     origins: Sequence[Origin] | None = None
     stub: dict[str, int] = field(default_factory=dict)
 
+    def judged(self, table: Table, is_native: bool) -> Tables:
+        """The tables that it is judged by, and how it is read."""
+        return replace(tables.of_profile(self.data, table, is_native), stub=self.stub)
+
 
 def _refuse_others(data: bytes, label: str) -> None:
     """Refuses what isn't a profile, where that is known."""
@@ -156,22 +166,45 @@ def _refuse_others(data: bytes, label: str) -> None:
     if OF_PODMAN in data:
         raise program.ToolError(f"{label} is what `podman inspect` prints: take the file that `podman inspect -f "
                                 "'{{.OCIConfigPath}}' NAME` names")
-    found = ID.search(data)
-    name = found[1].decode() if found else "ID"
+    match = ID.search(data)
+    name = match[1].decode() if match else "ID"
     raise program.ToolError(f"{label} is what `docker inspect` prints: take {TASK.format(name)}, as long as the "
                             f"container runs")
 
 
 def looks_like_profile(data: bytes) -> bool:
-    """Whether an input is meant to be a profile, and not a filter: an object, which no C array is, or YAML."""
+    """Whether an input is meant to be a profile, and not a filter: an object, which no C array is, YAML, or a sandbox's
+    list."""
     is_object = data.lstrip(b" \t\r\n")[:1] == b"{" and not re.match(rb"\s*\{\s*(?:[{(0-9]|BPF_)", data)
-    return is_object or is_yaml(data)
+    return is_object or is_yaml(data) or _sandbox_of(data) is not None
+
+
+def _sandbox_of(data: bytes) -> Sandbox | None:
+    """The sandbox whose list a text is; none of JSON and of a raw filter."""
+    if data.lstrip(b" \t\r\n")[:1] in (b"{", b"[") or b"\0" in data:
+        return None
+    from . import sandboxes  # pylint: disable=import-outside-toplevel
+
+    return sandboxes.sandbox_of(data)
+
+
+def _of_list(data: bytes, sandbox: Sandbox, label: str) -> DerivedProfile:
+    """The profile of a sandbox's list."""
+    made, notes = sandbox.profile_of(data, label)
+    program.say(f"{label} is {sandbox.kind}: its rules are the profile", *engines.at_most(notes))
+    found = DerivedProfile(made)
+    found.has_comments = True
+    return found
 
 
 def plain(data: bytes, name: str) -> bytes:
-    """A profile as runtimes read it: of a SeccompProfile its spec, all else as it is. Refuses what isn't one."""
+    """A profile as runtimes read it: of a SeccompProfile its spec, of a sandbox's list its rules, all else as it is.
+    Refuses what isn't one."""
     label = inputs.label(name)
     _refuse_others(data, label)
+    sandbox = _sandbox_of(data)
+    if sandbox is not None:
+        return _of_list(data, sandbox, label)
     try:
         spec = spec_of(data)
     except engines.Refused as why:
@@ -184,20 +217,23 @@ def plain(data: bytes, name: str) -> bytes:
     return made
 
 
-def _resolved(data: bytes, name: str, caps: str) -> ProfileInput:
-    """An engine's profile resolved for a container with these capabilities, on this kernel."""
+def _resolved(data: bytes, name: str, caps: str, machine: str | None) -> ProfileInput:
+    """An engine's profile resolved for a container with these capabilities, on this kernel, and by default on this
+    machine."""
     try:
         capabilities = engines.capabilities_of(caps)
     except ValueError as why:
         raise program.ToolError(str(why)) from why
     try:
-        setting = engines.Setting(capabilities, engines.kernel_of(os.uname().release))
-        found, origins = engines.resolve(engines.read(data), setting, lambda _: None, True)
-        given = ProfileInput(DerivedProfile(engines.to_bytes(found)), origins)
+        setting = engines.Setting(capabilities, engines.kernel_of(os.uname().release),
+                                  machine=machine or engines.machine_here())
+        resolved, origins = engines.resolve(engines.read(data), setting, lambda _: None, True)
+        given = ProfileInput(DerivedProfile(engines.to_bytes(resolved)), origins)
     except engines.Refused as why:
         raise program.ToolError(f"{inputs.label(name)}: {why}", program.NEGATIVE) from why
-    program.say(f"{inputs.label(name)} is resolved as by resolve-profile --keep-first --caps {caps}, "
-                               f"which says what is left out; entries that are left: {len(found['syscalls'])}")
+    more = "" if machine is None else f" --machine {machine}"
+    program.say(f"{inputs.label(name)} is resolved as by resolve-profile --keep-first --caps {caps}{more}, which says "
+                f"what is left out; entries that remain: {len(resolved['syscalls'])}")
     return given
 
 
@@ -206,44 +242,45 @@ def read_engines(name: str) -> bytes:
     return plain(inputs.read_whole(name, "engine's profile"), name)
 
 
-def read(name: str, caps: str | None = None, is_runtimes: bool = False, is_strict: bool = False) -> ProfileInput:
+def read(name: str, caps: str | None = None, is_runtimes: bool = False, is_strict: bool = False,
+         machine: str | None = None) -> ProfileInput:
     """The profile in a file, a pipe or standard input."""
     data = inputs.read(name, "profile") if caps is None else inputs.read_whole(name, "engine's profile")
-    return profile_in(data, name, caps, is_runtimes, is_strict)
+    return profile_in(data, name, caps, is_runtimes, is_strict, machine)
 
 
 def tell_unread(data: bytes, path: str, is_strict: bool) -> None:
     """Says which members of a profile aren't read, which may be misspelt; or refuses it."""
     of_spec = OF_SPEC if isinstance(data, DerivedProfile) else ()
-    unread = (it for it in profiles.unread_members(data) if it[1] not in of_spec)
-    where, name, known = next(unread, ("", "", ()))
+    unread = (member for member in profiles.unread_members(data) if member[1] not in of_spec)
+    where, name, known_names = next(unread, ("", "", ()))
     if not where:
         return
-    near = tables.most_like(name.lower(), {it.lower(): it for it in known}, LIKENESS)
-    nearest = next((f"; the nearest is '{it}'" for it in known if it.lower() == near), "")
+    near = tables.most_like(name.lower(), {known_name.lower(): known_name for known_name in known_names}, LIKENESS)
+    nearest = next((f"; the nearest is '{known_name}'" for known_name in known_names if known_name.lower() == near), "")
     more = sum(1 for _ in unread)
     others = f", and of {more} more" if more else ""
-    said = f"{inputs.label(path)}: nothing reads the member '{output.cut(name)}' of {where}{others}{nearest}"
+    remark = f"{inputs.label(path)}: nothing reads the member '{output.cut(name)}' of {where}{others}{nearest}"
     if is_strict:
-        raise program.ToolError(said, program.NEGATIVE)
-    program.say(said)
+        raise program.ToolError(remark, program.NEGATIVE)
+    program.say(remark)
 
 
 def profile_in(data: bytes, name: str, caps: str | None = None, is_runtimes: bool = False,
-               is_strict: bool = False) -> ProfileInput:
-    """The profile in what was read of an input, with `caps` an engine's. Refuses one with members that only podman
-    reads otherwise than scf, or, if a runtime is said to apply it, that any program in Go does; and if strict, with
-    members that nothing reads. scf itself refuses the other members of engines."""
+               is_strict: bool = False, machine: str | None = None) -> ProfileInput:
+    """The profile in what was read of an input, with `caps` an engine's, for a machine. Refuses one with members that
+    only podman reads otherwise than scf, or, if a runtime is said to apply it, that any program in Go does; and if
+    strict, with members that nothing reads. scf itself refuses the other members of engines."""
     if caps is None and len(data) > inputs.LIMITS["profile"]:
         # scf says so
         return ProfileInput(data)
     data = plain(data, name)
     if caps is not None:
-        return _resolved(data, name, caps)
-    found = profiles.errno_by_name(data)
-    if found is not None:
+        return _resolved(data, name, caps, machine)
+    remark = profiles.errno_by_name(data)
+    if remark is not None:
         hint = "--runtime podman takes it" if is_runtimes else "scf resolve-profile resolves it"
-        raise program.ToolError(f"{found}, which only podman reads: {hint}", program.NEGATIVE)
+        raise program.ToolError(f"{remark}, which only podman reads: {hint}", program.NEGATIVE)
     misread = profiles.misread_members(data) if is_runtimes else []
     if misread:
         raise program.ToolError(misread[0].describe(), program.NEGATIVE)

@@ -1,6 +1,6 @@
-"""What the tools read of a profile themselves: its default, its names, an entry by its index, the members that a
-runtime reads as others, and where JSON is malformed. Only scf judges the profile; if something can't be read here, the
-tools say nothing about it.
+"""The parts of a profile that the tools read themselves: its default, its names, an entry by its index, the members
+that a runtime reads as others, and where JSON is malformed. Only scf judges the profile; if something can't be read
+here, the tools say nothing about it.
 """
 from __future__ import annotations
 
@@ -12,7 +12,7 @@ from collections.abc import Iterator, Sequence
 from . import json_places
 from .values import Any, Pattern, dataclass
 
-DEEPEST = 127
+DEEPEST_JSON = 127
 # Half of a character, which stands alone.
 SURROGATE = Pattern("[\ud800-\udfff]")
 # A member of YAML.
@@ -21,39 +21,70 @@ YAML = Pattern(r"^[A-Za-z_][A-Za-z0-9_.-]{0,80}:(?:\s|\Z)", re.M)
 LONGEST_NUMBER = 40
 # The default actions that allow what no rule names.
 ALLOWING = ("SCMP_ACT_ALLOW", "SCMP_ACT_LOG")
-ACTIONS = tuple(f"SCMP_ACT_{it}" for it in
-                "ALLOW LOG ERRNO TRACE TRAP NOTIFY KILL KILL_THREAD KILL_PROCESS".split())
+OCI_ACTIONS = tuple(f"SCMP_ACT_{action}" for action in
+                    "ALLOW LOG ERRNO TRACE TRAP NOTIFY KILL KILL_THREAD KILL_PROCESS".split())
+# The actions that take an errno.
+WITH_ERRNO = ("SCMP_ACT_ERRNO", "SCMP_ACT_TRACE")
 # What each comparison tests of an argument and its value; for masks the value is the mask.
 HOLDS = {
-    "SCMP_CMP_NE": lambda it, value, two: it != value, "SCMP_CMP_LT": lambda it, value, two: it < value,
-    "SCMP_CMP_LE": lambda it, value, two: it <= value, "SCMP_CMP_EQ": lambda it, value, two: it == value,
-    "SCMP_CMP_GE": lambda it, value, two: it >= value, "SCMP_CMP_GT": lambda it, value, two: it > value,
-    "SCMP_CMP_MASKED_EQ": lambda it, value, two: it & value == two & value,
+    "SCMP_CMP_NE": lambda argument, value, two: argument != value,
+    "SCMP_CMP_LT": lambda argument, value, two: argument < value,
+    "SCMP_CMP_LE": lambda argument, value, two: argument <= value,
+    "SCMP_CMP_EQ": lambda argument, value, two: argument == value,
+    "SCMP_CMP_GE": lambda argument, value, two: argument >= value,
+    "SCMP_CMP_GT": lambda argument, value, two: argument > value,
+    "SCMP_CMP_MASKED_EQ": lambda argument, value, two: argument & value == two & value,
 }
 
 # The members of a profile, in the form of the OCI runtime specification (config-linux.md: Seccomp) and in those of the
 # engines (profiles/seccomp of moby, pkg/seccomp of containers-common), each with what its value is: a text, a whole
 # number from 0 to 2^64-1, a version of a kernel, a list of what stands in it, or an object of such members.
-TEXT, NUMBER, VERSION = "text", "number", "version"
-FILTER = {"caps": [TEXT], "arches": [TEXT], "minKernel": VERSION}
-ARGUMENT = {"index": NUMBER, "value": NUMBER, "valueTwo": NUMBER, "op": TEXT}
-ENTRY = {"names": [TEXT], "name": TEXT, "action": TEXT, "errnoRet": NUMBER, "errno": TEXT, "args": [ARGUMENT],
-         "comment": TEXT, "includes": FILTER, "excludes": FILTER}
-ARCH_MAP = {"architecture": TEXT, "subArchitectures": [TEXT]}
-SECCOMP = {"defaultAction": TEXT, "defaultErrnoRet": NUMBER, "defaultErrno": TEXT, "architectures": [TEXT],
-           "archMap": [ARCH_MAP], "syscalls": [ENTRY], "flags": [TEXT], "listenerPath": TEXT, "listenerMetadata": TEXT}
-CONFIG = {**SECCOMP, "linux": {"seccomp": SECCOMP}}
+TEXT_TYPE, NUMBER_TYPE, VERSION_TYPE = "text", "number", "version"
+FILTER = {"caps": [TEXT_TYPE], "arches": [TEXT_TYPE], "minKernel": VERSION_TYPE}
+ARGUMENT = {"index": NUMBER_TYPE, "value": NUMBER_TYPE, "valueTwo": NUMBER_TYPE, "op": TEXT_TYPE}
+ENTRY = {"names": [TEXT_TYPE], "name": TEXT_TYPE, "action": TEXT_TYPE, "errnoRet": NUMBER_TYPE, "errno": TEXT_TYPE,
+         "args": [ARGUMENT],
+         "comment": TEXT_TYPE, "includes": FILTER, "excludes": FILTER}
+ARCH_MAP = {"architecture": TEXT_TYPE, "subArchitectures": [TEXT_TYPE]}
+SECCOMP = {"defaultAction": TEXT_TYPE, "defaultErrnoRet": NUMBER_TYPE, "defaultErrno": TEXT_TYPE,
+           "architectures": [TEXT_TYPE],
+           "archMap": [ARCH_MAP], "syscalls": [ENTRY], "flags": [TEXT_TYPE], "listenerPath": TEXT_TYPE,
+           "listenerMetadata": TEXT_TYPE}
+CONFIG_MEMBERS = {**SECCOMP, "linux": {"seccomp": SECCOMP}}
 
 # Letters that encoding/json of Go takes for others in the name of a member (equalFoldRight in fold.go): of ASCII those
 # of the other case, and U+017F and U+212A.
 _FOLD = {**{upper: upper + 32 for upper in range(ord("A"), ord("Z") + 1)}, 0x17F: ord("s"), 0x212A: ord("k")}
 
 
+# How a profile is read unless a container runtime reads it (`--reading` of scf).
+STRICT = "strict"
+
+
 class DerivedProfile(bytes):
     """A profile that a tool made of another one: no line and no column of it is one of the user's file. `within` is the
-    member of the file that it is, or None if the file has other entries."""
+    member of the file that it is, or None if the file has other entries; `reading` is how it is read, and `absent` has
+    by architectures the names of which a runtime's libseccomp makes no rule there, though a table has them."""
 
     within: str | None = None
+    reading: str = STRICT
+    # whether the comment of each entry has the lines of the file that it stands on
+    has_comments: bool = False
+    absent: dict[str, frozenset[str]] = {}
+
+
+def reading_of(data: bytes) -> str:
+    """How a profile is read."""
+    return data.reading if isinstance(data, DerivedProfile) else STRICT
+
+
+def read_like(data: bytes, other: bytes) -> bytes:
+    """A profile that is read as another one is."""
+    if not isinstance(other, DerivedProfile):
+        return data
+    profile = DerivedProfile(data)
+    profile.reading, profile.absent = other.reading, other.absent
+    return profile
 
 
 @dataclass(frozen=True)
@@ -86,8 +117,8 @@ def architectures_of(data: bytes) -> tuple[str, ...]:
     """The OCI names in a profile's list of architectures; none if it has no list, or it can't be read."""
     if b"architectures" not in data and b"\\u" not in data:
         return ()
-    found = _top(data).get("architectures")
-    return tuple(it for it in found if isinstance(it, str)) if isinstance(found, list) else ()
+    names = _top(data).get("architectures")
+    return tuple(name for name in names if isinstance(name, str)) if isinstance(names, list) else ()
 
 
 def entry_at(data: bytes, place: int) -> object:
@@ -98,7 +129,7 @@ def entry_at(data: bytes, place: int) -> object:
 
 @functools.lru_cache(2)
 def read(data: bytes) -> Profile | None:
-    """What the tools need of a profile, or None if it can't be read."""
+    """The default and the names of a profile, or None if it can't be read."""
     top = _top(data)
     try:
         names = [name for entry in top.get("syscalls") or [] for name in entry["names"]]
@@ -149,9 +180,9 @@ def _misread_in(value: object, members: object, where: str) -> Iterator[Misread]
     """The misread members of an object, and of objects in it."""
     if not isinstance(value, Pairs) or not isinstance(members, dict):
         return
-    known, seen = {folded(name): name for name in members}, set()
+    names, seen = {folded(name): name for name in members}, set()
     for name, inner in value:
-        read_as = known.get(folded(name))
+        read_as = names.get(folded(name))
         if read_as is None:
             continue
         if name != read_as or name in seen:
@@ -161,8 +192,8 @@ def _misread_in(value: object, members: object, where: str) -> Iterator[Misread]
         if isinstance(kind, dict):
             yield from _misread_in(inner, kind, where_in(where, read_as))
         elif isinstance(kind[0], dict) and isinstance(inner, list) and not isinstance(inner, Pairs):
-            for index, one in enumerate(inner):
-                yield from _misread_in(one, kind[0], where_in(where, read_as, index))
+            for index, item in enumerate(inner):
+                yield from _misread_in(item, kind[0], where_in(where, read_as, index))
 
 
 def misread_members(data: bytes) -> list[Misread]:
@@ -171,7 +202,7 @@ def misread_members(data: bytes) -> list[Misread]:
     found if the profile can't be read."""
     try:
         top = json.loads(data.decode("utf-8"), object_pairs_hook=Pairs, parse_int=str, parse_float=str)
-        return list(_misread_in(top, CONFIG, "the profile"))
+        return list(_misread_in(top, CONFIG_MEMBERS, "the profile"))
     except (ValueError, RecursionError):
         return []
 
@@ -184,8 +215,8 @@ def _objects(top: dict[str, Any]) -> Iterator[tuple[str, object, dict[str, Any]]
         where = where_in("the profile", "syscalls", index)
         yield where, entry, ENTRY
         conditions = entry.get("args") if isinstance(entry, dict) else None
-        for at, one in enumerate(conditions if isinstance(conditions, list) else ()):
-            yield where_in(where, "args", at), one, ARGUMENT
+        for at, condition in enumerate(conditions if isinstance(conditions, list) else ()):
+            yield where_in(where, "args", at), condition, ARGUMENT
 
 
 def unread_members(data: bytes) -> Iterator[tuple[str, str, Sequence[str]]]:
@@ -198,14 +229,15 @@ def unread_members(data: bytes) -> Iterator[tuple[str, str, Sequence[str]]]:
 
 def errno_by_name(data: bytes) -> str | None:
     """Where a profile has an errno by name, which only podman reads, or None if it has none."""
-    if not any(it in data for it in (b'errno"', b'defaultErrno"', b"\\u")):
+    if not any(member in data for member in (b'errno"', b'defaultErrno"', b"\\u")):
         return None
     top = _top(data)
     entries = top.get("syscalls")
     holders = [("the profile", "defaultErrno", top)]
-    holders += [(f"entry {at}", "errno", it) for at, it in enumerate(entries if isinstance(entries, list) else ())]
-    found = ((where, name, holder.get(name)) for where, name, holder in holders if isinstance(holder, dict))
-    return next((f"{where} has {name} {json.dumps(value)}" for where, name, value in found if value), None)
+    holders += [(f"entry {at}", "errno", entry)
+                for at, entry in enumerate(entries if isinstance(entries, list) else ())]
+    errnos = ((where, name, holder.get(name)) for where, name, holder in holders if isinstance(holder, dict))
+    return next((f"{where} has {name} {json.dumps(value)}" for where, name, value in errnos if value), None)
 
 
 def _too_deep(text: str) -> int | None:
@@ -214,7 +246,7 @@ def _too_deep(text: str) -> int | None:
     try:
         for at, token in json_places.tokens(text):
             depth += {"[": 1, "{": 1, "]": -1, "}": -1}.get(token, 0)
-            if depth > DEEPEST:
+            if depth > DEEPEST_JSON:
                 return at
     except json_places.TooManyTokens:
         pass
@@ -242,7 +274,7 @@ def _odd_value(text: str) -> str | None:
 
 
 def _foreign_syntax(text: str, at: int) -> str | None:
-    """What people take for JSON, and stands at an index of a text that isn't JSON."""
+    """Syntax that people take for JSON, at an index of a text that is not; None if there is none."""
     mark, before, behind = text[at:at + 1], text[:at].rstrip()[-1:], text[at + 1:].lstrip()[:1]
     if text[at:at + 2] in ("//", "/*") or mark == "#":
         return "a comment, which JSON doesn't allow,"
@@ -254,7 +286,7 @@ def _foreign_syntax(text: str, at: int) -> str | None:
 
 
 def malformed(error: json.JSONDecodeError) -> str:
-    """What is malformed in a text, and where."""
+    """A sentence on what is malformed in a text, and where."""
     text, at = error.doc, error.pos
     if YAML.search(text) and text.lstrip()[:1] not in ("{", "["):
         return "it is YAML: convert it to JSON, as `yq -o json` does"
@@ -262,8 +294,8 @@ def malformed(error: json.JSONDecodeError) -> str:
     # where a comma lacks, the next value isn't the one that is meant
     within = json_places.where_in(text, at - ("delimiter" in error.msg))
     where = f"at {json_places.place(text, at)}"
-    told = f"the JSON is malformed {where}: {error.msg}" if what is None else f"it has {what} {where}"
-    return told + (f" ({within})" if within else "")
+    description = f"the JSON is malformed {where}: {error.msg}" if what is None else f"it has {what} {where}"
+    return description + (f" ({within})" if within else "")
 
 
 def where_json_ends(data: bytes) -> str:
@@ -277,14 +309,14 @@ def where_json_ends(data: bytes) -> str:
         return "the profile is empty"
     deep = _too_deep(text)
     if deep is not None:
-        return f"at {json_places.place(text, deep)} the profile is nested more than {DEEPEST} deep"
+        return f"at {json_places.place(text, deep)} the profile is nested more than {DEEPEST_JSON} deep"
     why = "Python's JSON parser accepts it: look for unpaired surrogates, and for numbers out of range"
     try:
         json.loads(text, parse_int=str, parse_float=str, parse_constant=_refuse)
     except json.JSONDecodeError as error:
         return malformed(error)
     except RecursionError:
-        return f"the profile is nested more than {DEEPEST} deep"
+        return f"the profile is nested more than {DEEPEST_JSON} deep"
     except ValueError as error:
         why = str(error)
     try:
@@ -304,13 +336,9 @@ class Origin:
         return f"entry {self.index}" + (f" ({self.names})" if self.names else "")
 
 
-# Where an answer comes from that runc puts before the filter: no entry of the user's profile.
-STUB = Origin(-1, "")
-
-
 def original_entries(numbers: dict[str, int], origins: Sequence[Origin]) -> Iterator[str]:
     """The entries of the user's profile for those that a fault in the resolved one names."""
-    named = [numbers[it] for it in ("entry", "first", "second") if it in numbers]
-    found = [origins[index].describe() for index in named if index < len(origins)]
-    if found:
-        yield f"in the original file that is {' and '.join(dict.fromkeys(found))}"
+    named = [numbers[name] for name in ("entry", "first", "second") if name in numbers]
+    places = [origins[index].describe() for index in named if index < len(origins)]
+    if places:
+        yield f"in the original file that is {' and '.join(dict.fromkeys(places))}"

@@ -36,7 +36,7 @@ def name() -> str:
 
 
 def version() -> str:
-    """What `--version` prints: the version of a tool is scf's."""
+    """The line of `--version`: a tool has scf's version."""
     return f"{output.escaped(name())} of scf {VERSION}"
 
 

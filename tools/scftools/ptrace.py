@@ -1,10 +1,11 @@
-"""What is asked of the kernel of processes: by ptrace(2), and by the files of /proc (proc(5))."""
+"""The kernel's facts about processes, by ptrace(2) and by the files of /proc (proc(5))."""
 from __future__ import annotations
 
 import errno
 import fcntl
 import os
 import struct
+from collections.abc import Iterator
 
 from .values import Pattern
 
@@ -20,7 +21,7 @@ PTRACE_EVENT_STOP = 128
 # sys/user.h: struct user_regs_struct, which the kernel shows to a 64-bit tracer whatever the thread runs.
 REGISTERS = ("r15", "r14", "r13", "r12", "rbp", "rbx", "r11", "r10", "r9", "r8", "rax", "rcx", "rdx", "rsi", "rdi",
              "orig_rax", "rip", "cs", "eflags", "rsp", "ss", "fs_base", "gs_base", "ds", "es", "fs", "gs")
-WORD = 8
+WORD_BYTES = 8
 # linux/ptrace.h: the beginning of struct ptrace_syscall_info, which holds the architecture of the syscall.
 SYSCALL_INFO = struct.Struct("<B3xI")
 # linux/wait.h: wait for threads too. Since Linux 4.7 the kernel takes it for granted of what is traced; before, a
@@ -28,14 +29,14 @@ SYSCALL_INFO = struct.Struct("<B3xI")
 WALL = 0x40000000
 # linux/nsfs.h
 NS_GET_PARENT, NS_GET_OWNER_UID = 0xB702, 0xB704
-# linux/proc_ns.h: the numbers of the initial cgroup namespace and user namespace.
-PROC_CGROUP_INIT_INO, PROC_USER_INIT_INO = 0xEFFFFFFB, 0xEFFFFFFD
+# linux/proc_ns.h: the numbers of the initial cgroup namespace, PID namespace and user namespace.
+PROC_CGROUP_INIT_INO, PROC_PID_INIT_INO, PROC_USER_INIT_INO = 0xEFFFFFFB, 0xEFFFFFFC, 0xEFFFFFFD
 # The numbers of execve and execveat: asm/unistd_64.h, with those of x32 (asm/unistd_x32.h), and asm/unistd_32.h.
 EXECUTE, EXECUTE_32 = (59, 322, 0x40000208, 0x40000221), (11, 358)
 # The most bytes of a file of /proc that are read.
 MAX_CONTENTS = 1 << 20
 # A byte of a path in a file of /proc that separates its fields.
-OCTAL = Pattern(rb"\\([0-3][0-7]{2})")
+ESCAPED_BYTE = Pattern(rb"\\([0-3][0-7]{2})")
 
 
 def numbers_in(folder: str) -> list[int]:
@@ -46,7 +47,7 @@ def numbers_in(folder: str) -> list[int]:
 
 
 def contents(path: str) -> bytes:
-    """What a file of /proc holds; nothing where it isn't there."""
+    """The contents of a file of /proc; nothing if it isn't there."""
     try:
         with open(path, "rb") as file:
             return file.read(MAX_CONTENTS)
@@ -65,6 +66,34 @@ def ticks_at_start(process: int) -> int | None:
     return int(fields[19]) if len(fields) > 19 else None
 
 
+def _without_octal(field: bytes) -> bytes:
+    """A path of mountinfo, in which the kernel writes some bytes as a backslash and three octal digits."""
+    return ESCAPED_BYTE.sub(lambda match: bytes([int(match[1], 8)]), field)
+
+
+def _namespace_files(process: int, kind: str) -> Iterator[int]:
+    """The open namespace of a process, and those around it that this tool may see, one at a time, the innermost first
+    (ioctl_ns(2)); none if there is no such process."""
+    try:
+        file = os.open(f"/proc/{process}/ns/{kind}", os.O_RDONLY | os.O_CLOEXEC)
+    except OSError:
+        return
+    while True:
+        try:
+            yield file
+            around = fcntl.ioctl(file, NS_GET_PARENT)
+        except OSError:
+            return
+        finally:
+            os.close(file)
+        file = around
+
+
+def has_ended(status: dict[str, str]) -> bool:
+    """Whether a thread with these lines of /proc/THREAD/status has ended, or there is none: a zombie, or dead."""
+    return status.get("State", "Z")[:1] in "ZX"
+
+
 def is_executing(thread: int) -> bool:
     """Whether a thread waits in execve(2) or execveat(2): then the kernel makes who wants to trace its process wait,
     too, however long that is (ptrace_attach of kernel/ptrace.c takes cred_guard_mutex)."""
@@ -72,12 +101,12 @@ def is_executing(thread: int) -> bool:
     fields = contents(f"/proc/{thread}/syscall").split()
     if len(fields) != 9:
         return False
-    is_32 = all(int(it, 16) >> 32 == 0 for it in fields[7:])
+    is_32 = all(int(field, 16) >> 32 == 0 for field in fields[7:])
     return int(fields[0]) in (*EXECUTE, *(EXECUTE_32 if is_32 else ()))
 
 
 class Kernel:
-    """What is asked of the kernel; an OSError where a call of it fails."""
+    """Questions to the kernel; raises OSError if a syscall fails."""
 
     def __init__(self) -> None:
         import ctypes  # pylint: disable=import-outside-toplevel
@@ -103,7 +132,7 @@ class Kernel:
 
     def set_result(self, thread: int, result: int) -> None:
         """Sets what the system call returns in which a thread is stopped."""
-        self.ptrace(PTRACE_POKEUSER, thread, REGISTERS.index("rax") * WORD, result & 0xFFFFFFFFFFFFFFFF)
+        self.ptrace(PTRACE_POKEUSER, thread, REGISTERS.index("rax") * WORD_BYTES, result & 0xFFFFFFFFFFFFFFFF)
 
     def architecture_of_call(self, thread: int) -> int | None:
         """The architecture of the system call in which a thread is stopped; None before Linux 5.3."""
@@ -121,8 +150,8 @@ class Kernel:
 
     def wait(self, thread: int) -> int | None:
         """The state that the thread stopped or ended in, or None where it is in none yet."""
-        found, state = os.waitpid(thread, WALL | os.WNOHANG)
-        return state if found else None
+        stopped, state = os.waitpid(thread, WALL | os.WNOHANG)
+        return state if stopped else None
 
     def is_proc_ours(self) -> bool:
         """Whether /proc is mounted, and is that of this tool's PID namespace."""
@@ -149,28 +178,28 @@ class Kernel:
         return int(fields[6]) if len(fields) > 6 else 0
 
     def name_of(self, process: int) -> bytes:
-        """What a process is called: bytes of its own choice."""
+        """The name of a process: bytes of its own choice."""
         name = contents(f"/proc/{process}/comm")
         return name[:-1] if name.endswith(b"\n") else name
 
     def groups_of(self, process: int) -> dict[str, bytes]:
         """The control groups of a process, by the controllers of their hierarchies."""
-        found: dict[str, bytes] = {}
+        paths: dict[str, bytes] = {}
         for line in contents(f"/proc/{process}/cgroup").split(b"\n"):
-            _, _, rest = line.partition(b":")
-            controllers, _, path = rest.partition(b":")
+            _, _, fields = line.partition(b":")
+            controllers, _, path = fields.partition(b":")
             if path:
-                found.update((name, path) for name in controllers.decode("utf-8", "replace").split(","))
-        return found
+                paths.update((name, path) for name in controllers.decode("utf-8", "replace").split(","))
+        return paths
 
     def mounted_groups(self, process: int) -> list[bytes]:
         """The roots of the control group mounts that a process sees (proc_pid_mountinfo(5))."""
-        found = []
+        roots = []
         for line in contents(f"/proc/{process}/mountinfo").split(b"\n"):
             fields, _, source = line.partition(b" - ")
             if source.startswith((b"cgroup ", b"cgroup2 ")) and fields.count(b" ") > 3:
-                found.append(OCTAL.sub(lambda it: bytes([int(it[1], 8)]), fields.split(b" ")[3]))
-        return found
+                roots.append(_without_octal(fields.split(b" ")[3]))
+        return roots
 
     def group_owner(self, hierarchy: str, path: bytes) -> int | None:
         """The first user beside root who owns a control group of a hierarchy, or one above it; None if root owns all,
@@ -182,7 +211,7 @@ class Kernel:
                 continue
             if hierarchy and hierarchy.encode() not in options.rpartition(b" ")[2].split(b","):
                 continue
-            root, place = (OCTAL.sub(lambda it: bytes([int(it[1], 8)]), it) for it in fields.split(b" ")[3:5])
+            root, place = map(_without_octal, fields.split(b" ")[3:5])
             if root != b"/" and path != root and not path.startswith(root + b"/"):
                 continue
             for part in path[len(root) if root != b"/" else 0:].strip(b"/").split(b"/"):
@@ -203,39 +232,25 @@ class Kernel:
             # a kernel without such namespaces
             return error.errno == errno.ENOENT
 
+    def makers_of_namespaces(self, process: int) -> list[int]:
+        """The users who made the user namespace of a process and those around it that this tool may see, the innermost
+        first; the initial namespace isn't among them."""
+        users: list[int] = []
+        for file in _namespace_files(process, "user"):
+            try:
+                if os.fstat(file).st_ino == PROC_USER_INIT_INO:
+                    break
+                users.append(int.from_bytes(fcntl.ioctl(file, NS_GET_OWNER_UID, bytes(4)), "little"))
+            except OSError:
+                break
+        return users
+
     def owner_of(self, process: int, user: int) -> int:
         """The user who answers for a process: its own one, or if it is in another user namespace than the initial one
         the user who made that, or made the outermost of several."""
-        try:
-            namespace = os.open(f"/proc/{process}/ns/user", os.O_RDONLY | os.O_CLOEXEC)
-        except OSError:
-            return user
-        while True:
-            try:
-                if os.fstat(namespace).st_ino == PROC_USER_INIT_INO:
-                    return user
-                user = int.from_bytes(fcntl.ioctl(namespace, NS_GET_OWNER_UID, bytes(4)), "little")
-                around = fcntl.ioctl(namespace, NS_GET_PARENT)
-            except OSError:
-                return user
-            finally:
-                os.close(namespace)
-            namespace = around
+        return [user, *self.makers_of_namespaces(process)][-1]
 
     def namespaces_of(self, process: int) -> list[tuple[int, int]]:
         """The PID namespace of a process and those around it that this tool may see, the innermost first."""
-        found = []
-        try:
-            namespace = os.open(f"/proc/{process}/ns/pid", os.O_RDONLY | os.O_CLOEXEC)
-        except OSError:
-            return found
-        while True:
-            status = os.fstat(namespace)
-            found.append((status.st_dev, status.st_ino))
-            try:
-                around = fcntl.ioctl(namespace, NS_GET_PARENT)
-            except OSError:
-                return found
-            finally:
-                os.close(namespace)
-            namespace = around
+        statuses = map(os.fstat, _namespace_files(process, "pid"))
+        return [(status.st_dev, status.st_ino) for status in statuses]

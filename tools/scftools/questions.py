@@ -56,8 +56,8 @@ class Asker:
 
     def check(self, table: Table) -> None:
         """Raises Refusal if scf refuses a table that isn't its own."""
-        own = tables.of_architecture(self.architecture.oci)
-        if own is None or table.data != own.data:
+        usual_table = tables.of_architecture(self.architecture.oci)
+        if usual_table is None or table.data != usual_table.data:
             client.compile_profile(self._profile_of(IS_ALLOWED), Tables({self.architecture.oci: table}))
 
     def of_calls(self, profile: bytes, relation: str, table: bytes) -> Report:
@@ -75,16 +75,16 @@ class Asker:
         return self._asked(self._profile_of(question), question.relation, words).verdict
 
     def decided(self, call: Call) -> Answer | None:
-        """What the filters answer to a record."""
+        """The filters' answer to a record."""
         done = client.run(["decide", *call.words()], bundles.of_stack(self.filters))
         return verdicts.decision(done.text).answer
 
 
-def gaps(table: Table, one: Architecture = JUDGED[NATIVE]) -> Iterator[tuple[int, int]]:
+def gaps(table: Table, architecture: Architecture = JUDGED[NATIVE]) -> Iterator[tuple[int, int]]:
     """The ranges of numbers of an architecture that its table doesn't name: the first of each, and the one after the
     last."""
     before = 0
-    for number in [*sorted(table.numbers()), one.last - one.first + 1]:
+    for number in [*sorted(table.numbers()), architecture.last - architecture.first + 1]:
         if before < number:
             yield before, number
         before = number + 1

@@ -4,7 +4,7 @@ from __future__ import annotations
 import json
 from collections.abc import Iterator, Sequence
 
-from . import bundles, client, profiles
+from . import bundles, client, profiles, program
 from .answers import Answer
 from .calls import Call
 from .profiles import HOLDS, Origin
@@ -12,17 +12,17 @@ from .tables import Tables
 from .values import Pattern, dataclass
 from .verdicts import Fault
 
-PRINTED = Pattern(r"(\w+ \w+) (?:entry ([0-9]+)|(default)|(foreign))")
+REASON_LINE = Pattern(r"(\w+ \w+) (?:entry ([0-9]+)|(default)|(foreign)|(stub))")
 BY_STUB = "by the ENOSYS that runc puts before the filter"
 # At most so many characters of an entry are printed.
-LONGEST = 400
+LONGEST_ENTRY = 400
 
 
 @dataclass(frozen=True)
 class Reason:
-    """What a profile answers to a syscall, and the index of the entry that decides; or a fault.
+    """A profile's answer to a syscall, and the index of the entry that decides; or a fault.
 
-    Without an index the answer is the default's, or that for a foreign syscall, which no entry covers.
+    Without an index the answer is the default's, runc's stub's, or that for a foreign syscall, which no entry covers.
     """
 
     status: int
@@ -30,6 +30,7 @@ class Reason:
     answer: Answer | None = None
     entry: int | None = None
     is_foreign: bool = False
+    is_stub: bool = False
     fault: Fault | None = None
 
 
@@ -39,16 +40,22 @@ def of(profile: bytes, judged: Tables, words: Sequence[str]) -> Reason:
     return _read(done.status, done.text)
 
 
+def of_region(line: str) -> Reason:
+    """The reason of all records of a region of a profile, by its line."""
+    return _read(program.SUCCESS, line)
+
+
 def _read(status: int, text: str) -> Reason:
     line = text.split("\n", 1)[0]
-    found = PRINTED.fullmatch(line)
-    if not found:
+    match = REASON_LINE.fullmatch(line)
+    if not match:
         return Reason(status, line, fault=Fault.read(line))
-    return Reason(status, line, Answer.read(found[1]), int(found[2]) if found[2] else None, bool(found[4]))
+    return Reason(status, line, Answer.read(match[1]), int(match[2]) if match[2] else None, bool(match[4]),
+                  bool(match[5]))
 
 
 def members_of(line: str) -> dict[str, object]:
-    """The same as `as_json`, of a line of `scf ask` without the profile."""
+    """The members of `as_json` that a line of `scf ask` gives, without the profile."""
     word, *index = line.split(" ")[2:]
     return {"reason": word, **({"entry": int(index[0])} if index else {})}
 
@@ -56,13 +63,13 @@ def members_of(line: str) -> dict[str, object]:
 def _entry_text(entry: object) -> str:
     """An entry as JSON on one line, truncated if it is long."""
     text = json.dumps(entry)
-    more = len(text) - LONGEST
-    return text if more <= 0 else f"{text[:LONGEST]}.. ({more} more characters)"
+    more = len(text) - LONGEST_ENTRY
+    return text if more <= 0 else f"{text[:LONGEST_ENTRY]}.. ({more} more characters)"
 
 
 def _conditions(entry: object) -> list[dict[str, object]]:
     given = entry.get("args") if isinstance(entry, dict) else None
-    return [it for it in given if isinstance(it, dict)] if isinstance(given, list) else []
+    return [condition for condition in given if isinstance(condition, dict)] if isinstance(given, list) else []
 
 
 def _condition_text(condition: dict[str, object], call: Call) -> str | None:
@@ -85,18 +92,17 @@ def index_of(reason: Reason, origins: Sequence[Origin] | None) -> int | None:
 
 def describe(reason: Reason, profile: bytes, call: Call | None,
              origins: Sequence[Origin] | None = None) -> Iterator[str]:
-    """What gives the answer; for an entry also which conditions hold."""
+    """Lines on what gives the answer; for an entry also on which of its conditions hold."""
     if reason.answer is None:
         return
     if reason.is_foreign:
         yield "by no entry: the syscall is of another ABI"
+    elif reason.is_stub:
+        yield BY_STUB
     elif reason.entry is None:
         yield "by the default"
     else:
         entry, index = profiles.entry_at(profile, reason.entry), index_of(reason, origins)
-        if index is not None and index < 0:
-            yield BY_STUB
-            return
         yield f"by entry {index} of syscalls" + (f": {_entry_text(entry)}" if entry is not None else "")
         for condition in _conditions(entry) if call else ():
             met = _condition_text(condition, call)
@@ -106,14 +112,14 @@ def describe(reason: Reason, profile: bytes, call: Call | None,
 
 def as_json(reason: Reason, profile: bytes, call: Call | None,
             origins: Sequence[Origin] | None = None) -> dict[str, object]:
-    """What gives the answer, as members of an object."""
+    """The reason as members of an object."""
     if reason.answer is None:
         return {}
     index = index_of(reason, origins)
-    word = "foreign" if reason.is_foreign else "default" if index is None else "stub" if index < 0 else "entry"
-    found: dict[str, object] = {"reason": word}
+    word = "foreign" if reason.is_foreign else "stub" if reason.is_stub else "default" if index is None else "entry"
+    members: dict[str, object] = {"reason": word}
     if reason.entry is not None and word == "entry":
         entry = profiles.entry_at(profile, reason.entry)
-        met = [_condition_text(it, call) for it in _conditions(entry)] if call else []
-        found.update(entry=index, definition=entry, conditions_met=[it for it in met if it])
-    return found
+        met = [_condition_text(condition, call) for condition in _conditions(entry)] if call else []
+        members.update(entry=index, definition=entry, conditions_met=[text for text in met if text])
+    return members

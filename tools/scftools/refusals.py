@@ -14,26 +14,28 @@ from .calls import Call
 from .client import Fault, Refusal
 from .filters import LONGEST_STACK, MORE_OF_OLDER, Filter
 from .json_places import Path
-from .profiles import ACTIONS, HOLDS, LONGEST_NUMBER, DerivedProfile, Origin
+from .profiles import HOLDS, LONGEST_NUMBER, OCI_ACTIONS, DerivedProfile, Origin
 from .tables import Tables
 from .values import Any
 
-WITH_ERRNO = ("SCMP_ACT_ERRNO", "SCMP_ACT_TRACE")
-WORD, MOST_ERRNO = 1 << 64, 65535
+NUMBER_END, MOST_ERRNO = 1 << 64, 65535
+# What to do about a conflict in a profile that is read as a runtime does.
+CONFLICT_FOR_RUNTIME = ("Give the entries conditions that exclude each other: {} hands them to libseccomp, which "
+                        "refuses some such entries, and what it makes of others is documented nowhere (RUNTIMES.md).")
 # What a value may have to be, as Python has it, and the least number.
 KINDS_OF_VALUES = {"a string": (str, 0), "an array": (list, 0), "an object": (dict, 0),
-                   "a whole number": (int, -(WORD >> 1)), "a whole number from 0 to 2^64-1": (int, 0)}
+                   "a whole number": (int, -(NUMBER_END >> 1)), "a whole number from 0 to 2^64-1": (int, 0)}
 # The kinds of faults that are about one member, or two entries.
-KINDS = ("Missing", "Kind", "Action", "Operator", "EmptyNames", "Index", "RepeatedIndex", "Errno", "ErrnoRange",
+FAULT_KINDS = ("Missing", "Kind", "Action", "Operator", "EmptyNames", "Index", "RepeatedIndex", "Errno", "ErrnoRange",
          "NoX8664", "EngineForm", "Conflict")
 # At most so many characters of a value are printed.
-LONGEST = 60
+LONGEST_VALUE = 60
 
 
 def _shown(value: object) -> str:
     if isinstance(value, (list, dict)):
         return "an array" if isinstance(value, list) else "an object"
-    return output.cut(json.dumps(value), LONGEST)
+    return output.cut(json.dumps(value), LONGEST_VALUE)
 
 
 class MemberFault(Exception):
@@ -54,7 +56,7 @@ class MemberFault(Exception):
 def _check(value: object, path: Path, what: str) -> None:
     """Refuses a value that is of another kind."""
     of_kind, least = KINDS_OF_VALUES[what]
-    if type(value) is not of_kind or type(value) is int and not least <= value < WORD:
+    if type(value) is not of_kind or type(value) is int and not least <= value < NUMBER_END:
         raise MemberFault("Kind", path, f"is {_shown(value)}, not {what}")
 
 
@@ -77,7 +79,7 @@ def _word(holder: dict[str, Any], path: Path, name: str, known: tuple[str, ...],
 
 def _errno(holder: dict[str, Any], path: Path, name: str, action: str) -> None:
     value = _member(holder, path, name, "a whole number")
-    if value is not None and action not in WITH_ERRNO:
+    if value is not None and action not in profiles.WITH_ERRNO:
         raise MemberFault("Errno", [*path, name], f"is {_shown(value)}, and {action} takes none")
     if value is not None and not 0 <= value <= MOST_ERRNO:
         raise MemberFault("ErrnoRange", [*path, name], f"is {_shown(value)}")
@@ -88,14 +90,14 @@ def _engine_member(holder: dict[str, Any], path: Path, name: str) -> None:
         raise MemberFault("EngineForm", [*path, name], f"is {_shown(holder[name])}")
 
 
-def _condition(one: Any, path: Path, seen: set[int]) -> None:
-    _check(one, path, "an object")
-    index = _member(one, path, "index", "a whole number", True)
+def _condition(condition: Any, path: Path, seen: set[int]) -> None:
+    _check(condition, path, "an object")
+    index = _member(condition, path, "index", "a whole number", True)
     if not 0 <= index < 6:
         raise MemberFault("Index", [*path, "index"], f"is {_shown(index)}")
-    _word(one, path, "op", tuple(HOLDS), "Operator")
-    _member(one, path, "value", "a whole number from 0 to 2^64-1", True)
-    _member(one, path, "valueTwo", "a whole number from 0 to 2^64-1")
+    _word(condition, path, "op", tuple(HOLDS), "Operator")
+    _member(condition, path, "value", "a whole number from 0 to 2^64-1", True)
+    _member(condition, path, "valueTwo", "a whole number from 0 to 2^64-1")
     if index in seen:
         raise MemberFault("RepeatedIndex", [*path, "index"],
                           f"is {_shown(index)}, as in an earlier condition of this entry")
@@ -109,23 +111,23 @@ def _entry(entry: Any, path: Path) -> None:
     names = _member(entry, path, "names", "an array", True)
     if not names:
         raise MemberFault("EmptyNames", [*path, "names"], "is empty")
-    for at, one in enumerate(names):
-        _check(one, [*path, "names", at], "a string")
-    _word(entry, path, "action", ACTIONS, "Action")
+    for at, entry_name in enumerate(names):
+        _check(entry_name, [*path, "names", at], "a string")
+    _word(entry, path, "action", OCI_ACTIONS, "Action")
     _errno(entry, path, "errnoRet", entry["action"])
     seen: set[int] = set()
-    for at, one in enumerate(_member(entry, path, "args", "an array") or ()):
-        _condition(one, [*path, "args", at], seen)
+    for at, condition in enumerate(_member(entry, path, "args", "an array") or ()):
+        _condition(condition, [*path, "args", at], seen)
 
 
 def _profile(top: Any, path: Path) -> None:
     """Raises the fault of a seccomp object that scf finds first."""
     _check(top, path, "an object")
-    _word(top, path, "defaultAction", ACTIONS, "Action")
+    _word(top, path, "defaultAction", OCI_ACTIONS, "Action")
     _errno(top, path, "defaultErrnoRet", top["defaultAction"])
     listed = _member(top, path, "architectures", "an array") or ()
-    for at, one in enumerate(listed):
-        _check(one, [*path, "architectures", at], "a string")
+    for at, listed_name in enumerate(listed):
+        _check(listed_name, [*path, "architectures", at], "a string")
     if listed and NATIVE not in listed:
         raise MemberFault("NoX8664", [*path, "architectures"], f"lacks {NATIVE}")
     _engine_member(top, path, "archMap")
@@ -148,7 +150,8 @@ def _read(data: bytes) -> tuple[str, Any] | None:
     """A profile's text, and its value; a number that scf doesn't take stays a text."""
     try:
         text = data.decode("utf-8")
-        return text, json.loads(text, parse_int=lambda it: int(it) if len(it) <= LONGEST_NUMBER else float("nan"))
+        return text, json.loads(text, parse_int=lambda digits: int(digits) if len(digits) <= LONGEST_NUMBER
+                                else float("nan"))
     except (ValueError, RecursionError):
         return None
 
@@ -169,11 +172,11 @@ def _of_conflict(data: bytes, text: str, path: Path, fault: Fault) -> Iterator[s
 def _of_member(fault: Fault, data: bytes) -> Iterator[str]:
     """The member that a fault of a profile is about, and where it stands, if that is known."""
     is_resolved = isinstance(data, DerivedProfile) and data.within is None
-    is_explained = fault.source == "profile" and fault.kind in KINDS and not is_resolved
-    found = _read(data) if is_explained else None
-    if found is None:
+    is_explained = fault.source == "profile" and fault.kind in FAULT_KINDS and not is_resolved
+    document = _read(data) if is_explained else None
+    if document is None:
         return
-    text, value = found
+    text, value = document
     try:
         top, path = _root(value)
         if fault.kind == "Conflict":
@@ -188,25 +191,29 @@ def _of_member(fault: Fault, data: bytes) -> Iterator[str]:
 def _conflicting(fault: Fault, profile: bytes, judged: Tables) -> Call:
     """A record of the syscall on which two entries conflict: of the first architecture on which both name it."""
     number = fault.numbers["number"]
-    found = [profiles.entry_at(profile, fault.numbers[it]) for it in ("first", "second")]
-    listed = [it["names"] for it in found if isinstance(it, dict) and isinstance(it.get("names"), list)]
+    entries = [profiles.entry_at(profile, fault.numbers[field]) for field in ("first", "second")]
+    listed = [entry["names"] for entry in entries if isinstance(entry, dict) and isinstance(entry.get("names"), list)]
     for name, table in judged.of.items():
-        one = architectures.JUDGED[name]
-        names = set(table.names_of(number - one.first)) if one.first <= number <= one.last else set()
-        if all(names.intersection(it for it in its if isinstance(it, str)) for its in listed) and names:
-            return Call(number, one.number)
+        architecture = architectures.JUDGED[name]
+        is_its = architecture.first <= number <= architecture.last
+        names = set(table.names_of(number - architecture.first)) if is_its else set()
+        if all(names.intersection(name for name in its if isinstance(name, str)) for its in listed) and names:
+            return Call(number, architecture.number)
     return Call(number)
 
 
 def sentences(fault: Fault, profile: bytes, judged: Tables, origins: Sequence[Origin] | None = None) -> Iterator[str]:
-    """What a fault is and what to do; of a profile, where it stands, and of one that was resolved, in which entries of
-    the user's file."""
+    """The explanation of a fault, and what to do; of a profile, where it stands, and of one that was resolved, in which
+    entries of the user's file."""
     if (fault.source, fault.kind) == ("profile", "Json") and len(profile) <= inputs.LIMITS["profile"]:
         meaning, *_ = explanation.of_fault(fault)
         yield profiles.where_json_ends(profile)
         yield meaning
         return
-    yield from explanation.of_fault(fault)
+    sentences, reading = list(explanation.of_fault(fault)), profiles.reading_of(profile)
+    if (fault.source, fault.kind) == ("profile", "Conflict") and reading != profiles.STRICT:
+        sentences[1:] = [CONFLICT_FOR_RUNTIME.format(reading)]
+    yield from sentences
     if fault.source == "profile" and len(profile) > inputs.LIMITS["profile"]:
         yield f"the profile has more than {inputs.LIMITS['profile']} bytes"
         return
@@ -228,20 +235,20 @@ def lines_of(why: Refusal, profile: bytes, judged: Tables) -> Iterator[str]:
 def faulty_filters(filters: Sequence[Filter], fault: Fault) -> list[str]:
     """The files of the filters that cause a stack's fault."""
     if fault.source == "filter":
-        for one in filters:
-            if client.run(["check"], one.data).line == fault.line:
-                return [one.name]
+        for bpf_filter in filters:
+            if client.run(["check"], bpf_filter.data).line == fault.line:
+                return [bpf_filter.name]
     if (fault.source, fault.kind) == ("stack", "TooMany"):
         total = 0
-        for one in filters:
-            if total + one.count > LONGEST_STACK:
-                return [one.name]
-            total += one.count + MORE_OF_OLDER
+        for bpf_filter in filters:
+            if total + bpf_filter.count > LONGEST_STACK:
+                return [bpf_filter.name]
+            total += bpf_filter.count + MORE_OF_OLDER
     return []
 
 
 def of_stack(filters: Sequence[Filter], fault: Fault | None) -> Iterator[str]:
     """Which filter of several causes a fault."""
-    found = faulty_filters(filters, fault) if fault is not None and len(filters) > 1 else []
-    if found:
-        yield f"the filter is {explanation.join_names(found)}"
+    files = faulty_filters(filters, fault) if fault is not None and len(filters) > 1 else []
+    if files:
+        yield f"the filter is {explanation.join_names(files)}"

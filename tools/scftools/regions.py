@@ -6,27 +6,23 @@ regions come of a test that scf doesn't decide: a record may lie in several of t
 from __future__ import annotations
 
 import bisect
-from collections.abc import Iterable, Mapping, Sequence
+from collections.abc import Iterable, Iterator, Mapping, Sequence
 
-from . import bundles, client, program
+from . import architectures, bundles, client, program
 from .answers import Answer
 from .architectures import Architecture
 from .calls import Call
 from .listing import ARCHITECTURE, ARGUMENTS, NUMBER
-from .tables import Tables
+from .tables import Table, Tables
 from .values import Pattern
 from .verdicts import UNFINISHED
 
-LINE = Pattern(r"((unknown|\w+ \w+) (?:at [0-9]+:[0-9]+|entry ([0-9]+)|\w+))( open)?((?: w[0-9]+ \S+)*)")
-WORD = Pattern(r"((?:0x[0-9a-f]+[-,]?)*)(?:&(0x[0-9a-f]+)=(0x[0-9a-f]+))?((?:!0x[0-9a-f]+=0x[0-9a-f]+)*)")
+REGION_LINE = Pattern(r"((unknown|\w+ \w+) (?:at [0-9]+:[0-9]+|entry ([0-9]+)|\w+))( open)?((?: w[0-9]+ \S+)*)")
+WORD_SET = Pattern(r"((?:0x[0-9a-f]+[-,]?)*)(?:&(0x[0-9a-f]+)=(0x[0-9a-f]+))?((?:!0x[0-9a-f]+=0x[0-9a-f]+)*)")
 # The index of the instruction pointer, whose words stand before those of argument 0.
 POINTER = -1
 # The greatest value of a word, and the most intervals into which known bits may divide the numbers of a region.
-EVERY, MOST = (1 << 32) - 1, 4096
-
-
-class Unfinished(Exception):
-    """scf took as many steps as it may."""
+GREATEST_WORD, MOST_INTERVALS = (1 << 32) - 1, 4096
 
 
 class TooManyRanges(Exception):
@@ -38,19 +34,22 @@ class Word:
 
     def __init__(self, intervals: Sequence[tuple[int, int]] = (), mask: int = 0, bits: int = 0,
                  refuted: Sequence[tuple[int, int]] = ()):
-        self.intervals, self.mask, self.bits, self.refuted = intervals or ((0, EVERY),), mask, bits, refuted
+        self.intervals, self.mask, self.bits, self.refuted = intervals or ((0, GREATEST_WORD),), mask, bits, refuted
 
     @classmethod
     def read(cls, text: str) -> Word:
-        """Parses what `scf answers` prints of a word."""
-        found = WORD.fullmatch(text)
-        if not found:
+        """Parses what `scf answers` prints of a word, which is mostly one value."""
+        if text.startswith("0x") and text.isalnum():
+            value = int(text, 16)
+            return cls(((value, value),))
+        match = WORD_SET.fullmatch(text)
+        if not match:
             raise program.ToolError(f"scf answers printed an unexpected set: {text}", program.IO_ERROR)
-        ends = [it.partition("-") for it in found[1].split(",")] if found[1] else []
+        ends = [interval.partition("-") for interval in match[1].split(",")] if match[1] else []
         intervals = [(int(low, 16), int(high or low, 16)) for low, _, high in ends]
-        pairs = [it.partition("=") for it in found[4].split("!")[1:]]
+        pairs = [pair.partition("=") for pair in match[4].split("!")[1:]]
         refuted = [(int(mask, 16), int(bits, 16)) for mask, _, bits in pairs]
-        return cls(intervals, int(found[2] or "0", 16), int(found[3] or "0", 16), refuted)
+        return cls(intervals, int(match[2] or "0", 16), int(match[3] or "0", 16), refuted)
 
     def has(self, value: int) -> bool:
         """Whether a value is possible."""
@@ -61,25 +60,27 @@ class Word:
 
     def within(self, first: int, last: int) -> list[tuple[int, int]]:
         """The possible values in a range, as intervals. Raises TooManyRanges."""
-        found = [(max(low, first), min(high, last)) for low, high in self.intervals if low <= last and high >= first]
-        return [it for part in found for it in self._split(*part)] if self.mask or self.refuted else found
+        intervals = [(max(low, first), min(high, last))
+                     for low, high in self.intervals if low <= last and high >= first]
+        return [interval for part in intervals
+                for interval in self._split(*part)] if self.mask or self.refuted else intervals
 
     def _split(self, low: int, high: int) -> list[tuple[int, int]]:
-        left, found = [(low, high)], []
-        while left:
-            low, high = left.pop()
+        pending, intervals = [(low, high)], []
+        while pending:
+            low, high = pending.pop()
             same = -1 << (low ^ high).bit_length()
             refuted = [mask & ~same for mask, bits in self.refuted if not (low ^ bits) & mask & same]
             if (low ^ self.bits) & self.mask & same or 0 in refuted:
                 continue
             if not self.mask & ~same and not refuted:
-                found.append((low, high))
+                intervals.append((low, high))
             else:
                 middle = high & same >> 1
-                left += (middle, high), (low, middle - 1)
-            if len(found) + len(left) > MOST:
+                pending += (middle, high), (low, middle - 1)
+            if len(intervals) + len(pending) > MOST_INTERVALS:
                 raise TooManyRanges
-        return found
+        return intervals
 
 
 FREE = Word()
@@ -105,16 +106,21 @@ class Region:
 
     def has(self, arguments: Mapping[int, int]) -> bool:
         """Whether some of its records have these arguments, by their indexes; the instruction pointer's is POINTER."""
-        return all(self.words.get(ARGUMENTS + 2 * index + half, FREE).has(value >> 32 * half & EVERY)
+        return all(self.words.get(ARGUMENTS + 2 * index + half, FREE).has(value >> 32 * half & GREATEST_WORD)
                    for index, value in arguments.items() for half in (0, 1))
 
-    def call_of(self, number: int, architecture: int, given: Mapping[int, int] | None = None) -> Call:
-        """One of its records that has a number, an architecture and arguments which some have."""
+    @property
+    def call(self) -> Call:
+        """The record that scf shows."""
         call = Call.read(self._example)
         if call is None:
             raise program.ToolError(f"scf answers printed an unexpected record: {self._example}", program.IO_ERROR)
-        arguments = tuple((given or {}).get(index, value) for index, value in enumerate(call.arguments))
-        return Call(number, architecture, call.pointer, arguments)
+        return call
+
+    def call_of(self, number: int, architecture: int, given: Mapping[int, int] | None = None) -> Call:
+        """One of its records that has a number, an architecture and arguments which some have."""
+        arguments = tuple((given or {}).get(index, value) for index, value in enumerate(self.call.arguments))
+        return Call(number, architecture, self.call.pointer, arguments)
 
 
 def _read(text: str) -> list[Region] | None:
@@ -122,53 +128,54 @@ def _read(text: str) -> list[Region] | None:
     *lines, last = text.splitlines() or [""]
     words: dict[str, Word] = {}
     answers: dict[str, Answer | None] = {}
-    found: list[Region] = []
+    regions: list[Region] = []
     for line, example in zip(lines[::2], lines[1::2]):
-        parts = LINE.fullmatch(line)
+        parts = REGION_LINE.fullmatch(line)
         if not parts:
             return None
         if parts[2] not in answers:
             answers[parts[2]] = Answer.read(parts[2])
         given = parts[5].split()
-        for one in given[1::2]:
-            if one not in words:
-                words[one] = Word.read(one)
-        of_words = {int(name[1:]): words[one] for name, one in zip(given[::2], given[1::2])}
+        for set_text in given[1::2]:
+            if set_text not in words:
+                words[set_text] = Word.read(set_text)
+        of_words = {int(name[1:]): words[set_text] for name, set_text in zip(given[::2], given[1::2])}
         entry = None if parts[3] is None else int(parts[3])
-        found.append(Region(parts[1], answers[parts[2]], entry, not parts[4], of_words, example))
-    return found if last.startswith(f"regions {len(found)} steps ") and len(lines) == 2 * len(found) else None
+        regions.append(Region(parts[1], answers[parts[2]], entry, not parts[4], of_words, example))
+    return regions if last.startswith(f"regions {len(regions)} steps ") and len(lines) == 2 * len(regions) else None
 
 
-def _asked(words: Sequence[str], bundle: bytes) -> list[Region]:
-    """The regions that scf prints. Raises Refusal and Unfinished."""
+def _asked(words: Sequence[str], bundle: bytes) -> list[Region] | None:
+    """The regions that scf prints; None if it took as many steps as it may. Raises Refusal."""
     done = client.answers(["--examples", *words], bundle)
-    found = _read(done.text) if done.status == program.SUCCESS else None
-    if found is not None:
-        return found
+    regions = _read(done.text) if done.status == program.SUCCESS else None
+    if regions is not None:
+        return regions
     if (done.status, done.line) == (program.UNKNOWN, UNFINISHED):
-        raise Unfinished
+        return None
     refusal = client.Refusal(done.line, done.status)
     if refusal.fault is None or done.status == program.SUCCESS:
         raise program.ToolError(f"scf ended with status {done.status} and unexpected output", program.IO_ERROR)
     raise refusal
 
 
-def of_filters(filters: Sequence[bytes]) -> list[Region]:
-    """The regions of filters, oldest first. Raises Refusal and Unfinished."""
+def of_filters(filters: Sequence[bytes]) -> list[Region] | None:
+    """The regions of filters, oldest first; None if they are unfinished. Raises Refusal."""
     return _asked([], bundles.of_stack(filters))
 
 
-def of_profile(profile: bytes, judged: Tables) -> list[Region]:
-    """The regions of a profile's architectures. Raises Refusal and Unfinished."""
+def of_profile(profile: bytes, judged: Tables) -> list[Region] | None:
+    """The regions of a profile's architectures; None if they are unfinished. Raises Refusal."""
     return _asked(judged.words, bundles.of_compilation(profile, judged))
 
 
 class Numbers:
-    """The regions of an architecture by the syscall numbers of records."""
+    """The regions of an architecture by the syscall numbers of records; none if they are None, which is unfinished."""
 
-    def __init__(self, found: Iterable[Region], one: Architecture, last: int | None = None):
-        self.first, self.last = one.first, one.last if last is None else last
-        self._all = [it for it in found if it.words.get(ARCHITECTURE, FREE).has(one.number)]
+    def __init__(self, regions: Iterable[Region] | None, architecture: Architecture, last: int | None = None):
+        self.first, self.last = architecture.first, architecture.last if last is None else last
+        self._all = [region
+                     for region in regions or () if region.words.get(ARCHITECTURE, FREE).has(architecture.number)]
         # ranges of numbers with the same regions; None if they are too many
         self.ranges: list[tuple[int, int, list[Region]]] | None = None
         try:
@@ -177,23 +184,58 @@ class Numbers:
             pass
 
     def _ranges(self) -> list[tuple[int, int, list[Region]]]:
-        parts = [(*part, it) for it in self._all for part in it.words.get(NUMBER, FREE).within(self.first, self.last)]
+        parts = [(*part, region) for region in self._all
+                 for part in region.words.get(NUMBER, FREE).within(self.first, self.last)]
         cuts = sorted({self.first, self.last + 1, *(low for low, _, _ in parts), *(high + 1 for _, high, _ in parts)})
         starting: dict[int, list[tuple[int, Region]]] = {}
-        for low, high, it in parts:
-            starting.setdefault(low, []).append((high, it))
-        found, here = [], []
+        for low, high, numbered_region in parts:
+            starting.setdefault(low, []).append((high, numbered_region))
+        ranges, here = [], []
         for low, end in zip(cuts, cuts[1:]):
             here = [part for part in here if part[0] >= low] + starting.get(low, [])
-            found.append((low, end - 1, [it for _, it in here]))
-        return found
+            ranges.append((low, end - 1, [region for _, region in here]))
+        return ranges
 
     def of(self, number: int) -> list[Region]:
-        """Those with records of a number."""
+        """The regions with records of a number."""
         if self.ranges is None or not self.first <= number <= self.last:
-            return [it for it in self._all if it.words.get(NUMBER, FREE).has(number)]
+            return [region for region in self._all if region.words.get(NUMBER, FREE).has(number)]
         return self.ranges[bisect.bisect(self.ranges, (number, self.last + 1)) - 1][2]
+
+    def unnamed(self, table: Table) -> Iterator[tuple[int, int, Sequence[Region]]]:
+        """The numbers that a table doesn't name, range by range: the first as the table counts, how many, and the
+        regions, none if the ranges are too many."""
+        named = sorted(self.first + number for number in table.numbers())
+        for low, high, here in [(self.first, self.last, [])] if self.ranges is None else self.ranges:
+            within = named[bisect.bisect_left(named, low):bisect.bisect(named, high)]
+            count = high - low + 1 - len(within)
+            if count:
+                first = next((low + at for at, number in enumerate(within) if number != low + at), low + len(within))
+                yield first - self.first, count, here
 
     def turns(self) -> list[int]:
         """The first numbers of ranges."""
         return [low for low, _, _ in self.ranges or ()]
+
+
+class Lookup:
+    """The regions in which records lie, of those that scf prints, or None if they are unfinished."""
+
+    def __init__(self, regions: Sequence[Region] | None):
+        self._regions = regions
+        # by the OCI names of architectures
+        self._numbers: dict[str, Numbers] = {}
+
+    def _regions_of(self, call: Call) -> Sequence[Region]:
+        """Those with records of its number."""
+        architecture = architectures.JUDGED.get(call.abi or "")
+        if architecture is None:
+            return [region for region in self._regions or () if region.is_of(call.number, call.architecture)]
+        if architecture.oci not in self._numbers:
+            self._numbers[architecture.oci] = Numbers(self._regions, architecture)
+        return self._numbers[architecture.oci].of(call.number)
+
+    def of(self, call: Call) -> Region | None:
+        """The decided region of a record, None if there is none."""
+        record = {POINTER: call.pointer or 0, **dict(enumerate(call.arguments))}
+        return next((region for region in self._regions_of(call) if region.is_decided and region.has(record)), None)

@@ -1,5 +1,5 @@
-"""What a program needs of a profile: the syscalls in logs, each judged by scf in its architecture; and those of the
-runtime that starts it.
+"""The needs of a program, as a profile answers them: the syscalls in logs, each judged by scf in its architecture; and
+those of the runtime that starts it.
 
 All that the profile answers is known by its regions: those of a syscall with the arguments that the log shows.
 """
@@ -9,11 +9,11 @@ import itertools
 import json
 from collections.abc import Iterable, Iterator, Sequence
 
-from . import client, entries, output, profiles, program, reasons, regions, strace, tables, traces, verdicts
+from . import client, entries, output, profiles, program, reasons, regions, strace, tables, traces
 from .answers import ALLOWED, KILL_PROCESS, Answer
 from .architectures import JUDGED, NATIVE, Architecture, of_machine
 from .calls import Call
-from .engines import KEPT
+from .engines import PASSED_ON
 from .entries import Object
 from .profiles import ALLOWING
 from .regions import Numbers, Region
@@ -21,8 +21,9 @@ from .strace import Seen
 from .tables import Table, Tables
 from .traces import Trace
 from .values import dataclass
+from .verdicts import UNDECIDED, UNFINISHED
 
-IS_ALLOWED, ISNT_ALLOWED, DEPENDS, UNDECIDED = "allowed", "not allowed", "depends", "undecided"
+NOT_ALLOWED, DEPENDS = "not allowed", "depends"
 # What in a log isn't judged, by its name in JSON.
 UNJUDGED = {"foreign": "syscalls not judged, since scf has no table of their architecture",
             "cut": "syscalls not judged, since the log lacks their beginning or end",
@@ -32,13 +33,13 @@ UNJUDGED = {"foreign": "syscalls not judged, since scf has no table of their arc
 TAKEN = ("a log that doesn't say its architecture is taken as {}'s, since the profile doesn't list {}: --arch names "
          "another")
 # The most entries with conditions for one name, and the most syscalls to judge, each with each of its values.
-CONDITIONS, WAYS = 64, 2000
+CONDITIONS, MOST_WAYS = 64, 2000
 EQUAL = "SCMP_CMP_EQ"
 # What a profile answers to a syscall of an architecture that it isn't judged for, and why, as scf prints it.
 FOREIGN = "KILL_PROCESS 0 foreign"
 # What each least profile allows where an architecture has it: a process calls these, which a log needn't show, to
 # continue after a stop or a signal, and to end.
-ALWAYS = ("restart_syscall", "rt_sigreturn", "exit", "exit_group", "sigreturn")
+ALWAYS_CALLED = ("restart_syscall", "rt_sigreturn", "exit", "exit_group", "sigreturn")
 # What a container runtime itself calls behind the filter, before it executes the container's program; runc is written
 # in Go, whose own calls come and go. Taken from the kernel's records of containers of runc 1.1 and crun 1.8 under a
 # profile that logs, with and without noNewPrivileges, as root and as a user, with and without a terminal, and created
@@ -70,7 +71,7 @@ class TracedCall:
         """The arguments of which not one value alone is known."""
         return [index for index, values in self.arguments if values is None or len(values) > 1]
 
-    def known(self) -> Iterator[dict[int, int]]:
+    def known_values(self) -> Iterator[dict[int, int]]:
         """The values of the known arguments, in each way that they may be."""
         pairs = [(index, values) for index, values in self.arguments if values is not None]
         for values in itertools.product(*(values for _, values in pairs)):
@@ -78,8 +79,9 @@ class TracedCall:
 
     def call(self, values: dict[int, int]) -> Call:
         """A record of the syscall with these arguments, and 0 as the others."""
-        one = self.architecture
-        return Call(one.first + self.number, one.number, arguments=tuple(values.get(index, 0) for index in range(6)))
+        architecture = self.architecture
+        return Call(architecture.first + self.number, architecture.number,
+                    arguments=tuple(values.get(index, 0) for index in range(6)))
 
     @property
     def shown_name(self) -> str:
@@ -122,10 +124,10 @@ class Needs:
     @property
     def unlisted(self) -> list[Architecture]:
         """The architectures of syscalls that the profile doesn't list."""
-        return list(dict.fromkeys(it.traced.architecture for it in self.judged if it.is_foreign))
+        return list(dict.fromkeys(judgement.traced.architecture for judgement in self.judged if judgement.is_foreign))
 
     def of(self, disposition: str) -> list[Judgement]:
-        return [it for it in self.judged if it.disposition == disposition]
+        return [judgement for judgement in self.judged if judgement.disposition == disposition]
 
     @property
     def isnt_whole(self) -> bool:
@@ -134,7 +136,7 @@ class Needs:
 
     @property
     def status(self) -> int:
-        if self.of(ISNT_ALLOWED):
+        if self.of(NOT_ALLOWED):
             return program.NEGATIVE
         return program.UNKNOWN if self.of(DEPENDS) or self.of(UNDECIDED) or self.isnt_whole else program.SUCCESS
 
@@ -143,11 +145,7 @@ class Judge:
     """A profile, its regions for one architecture, and what its conditions test of each syscall there."""
 
     def __init__(self, profile: bytes, architecture: str, table: Table):
-        self._regions: list[Region] | None = None
-        try:
-            self._regions = regions.of_profile(profile, Tables({architecture: table}))
-        except regions.Unfinished:
-            pass
+        self._regions = regions.of_profile(profile, Tables({architecture: table}))
         self._numbers: dict[Architecture, Numbers] = {}
         top = entries.read(profile)
         if top is None:
@@ -156,33 +154,34 @@ class Judge:
         looked: dict[int | None, set[int]] = {}
         for entry in entries.entries_of(top, table.number_of):
             for name in entry.names if entry.conditions else ():
-                looked.setdefault(table.number_of(name), set()).update(it.index for it in entry.conditions)
+                looked.setdefault(table.number_of(name), set()).update(condition.index
+                                                                       for condition in entry.conditions)
         self.looked = {name: tuple(sorted(indices)) for number, indices in looked.items() if number is not None
                        for name in (*table.names_of(number), f"syscall_{number:#x}")}
 
-    def _of_number(self, one: Architecture, number: int) -> list[Region]:
+    def _of_number(self, architecture: Architecture, number: int) -> list[Region]:
         """The regions of a record's number."""
-        if one not in self._numbers:
-            self._numbers[one] = Numbers(self._regions or (), one)
-        return self._numbers[one].of(number)
+        if architecture not in self._numbers:
+            self._numbers[architecture] = Numbers(self._regions, architecture)
+        return self._numbers[architecture].of(number)
 
     def of(self, traced: TracedCall) -> Judgement:
-        one, number = traced.architecture, traced.architecture.first + traced.number
+        architecture, number = traced.architecture, traced.architecture.first + traced.number
         allowed, denied = [], []
-        for values in traced.known():
-            for it in self._of_number(one, number):
-                if it.answer is not None and it.has(values):
-                    shown = it.call_of(number, one.number, values)
-                    (allowed if it.answer.disposition == ALLOWED else denied).append((shown, it))
+        for values in traced.known_values():
+            for region in self._of_number(architecture, number):
+                if region.answer is not None and region.has(values):
+                    shown = region.call_of(number, architecture.number, values)
+                    (allowed if region.answer.disposition == ALLOWED else denied).append((shown, region))
         if self._regions is None:
-            return Judgement(traced, UNDECIDED, verdicts.UNFINISHED)
+            return Judgement(traced, UNDECIDED, UNFINISHED)
         if denied:
             call, by = denied[0]
-            return Judgement(traced, DEPENDS if allowed else ISNT_ALLOWED, by.line, allowed[0][0] if allowed else None,
+            return Judgement(traced, DEPENDS if allowed else NOT_ALLOWED, by.line, allowed[0][0] if allowed else None,
                              (call, by.answer), by.line == FOREIGN)
         if allowed:
-            return Judgement(traced, IS_ALLOWED, allowed=allowed[0][0])
-        return Judgement(traced, ISNT_ALLOWED, FOREIGN, denied=(traced.call({}), KILL_PROCESS), is_foreign=True)
+            return Judgement(traced, ALLOWED, allowed=allowed[0][0])
+        return Judgement(traced, NOT_ALLOWED, FOREIGN, denied=(traced.call({}), KILL_PROCESS), is_foreign=True)
 
 
 class Judges:
@@ -199,13 +198,14 @@ class Judges:
         self.tables[self.own.oci] = tables.read(table, self.own)
         # a profile without a list is for its machine's own
         names = profiles.architectures_of(profile) or [strace.modes_of(self.own.oci)[strace.OWN_MODE]]
-        self.listed = Tables({it: self.tables[it] for it in tables.of_architectures(names, self.tables[NATIVE]).of})
+        self.listed = Tables({name: self.tables[name]
+                              for name in tables.of_architectures(names, self.tables[NATIVE]).of})
         self._of: dict[str, Judge] = {}
         self._looked: dict[str, dict[str, tuple[int, ...]]] = {}
 
     def of(self, architecture: str) -> Judge:
         """The judge of an architecture's syscalls; if the profile doesn't list it, one to which they are foreign."""
-        at = next(it for it in (architecture, self.own.oci, *self.listed.of) if it in self.listed.of)
+        at = next(name for name in (architecture, self.own.oci, *self.listed.of) if name in self.listed.of)
         if at not in self._of:
             self._of[at] = Judge(self.profile, at, self.tables[at])
         return self._of[at]
@@ -220,24 +220,25 @@ class Judges:
 def find(log: Trace, judges: Judges) -> Needs:
     """The calls of a log, by their architectures and numbers, each judged."""
     counts = log.foreign.count, log.cut.count, log.left.count, log.unread.count, log.lost.count
-    found = Needs([], {}, dict(zip(UNJUDGED, counts)), log.fault, taken=judges.taken)
+    needs = Needs([], {}, dict(zip(UNJUDGED, counts)), log.fault, taken=judges.taken)
     traced: list[TracedCall] = []
     for (architecture, name, values), seen in log.calls.items():
-        one, number = JUDGED[architecture], log.number_of(architecture, name)
+        in_architecture, number = JUDGED[architecture], log.number_of(architecture, name)
         if number is None:
-            shown = one.marked(name)
-            found.unnamed[shown] = found.unnamed.get(shown, 0) + seen.count
+            shown = in_architecture.marked(name)
+            needs.unnamed[shown] = needs.unnamed.get(shown, 0) + seen.count
         else:
             arguments = tuple(zip(judges.looked_at(architecture, name), values))
-            traced.append(TracedCall(one, number, name, arguments, seen))
+            traced.append(TracedCall(in_architecture, number, name, arguments, seen))
     ways, order = 0, list(JUDGED)
-    for call in sorted(traced, key=lambda it: (order.index(it.architecture.oci), it.number, it.name, it.seen.line)):
-        ways += sum(1 for _ in call.known())
-        if ways <= WAYS and not client.is_spent():
-            found.judged.append(judges.of(call.architecture.oci).of(call))
+    for call in sorted(traced,
+                       key=lambda call: (order.index(call.architecture.oci), call.number, call.name, call.seen.line)):
+        ways += sum(1 for _ in call.known_values())
+        if ways <= MOST_WAYS and not client.is_spent():
+            needs.judged.append(judges.of(call.architecture.oci).of(call))
         else:
-            found.unjudged["more"] += call.seen.count
-    return found
+            needs.unjudged["more"] += call.seen.count
+    return needs
 
 
 def _where(seen: Seen, are_several: bool) -> str:
@@ -248,19 +249,20 @@ def _where(seen: Seen, are_several: bool) -> str:
     return f"{'once' if seen.count == 1 else f'{seen.count} times, first'} in line {seen.line} of {log}"
 
 
-def _of_judged(one: Judgement, are_several: bool) -> Iterator[str]:
+def _of_judged(judgement: Judgement, are_several: bool) -> Iterator[str]:
     """The lines of a syscall that isn't allowed, or not always."""
-    if one.disposition == ISNT_ALLOWED:
-        yield f"{one.traced.describe()} {one.line}"
-    elif one.disposition == DEPENDS:
-        unsure = one.traced.unsure
+    if judgement.disposition == NOT_ALLOWED:
+        yield f"{judgement.traced.describe()} {judgement.line}"
+    elif judgement.disposition == DEPENDS:
+        unsure = judgement.traced.unsure
         args = f"arg {unsure[0]}" if len(unsure) == 1 else f"args {', '.join(map(str, unsure))}"
-        yield f"{one.traced.describe()} depends on {args}"
-        if one.allowed and one.denied:
-            yield f"# allowed with {_arguments(one.allowed)}; with {_arguments(one.denied[0])} it is {one.denied[1]}"
+        yield f"{judgement.traced.describe()} depends on {args}"
+        if judgement.allowed and judgement.denied:
+            call, answer = judgement.denied
+            yield f"# allowed with {_arguments(judgement.allowed)}; with {_arguments(call)} it is {answer}"
     else:
-        yield f"{one.traced.describe()} {one.line}"
-    yield f"# {_where(one.traced.seen, are_several)}"
+        yield f"{judgement.traced.describe()} {judgement.line}"
+    yield f"# {_where(judgement.traced.seen, are_several)}"
 
 
 def _arguments(call: Call) -> str:
@@ -268,12 +270,12 @@ def _arguments(call: Call) -> str:
 
 
 def _remarks(needs: Needs) -> Iterator[str]:
-    """What architectures the log has, and what in it wasn't judged."""
+    """Lines on the log's architectures, and on what in it wasn't judged."""
     if needs.taken:
         yield needs.taken
-    for one in needs.unlisted:
-        yield (f"{one.name} syscalls aren't allowed, since the profile doesn't list {one.oci}: engines' filters kill "
-               "for them")
+    for architecture in needs.unlisted:
+        yield (f"{architecture.name} syscalls aren't allowed, since the profile doesn't list {architecture.oci}: "
+               "engines' filters kill for them")
     elsewhere = tables.names_elsewhere() if needs.unnamed else ()
     for name, count in sorted(needs.unnamed.items())[:tables.MOST_LISTED]:
         yield (f"not judged, since the table doesn't have it: {name}, times: {count}"
@@ -291,48 +293,47 @@ def _remarks(needs: Needs) -> Iterator[str]:
 
 def lines(needs: Needs) -> Iterator[str]:
     """The text output: what isn't allowed, what depends, and counts."""
-    for disposition in (ISNT_ALLOWED, DEPENDS, UNDECIDED):
-        for one in needs.of(disposition):
-            yield from _of_judged(one, needs.are_several)
+    for disposition in (NOT_ALLOWED, DEPENDS, UNDECIDED):
+        for judgement in needs.of(disposition):
+            yield from _of_judged(judgement, needs.are_several)
     yield from output.notes(_remarks(needs))
-    counts = ", ".join(f"{it} {len(needs.of(it))}" for it in (IS_ALLOWED, ISNT_ALLOWED, DEPENDS, UNDECIDED)
-                       if it != UNDECIDED or needs.of(UNDECIDED))
+    counts = ", ".join(f"{disposition} {len(needs.of(disposition))}"
+                       for disposition in (ALLOWED, NOT_ALLOWED, DEPENDS, UNDECIDED)
+                       if disposition != UNDECIDED or needs.of(UNDECIDED))
     yield f"# syscalls, each with the arguments that conditions test: {counts}"
 
 
 def as_json(needs: Needs, table: Table) -> dict[str, object]:
-    found = []
-    for one in needs.judged:
-        traced = one.traced
+    calls = []
+    for judgement in needs.judged:
+        traced = judgement.traced
         shown: dict[str, object] = {
             **({} if traced.architecture.oci == NATIVE else {"architecture": traced.architecture.name}),
-            "number": traced.number, "name": traced.name, "disposition": one.disposition, "count": traced.seen.count,
+            "number": traced.number, "name": traced.name, "disposition": judgement.disposition,
+            "count": traced.seen.count,
             "line": traced.seen.line, "log": traced.seen.log,
-            "depends_on": traced.unsure if one.disposition == DEPENDS else [],
+            "depends_on": traced.unsure if judgement.disposition == DEPENDS else [],
             "arguments": {str(index): None if values is None else list(map(hex, values))
                           for index, values in traced.arguments}}
-        if one.denied:
-            shown["not_allowed"] = {"call": one.denied[0].as_json(table), "answer": one.denied[1].as_json(),
-                                    **reasons.members_of(one.line)}
-        if one.allowed and one.disposition == DEPENDS:
-            shown["allowed"] = one.allowed.as_json(table)
-        if one.disposition == UNDECIDED:
-            shown["verdict"] = one.line
-        found.append(shown)
-    return {"status": needs.status, "calls": found,
+        if judgement.denied:
+            shown["not_allowed"] = {"call": judgement.denied[0].as_json(table), "answer": judgement.denied[1].as_json(),
+                                    **reasons.members_of(judgement.line)}
+        if judgement.allowed and judgement.disposition == DEPENDS:
+            shown["allowed"] = judgement.allowed.as_json(table)
+        if judgement.disposition == UNDECIDED:
+            shown["verdict"] = judgement.line
+        calls.append(shown)
+    return {"status": needs.status, "calls": calls,
             "not_judged": {"names": needs.unnamed, **needs.unjudged}}
 
 
-def _entries(judged: Sequence[Judgement], always: Iterable[str]) -> Iterator[dict[str, object]]:
+def _entries(calls: Iterable[TracedCall], always: Iterable[str]) -> Iterator[dict[str, object]]:
     """The entries that allow the syscalls, with the values of known arguments that conditions test."""
-    plain: dict[str, None] = {}
     ruled: dict[str, dict[tuple[tuple[int, int], ...], None]] = {}
-    for one in judged:
-        for values in one.traced.known():
-            ruled.setdefault(one.traced.name, {})[tuple(values.items())] = None
-    for name, rules in ruled.items():
-        if () in rules or len(rules) > CONDITIONS:
-            plain[name] = None
+    for call in calls:
+        for values in call.known_values():
+            ruled.setdefault(call.name, {})[tuple(values.items())] = None
+    plain = dict.fromkeys(name for name, rules in ruled.items() if () in rules or len(rules) > CONDITIONS)
     plain.update(dict.fromkeys(always))
     if plain:
         yield {"names": list(plain), "action": "SCMP_ACT_ALLOW"}
@@ -346,35 +347,36 @@ def least_profile(needs: Needs, judges: Judges) -> tuple[str, list[str]]:
     """The smallest profile that allows the syscalls of the log, as JSON, and what isn't in it."""
     top = judges.of(judges.own.oci).top
     default = top["defaultAction"]
-    found: dict[str, object] = {"defaultAction": default}
+    profile: dict[str, object] = {"defaultAction": default}
     if default in ALLOWING:
-        found = {"defaultAction": "SCMP_ACT_ERRNO"}
+        profile = {"defaultAction": "SCMP_ACT_ERRNO"}
     elif "defaultErrnoRet" in top:
-        found["defaultErrnoRet"] = top["defaultErrnoRet"]
-    found.update((name, top[name]) for name in ("architectures", *KEPT) if name in top)
-    listed = [it for it in needs.judged if not it.is_foreign]
-    named = [it for it in listed
-             if judges.tables[it.traced.architecture.oci].number_of(it.traced.name) is not None]
-    seen = dict.fromkeys((judges.own.oci, *(it.traced.architecture.oci for it in named)))
-    always = (name for name in ALWAYS if any(judges.tables[it].number_of(name) is not None for it in seen))
-    found["syscalls"] = list(_entries(named, always))
+        profile["defaultErrnoRet"] = top["defaultErrnoRet"]
+    profile.update((name, top[name]) for name in ("architectures", *PASSED_ON) if name in top)
+    calls = [judgement.traced for judgement in needs.judged if not judgement.is_foreign]
+    named = [call for call in calls if judges.tables[call.architecture.oci].number_of(call.name) is not None]
+    seen = {judges.own.oci, *(call.architecture.oci for call in named)}
+    always = (name for name in ALWAYS_CALLED
+              if any(judges.tables[architecture].number_of(name) is not None for architecture in seen))
+    profile["syscalls"] = list(_entries(named, always))
     remarks = list(_remarks(needs))
-    remarks += [f"{it.traced.shown_name} has no name, and isn't in the profile" for it in listed if it not in named]
-    remarks += [f"{it.traced.shown_name}: the log doesn't show arguments {', '.join(map(str, it.traced.unknown))} as "
-                "numbers: they may be any" for it in named if it.traced.unknown]
-    return json.dumps(found, indent=4) + "\n", remarks
+    remarks += [f"{call.shown_name} has no name, and isn't in the profile" for call in calls if call not in named]
+    remarks += [f"{call.shown_name}: the log doesn't show arguments {', '.join(map(str, call.unknown))} as numbers: "
+                "they may be any" for call in named if call.unknown]
+    return json.dumps(profile, indent=4) + "\n", remarks
 
 
 def read(names: Sequence[str], judges: Judges, runtime: str | None = None) -> Needs:
-    """What is in some logs, and what a runtime calls itself before it executes the program. Raises Refusal."""
-    own = judges.own.oci
+    """The syscalls of some logs, with those that a runtime makes before it executes the program, judged. Raises
+    Refusal."""
+    architecture = judges.own.oci
     # this checks the profile before a log is read
-    judges.of(own)
-    log = traces.read(names, judges.looked_at, judges.tables, own)
+    judges.of(architecture)
+    log = traces.read(names, judges.looked_at, judges.tables, architecture)
     log.begin(runtime or "")
     for name in OF_RUNTIMES[runtime].split() if runtime else ():
-        if log.number_of(own, name) is not None:
-            log.keep(0, own, name, {})
-    found = find(log, judges)
-    found.are_several = len(names) > 1
-    return found
+        if log.number_of(architecture, name) is not None:
+            log.keep(0, architecture, name, {})
+    needs = find(log, judges)
+    needs.are_several = len(names) > 1
+    return needs

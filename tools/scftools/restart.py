@@ -13,9 +13,9 @@ import errno
 from collections.abc import Sequence
 
 from . import bundles, client, listing, program, verdicts
-from .answers import ALLOWED, DENIED, I386, X32, X86_64, Answer
+from .answers import ALLOWED, DENIED, FIRST_X32, I386_NUMBER, X86_64, Answer
 from .calls import Call
-from .filters import INSTRUCTION, LOAD_WORD, POINTER, RETURN_CONSTANT
+from .filters import INSTRUCTION, LOAD_WORD, POINTER_OFFSETS, RETURN_CONSTANT
 from .ptrace import Kernel
 from .values import dataclass, replace
 
@@ -24,9 +24,10 @@ from .values import dataclass, replace
 ERESTARTSYS, ERESTARTNOINTR, ERESTARTNOHAND, ERESTART_RESTARTBLOCK = 512, 513, 514, 516
 BEGIN_ANEW = (ERESTARTSYS, ERESTARTNOINTR, ERESTARTNOHAND)
 # The number of restart_syscall: asm/unistd_64.h, asm/unistd_32.h.
-RESTART = {X86_64: 219, I386: 0}
+RESTART = {X86_64: 219, I386_NUMBER: 0}
 # The registers of the six arguments, in their order.
-ARGUMENTS = {X86_64: ("rdi", "rsi", "rdx", "r10", "r8", "r9"), I386: ("rbx", "rcx", "rdx", "rsi", "rdi", "rbp")}
+ARGUMENT_REGISTERS = {X86_64: ("rdi", "rsi", "rdx", "r10", "r8", "r9"),
+                      I386_NUMBER: ("rbx", "rcx", "rdx", "rsi", "rdi", "rbp")}
 # linux/filter.h: BPF_RET | BPF_A, whose answer is computed; linux/seccomp.h: SECCOMP_RET_USER_NOTIF's high half.
 RETURN_COMPUTED, USER_NOTIF = 0x16, 0x7FC0
 # How often scf is asked about the threads of a process, which are stopped meanwhile; calls beyond begin anew. And how
@@ -36,14 +37,14 @@ MOST_ASKED, MOST_KEPT = 200, 2000
 
 def restart_of(call: Call) -> Call:
     """The restart_syscall by which a syscall goes on: the registers stay as they are."""
-    x32 = call.number & X32 if call.architecture == X86_64 else 0
+    x32 = call.number & FIRST_X32 if call.architecture == X86_64 else 0
     return replace(call, number=RESTART[call.architecture] | x32)
 
 
 def call_of(architecture: int, registers: dict[str, int]) -> Call:
-    mask = 0xFFFFFFFF if architecture == I386 else 0xFFFFFFFFFFFFFFFF
+    mask = 0xFFFFFFFF if architecture == I386_NUMBER else 0xFFFFFFFFFFFFFFFF
     return Call(registers["orig_rax"] & 0xFFFFFFFF, architecture, registers["rip"] & mask,
-                tuple(registers[name] & mask for name in ARGUMENTS[architecture]))
+                tuple(registers[name] & mask for name in ARGUMENT_REGISTERS[architecture]))
 
 
 def restart_number(registers: dict[str, int]) -> int:
@@ -53,7 +54,7 @@ def restart_number(registers: dict[str, int]) -> int:
     return result if is_in_call and result in (*BEGIN_ANEW, ERESTART_RESTARTBLOCK) else 0
 
 
-def notifies(filters: Sequence[bytes]) -> bool:
+def may_notify(filters: Sequence[bytes]) -> bool:
     """Whether a filter has an instruction by which it may answer USER_NOTIF."""
     return any(code == RETURN_COMPUTED or code == RETURN_CONSTANT and k >> 16 == USER_NOTIF
                for data in filters for code, _, _, k in INSTRUCTION.iter_unpack(data))
@@ -89,11 +90,11 @@ class Restarts:
         self.are_by_number: dict[tuple[tuple[bytes, ...], Call], bool] = {}
         self.answers: dict[tuple[tuple[bytes, ...], Call], Answer | None] = {}
         # how often scf may still be asked
-        self.left = MOST_ASKED
+        self.remaining_runs = MOST_ASKED
 
     def begin(self) -> None:
         """Before the threads of another process are stopped."""
-        self.left = MOST_ASKED
+        self.remaining_runs = MOST_ASKED
         if len(self.answers) > MOST_KEPT:
             self.answers.clear()
             self.are_by_number.clear()
@@ -107,8 +108,8 @@ class Restarts:
         if not number:
             return
         architecture = self.kernel.architecture_of_call(thread)
-        known = (architecture,) if architecture in RESTART else tuple(RESTART)
-        interrupted = InterruptedSyscall(number, tuple(call_of(it, registers) for it in known))
+        architectures_of_call = (architecture,) if architecture in RESTART else tuple(RESTART)
+        interrupted = InterruptedSyscall(number, tuple(call_of(oci, registers) for oci in architectures_of_call))
         if interrupted.goes_on:
             self.kernel.set_result(thread, -interrupted.anew)
         self.calls[thread] = interrupted
@@ -133,7 +134,7 @@ class Restarts:
     def goes_to_supervisor_again(self, thread: int, filters: tuple[bytes, ...]) -> bool:
         """Whether a stopped thread's call begins anew, and is one that a supervisor answers."""
         interrupted = self.calls.get(thread)
-        if interrupted is None or not notifies(filters) or self.number(interrupted, filters) != interrupted.anew:
+        if interrupted is None or not may_notify(filters) or self.number(interrupted, filters) != interrupted.anew:
             return False
         answers = [self.answer(filters, call) for call in interrupted.calls]
         return any(answer is not None and answer.action == "USER_NOTIF" for answer in answers)
@@ -144,17 +145,17 @@ class Restarts:
         return None if answer is None else answer.disposition
 
     def answer(self, filters: tuple[bytes, ...], call: Call) -> Answer | None:
-        """What filters answer to a syscall, None where scf can't tell or was asked too often; if they test only its
+        """The answer of filters to a syscall, None if scf can't tell or was asked too often; if they test only its
         number, scf is run once for it."""
         general = Call(call.number, call.architecture)
         if (filters, general) not in self.are_by_number:
-            are_by_number = all(self.left > 0 and self.is_by_number(data, general) for data in filters)
-            if self.left <= 0:
+            are_by_number = all(self.remaining_runs > 0 and self.is_by_number(data, general) for data in filters)
+            if self.remaining_runs <= 0:
                 return None
             self.are_by_number[filters, general] = are_by_number
         key = filters, general if self.are_by_number[filters, general] else call
         if key not in self.answers:
-            if self.left <= 0:
+            if self.remaining_runs <= 0:
                 return None
             printed = self.run(["decide", *key[1].words()], bundles.of_stack(filters))
             self.answers[key] = verdicts.decision(printed).answer
@@ -164,14 +165,16 @@ class Restarts:
         """Whether a filter answers a syscall without loading its arguments or its instruction pointer: then every
         syscall with that number and architecture takes the same path."""
         lines = client.lines_of(self.run(["run", "--path", *call.words()], data))
-        found = listing.PATH.fullmatch("".join(lines[1:2]))
-        insns = list(INSTRUCTION.iter_unpack(data))
-        return found is not None and not any(
-            insns[int(place)][0] == LOAD_WORD and insns[int(place)][3] >= POINTER[0] for place in found[1].split())
+        match = listing.PATH.fullmatch("".join(lines[1:2]))
+        instructions = list(INSTRUCTION.iter_unpack(data))
+        if match is None:
+            return False
+        executed = [instructions[int(index)] for index in match[1].split()]
+        return not any(code == LOAD_WORD and k >= POINTER_OFFSETS[0] for code, _, _, k in executed)
 
     def run(self, words: Sequence[str], given: bytes) -> str:
-        """What scf prints; nothing if it isn't built, since building it takes long, or can't be run."""
-        self.left -= 1
+        """The text that scf prints; empty if it isn't built, since building it takes long, or can't be run."""
+        self.remaining_runs -= 1
         try:
             return client.run(words, given, may_build=False).text
         except (program.ToolError, OSError):

@@ -9,24 +9,26 @@ from . import constants, program
 from .answer_sets import Answers
 from .answers import ERRNOS, Answer
 from .architectures import I386, Architecture
-from .argument_sets import ALL_ALTERNATIVES, ALL_LISTED, NONE, Alternative, TooMany
+from .argument_sets import ALL_ALTERNATIVES, ALL_LISTED, EMPTY_SET, Alternative, TooMany
 from .client import Refusal
-from .entries import Condition
+from .constants import Family
+from .entries import LOW_HALF, Condition
 from .filters import Filter
-from .profile_of import UNFINISHED, FilterAnswers, Request, entry_of, own_steps
+from .profile_of import UNFINISHED_TEXT, FilterAnswers, ProfileRequest, entry_of, own_steps
 from .questions import EVERYTHING, NOTHING, Asker
 from .surfaces import Row, Surface
 from .values import dataclass
 from .verdicts import NO_LESS, NO_MORE, SAME
 
 SIGNS = {"SCMP_CMP_EQ": "==", "SCMP_CMP_NE": "!=", "SCMP_CMP_LE": "<=", "SCMP_CMP_GE": ">="}
-HALF = (1 << 32) - 1
+# So many alternatives on one argument or more are printed as a set of values, if it has at most so many.
+LEAST_LISTED, MOST_VALUES = 4, 16
 # The most rules that scf takes.
 MOST_RULES = 4096
 # The syscall of i386 whose first argument points to the others.
 IN_MEMORY = (I386, "mmap")
 # For each disposition the answer that stands for all of it.
-ANSWERS = EVERYTHING, Answer("TRACE", 0), NOTHING
+ANSWERS = {answer.disposition: answer for answer in (EVERYTHING, Answer("TRACE", 0), NOTHING)}
 
 
 @functools.lru_cache(None)
@@ -48,22 +50,70 @@ def _together(text: str) -> str:
     return f"({text})" if "|" in text else text
 
 
-def condition_text(one: Condition, syscall: str, others: Alternative, architecture: str) -> str:
-    """A condition as people write it, among those that hold together, on the architecture of this OCI name."""
+def _bits_text(value: int, family: Family | None) -> str:
+    """Bits by the names that they have, and the others as a number."""
+    if family is None or value > LOW_HALF:
+        return _number(value)
+    named_bits = value if family.bit_names(value) else sum(
+        1 << at for at in range(32) if value >> at & 1 and family.bit_names(1 << at))
+    names = family.bit_names(named_bits) if named_bits else None
+    return _number(value) if names is None else names + (f"|{value - named_bits:#x}" if value > named_bits else "")
+
+
+def _mask_text(mask: int, bits: int, family: Family | None) -> str:
+    """A mask of so many bits, by the bits that it lacks if these are fewer."""
+    lacking = ~mask & (1 << bits) - 1
+    if lacking and bin(lacking).count("1") < bin(mask).count("1"):
+        return f"~{_together(_bits_text(lacking, family))}"
+    return _together(_bits_text(mask, family))
+
+
+def _value_text(value: int, family: Family | None) -> str:
+    """The value of an argument; one of which only some bits have names is a number."""
+    shown = family.describe(value) if family is not None and value <= LOW_HALF else None
+    return _together(_number(value) if shown is None or "|0x" in shown else shown)
+
+
+def condition_text(condition: Condition, syscall: str, others: Alternative, architecture: str, bits: int = 64) -> str:
+    """A condition on so many bits of an argument as people write it, among those that hold together, on the
+    architecture of this OCI name."""
     syscall = syscall if (architecture, syscall) != IN_MEMORY else ""
-    first = next((it.value for it in others if it.index == 0 and it.op == "SCMP_CMP_EQ"), None)
-    family, name = constants.family_of(syscall, one.index, first, architecture), name_of(syscall, one.index)
-    is_whole = one.op != "SCMP_CMP_MASKED_EQ" or one.value == HALF
-    value = one.value if one.op != "SCMP_CMP_MASKED_EQ" else one.two
-    shown = None
-    if family is not None and value <= HALF and (value or is_whole) and one.op not in ("SCMP_CMP_LE", "SCMP_CMP_GE"):
-        shown = family.describe(value) if is_whole else family.bit_names(value)
-    # a value of which only some bits have names is a number
-    shown = _together(_number(value) if shown is None or "|0x" in shown else shown)
-    if one.op != "SCMP_CMP_MASKED_EQ":
-        return f"{name} {SIGNS[one.op]} {shown}"
-    bits = family.bit_names(one.value) if family is not None and not is_whole and one.value <= HALF else None
-    return f"{name} & {_together(bits or _number(one.value))} == {shown}"
+    first = next((beside.value for beside in others if (beside.index, beside.op) == (0, "SCMP_CMP_EQ")), None)
+    family, name = constants.family_of(syscall, condition.index, first, architecture), name_of(syscall, condition.index)
+    op, value, bits_met = condition.op, condition.value, condition.two
+    if op == "SCMP_CMP_LE" and family is not None and not family.mask and not value & value + 1 and \
+            family.bit_names(value):
+        return f"{name} & ~{_together(_bits_text(value, family))} == 0"
+    if op in ("SCMP_CMP_LE", "SCMP_CMP_GE"):
+        return f"{name} {SIGNS[op]} {_number(value)}"
+    if op != "SCMP_CMP_MASKED_EQ":
+        return f"{name} {SIGNS[op]} {_value_text(value, family)}"
+    is_half = value == LOW_HALF
+    is_whole = is_half or family is not None and family.mask and value & family.mask == family.mask
+    shown = _value_text(bits_met, family) if is_whole and (bits_met or is_half) else \
+        _together(_bits_text(bits_met, family))
+    return f"{name} & {_number(LOW_HALF) if is_half else _mask_text(value, bits, family)} == {shown}"
+
+
+def _values(alternatives: Sequence[Alternative], bits: int) -> list[int]:
+    """The values of the only argument that several alternatives test, if they are few; else none."""
+    conditions = [condition for alternative in alternatives for condition in alternative]
+    values: set[int] = set()
+    is_of_one = all(len(alternative) == 1 for alternative in alternatives) and \
+        len({condition.index for condition in conditions}) == 1
+    if len(alternatives) < LEAST_LISTED or not is_of_one:
+        return []
+    for tested in conditions:
+        is_masked = tested.op == "SCMP_CMP_MASKED_EQ"
+        mask, value = (tested.value, tested.two) if is_masked else ((1 << bits) - 1, tested.value)
+        free = [1 << at for at in range(bits) if not mask >> at & 1]
+        if tested.op not in ("SCMP_CMP_EQ", "SCMP_CMP_MASKED_EQ") or 1 << len(free) > MOST_VALUES:
+            return []
+        sums = [0]
+        for bit in free:
+            sums += [total + bit for total in sums]
+        values.update(value + total for total in sums)
+    return sorted(values) if len(values) <= MOST_VALUES else []
 
 
 def answer_text(answer: Answer) -> str:
@@ -91,12 +141,22 @@ class Conditions:
     def _answer_text(self, answer: Answer) -> str:
         return answer_text(answer) if self.is_whole else answer.disposition
 
-    def describe(self) -> str:
-        def shown(alternative: Alternative) -> str:
-            return " and ".join(condition_text(it, self.names[0], alternative, self.architecture.oci)
-                                for it in alternative)
+    def _where(self, alternatives: Sequence[Alternative]) -> str:
+        """Conditions of which some hold."""
+        name, architecture = self.names[0], self.architecture
+        values = _values(alternatives, architecture.bits)
+        if values:
+            index = alternatives[0][0].index
+            equal = (condition_text(Condition(index, "SCMP_CMP_EQ", value, 0), name, (), architecture.oci)
+                     for value in values)
+            return f"{name_of(name, index)} in {{{', '.join(text.partition(' == ')[2] for text in equal)}}}"
+        return " or ".join(" and ".join(condition_text(condition, name, alternative, architecture.oci,
+                                                       architecture.bits) for condition in alternative)
+                           for alternative in alternatives)
 
-        parts = [f"{self._answer_text(answer)} where {' or '.join(map(shown, those))}" for answer, those in self.parts]
+    def describe(self) -> str:
+        parts = [f"{self._answer_text(answer)} where {self._where(alternatives)}"
+                 for answer, alternatives in self.parts]
         return f"{'; '.join(parts)}, else {self._answer_text(self.otherwise)}"
 
     def _json_of(self, answer: Answer) -> dict[str, object]:
@@ -104,12 +164,14 @@ class Conditions:
         return {"disposition": answer.disposition, **whole}
 
     def as_json(self) -> dict[str, object]:
-        return {"where": [{**self._json_of(answer), "any_of": [entry_of((), answer, it)["args"] for it in those]}
-                          for answer, those in self.parts], "else": self._json_of(self.otherwise)}
+        return {"where": [{**self._json_of(answer),
+                           "any_of": [entry_of((), answer, alternative)["args"] for alternative in alternatives]}
+                          for answer, alternatives in self.parts], "else": self._json_of(self.otherwise)}
 
     def entries(self) -> Iterator[dict[str, object]]:
         """The entries of a profile whose default is the answer to all other arguments."""
-        yield from (entry_of(self.names[:1], answer, it) for answer, those in self.parts for it in those)
+        yield from (entry_of(self.names[:1], answer, alternative) for answer, alternatives in self.parts
+                    for alternative in alternatives)
 
 
 def _fewest(answers: FilterAnswers, parts: dict[Answer, int]) -> tuple[Answer, dict[Answer, Sequence[Alternative]]]:
@@ -117,78 +179,78 @@ def _fewest(answers: FilterAnswers, parts: dict[Answer, int]) -> tuple[Answer, d
     best: tuple[Answer, dict[Answer, Sequence[Alternative]]] = NOTHING, {}
     if len(parts) > ALL_ALTERNATIVES:
         return best
-    for otherwise in sorted(parts, key=lambda it: -answers.sets.weight(parts[it])):
-        covers = {answer: answers.covers.of_set(those) for answer, those in parts.items() if answer != otherwise}
-        found = {answer: those for answer, those in covers.items() if those is not None}
-        if len(found) + 1 < len(covers):
+    for otherwise in sorted(parts, key=lambda answer: -answers.sets.weight(parts[answer])):
+        covers = answers.covers_beside(parts, otherwise)
+        fitting = {answer: alternatives for answer, alternatives in covers.items() if alternatives is not None}
+        if len(fitting) + 1 < len(covers):
             # (only one of those that take too many could be all other arguments)
             break
-        count, least = (sum(map(len, it.values())) for it in (found, best[1]))
-        if len(found) == len(covers) and (not best[1] or count < least):
-            best = otherwise, found
+        count, least = (sum(map(len, alternatives.values())) for alternatives in (fitting, best[1]))
+        if len(fitting) == len(covers) and (not best[1] or count < least):
+            best = otherwise, fitting
         if best[1] and count <= ALL_LISTED:
             break
     return best
 
 
-def _of_answers(answers: FilterAnswers, found: Answers) -> \
+def _of_answers(answers: FilterAnswers, number_answers: Answers) -> \
         tuple[Answer, dict[Answer, Sequence[Alternative]], bool] | None:
     """The answer to all other arguments, the alternatives of the others, and whether they are whole, of a number that
     has several answers, or dispositions; None if a profile can't say them."""
-    if answers.untested(found) is not None:
+    if answers.untested(number_answers) is not None:
         return None
-    parts, is_whole = answers.parts(found, True), answers.unsaid(found) is None
+    parts, is_whole = answers.parts(number_answers, True), answers.unsaid(number_answers) is None
     if not is_whole:
         dispositions: dict[Answer, int] = {}
-        for answer, those in parts.items():
-            one = next(it for it in ANSWERS if it.disposition == answer.disposition)
-            dispositions[one] = answers.sets.either(dispositions.get(one, NONE), those)
+        for answer, arguments in parts.items():
+            utmost = ANSWERS[answer.disposition]
+            dispositions[utmost] = answers.sets.either(dispositions.get(utmost, EMPTY_SET), arguments)
         parts = dispositions
     otherwise, others = _fewest(answers, parts)
     return (otherwise, others, is_whole) if others else None
 
 
-def _failed(asker: Asker, those: Sequence[tuple[Row, Conditions]]) -> set[int]:
+def _failed(asker: Asker, drafts: Sequence[tuple[Row, Conditions]]) -> set[int]:
     """The numbers for which scf doesn't prove these conditions, which have one answer otherwise."""
-    if sum(len(alternatives) for _, it in those for _, alternatives in it.parts) > MOST_RULES:
-        return {row.number for row, _ in those}
-    table = "".join(f"{it.names[0]} {row.number}\n" for row, it in those).encode()
-    profile = {**those[0][1].otherwise.default(),
+    if sum(len(alternatives) for _, conditions in drafts for _, alternatives in conditions.parts) > MOST_RULES:
+        return {row.number for row, _ in drafts}
+    table = "".join(f"{conditions.names[0]} {row.number}\n" for row, conditions in drafts).encode()
+    profile = {**drafts[0][1].otherwise.default(),
                "architectures": [asker.architecture.oci],
-               "syscalls": [entry for _, it in those for entry in it.entries()]}
-    found: set[int] = set()
-    for relation in (SAME,) if those[0][1].is_whole else (NO_MORE, NO_LESS):
+               "syscalls": [entry for _, conditions in drafts for entry in conditions.entries()]}
+    failed: set[int] = set()
+    for relation in (SAME,) if drafts[0][1].is_whole else (NO_MORE, NO_LESS):
         try:
-            found |= {it.number for it in asker.of_calls(json.dumps(profile).encode(), relation, table).calls}
+            failed |= {call.number for call in asker.of_calls(json.dumps(profile).encode(), relation, table).calls}
         except Refusal:
-            return {row.number for row, _ in those}
-    return found
+            return {row.number for row, _ in drafts}
+    return failed
 
 
 def _drafts(answers: FilterAnswers, rows: Sequence[Row]) -> list[tuple[Row, Conditions]]:
     """The conditions of the rows that have several answers, as the filters were followed. Raises TooMany."""
-    of_number, known, drafts = {number: found for number, _, found in answers.named()}, {}, []
+    of_number, known_drafts, drafts = {number: number_answers for number, _, number_answers in answers.named()}, {}, []
     for row in rows:
-        found = of_number[row.number]
-        if found not in known:
-            known[found] = _of_answers(answers, found)
-        if known[found] is not None:
-            otherwise, others, is_whole = known[found]
+        answers_of_row = of_number[row.number]
+        if answers_of_row not in known_drafts:
+            known_drafts[answers_of_row] = _of_answers(answers, answers_of_row)
+        if known_drafts[answers_of_row] is not None:
+            otherwise, others, is_whole = known_drafts[answers_of_row]
             drafts.append((row, Conditions(row.names, list(others.items()), otherwise, is_whole,
                                            answers.architecture)))
     return drafts
 
 
 def unfinished() -> str:
-    """What is said if the filters weren't followed to their ends."""
-    return UNFINISHED.format(own_steps().most)
+    """The line for filters that weren't followed to their ends."""
+    return UNFINISHED_TEXT.format(own_steps().most)
 
 
 def add(surface: Surface) -> bool:
     """Adds the conditions to the rows of a surface that have several answers, where scf proves them. False if finding
     them takes too many steps."""
     asker = surface.asker
-    request = Request([Filter("", data) for data in asker.filters], surface.table, asker.architecture,
+    request = ProfileRequest([Filter("", data) for data in asker.filters], surface.table, asker.architecture,
                       regions=surface.regions)
     answers = request.answers()
     try:
@@ -196,10 +258,10 @@ def add(surface: Surface) -> bool:
     except TooMany:
         return False
     groups: dict[tuple[Answer, bool], list[tuple[Row, Conditions]]] = {}
-    for row, found in drafts:
-        groups.setdefault((found.otherwise, found.is_whole), []).append((row, found))
-    for those in groups.values():
-        failed = _failed(asker, those)
-        for row, found in those:
-            row.conditions = None if row.number in failed else found
+    for row, conditions in drafts:
+        groups.setdefault((conditions.otherwise, conditions.is_whole), []).append((row, conditions))
+    for drafts_alike in groups.values():
+        failed = _failed(asker, drafts_alike)
+        for row, conditions in drafts_alike:
+            row.conditions = None if row.number in failed else conditions
     return not answers.is_unfinished

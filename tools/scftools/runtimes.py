@@ -1,64 +1,58 @@
-"""Container runtimes: what runc and crun make of a profile, as a profile that says just that.
+"""Container runtimes: what decides beside a profile's words how runc and crun read it.
 
-Both hand the entries of a profile to libseccomp, which answers a syscall otherwise than a reader of the profile thinks
-where two entries have it. The rules stand in runc's libcontainer (SetupSeccomp of specconv, matchCall of seccomp and
-generatePatch of seccomp/patchbpf), and were found by filters that crun 1.8.1 and libseccomp 2.5.4 load:
-
-- an entry whose answer is the default's isn't handed over;
-- two conditions on one argument make each condition of the entry an entry of its own; crun takes the first six;
-- a name that libseccomp doesn't know is left out;
-- an entry without conditions has all calls of its syscall, wherever it stands; of two such entries it is the first;
-- the calls of x86-64 are confined whether or not `architectures` has it;
-- on i386 socketcall and ipc are answered as the syscalls that they make;
-- where the default denies, runc alone answers each number of an architecture in the list, above all that the profile
-  names, with ENOSYS; x86-64 and x32 have numbers of their own. Of the i386 syscalls that socketcall and ipc make, too,
-  libseccomp tells runc no number above 0: they don't count, and ENOSYS may be the answer to those that are made
-  directly (findLastSyscalls of patchbpf, and __PNR_semget and the like of seccomp.h).
+scf reads a profile as they do (`--reading`; RUNTIMES.md has the rules). The tools know the rest: which engine
+resolves the profile before, what a runtime refuses beside it, the names that this machine's libseccomp knows, its rules
+of socketcall and ipc on i386, and the numbers from which on runc answers ENOSYS: on each architecture in the list the
+one above all that the profile names. Of the i386 syscalls that socketcall and ipc make, too, libseccomp tells runc no
+number above 0, so ENOSYS may be the answer to those that are made directly (findLastSyscalls of
+libcontainer/seccomp/patchbpf, and __PNR_semget and the like of seccomp.h).
 """
 from __future__ import annotations
 
 import os
 from collections.abc import Callable, Iterator, Sequence
 
-from . import engines, libseccomp, multiplexed, output, profile_inputs, program, tables
-from .answers import MAX_ERRNO, WITH_ERRNO, Answer
-from .architectures import JUDGED, NATIVE, PREFIX
-from .engines import MAX_RULES, Origin, Refused, Setting, excerpt, excerpts
+from . import engines, inputs, libseccomp, multiplexed, output, profile_inputs, profiles, program, tables
+from .answers import MAX_ERRNO, Answer
+from .architectures import JUDGED, NATIVE, NUMBERS, PREFIX
+from .engines import Origin, Refused, Setting, answer_of, excerpt, excerpts
 from .explanation import join_names
 from .libseccomp import Library
-from .profiles import ACTIONS
+from .profile_inputs import ProfileInput
+from .profiles import OCI_ACTIONS
 from .values import Any, dataclass, field, replace
 from .words import Parser
 
 RUNC, CRUN = "runc", "crun"
-NOTIFY = "SCMP_ACT_NOTIFY"
+ERRNO, NOTIFY = "SCMP_ACT_ERRNO", "SCMP_ACT_NOTIFY"
 # Actions of a default beside which runc's stub isn't put before the filter (isAllowAction of patchbpf).
-WITHOUT_STUB = ("ALLOW", "LOG", "TRACE")
+WITHOUT_STUB = ("SCMP_ACT_ALLOW", "SCMP_ACT_LOG", "SCMP_ACT_TRACE")
 # The most conditions of an entry that crun reads.
 CRUN_CONDITIONS = 6
 
 
 @dataclass(frozen=True)
 class Runtime:
-    """A runtime by the name that a user gives it: the program, and the engine whose default it is, which resolves a
-    profile before."""
+    """A runtime by the name that a user gives it: the program, whose name is scf's of its reading, and the engine whose
+    default it is, which resolves a profile before."""
 
     name: str
     program: str
     engine: str | None = None
 
 
-RUNTIMES = {it.name: it for it in (Runtime(RUNC, RUNC), Runtime(CRUN, CRUN), Runtime("docker", RUNC, "docker"),
-                                   Runtime("podman", CRUN, "podman"))}
-HELP = ("read a profile as this container runtime does: runc and crun take a resolved profile; docker stands for "
-        "Docker's engine (moby), which resolves an engine's profile, with runc, and podman for podman's with crun. "
-        "An entry whose answer is the default's is ignored, of two entries without conditions the first counts, and "
-        "names that this machine's libseccomp doesn't know are left out")
+RUNTIMES = {runtime.name: runtime
+            for runtime in (Runtime(RUNC, RUNC), Runtime(CRUN, CRUN), Runtime("docker", RUNC, "docker"),
+                            Runtime("podman", CRUN, "podman"))}
+RUNTIME_HELP = ("read a profile as this container runtime does: runc and crun take a resolved profile; docker stands "
+                "for Docker's engine (moby), which resolves an engine's profile, with runc, and podman for podman's "
+                "with crun. An entry whose answer is the default's is ignored, of two entries without conditions the "
+                "first counts, and names that this machine's libseccomp doesn't know are left out")
 
 
 def add_option(parser: Parser) -> None:
     """Adds `--runtime`."""
-    parser.add_argument("--runtime", choices=tuple(RUNTIMES), help=HELP)
+    parser.add_argument("--runtime", choices=tuple(RUNTIMES), help=RUNTIME_HELP)
 
 
 def add_options(parser: Parser, without_caps: str = "podman for podman, or docker") -> None:
@@ -71,16 +65,17 @@ def add_options(parser: Parser, without_caps: str = "podman for podman, or docke
                         help="the container's capabilities, such as CAP_KILL,SYS_ADMIN; docker, podman and none are "
                              f"sets, as in docker,SYS_ADMIN [default: {without_caps}]")
     parser.add_argument("--kernel", metavar="X.Y", help="the kernel that the engine runs on [default: this one]")
-    parser.add_argument("--arch", choices=("native", "all"),
-                        help="whether only the machine's own or all architectures are passed on [default: all, as the "
-                             "engine does]")
+    parser.add_argument("--arch-map", choices=("native", "all"),
+                        help="whether only the machine's own or all architectures of archMap are passed on [default: "
+                             "all, as the engine does]")
     parser.add_argument("--ignore", metavar="MEMBER", action="append",
                         help="ignore a member of entries that no engine reads, which may be a condition")
 
 
 def is_engines(options: Any) -> bool:
     """Whether some word says that a profile is an engine's."""
-    return any(getattr(options, it) is not None for it in ("engine", "caps", "kernel", "arch", "ignore"))
+    return any(getattr(options, name, None) is not None
+               for name in ("engine", "caps", "kernel", "arch_map", "ignore", "machine"))
 
 
 def setting_of_words(options: Any, parser: Parser) -> Setting:
@@ -90,7 +85,7 @@ def setting_of_words(options: Any, parser: Parser) -> Setting:
     try:
         return Setting(engines.capabilities_of(options.caps if options.caps is not None else
                                                "podman" if is_podman else "docker"),
-                       engines.kernel_of(options.kernel or os.uname().release), options.arch == "native", engine,
+                       engines.kernel_of(options.kernel or os.uname().release), options.arch_map == "native", engine,
                        options.ignore or (), machine=getattr(options, "machine", None) or engines.machine_here())
     except ValueError as why:
         parser.error(str(why))
@@ -98,33 +93,34 @@ def setting_of_words(options: Any, parser: Parser) -> Setting:
 
 @dataclass(frozen=True)
 class AppliedProfile:
-    """A profile as a runtime applies it, in a form of which scf says the same."""
+    """A profile as a runtime is given it."""
 
     runtime: Runtime
-    # what is handed to libseccomp, and what this makes of it for i386
+    # but for names that libseccomp doesn't know
     profile: dict[str, Any]
-    handed: dict[str, Any]
+    # the same with libseccomp's own rules for i386, for scf, which reads it as the runtime does
+    data: bytes
     # the index of each entry of the latter in the user's profile
     origins: Sequence[Origin]
-    # what is to be known of the whole, and what was left out of it, entry by entry
+    # what is to be known of the whole; and entry by entry, what an engine left out or the runtime reads otherwise
     remarks: Sequence[str]
-    notes: Sequence[str]
+    notes: Sequence[str] = ()
     # by the OCI name of an architecture, the least number of a record that runc answers with ENOSYS
     stub: dict[str, int] = field(default_factory=dict)
 
     @property
-    def data(self) -> bytes:
-        """The profile's text."""
-        return engines.to_bytes(self.handed)
+    def input(self) -> ProfileInput:
+        """The profile for scf."""
+        return ProfileInput(self.data, self.origins, self.stub)
 
     def stub_notes(self, stub: dict[str, int]) -> Iterator[str]:
         """The notes on a filter that begins with a stub at these numbers."""
         yield stub_note(stub)
-        names = {name for entry in self.handed["syscalls"] for name in entry["names"]}
+        names = {name for entry in self.profile["syscalls"] for name in entry["names"]}
         for architecture, first in stub.items():
             table = tables.of_architecture(architecture)
-            numbers = {} if table is None else {it: table.number_of(it) for it in names}
-            covered = sorted(it for it, number in numbers.items()
+            numbers = {} if table is None else {name: table.number_of(name) for name in names}
+            covered = sorted(name for name, number in numbers.items()
                              if number is not None and JUDGED[architecture].first + number >= first)
             if covered:
                 shown = output.some(covered, engines.MAX_LISTED)
@@ -132,7 +128,7 @@ class AppliedProfile:
                        "socketcall or ipc makes them: libseccomp tells runc no number of theirs")
 
     def describe(self) -> Iterator[str]:
-        """What is to be known of it, and all that was left out."""
+        """Notes on the profile and its entries."""
         yield from engines.at_most(self.notes)
         yield from self.remarks
         if self.stub:
@@ -148,19 +144,19 @@ def stub_note(stub: dict[str, int]) -> str:
     return f"runc answers the numbers {join_names(firsts)}, above all that the profile names, with ENOSYS"
 
 
-@dataclass
-class _Rule:
-    """An entry that is handed to libseccomp: names and conditions that are all to hold."""
+def _short_errno(holder: dict[str, Any], name: str) -> dict[str, int]:
+    """The member of an errno, of which libseccomp takes 16 bits."""
+    return {} if holder.get(name) is None else {name: holder[name] & 0xFFFF}
 
-    names: list[str]
-    answer: Answer
-    args: list[dict[str, Any]]
-    origin: Origin
+
+def _has_all(conditions: Sequence[dict[str, Any]]) -> bool:
+    """Whether every syscall meets these conditions, since they compare nothing: masks without a bit."""
+    return all(condition.get("op") == "SCMP_CMP_MASKED_EQ" and not condition.get("value") for condition in conditions)
 
 
 @dataclass
 class _Application:
-    """The making of what a runtime applies out of a resolved profile."""
+    """The making of what a runtime is given out of a resolved profile."""
 
     runtime: Runtime
     library: Library | None
@@ -168,170 +164,161 @@ class _Application:
     number_of: Callable[[str, str], int | None]
     # the OCI name of the machine's own architecture
     native: str
-    # the architectures of the list that scf judges
-    judged: Sequence[str] = ()
     remarks: list[str] = field(default_factory=list)
-    notes: list[str] = field(default_factory=list)
     unknown: dict[str, None] = field(default_factory=dict)
-    greatest: dict[str, int] = field(default_factory=dict)
-    count: int = 0
-    has_ignored: bool = False
+
+    @property
+    def is_runc(self) -> bool:
+        return self.runtime.program == RUNC
 
     def refuse(self, why: str) -> None:
         raise Refused(f"{self.runtime.program} refuses the profile: {why}")
 
-    def answer_of(self, action: str, number: int | None, where: str) -> Answer:
-        """What libseccomp is given for an action and its number."""
-        if action not in ACTIONS:
+    def check_action(self, action: str, number: int | None, where: str) -> None:
+        """Refuses an action, or its errno, that the runtime or libseccomp refuses."""
+        if action not in OCI_ACTIONS:
             self.refuse(f"{where} has an unknown action: '{excerpt(action)}'")
-        found = Answer.of_profile(action, None)
-        if found.action in WITH_ERRNO:
-            if self.runtime.program == CRUN and number is not None and number >= 1 << 32:
-                self.refuse(f"the errno {number} of {where}")
-            return found if number is None else replace(found, data=number & 0xFFFF)
-        if number is not None and self.runtime.program == CRUN:
-            self.refuse(f"{where} has an errno beside {found.oci}")
-        if number is not None and not self.has_ignored:
-            self.has_ignored = True
-            self.remarks.append(f"an errno beside an action that takes none is ignored: the first is that of {where}")
-        return found
+        if number is None:
+            return
+        if action not in profiles.WITH_ERRNO:
+            if not self.is_runc:
+                self.refuse(f"{where} has an errno beside {action}")
+            if not any(remark.startswith("an errno") for remark in self.remarks):
+                self.remarks.append("an errno beside an action that takes none is ignored: the first is that of "
+                                    f"{where}")
+        elif not self.is_runc and number >= 1 << 32:
+            self.refuse(f"the errno {number} of {where}")
+        elif action == ERRNO and number & 0xFFFF > MAX_ERRNO:
+            self.refuse(f"libseccomp takes no errno above {MAX_ERRNO}, and {where} has {number & 0xFFFF}")
 
-    def check(self, answer: Answer, where: str) -> None:
-        """Refuses an errno that libseccomp refuses."""
-        if answer.action == "ERRNO" and answer.data > MAX_ERRNO:
-            self.refuse(f"libseccomp takes no errno above {MAX_ERRNO}, and {where} has {answer.data}")
-
-    def default_of(self, profile: dict[str, Any]) -> Answer:
-        answer = self.answer_of(profile["defaultAction"], profile.get("defaultErrnoRet"), "the default")
-        self.check(answer, "the default")
-        if answer.oci == NOTIFY and self.runtime.program == RUNC:
+    def check_supervisor(self, profile: dict[str, Any], origins: Sequence[Origin]) -> None:
+        """Refuses what runc refuses of a profile whose calls a supervisor answers."""
+        if profile["defaultAction"] == NOTIFY:
             self.refuse(f"{NOTIFY} can't be the default action")
-        return answer
+        for entry, origin in zip(profile["syscalls"], origins):
+            if entry["action"] == NOTIFY and "write" in entry["names"]:
+                self.refuse(f"entry {origin.index} has write with {NOTIFY}")
+            if entry["action"] == NOTIFY and "listenerPath" not in profile:
+                self.refuse(f"it has {NOTIFY} and no listenerPath")
 
-    def known(self, names: Sequence[str], where: str) -> list[str]:
-        """Those names of an entry that libseccomp knows."""
-        found = []
-        for name in dict.fromkeys(names):
-            if not name and self.runtime.program == RUNC:
-                self.refuse(f"a name of {where} is empty")
-            if self.number_of(name, self.native) is None:
-                self.unknown[name] = None
+    def entry_of(self, entry: dict[str, Any], where: str) -> dict[str, Any]:
+        """An entry as libseccomp is given it, without the names that it doesn't know; and of an errno the 16 bits."""
+        self.check_action(entry["action"], entry.get("errnoRet"), where)
+        if self.is_runc and "" in entry["names"]:
+            self.refuse(f"a name of {where} is empty")
+        numbers = {name: self.number_of(name, self.native) for name in entry["names"]}
+        self.unknown.update({name: None for name, number in numbers.items() if number is None})
+        count = len(entry.get("args", ()))
+        if not self.is_runc and count > CRUN_CONDITIONS:
+            self.remarks.append(f"{where} has {count} conditions, of which crun takes the first {CRUN_CONDITIONS}")
+        names = [name for name, number in numbers.items() if number is not None]
+        return {**entry, "names": names, **_short_errno(entry, "errnoRet")}
+
+    def notes_on(self, profile: dict[str, Any], origins: Sequence[Origin]) -> Iterator[str]:
+        """Which entries the runtime reads otherwise than by their words (Readings.antt has the rules)."""
+        who, default = self.runtime.program, answer_of(profile["defaultAction"], profile.get("defaultErrnoRet"))
+        answers = [answer_of(entry["action"], entry.get("errnoRet")) for entry in profile["syscalls"]]
+        first: dict[str, tuple[Answer, Origin]] = {}
+        for entry, answer, origin in zip(profile["syscalls"], answers, origins):
+            conditions = entry.get("args", [])[:None if self.is_runc else CRUN_CONDITIONS]
+            is_repeated = len({condition.get("index", 0) for condition in conditions}) < len(conditions)
+            if answer == default:
+                yield f"{who} leaves out {origin.describe()}: its answer is the default's"
                 continue
-            found.append(name)
-            for architecture in self.judged:
-                number = self.number_of(name, architecture)
-                self.greatest[architecture] = max(self.greatest.get(architecture, 0), number or 0)
-        return found
+            if is_repeated:
+                yield f"{who} reads the conditions of {origin.describe()} as alternatives: two are on one argument"
+            if any(map(_has_all, [[condition] for condition in conditions] if is_repeated else [conditions])):
+                for name in entry["names"]:
+                    first.setdefault(name, (answer, origin))
+        for entry, answer, origin in zip(profile["syscalls"], answers, origins):
+            covered: dict[int, list[str]] = {}
+            for name in entry["names"] if answer != default else ():
+                counting, by = first.get(name, (answer, origin))
+                if counting != answer:
+                    covered.setdefault(by.index, []).append(name)
+            for index, names in covered.items():
+                yield (f"{who} leaves {excerpts(names)} out of entry {origin.index}: entry {index}, which has no "
+                       "conditions, covers all such syscalls")
 
-    def rules_of(self, entry: dict[str, Any], origin: Origin, default: Answer) -> Iterator[_Rule]:
-        """What is handed over of an entry."""
-        where = f"entry {origin.index}"
-        answer = self.answer_of(entry["action"], entry.get("errnoRet"), where)
-        names = self.known(entry["names"], where)
-        if answer.oci == NOTIFY and self.runtime.program == RUNC and "write" in entry["names"]:
-            self.refuse(f"{where} has write with {NOTIFY}")
-        if answer == default:
-            self.notes.append(f"{origin.describe()} left out: its answer is the default's")
-            return
-        self.check(answer, where)
-        args = entry.get("args", [])
-        if self.runtime.program == CRUN and len(args) > CRUN_CONDITIONS:
-            self.remarks.append(f"{where} has {len(args)} conditions, of which crun takes the first {CRUN_CONDITIONS}")
-            args = args[:CRUN_CONDITIONS]
-        indices = [it.get("index", 0) for it in args]
-        is_all = len(set(indices)) == len(indices)
-        self.count += len(names) * (1 if is_all else len(args))
-        if self.count > MAX_RULES:
-            raise Refused(f"the profile has more than {MAX_RULES} rules (one for each name of an entry)")
-        if is_all:
-            yield _Rule(names, answer, args, origin)
-            return
-        self.notes.append(f"{origin.describe()} has two conditions on one argument: its conditions are alternatives")
-        yield from (_Rule(list(names), answer, [one], origin) for one in args)
+    def stub_of(self, profile: dict[str, Any]) -> dict[str, int]:
+        """By architecture the least number of a record that runc answers with ENOSYS (findLastSyscalls of patchbpf)."""
+        if not self.is_runc or profile["defaultAction"] in WITHOUT_STUB:
+            return {}
+        names = {name for entry in profile["syscalls"] for name in entry["names"]}
+        greatest = {architecture: max([self.number_of(name, architecture) or 0 for name in names], default=0)
+                    for architecture in JUDGED if architecture in profile.get("architectures", ())}
+        return {architecture: number + 1 for architecture, number in greatest.items() if number > 0}
 
-    def keep_counting(self, rules: Sequence[_Rule]) -> None:
-        """Leaves those names out of entries whose syscalls another entry answers: the first without conditions."""
-        first: dict[str, _Rule] = {}
-        for rule in rules:
-            if not rule.args:
-                for name in rule.names:
-                    first.setdefault(name, rule)
-        for rule in rules:
-            gone: dict[Origin, list[str]] = {}
-            for name in rule.names:
-                counts = first.get(name)
-                if counts is not None and counts is not rule and counts.answer != rule.answer:
-                    gone.setdefault(counts.origin, []).append(name)
-            left_out = {name for names in gone.values() for name in names}
-            rule.names = [name for name in rule.names if name not in left_out]
-            self.notes += [f"{excerpts(names)} left out of entry {rule.origin.index}: entry {origin.index}, which has "
-                           f"no conditions, covers all such syscalls" for origin, names in gone.items()]
+    def read_as(self, handed: dict[str, Any]) -> profiles.DerivedProfile:
+        """The text of a profile that the runtime reads, and of which names libseccomp makes no rule where."""
+        data = profiles.DerivedProfile(engines.to_bytes(handed))
+        data.reading = self.runtime.program
+        names = {name for entry in handed["syscalls"] for name in entry["names"]}
+        for architecture in JUDGED:
+            table = tables.of_architecture(architecture)
+            absent = frozenset(name for name in names if (self.number_of(name, architecture) or 0) < 0
+                               and table is not None and table.number_of(name) is not None
+                               and not (architecture == multiplexed.I386 and multiplexed.is_multiplexed(name)))
+            if absent:
+                data.absent = {**data.absent, architecture: absent}
+        return data
 
-    def architectures_of(self, names: Sequence[str]) -> list[str]:
-        """The architectures, the machine's own among them."""
-        if self.runtime.program == CRUN:
-            names = [PREFIX + it.removeprefix(PREFIX).upper() for it in names]
-        if not names or self.native in names:
-            return list(names)
-        self.remarks.append(f"{JUDGED[self.native].name} syscalls are confined too, though architectures lacks "
-                            f"{self.native}")
-        return [self.native, *names]
-
-    def tell_unknown(self) -> None:
+    def tell(self, architectures: Sequence[str]) -> None:
+        """Notes what the runtime confines beside the list, and the names that are left out."""
+        if architectures and self.native not in architectures:
+            self.remarks.append(f"{JUDGED[self.native].name} syscalls are confined too, though architectures lacks "
+                                f"{self.native}")
         if self.library is None:
-            self.remarks.append("there is no libseccomp.so.2 here, so it is unknown which names the runtime's doesn't "
-                                "know")
+            self.remarks.append("libseccomp.so.2 isn't installed: names that the runtime's own doesn't know may be "
+                                "left in")
         elif self.unknown:
             names = excerpts(list(self.unknown))
             self.remarks.append(f"left out, since this machine's libseccomp {self.library.version} doesn't know "
                                 f"them: {names}")
 
     def run(self, profile: dict[str, Any], origins: Sequence[Origin]) -> AppliedProfile:
-        default = self.default_of(profile)
-        self.judged = [it for it in JUDGED if it in profile.get("architectures", ())]
-        rules = [rule for entry, origin in zip(profile["syscalls"], origins)
-                 for rule in self.rules_of(entry, origin, default)]
-        if self.runtime.program == RUNC and "listenerPath" not in profile:
-            if any(it["action"] == NOTIFY for it in profile["syscalls"]):
-                self.refuse(f"it has {NOTIFY} and no listenerPath")
-        self.keep_counting(rules)
-        rules = [rule for rule in rules if rule.names]
-        found = default.default()
-        architectures = self.architectures_of(profile.get("architectures", []))
-        if architectures:
-            found["architectures"] = architectures
-        found.update((name, profile[name]) for name in engines.KEPT if name in profile)
-        found["syscalls"] = [{"names": it.names, **it.answer.members(), **({"args": it.args} if it.args else {})}
-                             for it in rules]
-        self.tell_unknown()
-        handed, places = multiplexed.with_rules(found)
-        has_stub = self.runtime.program == RUNC and default.action not in WITHOUT_STUB
-        # (findLastSyscalls of patchbpf)
-        stub = {name: self.greatest[name] + 1 for name in JUDGED if has_stub and self.greatest.get(name)}
-        return AppliedProfile(self.runtime, found, handed, [rules[it].origin for it in places], self.remarks,
-                              self.notes, stub)
+        """A resolved profile as the runtime is given it. Raises Refused."""
+        self.check_action(profile["defaultAction"], profile.get("defaultErrnoRet"), "the default")
+        if self.is_runc:
+            self.check_supervisor(profile, origins)
+        entries = [(self.entry_of(entry, f"entry {origin.index}"), origin)
+                   for entry, origin in zip(profile["syscalls"], origins)]
+        given = {**profile, **_short_errno(profile, "defaultErrnoRet"),
+                 "syscalls": [entry for entry, _ in entries if entry["names"]]}
+        if not self.is_runc and "architectures" in profile:
+            # crun takes them in small letters, and without the prefix
+            given["architectures"] = [PREFIX + name.removeprefix(PREFIX).upper() for name in profile["architectures"]]
+        for name in given.get("architectures", ()):
+            if name not in NUMBERS:
+                self.refuse(f"it knows no architecture '{excerpt(name)}'")
+        self.tell(given.get("architectures", ()))
+        handed, places = multiplexed.with_rules(given, most=None if self.is_runc else CRUN_CONDITIONS)
+        given_origins = [origin for entry, origin in entries if entry["names"]]
+        return AppliedProfile(self.runtime, given, self.read_as(handed), [given_origins[place] for place in places],
+                              self.remarks, list(self.notes_on(given, given_origins)), self.stub_of(given))
 
 
 def _number_in_tables(name: str, architecture: str) -> int | None:
     """The number of a name in a table that comes with scf, as in a record; below 0 if only others have it, None if
     none has."""
-    found = {it: table.number_of(name) for it in JUDGED for table in [tables.of_architecture(it)] if table is not None}
-    number = found.get(architecture)
-    if number is not None:
-        return JUDGED[architecture].first + number
-    return None if all(it is None for it in found.values()) else -1
+    numbers = tables.of_architectures(JUDGED, tables.of_architecture(NATIVE) or tables.Table(b"")).numbers_of(name)
+    if architecture in numbers:
+        return JUDGED[architecture].first + numbers[architecture]
+    return -1 if numbers else None
 
 
 def _refuse_engines(value: Any, program: str) -> None:
     """Refuses what only engines read, where there is none."""
     value = value if isinstance(value, dict) else {}
     entries = value.get("syscalls")
-    entries = [it for it in entries if isinstance(it, dict)] if isinstance(entries, list) else []
-    found = [name for name in ("archMap", "defaultErrno") if value.get(name)]
-    found += [name for name in ("includes", "excludes", "name", "errno") if any(it.get(name) for it in entries)]
-    if found:
-        raise Refused(f"{program} doesn't read {found[0]}: it is an engine's profile, which --runtime docker and "
-                      f"--runtime podman resolve")
+    entries = [entry for entry in entries if isinstance(entry, dict)] if isinstance(entries, list) else []
+    unread = [name for name in ("archMap", "defaultErrno") if value.get(name)]
+    unread += [name for name in ("includes", "excludes", "name", "errno") if any(entry.get(name) for entry in entries)]
+    if unread:
+        engine = "podman" if program == RUNC else "docker"
+        raise Refused(f"{program} doesn't read {unread[0]}: it is an engine's profile, which --runtime docker resolves "
+                      f"for runc, --runtime podman for crun, and `scf resolve-profile --engine {engine} --runtime "
+                      f"{program}` for {engine} with {program}")
 
 
 def setting_of(runtime: Runtime) -> Setting:
@@ -340,9 +327,10 @@ def setting_of(runtime: Runtime) -> Setting:
                    runtime.engine)
 
 
-def applied(value: Any, name: str, setting: Setting | None = None) -> AppliedProfile:
-    """What the runtime of a name makes of a profile, or of a whole config.json, that `engines.read` read. Raises
-    Refused if the runtime, or the engine before it, refuses it or reads it otherwise than it is spelled."""
+def applied(value: Any, name: str, setting: Setting | None = None, keeps_first: bool = False) -> AppliedProfile:
+    """The profile as the runtime of a name is given it, of a profile's value, or of a whole config.json, that
+    `engines.read` read; on request without later answers to a syscall. Raises Refused if the runtime, or the engine
+    before it, refuses it or reads it otherwise than it is spelled."""
     runtime = RUNTIMES[name]
     setting = setting or setting_of(runtime)
     notes: list[str] = []
@@ -358,19 +346,48 @@ def applied(value: Any, name: str, setting: Setting | None = None) -> AppliedPro
         setting = replace(setting, ignored=None)
     resolver = engines.Resolver(setting, notes.append)
     resolved = resolver.resolved(value)
+    if keeps_first:
+        resolver.keep_first(resolved)
     library = libseccomp.installed()
     number_of = _number_in_tables if library is None else library.number_of
-    found = _Application(runtime, library, number_of, setting.native).run(resolved, resolver.origins)
-    remarks = list(found.remarks)
+    application = _Application(runtime, library, number_of, setting.native).run(resolved, resolver.origins)
+    remarks = list(application.remarks)
     if setting.engine is not None and setting.source is not None:
-        names = ", ".join(it[4:] for it in setting.capabilities) or "none"
+        names = ", ".join(capability[4:] for capability in setting.capabilities) or "none"
         remarks.append(f"resolved for the capabilities of {setting.source}: {names}")
-    return replace(found, remarks=remarks, notes=list(dict.fromkeys([*notes, *found.notes])))
+    return replace(application, remarks=remarks, notes=list(dict.fromkeys([*notes, *application.notes])))
 
 
-def applied_in(data: bytes, path: str, name: str, setting: Setting) -> AppliedProfile:
-    """What a runtime makes of the profile in what was read of a file; ends the tool where it refuses it."""
+def applied_in(data: bytes, path: str, name: str, setting: Setting, is_strict: bool = False) -> AppliedProfile:
+    """The profile that was read of a file, as a runtime is given it; ends the tool where it refuses it, or if strict
+    for members that nothing reads."""
+    data = profile_inputs.plain(data, path)
     try:
-        return applied(engines.read(profile_inputs.plain(data, path)), name, setting)
+        given = applied(engines.read(data), name, setting)
     except Refused as why:
         raise program.ToolError(f"{path}: {why}", program.NEGATIVE) from why
+    profile_inputs.tell_unread(data, path, is_strict)
+    return given
+
+
+def read(options: Any) -> ProfileInput:
+    """The profile that a command line names: with `--runtime` as that runtime reads it, and what is to be known of that
+    is printed."""
+    runtime = RUNTIMES.get(options.runtime)
+    if options.machine is not None and options.caps is None and (runtime is None or runtime.engine is None):
+        raise program.ToolError("--machine is for an engine's profile, which --caps or --runtime docker or podman says "
+                                "it is")
+    if runtime is None:
+        return profile_inputs.read(options.profile, options.caps, is_strict=options.strict, machine=options.machine)
+    if options.caps is not None and runtime.engine is None:
+        raise program.ToolError(f"--caps resolves an engine's profile, and --runtime {runtime.name} takes a resolved "
+                                f"one: `scf resolve-profile --runtime {runtime.name} --engine .. --caps ..` makes it")
+    data, setting = inputs.read_whole(options.profile, "profile"), setting_of(runtime)
+    try:
+        capabilities = setting.capabilities if options.caps is None else engines.capabilities_of(options.caps)
+    except ValueError as why:
+        raise program.ToolError(str(why)) from why
+    setting = replace(setting, capabilities=capabilities, machine=options.machine or setting.machine)
+    given = applied_in(data, options.profile, options.runtime, setting, options.strict)
+    program.say(*given.describe())
+    return given.input

@@ -3,14 +3,15 @@ from __future__ import annotations
 
 from collections.abc import Iterator, Sequence
 
-from . import (bundles, client, compare, compare_output, explanation, filters, listing, output, program, refusals,
+from . import (bundles, client, compare_output, explanation, filters, listing, output, program, refusals, shown_answers,
                tables, verdicts)
-from .compare import ALL, CALLS, NATIVE
 from .filters import Filter, looks_at_pointer
 from .listing import Giver
 from .tables import Table
 from .values import Any, dataclass
-from .verdicts import DIFFERS, RELATIONS, SAME, SCOPES, Report, Verdict
+from .verdicts import ALL, CALLS, DIFFERS, NATIVE_SCOPE, RELATIONS, SAME, SCOPES, Report, Verdict
+
+OTHER_SIDE = "the other side"
 
 
 @dataclass(frozen=True)
@@ -26,15 +27,15 @@ class StackComparison:
             numbers: tuple[int, int] | None = None) -> tuple[int, Report]:
         """scf's exit status and report, for this relation or the comparison's own, on request only over x86-64 syscalls
         with numbers from one to another; `Verdict.profile` is the answer of the right side."""
-        left, right = ([one.data for one in side] for side in (self.left, self.right))
-        given = bundles.of_stacks(left, right, self.table.data if scope == CALLS else None)
+        left_data, right = ([bpf_filter.data for bpf_filter in side] for side in (self.left, self.right))
+        given = bundles.of_stacks(left_data, right, self.table.data if scope == CALLS else None)
         words = ["--beside", *SCOPES[scope], *RELATIONS[relation or self.relation]]
         words += [] if numbers is None else [f"--nr-from={numbers[0]}", f"--nr-to={numbers[1]}"]
-        if left == right:
+        if left_data == right:
             return self._of_equal(words, given, relation or self.relation)
         done = client.compare(words, given)
-        pointer = None if scope == CALLS and any(map(looks_at_pointer, left + right)) else 0
-        return done.status, verdicts.check_answers(verdicts.report(done.text, pointer=pointer), left, right)
+        pointer = None if scope == CALLS and any(map(looks_at_pointer, left_data + right)) else 0
+        return done.status, shown_answers.check(verdicts.report(done.text, pointer=pointer), left_data, right)
 
     def _of_equal(self, words: Sequence[str], given: bytes, relation: str) -> tuple[int, Report]:
         """The status and report on two stacks of the same bytes: if scf takes them, each relation holds, and no step is
@@ -51,24 +52,12 @@ class StackComparison:
         return self.run(ALL, numbers=(first, last))[1].verdict
 
 
-def _of_dispositions(comparison: StackComparison, scope: str) -> Iterator[str]:
-    """A line on which side of two that differ is the more permissive one, if it is so of every syscall."""
-    no_more, no_less = (verdict is not None and verdict.holds for verdict in compare.dispositions(comparison, scope))
-    they, are = ("they", "are") if len(comparison.left) > 1 else ("it", "is")
-    if no_more and no_less:
-        yield f"{they} {are} neither more permissive nor stricter than the other side: only the answers differ"
-    elif no_more:
-        yield f"{they} {are} stricter, and never more permissive than the other side"
-    elif no_less:
-        yield f"{they} {are} more permissive, and never stricter than the other side"
-
-
 def _answers(side: Sequence[Filter]) -> str:
     return "filters answer" if len(side) > 1 else "filter answers"
 
 
 def _givers(comparison: StackComparison, verdict: Verdict) -> list[Giver | None]:
-    """Of each side the filter that gives its answer to the example."""
+    """The filter of each side that gives its answer to the example."""
     sides, call = ((comparison.left, verdict.filters), (comparison.right, verdict.profile)), verdict.call
     return [None if call is None or answer is None else
             listing.to_show(listing.deciding_filters(side, call.words(), answer)) for side, answer in sides]
@@ -94,7 +83,7 @@ def _of_calls(comparison: StackComparison) -> Iterator[str]:
         yield "each x86-64 syscall in the table gets the same answer from both sides" if comparison.relation == SAME \
             else "no x86-64 syscall in the table is among those"
     else:
-        yield from compare_output.count_lines(by_name.calls, "the other side")
+        yield from compare_output.count_lines(by_name.calls, OTHER_SIDE)
 
 
 def faulty(comparison: StackComparison, report: Report) -> list[str]:
@@ -117,42 +106,43 @@ def added(comparison: StackComparison, report: Report, scope: str) -> Iterator[s
     if report.verdict is None:
         return
     if report.verdict.word == DIFFERS and comparison.relation == SAME:
-        yield from _of_dispositions(comparison, scope)
+        yield from compare_output.strictness_lines(comparison, scope, len(comparison.left), OTHER_SIDE)
     if report.verdict.fails and report.verdict.call is not None:
         yield from _of_difference(comparison, report.verdict)
     elif not report.verdict.fails:
-        yield from explanation.of_verdict(report, comparison.table, scope == NATIVE, len(comparison.left))
+        yield from explanation.of_verdict(report, comparison.table, scope == NATIVE_SCOPE, len(comparison.left))
     if report.verdict.fails and scope != CALLS:
         yield from _of_calls(comparison)
 
 
 def as_json(comparison: StackComparison, report: Report, scope: str, status: int) -> dict[str, object]:
-    """The same as `added`, as one object without scf's lines."""
+    """The object with everything that `added` prints."""
     verdict, table = report.verdict, comparison.table
-    found: dict[str, object] = {"status": status, "scope": scope, "relation": comparison.relation, "verdict": None}
+    members: dict[str, object] = {"status": status, "scope": scope, "relation": comparison.relation, "verdict": None}
     if report.fault is not None:
-        found["fault"] = report.fault.as_json(explanation.of_fault(report.fault))
-        found["files"] = faulty(comparison, report)
+        members["fault"] = report.fault.as_json(explanation.of_fault(report.fault))
+        members["files"] = faulty(comparison, report)
     if verdict is None:
-        return found
-    found.update(verdict=verdict.word, **verdict.as_json(table, bundles.BESIDE))
+        return members
+    members.update(verdict=verdict.word, **verdict.as_json(table, bundles.BESIDE))
     if verdict.fails and verdict.call is not None:
-        found.update(zip(("path", "path_beside"), (None if it is None else it.as_json()
-                                                   for it in _givers(comparison, verdict))))
+        members.update(zip(("path", "path_beside"), (None if giver is None else giver.as_json()
+                                                   for giver in _givers(comparison, verdict))))
     if verdict.word == DIFFERS and comparison.relation == SAME:
-        of_dispositions = zip(("no_more", "no_less"), compare.dispositions(comparison, scope))
-        found.update((member, one.word if one is not None else None) for member, one in of_dispositions)
+        members.update(compare_output.strictness_json(comparison, scope))
     if scope == CALLS or verdict.fails:
         calls = report.calls if scope == CALLS else comparison.run(CALLS)[1].calls
-        found["calls"] = [{**one.as_json(), **one.verdict.as_json(table, bundles.BESIDE)} for one in calls]
-    return found
+        members["calls"] = [{**call.as_json(), **call.verdict.as_json(table, bundles.BESIDE)} for call in calls]
+    return members
 
 
 def tell(options: Any) -> int:
     """Prints the comparison of a command line's `filters` and those `beside` them, and returns its exit status."""
-    left, right = filters.read_stack(options.filters), filters.read_stack(options.beside)
-    comparison, scope = StackComparison(left, right, tables.read(options.table), options.relation), options.scope or ALL
+    comparison = StackComparison(filters.read_stack(options.filters), filters.read_stack(options.beside),
+                                 tables.read(options.table), options.relation)
+    scope = options.scope or ALL
     status, report = comparison.run(scope)
+    report = verdicts.most_telling(report, comparison.table, lambda: comparison.run(CALLS)[1].calls)
     if options.json:
         output.put_json(as_json(comparison, report, scope, status))
         return status

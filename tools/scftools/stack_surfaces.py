@@ -2,42 +2,38 @@
 compared: the syscalls that get different answers, and those that are undecided, as scf compares the filters of both."""
 from __future__ import annotations
 
-from collections.abc import Iterator, Sequence
+from collections.abc import Iterable, Iterator, Sequence
 
 from . import (client, constants, explanation, other_abis, output, program, questions, refusals, surface_output,
                surfaces, verify)
 from .architectures import JUDGED, NATIVE, Architecture
+from .bundles import BESIDE
 from .client import Fault, Refusal
-from .compare import CALLS
 from .filters import Filter
 from .processes import Inspection, Stack
-from .questions import Asker
 from .refusals import faulty_filters
 from .stack_comparison import StackComparison
-from .surface_output import LEAST, Groups, details, fitted, grouped, of_whole, row_json, wrapped
+from .surface_output import LEAST_WIDTH, Groups, details, fitted, grouped, of_whole, row_json, wrapped
 from .surfaces import DEPENDS, Row, Surface
 from .tables import Table
 from .values import dataclass
-from .verdicts import NamedCall, Verdict
-
-BESIDE = "beside"
+from .verdicts import CALLS, NamedCall, Verdict
 
 
 @dataclass(frozen=True)
 class Pair:
-    """A syscall in two surfaces, and scf's line on its answers: they differ, or that is undecided."""
+    """A syscall's rows in two surfaces, and scf's line on its answers: they differ, or that is undecided."""
 
-    one: Row
-    other: Row
+    rows: tuple[Row, Row]
     line: NamedCall
 
     @property
     def number(self) -> int:
-        return self.one.number
+        return self.rows[0].number
 
     @property
     def names(self) -> list[str]:
-        return self.one.names
+        return self.rows[0].names
 
     @property
     def is_decided(self) -> bool:
@@ -46,21 +42,19 @@ class Pair:
     @property
     def example(self) -> str:
         """The call that scf shows and both answers, if the rows alone don't tell them apart; else nothing."""
-        verdict = self.line.verdict
-        one, other = self.one, self.other
-        is_alike = one.said == other.said and (one.said == DEPENDS or one.answer == other.answer)
+        verdict, (row, row_beside) = self.line.verdict, self.rows
+        is_alike = row.said == row_beside.said and (row.said == DEPENDS or row.answer == row_beside.answer)
         if not is_alike or verdict.call is None or verdict.filters is None or verdict.profile is None:
             return ""
-        told = constants.call_text(self.names[0], verdict.call.arguments)
-        return f"such as {told}: {verdict.filters.named()} {BESIDE} {verdict.profile.named()}"
+        call = constants.call_text(self.names[0], verdict.call.arguments)
+        return f"such as {call}: {verdict.filters.named()} {BESIDE} {verdict.profile.named()}"
 
 
 @dataclass(frozen=True)
 class Beside:
     """Two surfaces over one table."""
 
-    one: Surface
-    other: Surface
+    sides: tuple[Surface, Surface]
     pairs: tuple[Pair, ...] = ()
     # scf's verdicts on the numbers that the table doesn't name, and on the syscalls of other ABIs
     of_unnamed: tuple[Verdict | None, ...] = ()
@@ -69,100 +63,103 @@ class Beside:
     @property
     def foreign_differ(self) -> bool:
         """Whether some syscall of another ABI gets different answers."""
-        return any(it is not None and it.fails for it in self.of_foreign)
+        return any(verdict is not None and verdict.fails for verdict in self.of_foreign)
 
     @property
     def unnamed_differ(self) -> bool:
-        return any(it is not None and it.fails for it in self.of_unnamed)
+        return any(verdict is not None and verdict.fails for verdict in self.of_unnamed)
 
     @property
     def status(self) -> int:
         """1 if they differ, 4 if something is undecided, else 0."""
         if any(pair.is_decided for pair in self.pairs) or self.foreign_differ or self.unnamed_differ:
             return client.NEGATIVE
-        are_same = all(it is not None and it.holds for it in (*self.of_unnamed, *self.of_foreign))
+        are_same = all(verdict is not None and verdict.holds for verdict in (*self.of_unnamed, *self.of_foreign))
         return client.SUCCESS if are_same and not self.pairs else client.UNKNOWN
 
 
-def _comparison(one: Asker, other: Asker, table: Table, before: Sequence[bytes] = ()) -> StackComparison:
-    sides = ([Filter("", data) for data in (*before, *it.filters)] for it in (one, other))
-    return StackComparison(*sides, table)
+def _comparison(sides: Iterable[Sequence[bytes]], table: Table, before: Sequence[bytes] = ()) -> StackComparison:
+    """The comparison of two stacks, both behind some filters."""
+    return StackComparison(*([Filter("", data) for data in (*before, *side)] for side in sides), table)
 
 
-def are_same(one: Surface, filters: Sequence[bytes]) -> bool:
+def are_same(surface: Surface, filters: Sequence[bytes]) -> bool:
     """Whether scf proves that other filters answer every syscall as those of a surface."""
-    verdict = _comparison(one.asker, Asker(filters), one.table).run()[1].verdict
+    verdict = _comparison([surface.asker.filters, filters], surface.table).run()[1].verdict
     return verdict is not None and verdict.holds
 
 
-def of_surfaces(one: Surface, other: Surface) -> Beside:
+def of_surfaces(*sides: Surface) -> Beside:
     """Compares two surfaces."""
-    comparison = _comparison(one.asker, other.asker, one.table)
+    filters, table = [side.asker.filters for side in sides], sides[0].table
+    comparison = _comparison(filters, table)
     lines = {line.number: line for line in comparison.run(CALLS)[1].calls}
-    pairs = tuple(Pair(*rows, lines[rows[0].number]) for rows in zip(one.rows, other.rows) if rows[0].number in lines)
-    of_unnamed = tuple(comparison.of_numbers(first, end - 1) for first, end in questions.gaps(one.table))
+    pairs = tuple(Pair(rows, lines[rows[0].number]) for rows in zip(*(side.rows for side in sides))
+                  if rows[0].number in lines)
     # no scope of scf has the syscalls of another ABI alone
-    of_abis = (_comparison(one.asker, other.asker, one.table, [other_abis.filter_of(it)]) for it in other_abis.ABIS)
-    return Beside(one, other, pairs, of_unnamed, tuple(it.run()[1].verdict for it in of_abis))
+    of_abis = (_comparison(filters, table, [other_abis.filter_of(abi)]).run()[1] for abi in other_abis.ABIS)
+    return Beside(sides, pairs, tuple(comparison.of_numbers(first, end - 1) for first, end in questions.gaps(table)),
+                  tuple(report.verdict for report in of_abis))
 
 
-def _of_both(found: Beside) -> Iterator[str]:
-    """The lines about the whole of one side, and those of the other that differ."""
-    for at, (one, other) in enumerate(zip(of_whole(found.one), of_whole(found.other))):
-        yield one
-        if at == 0 or one != other:
-            yield f"{BESIDE}: {other}"
+def _of_both(beside: Beside) -> Iterator[str]:
+    """The lines about the whole of the first side, and those of the second that differ."""
+    for at, (line, line_beside) in enumerate(zip(*map(of_whole, beside.sides))):
+        yield line
+        if at == 0 or line != line_beside:
+            yield f"{BESIDE}: {line_beside}"
 
 
-def _told(pair: Pair, is_in_table: bool) -> list[str]:
+def _texts(pair: Pair, is_in_table: bool) -> list[str]:
     """Both sides of a pair, each with its examples."""
-    return [" ".join([row.said, *details(row, is_in_table)]) for row in (pair.one, pair.other)]
+    return [" ".join([row.said, *details(row, is_in_table)]) for row in pair.rows]
 
 
-def _as_table(found: Beside, groups: Groups, width: int) -> Iterator[str]:
-    of_groups = grouped(found.pairs, groups)
+def _as_table(beside: Beside, groups: Groups, width: int) -> Iterator[str]:
+    of_groups = grouped(beside.pairs, groups)
     before = max((len(group) for group, _ in of_groups), default=0) + 2
-    before = before if width - before >= LEAST else 1
+    before = before if width - before >= LEAST_WIDTH else 1
     for group, pairs in of_groups:
         heading = f"{group:{before}}" if before > 1 else ""
         if before == 1:
             yield group
         for pair in pairs:
-            one, other = _told(pair, True)
-            parts = [*pair.names, f"({pair.number})"], one.split(), [f"{BESIDE}:", *other.split()], pair.example.split()
+            text, text_beside = _texts(pair, True)
+            parts = ([*pair.names, f"({pair.number})"], text.split(), [f"{BESIDE}:", *text_beside.split()],
+                     pair.example.split())
             for at, words in enumerate(parts):
                 for line in wrapped(words, width - before - 2 * (at > 0)):
                     yield f"{heading or ' ' * before}{'  ' * (at > 0)}{line}"
                     heading = " " * before
 
 
-def _lines_beside(found: Beside, groups: Groups, width: int | None) -> Iterator[str]:
+def _lines_beside(beside: Beside, groups: Groups, width: int | None) -> Iterator[str]:
     """The text output for two surfaces."""
-    undecided = sum(not pair.is_decided for pair in found.pairs)
-    count = f"syscalls that differ: {len(found.pairs) - undecided}" + f", undecided: {undecided}" * (undecided > 0)
-    yield from fitted([*_of_both(found), count], width)
+    undecided = sum(not pair.is_decided for pair in beside.pairs)
+    count = f"syscalls that differ: {len(beside.pairs) - undecided}" + f", undecided: {undecided}" * (undecided > 0)
+    yield from fitted([*_of_both(beside), count], width)
     if width is not None:
-        yield from _as_table(found, groups, width)
+        yield from _as_table(beside, groups, width)
     else:
-        for group, pairs in grouped(found.pairs, groups):
+        for group, pairs in grouped(beside.pairs, groups):
             for pair in pairs:
-                one, other = _told(pair, False)
-                yield " ".join(filter(None, [group, str(pair.number), ",".join(pair.names), one, BESIDE, other,
+                text, text_beside = _texts(pair, False)
+                yield " ".join(filter(None, [group, str(pair.number), ",".join(pair.names), text, BESIDE, text_beside,
                                              pair.example]))
-    for what, differ in (("numbers without a name", found.unnamed_differ), ("syscalls of other ABIs",
-                                                                           found.foreign_differ)):
+    for subject, differ in (("numbers without a name", beside.unnamed_differ),
+                            ("syscalls of other ABIs", beside.foreign_differ)):
         if differ:
-            yield from fitted([f"{what}: some get different answers"], width)
+            yield from fitted([f"{subject}: some get different answers"], width)
 
 
 def _pair_json(pair: Pair, groups: Groups) -> dict[str, object]:
     verdict = pair.line.verdict
-    found: dict[str, object] = {"filter": row_json(pair.one, groups), "beside": row_json(pair.other, groups),
-                                "verdict": verdict.word}
+    members: dict[str, object] = {"filter": row_json(pair.rows[0], groups), "beside": row_json(pair.rows[1], groups),
+                                  "verdict": verdict.word}
     if verdict.call is not None and verdict.filters is not None and verdict.profile is not None:
-        found["example"] = {"arguments": [hex(it) for it in verdict.call.arguments],
-                            "filter": verdict.filters.as_json(), "beside": verdict.profile.as_json()}
-    return found
+        members["example"] = {"arguments": [hex(argument) for argument in verdict.call.arguments],
+                              "filter": verdict.filters.as_json(), "beside": verdict.profile.as_json()}
+    return members
 
 
 @dataclass(frozen=True)
@@ -170,7 +167,7 @@ class Settings:
     """The settings for each stack, and the filters to compare it with, if any."""
 
     table: Table
-    other: Sequence[Filter] = ()
+    beside: Sequence[Filter] = ()
     architecture: Architecture = JUDGED[NATIVE]
     # whether to say which arguments get which answer, or to show a call of each region
     has_conditions: bool = False
@@ -178,7 +175,7 @@ class Settings:
 
 
 @dataclass(frozen=True)
-class Block:
+class StackSurface:
     """A stack with its surface, or the fault if scf refuses the stack, or neither without a filter."""
 
     status: int
@@ -195,43 +192,44 @@ class Block:
 
 
 def _surface(filters: Sequence[Filter], settings: Settings) -> Surface:
-    data = [one.data for one in filters]
-    found = surfaces.of_filters(data, settings.table, settings.architecture)
-    if not settings.other:
-        found.add_others()
-    for row in found.rows if settings.has_examples else ():
+    data = [bpf_filter.data for bpf_filter in filters]
+    surface = surfaces.of_filters(data, settings.table, settings.architecture)
+    if not settings.beside:
+        surface.add_others()
+    for row in surface.rows if settings.has_examples else ():
         row.has_examples = True
     if settings.has_conditions:
         from . import row_conditions  # pylint: disable=import-outside-toplevel
 
-        found.are_conditions_finished = row_conditions.add(found)
-        if not found.are_conditions_finished:
+        surface.are_conditions_finished = row_conditions.add(surface)
+        if not surface.are_conditions_finished:
             program.say(f"conditions: {row_conditions.unfinished()}")
-    return found
+    return surface
 
 
-def of_stack(filters: Sequence[Filter], settings: Settings, threads: Stack | None = None) -> Block:
+def of_stack(filters: Sequence[Filter], settings: Settings, threads: Stack | None = None) -> StackSurface:
     """The surface of filters, oldest first, and its comparison with others."""
     refused = filters
     try:
-        one = _surface(filters, settings)
-        if not settings.other:
-            return Block(program.SUCCESS if one.is_decided else program.UNKNOWN, filters, one, threads=threads)
-        refused = settings.other
-        is_same = are_same(one, [it.data for it in settings.other])
-        both = Beside(one, one) if is_same else of_surfaces(one, _surface(settings.other, settings))
+        surface = _surface(filters, settings)
+        if not settings.beside:
+            return StackSurface(program.SUCCESS if surface.is_decided else program.UNKNOWN, filters, surface,
+                                threads=threads)
+        refused = settings.beside
+        is_same = are_same(surface, [bpf_filter.data for bpf_filter in settings.beside])
+        both = Beside((surface, surface)) if is_same else of_surfaces(surface, _surface(settings.beside, settings))
     except Refusal as why:
-        return Block(why.status, refused, fault=why.fault, threads=threads)
-    return Block(both.status, filters, one, both, threads=threads)
+        return StackSurface(why.status, refused, fault=why.fault, threads=threads)
+    return StackSurface(both.status, filters, surface, both, threads=threads)
 
 
-def of_process(found: Inspection, settings: Settings) -> list[Block]:
+def of_process(inspection: Inspection, settings: Settings) -> list[StackSurface]:
     """The blocks of a process's stacks."""
-    return verify.blocks_of(found, lambda it: of_stack(it.named, settings, it),
-                            lambda it, status: Block(status, threads=it))
+    return verify.blocks_of(inspection, lambda stack: of_stack(stack.named, settings, stack),
+                            lambda stack, status: StackSurface(status, threads=stack))
 
 
-def _of_refusal(block: Block) -> Iterator[str]:
+def _of_refusal(block: StackSurface) -> Iterator[str]:
     """scf's lines, followed by what they mean."""
     if block.fault is None:
         return
@@ -240,7 +238,7 @@ def _of_refusal(block: Block) -> Iterator[str]:
     yield from output.notes(refusals.of_stack(block.filters, block.fault))
 
 
-def lines(blocks: Sequence[Block], found: Inspection | None, width: int | None) -> Iterator[str]:
+def lines(blocks: Sequence[StackSurface], inspection: Inspection | None, width: int | None) -> Iterator[str]:
     """The text output; after a process's stack the threads that have it, in lines marked by `# `."""
     groups = Groups()
     for at, block in enumerate(blocks):
@@ -251,35 +249,35 @@ def lines(blocks: Sequence[Block], found: Inspection | None, width: int | None) 
             yield from _lines_beside(block.beside, groups, width)
         elif block.surface is not None:
             yield from surface_output.lines(block.surface, groups, width)
-        if block.threads is not None and found is not None and not block.is_of_all:
-            yield from (f"# {line}" for line in verify.of_threads(block.threads, found))
-    if found is not None:
-        yield from (f"# {note}" for note in found.notes)
+        if block.threads is not None and inspection is not None and not block.is_of_all:
+            yield from (f"# {line}" for line in verify.of_threads(block.threads, inspection))
+    if inspection is not None:
+        yield from (f"# {note}" for note in inspection.notes)
 
 
-def _json_of(block: Block, found: Inspection | None, groups: Groups) -> dict[str, object]:
-    said: dict[str, object] = {"status": block.status}
+def _json_of(block: StackSurface, inspection: Inspection | None, groups: Groups) -> dict[str, object]:
+    members: dict[str, object] = {"status": block.status}
     if block.fault is not None:
-        said["fault"] = block.fault.as_json(explanation.of_fault(block.fault))
-        said["files"] = faulty_filters(block.filters, block.fault)
+        members["fault"] = block.fault.as_json(explanation.of_fault(block.fault))
+        members["files"] = faulty_filters(block.filters, block.fault)
     if block.surface is not None:
-        said.update(surface_output.as_json(block.surface, groups))
+        members.update(surface_output.as_json(block.surface, groups))
     if block.beside is not None:
-        said["beside"] = {**surface_output.as_json(block.beside.other, groups),
+        members["beside"] = {**surface_output.as_json(block.beside.sides[1], groups),
                           "differs": [_pair_json(pair, groups) for pair in block.beside.pairs],
                           "foreign_differ": block.beside.foreign_differ,
                           "unnamed_differ": block.beside.unnamed_differ}
-    if block.threads is not None and found is not None:
-        said["confined"] = "by filters" if block.filters else "strict" if block.threads.is_strict else "not"
-        said.update(block.threads.as_json(found.names))
-    return said
+    if block.threads is not None and inspection is not None:
+        members["confined"] = "by filters" if block.filters else "strict" if block.threads.is_strict else "not"
+        members.update(block.threads.as_json(inspection.names))
+    return members
 
 
-def as_json(blocks: Sequence[Block], found: Inspection | None) -> dict[str, object]:
-    """The same as `lines`, as one object."""
+def as_json(blocks: Sequence[StackSurface], inspection: Inspection | None) -> dict[str, object]:
+    """The object with everything that `lines` prints."""
     groups = Groups()
-    if found is None:
+    if inspection is None:
         return _json_of(blocks[0], None, groups)
     return {"status": client.worst(block.status for block in blocks),
-            "stacks": [_json_of(block, found, groups) for block in blocks],
-            "asked_again": [{"process": process, "thread": thread} for process, thread in found.asked_again]}
+            "stacks": [_json_of(block, inspection, groups) for block in blocks],
+            "asked_again": [{"process": process, "thread": thread} for process, thread in inspection.asked_again]}

@@ -10,13 +10,14 @@ import os
 from . import bundles, client, inputs, output, program
 from .values import Any
 
-RECORD = ("--nr", "--arch", "--ip", *(f"--a{index}" for index in range(6)))
+RECORD_OPTIONS = ("--nr", "--arch", "--ip", *(f"--a{index}" for index in range(6)))
 # Options that only a bundle has, which scf(1) describes.
-OF_BUNDLES = ("--architectures", "--total-limit", "--nr-from", "--nr-to")
+OF_BUNDLES = ("--architectures", "--reading", "--total-limit", "--nr-from", "--nr-to")
 # The options of the program's commands, but for those that give a record.
 OF_PROGRAM = {
-    "answers": ("--native", "--examples", "--limit", "--architectures", "--nr-from", "--nr-to"),
-    "ask": ("--architectures",), "check": (), "decide": (), "run": ("--path",), "compile": ("--architectures",),
+    "answers": ("--native", "--examples", "--limit", "--architectures", "--reading", "--nr-from", "--nr-to"),
+    "ask": ("--architectures", "--reading"), "check": (), "decide": (), "run": ("--path",),
+    "compile": ("--architectures", "--reading"),
     "compare": ("--native", "--calls", "--no-more", "--no-less", "--disposition", "--limit", "--splits", "--beside",
                 *OF_BUNDLES)}
 # The commands that also take one of the files of a bundle alone.
@@ -25,25 +26,25 @@ OF_ONE_FILE = ("answers", "ask", "compile", "decide")
 
 def _given(parser: Any, options: Any) -> dict[str, list[str]]:
     """The options of a command line, each with its values."""
-    found = {}
+    given = {}
     for action in parser._actions:  # pylint: disable=protected-access
         value = getattr(options, action.dest, None)
         if action.option_strings and value not in (None, action.default) and action.const in (None, value):
             values = [] if action.nargs == 0 else value if isinstance(value, list) else [value]
-            found[action.option_strings[-1]] = values
-    return found
+            given[action.option_strings[-1]] = values
+    return given
 
 
 def _words(parser: Any, options: Any) -> list[str] | None:
     """The program's words for a command line, None if it has no such."""
-    found = []
+    words = []
     for flag, values in _given(parser, options).items():
         if flag in OF_PROGRAM[parser.command] and len(values) < 2:
-            found += [f"{flag}={values[0]}" if values else flag]
-        elif flag not in (*RECORD, "--all", "--color", "--table"):
+            words += [f"{flag}={values[0]}" if values else flag]
+        elif flag not in (*RECORD_OPTIONS, "--all", "--color", "--table"):
             return None
     record = parser.record_words(options)
-    return None if record is None else [*found, *record]
+    return None if record is None else [*words, *record]
 
 
 def _is_bundle() -> bool:
@@ -52,16 +53,16 @@ def _is_bundle() -> bool:
         data = inputs.read("-", "bundle")
     except program.ToolError:
         return True
-    file = client.holding(data)
+    file = client.memory_file(data)
     os.dup2(file, 0)
     os.close(file)
-    return not data or len(data) > bundles.LIMIT or bundles.BEGINNING.match(data) is not None
+    return not data or len(data) > bundles.LONGEST_BUNDLE or bundles.BEGINNING.match(data) is not None
 
 
 def take(parser: Any, options: Any) -> None:
     """If no file is given, becomes the program, or has the tool take standard input as the file."""
-    files = [it for it in parser._actions if not it.option_strings]  # pylint: disable=protected-access
-    missing = [it for it in files if getattr(options, it.dest) in (None, [])]
+    files = [action for action in parser._actions if not action.option_strings]  # pylint: disable=protected-access
+    missing = [action for action in files if getattr(options, action.dest) in (None, [])]
     if not missing:
         for flag in _given(parser, options):
             if flag in OF_BUNDLES:
@@ -73,6 +74,6 @@ def take(parser: Any, options: Any) -> None:
             parser.keep_off_terminal()
         client.become([parser.command, *words])
     if len(files) > 1 or os.isatty(0):
-        parser.error(f"the following arguments are required: {', '.join(it.metavar for it in missing)}")
+        parser.error(f"the following arguments are required: {', '.join(action.metavar for action in missing)}")
     setattr(options, files[0].dest, "-" if files[0].nargs is None else ["-"])
     output.has_notes = False

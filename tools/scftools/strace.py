@@ -16,25 +16,25 @@ from .values import Pattern, dataclass, field
 # The values that arguments may have, by their indexes; None if they aren't known.
 Arguments = "dict[int, tuple[int, ...] | None]"
 # The most bytes that are read of a log, of a line, of a syscall that isn't finished yet and of an argument.
-LIMIT, LINE, BEGINNING, ARGUMENT = 1 << 30, 1 << 16, 1 << 13, 1 << 12
+LONGEST_LOG, LONGEST_LINE, LONGEST_BEGINNING, LONGEST_ARGUMENT = 1 << 30, 1 << 16, 1 << 13, 1 << 12
 # The most unfinished syscalls and the most with other names or arguments that are kept; how many more are counted; and
 # the most processes.
-PENDING, KEPT, LEFT, PROCESSES = 10000, 1000, 100000, 1 << 20
+PENDING, MOST_REMEMBERED, LEFT, PROCESSES = 10000, 1000, 100000, 1 << 20
 # At most so many processes that are creating one are considered for the architecture of a new process.
 MAKERS = 100
 # The modes of a machine's processes as strace calls them (personality_names in its src/syscall.c), each with its
 # architecture.
 OWN_MODE = "64 bit"
-MACHINES = ({OWN_MODE: NATIVE, "32 bit": I386, "x32": X32}, {OWN_MODE: AARCH64, "32 bit": ARM})
+MODES_OF_MACHINES = ({OWN_MODE: NATIVE, "32 bit": I386, "x32": X32}, {OWN_MODE: AARCH64, "32 bit": ARM})
 # The greatest value of an argument by architectures.
-GREATEST = {name: one.greatest for name, one in JUDGED.items()}
+GREATEST_ARGUMENTS = {name: architecture.greatest for name, architecture in JUDGED.items()}
 # What comes before a syscall: a process, a time, the instruction pointer and the syscall number (strace(1): -f, -Y; -t,
 # -tt, -ttt, -r; -i; -n).
 LEADER = Pattern(
     r"(?:\[pid +([0-9]{1,10})(?:<[^>]{0,64}>)?\] |([0-9]{1,10})(?:<[^>]{0,64}>)? +)?"
     r" *(?:[0-9]{2}:[0-9]{2}:[0-9]{2}(?:\.[0-9]+)? +|[0-9]+\.[0-9]+ +)?(?:\(\+ *[0-9.]+\) )?"
     r"(?:\[[0-9a-f?]{16}\] )?(?:\[ *([0-9]{1,10})\] )?(?:\[[0-9a-f?]{8,16}\] )?")
-CALL = Pattern(r"([a-z_][a-z0-9_]{0,63})\(")
+CALL_NAME = Pattern(r"([a-z_][a-z0-9_]{0,63})\(")
 RESUMED = Pattern(r"<\.\.\. ([a-z_][a-z0-9_]{0,63}) resumed> ?")
 MODE = Pattern(r"(?:strace: )?\[ Process PID=([0-9]{1,10})[^\]]{0,64} runs in ([0-9a-z ]{1,16}) mode\. \]")
 MESSAGE = Pattern(r"strace: Process [0-9]+ (?:attached|detached)")
@@ -53,14 +53,15 @@ PART = Pattern(rf"(?:0x([0-9a-f]{{1,16}})|0([0-7]{{1,22}})|(-?[0-9]{{1,20}})|([A
 # A register as `strace -e raw=all` prints it, and how a log of all registers begins: other logs have a text there.
 RAW = Pattern(r"(0x[0-9a-f]{1,16}|0)(?: <unfinished \.\.\.>)?")
 RAW_BEGIN = Pattern(r"execve\(0x[0-9a-f]+, (?:0x[0-9a-f]+|0), (?:0x[0-9a-f]+|0)\) += 0\Z")
-UNFINISHED = " <unfinished ...>"
-COMMENT = Pattern(r"/\*|\*/")
+UNFINISHED_MARK = " <unfinished ...>"
+COMMENT_MARK = Pattern(r"/\*|\*/")
 # Where strace's order isn't that of the registers: clone's arguments have names. Of others fewer than these are shown:
 # without one half of an offset, or by an operation; unknown flags of IPC are printed as one number with what follows.
 CLONE = {"flags": 0, "child_stack": 1, "parent_tid": 2, "parent_tidptr": 2, "child_tidptr": 3, "tls": 4}
 # On other architectures than x86-64 and x32 the last two are swapped (CONFIG_CLONE_BACKWARDS in arch/Kconfig of Linux).
 CLONE_BACKWARDS = {**CLONE, "tls": 3, "child_tidptr": 4}
-ORDER = {"preadv2": (6, (0, 1, 2, 3, 5)), "pwritev2": (6, (0, 1, 2, 3, 5)), "futex": (6, (0, 1)), "ptrace": (4, (0, 1)),
+REGISTER_ORDER = {"preadv2": (6, (0, 1, 2, 3, 5)), "pwritev2": (6, (0, 1, 2, 3, 5)), "futex": (6, (0, 1)),
+                  "ptrace": (4, (0, 1)),
          "msgget": (3, (0,)), "semget": (4, (0, 1)), "shmget": (4, (0, 1))}
 # How many of the first arguments stand so in their registers, where not all do: a number of 64 bits takes two of 32,
 # mmap2 has pages where strace prints bytes, i386 has some arguments in memory, and x32 an offset whole.
@@ -68,16 +69,16 @@ SPLIT = {"_llseek": 1, "arm_fadvise64_64": 1, "arm_sync_file_range": 1, "fadvise
          "fallocate": 2, "fanotify_mark": 2, "ftruncate64": 1, "lookup_dcookie": 0, "mmap2": 5, "pread64": 3,
          "preadv": 3, "preadv2": 3, "pwrite64": 3, "pwritev": 3, "pwritev2": 3, "readahead": 1, "sync_file_range": 1,
          "sync_file_range2": 1, "truncate64": 1}
-WHOLE = {I386: {**SPLIT, "mmap": 0, "select": 0}, ARM: SPLIT, X32: {"preadv2": 4, "pwritev2": 4}}
+WHOLE_ARGUMENTS = {I386: {**SPLIT, "mmap": 0, "select": 0}, ARM: SPLIT, X32: {"preadv2": 4, "pwritev2": 4}}
 # Of a mode the lower 16 bits are shown, in octal digits.
 OCTAL = Pattern(r"(?:\A|\|)0[0-7]")
-NAMED = Pattern(r" *([a-z_]+)=")
+MEMBER_MARK = Pattern(r" *([a-z_]+)=")
 FORKS = ("clone(", "clone3(", "fork(", "vfork(")
 
 
-def _number_of(found: re.Match[str], architecture: str) -> int | None:
+def _number_of(match: re.Match[str], architecture: str) -> int | None:
     """The number of a part of an argument."""
-    hexadecimal, octal, decimal, name = found.groups()
+    hexadecimal, octal, decimal, name = match.groups()
     if name:
         return constants.numbers_on(architecture).get(name)
     if decimal:
@@ -111,11 +112,11 @@ def values_of(text: str, architecture: str = NATIVE) -> tuple[int, ...] | None:
     Of many arguments strace prints the lower 32 bits, and of a mode the lower 16. The bits above, as far as conditions
     compare them, are taken as zero, or, if the highest printed bit is set, also as the sign.
     """
-    text = text.strip().removesuffix(UNFINISHED.strip()).rstrip()
-    number = _number_in(text, architecture) if len(text) <= ARGUMENT else None
+    text = text.strip().removesuffix(UNFINISHED_MARK.strip()).rstrip()
+    number = _number_in(text, architecture) if len(text) <= LONGEST_ARGUMENT else None
     if number is None or not -(1 << 63) <= number < 1 << 64:
         return None
-    most = GREATEST[architecture]
+    most = GREATEST_ARGUMENTS[architecture]
     if OCTAL.search(text) and 1 << 15 <= number < 1 << 16:
         return tuple(dict.fromkeys((number, number | 0xFFFF << 16, (number | -1 << 16) & most)))
     if -(1 << 31) <= number < 0 or 1 << 31 <= number < 1 << 32:
@@ -126,26 +127,26 @@ def values_of(text: str, architecture: str = NATIVE) -> tuple[int, ...] | None:
 def _past(text: str, at: int) -> int | None:
     """The index behind a text in quotes, a comment or a path that begins here; None if it has no end."""
     if text[at] == '"':
-        found = STRING.match(text, at)
-        return found.end() if found else None
+        match = STRING.match(text, at)
+        return match.end() if match else None
     if text[at] == "<":
-        found = DESCRIBED.match(text, at)
-        return found.end() if found else None
+        match = DESCRIBED.match(text, at)
+        return match.end() if match else None
     depth = 0
-    for found in COMMENT.finditer(text, at):
-        depth += 1 if found[0] == "/*" else -1
+    for match in COMMENT_MARK.finditer(text, at):
+        depth += 1 if match[0] == "/*" else -1
         if not depth:
-            return found.end()
+            return match.end()
     return None
 
 
 def arguments_in(text: str, at: int) -> tuple[list[str], int | None]:
     """The arguments that stand whole from an index on, and the index behind their closing bracket, if they have one."""
-    found, begun, depth = [], at, 0
+    arguments, begun, depth = [], at, 0
     while True:
         stop = STOP.search(text, at)
         if not stop:
-            return found, None
+            return arguments, None
         at, mark = stop.end(), stop[0]
         if mark in "[({":
             depth += 1
@@ -153,27 +154,27 @@ def arguments_in(text: str, at: int) -> tuple[list[str], int | None]:
             depth -= 1
             if depth < 0:
                 last = text[begun:at - 1]
-                return [*found, last] if last.strip() or found else found, at
+                return [*arguments, last] if last.strip() or arguments else arguments, at
         elif mark == ",":
             if not depth:
-                found.append(text[begun:at - 1])
+                arguments.append(text[begun:at - 1])
                 begun = at
         else:
             past = _past(text, stop.start())
             if past is None:
-                return found, None
+                return arguments, None
             at = past
 
 
 def _in_registers(name: str, printed: list[str], architecture: str = NATIVE) -> dict[int, str]:
     """The printed arguments by the registers that hold them."""
-    named = [NAMED.match(it) for it in printed]
+    named = [MEMBER_MARK.match(argument) for argument in printed]
     if any(named):
         clone = CLONE if architecture in (NATIVE, X32) else CLONE_BACKWARDS
-        pairs = [(it[1], text[it.end():]) for it, text in zip(named, printed) if it and name == "clone"]
+        pairs = [(match[1], text[match.end():]) for match, text in zip(named, printed) if match and name == "clone"]
         return {clone[key]: value for key, value in pairs if key in clone}
-    count, order = ORDER.get(name, (0, ()))
-    whole = WHOLE.get(architecture, {}).get(name, len(printed))
+    count, order = REGISTER_ORDER.get(name, (0, ()))
+    whole = WHOLE_ARGUMENTS.get(architecture, {}).get(name, len(printed))
     return dict(zip(order if len(printed) < count else range(6), printed[:whole]))
 
 
@@ -181,7 +182,7 @@ def is_own(line: str) -> bool:
     """Whether a line begins as one of strace's does: with a syscall, or with what became of one or of a process."""
     leader = LEADER.match(line)
     assert leader
-    return CALL.match(line, leader.end()) is not None or line.startswith(("<... ", "--- ", "+++ "), leader.end())
+    return CALL_NAME.match(line, leader.end()) is not None or line.startswith(("<... ", "--- ", "+++ "), leader.end())
 
 
 def registers_in(text: str, name: re.Match[str], architecture: str = NATIVE, is_raw: bool = False) -> Arguments:
@@ -189,14 +190,16 @@ def registers_in(text: str, name: re.Match[str], architecture: str = NATIVE, is_
     printed the registers themselves."""
     printed = arguments_in(text, name.end())[0]
     if is_raw:
-        numbers = [RAW.fullmatch(it.strip()) for it in printed]
-        return {at: (int(it[1], 16) & GREATEST[architecture],) if it else None for at, it in enumerate(numbers)}
-    return {at: values_of(it, architecture) for at, it in _in_registers(name[1], printed, architecture).items()}
+        numbers = [RAW.fullmatch(argument.strip()) for argument in printed]
+        return {at: (int(match[1], 16) & GREATEST_ARGUMENTS[architecture],) if match else None
+                for at, match in enumerate(numbers)}
+    return {at: values_of(argument, architecture)
+            for at, argument in _in_registers(name[1], printed, architecture).items()}
 
 
-def modes_of(own: str) -> dict[str, str]:
+def modes_of(architecture: str) -> dict[str, str]:
     """The modes of processes, by strace's names, and their architectures, on a machine that has this one."""
-    return next(it for it in MACHINES if own in it.values())
+    return next(modes for modes in MODES_OF_MACHINES if architecture in modes.values())
 
 
 @dataclass
@@ -217,8 +220,8 @@ class Line:
 
 @dataclass
 class Log:
-    """What stands in a log: calls by the OCI names of their architectures, their names, and the values of those
-    arguments that are asked for."""
+    """A log's content: calls by the OCI names of their architectures, their names, and the values of those arguments
+    that are asked for."""
 
     looked_at: Callable[[str, str], tuple[int, ...]]
     # the tables of architectures
@@ -246,7 +249,7 @@ class Log:
     _other: str | None = None
     # the pieces of a line that is broken by messages of strace, and how many more characters are kept
     _broken: list[str] = field(default_factory=list)
-    _room: int = LINE
+    _room: int = LONGEST_LINE
     _line: int = 0
     # whether the current line is longer than what is read of it
     _is_long: bool = False
@@ -267,8 +270,8 @@ class Log:
             return
         if self._broken:
             line = "".join([*self._broken, line])
-            self._broken, self._room = [], LINE
-        self._is_long = len(line) >= LINE
+            self._broken, self._room = [], LONGEST_LINE
+        self._is_long = len(line) >= LONGEST_LINE
         leader = LEADER.match(line)
         assert leader
         who = self._who(leader[1] or leader[2])
@@ -295,27 +298,28 @@ class Log:
     def _numbered(self, architecture: str, name: str) -> dict[str, int]:
         """The syscalls that strace prints by a name, and their numbers: on i386 it prints what socketcall and ipc do by
         its own name. They are kept for the names that have a number."""
-        found = self._known.get((architecture, name))
-        if found is None:
-            names = [name, *(it for it, its in multiplexed.NUMBERS.items() if architecture == I386 and name in its)]
-            numbers = {it: self.number_of(architecture, it) for it in names}
-            found = {it: number for it, number in numbers.items() if number is not None}
-            if found and len(self._known) < KEPT:
-                self._known[architecture, name] = found
-        return found
+        numbered = self._known.get((architecture, name))
+        if numbered is None:
+            multiplexers = multiplexed.CALL_NUMBERS.items() if architecture == I386 else ()
+            names = [name, *(multiplexer for multiplexer, its in multiplexers if name in its)]
+            numbers = {syscall: self.number_of(architecture, syscall) for syscall in names}
+            numbered = {syscall: number for syscall, number in numbers.items() if number is not None}
+            if numbered and len(self._known) < MOST_REMEMBERED:
+                self._known[architecture, name] = numbered
+        return numbered
 
     def architecture_of(self, who: str | None, name: str, nr: int | None) -> str:
         """The architecture of a process's syscall. If the syscall doesn't have the printed number there, the process is
         in another mode from now on, in which it has; if there is none, an empty name."""
-        own = self._architecture_of(who)
-        numbers = () if nr is None else self._numbered(own, name).values()
+        architecture = self._architecture_of(who)
+        numbers = () if nr is None else self._numbered(architecture, name).values()
         if nr is None or nr in numbers:
-            return own
-        for it in modes_of(self.own).values():
-            if nr in self._numbered(it, name).values():
-                self._enter(who, it)
-                return it
-        return "" if numbers else own
+            return architecture
+        for mode in modes_of(self.own).values():
+            if nr in self._numbered(mode, name).values():
+                self._enter(who, mode)
+                return mode
+        return "" if numbers else architecture
 
     def _who(self, printed: str | None) -> str | None:
         """The process of a line: strace names it only if there are several."""
@@ -334,22 +338,22 @@ class Log:
         if self._other is None:
             return self.own
         if self._makers and len(self._makers) <= MAKERS:
-            return next((it for it in map(self._architecture_of, self._makers) if it != self.own), self.own)
+            return next((oci for oci in map(self._architecture_of, self._makers) if oci != self.own), self.own)
         return self._other
 
     def _architecture_of(self, who: str | None) -> str:
         return self._architectures.get(who, self.own)
 
     def _add(self, who: str | None, line: Line) -> None:
-        name = CALL.match(line.text)
+        name = CALL_NAME.match(line.text)
         mode = None if name else MODE.match(line.text)
-        if name and line.text.endswith(UNFINISHED):
-            self._begin(who, Line(line.number, line.nr, line.text.removesuffix(UNFINISHED)[:BEGINNING]))
+        if name and line.text.endswith(UNFINISHED_MARK):
+            self._begin(who, Line(line.number, line.nr, line.text.removesuffix(UNFINISHED_MARK)[:LONGEST_BEGINNING]))
         elif name:
             self._call(who, line, name)
         elif mode:
-            for it in (mode[1], who):
-                self._enter(it, modes_of(self.own).get(mode[2], ""))
+            for key in (mode[1], who):
+                self._enter(key, modes_of(self.own).get(mode[2], ""))
         elif line.text.startswith("+++ "):
             self._pending_ends(who)
             if who is not None:
@@ -378,7 +382,7 @@ class Log:
         """A call that isn't finished won't be."""
         if who in self._pending:
             begun = self._taken(who)
-            self._call(who, begun, CALL.match(begun.text), is_cut=True)
+            self._call(who, begun, CALL_NAME.match(begun.text), is_cut=True)
 
     def _taken(self, who: str | None) -> Line:
         """A call that isn't finished, which is kept no longer."""
@@ -386,17 +390,17 @@ class Log:
         return self._pending.pop(who)
 
     def _resume(self, who: str | None, line: Line) -> None:
-        found = RESUMED.match(line.text)
+        match = RESUMED.match(line.text)
         # the first process has no number as long as it is alone
         key = who if who in self._pending else None
-        name = CALL.match(self._pending[key].text) if key in self._pending else None
-        if found and name and name[1] == found[1]:
+        name = CALL_NAME.match(self._pending[key].text) if key in self._pending else None
+        if match and name and name[1] == match[1]:
             begun = self._taken(key)
-            is_cut = len(begun.text) >= BEGINNING
-            text = begun.text if is_cut else begun.text + line.text[found.end():]
+            is_cut = len(begun.text) >= LONGEST_BEGINNING
+            text = begun.text if is_cut else begun.text + line.text[match.end():]
             self._call(who, Line(begun.number, begun.nr, text), name, is_cut)
         else:
-            is_known = found and self._numbered(self.architecture_of(who, found[1], line.nr), found[1])
+            is_known = match and self._numbered(self.architecture_of(who, match[1], line.nr), match[1])
             self._count(self.cut if is_known else self.unread, line.number)
 
     def _count(self, seen: Seen, number: int, count: int = 1) -> None:
@@ -410,7 +414,7 @@ class Log:
             self._is_raw = RAW_BEGIN.match(line.text) is not None
         architecture = self.architecture_of(who, name[1], line.nr)
         numbered = self._numbered(architecture, name[1])
-        if not (is_cut or self._is_long or len(line.text) >= LINE or " = " in line.text):
+        if not (is_cut or self._is_long or len(line.text) >= LONGEST_LINE or " = " in line.text):
             self._count(self.cut if numbered else self.unread, line.number)
             return
         if line.text.startswith(FORKS):
@@ -418,15 +422,15 @@ class Log:
         if architecture != self.own and architecture not in self.tables:
             self._count(self.foreign, line.number)
             return
-        for one in [it for it in numbered if line.nr in (None, numbered[it])] or [name[1]]:
-            self.keep(line.number, architecture, one, self._arguments(architecture, one, line.text, name))
+        for named in [named for named in numbered if line.nr in (None, numbered[named])] or [name[1]]:
+            self.keep(line.number, architecture, named, self._arguments(architecture, named, line.text, name))
 
-    def _arguments(self, architecture: str, one: str, text: str, name: re.Match[str]) -> Arguments:
-        """What is known of the arguments of a syscall, which strace prints by its name or as what it does."""
-        if not self.looked_at(architecture, one):
+    def _arguments(self, architecture: str, syscall: str, text: str, name: re.Match[str]) -> Arguments:
+        """The known arguments of a syscall, which strace prints by its name or as what it does."""
+        if not self.looked_at(architecture, syscall):
             return {}
-        if one != name[1]:
-            return {0: (multiplexed.NUMBERS[one][name[1]],)}
+        if syscall != name[1]:
+            return {0: (multiplexed.CALL_NUMBERS[syscall][name[1]],)}
         return registers_in(text, name, architecture, bool(self._is_raw))
 
     def keep(self, number: int, architecture: str, name: str, arguments: Arguments, count: int = 1) -> None:
@@ -438,9 +442,9 @@ class Log:
         """Where a syscall is counted: the first one of a name that has a number is always kept."""
         seen = self.calls.get((*call, values))
         if seen is None:
-            kept = len(self.calls)
-            is_first = kept >= KEPT and call not in self._names and self.number_of(*call) is not None
-            if kept >= 2 * KEPT or kept >= KEPT and not is_first:
+            count_before = len(self.calls)
+            is_first = count_before >= MOST_REMEMBERED and call not in self._names and self.number_of(*call) is not None
+            if count_before >= 2 * MOST_REMEMBERED or count_before >= MOST_REMEMBERED and not is_first:
                 return self.left
             self._names.add(call)
             seen = self.calls[(*call, values)] = Seen(0)
@@ -462,30 +466,30 @@ class Log:
 
 def _pieces(name: str) -> Iterator[bytes]:
     length = 0
-    for piece in inputs.pieces(name, "log", LIMIT + 1):
+    for piece in inputs.pieces(name, "log", LONGEST_LOG + 1):
         length += len(piece)
-        if length > LIMIT:
-            raise program.ToolError(f"the log '{output.escaped(name)}' has more than {LIMIT} bytes")
+        if length > LONGEST_LOG:
+            raise program.ToolError(f"the log '{output.escaped(name)}' has more than {LONGEST_LOG} bytes")
         yield piece
 
 
-def lines(name: str, most: int = LINE) -> Iterator[str]:
+def lines(name: str, most: int = LONGEST_LINE) -> Iterator[str]:
     """The lines of a log (`-` is standard input), of each at most so many characters."""
-    kept = b""
+    unread_part = b""
     for piece in _pieces(name):
         *whole, last = piece.split(b"\n")
         for line in whole:
-            yield (kept + line)[:most].decode("latin-1")
-            kept = b""
-        kept = (kept + last)[:most]
-    if kept:
-        yield kept.decode("latin-1")
+            yield (unread_part + line)[:most].decode("latin-1")
+            unread_part = b""
+        unread_part = (unread_part + last)[:most]
+    if unread_part:
+        yield unread_part.decode("latin-1")
 
 
 def is_log(data: bytes) -> bool:
     """Whether some of the first lines of a text are strace's."""
-    for line in data[:LINE].decode("latin-1").split("\n")[:100]:
+    for line in data[:LONGEST_LINE].decode("latin-1").split("\n")[:100]:
         text = line[LEADER.match(line).end():]
-        if CALL.match(text) and " = " in text:
+        if CALL_NAME.match(text) and " = " in text:
             return True
     return False

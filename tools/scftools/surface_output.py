@@ -7,27 +7,29 @@ from collections.abc import Iterable, Iterator, Sequence
 from . import other_abis, program
 from .answers import ALLOWED, DENIED
 from .architectures import NATIVE
-from .surfaces import DEPENDS, SAID, Row, Surface
+from .surfaces import DEPENDS, ROW_WORDS, Row, Surface
 
 # The width of a terminal that doesn't report one, and the least width of a column of names beside others.
-USUAL, LEAST = 80, 24
+USUAL, LEAST_WIDTH = 80, 24
+# What is counted even where it is 0.
+ALWAYS_COUNTED = (ALLOWED, DEPENDS, DENIED)
 # The group of a syscall that the file doesn't name.
-OTHER = "other"
+OTHER_GROUP = "other"
 
 
 class Groups:
-    """What syscalls are for (tables/calls.groups, which names its sources): the group of each name, and the groups in
-    order."""
+    """The purposes of syscalls (tables/calls.groups, which names its sources): the group of each name, and the groups
+    in order."""
 
     def __init__(self) -> None:
         self.of_names: dict[str, str] = {}
         for group, *names in map(str.split, program.lines_of("calls.groups")):
             self.of_names.update((name, group) for name in names)
-        self.order = [*dict.fromkeys(self.of_names.values()), OTHER]
+        self.order = [*dict.fromkeys(self.of_names.values()), OTHER_GROUP]
 
     def of_call(self, names: Iterable[str]) -> str:
         """The group of a syscall with these names."""
-        return next((self.of_names[name] for name in names if name in self.of_names), OTHER)
+        return next((self.of_names[name] for name in names if name in self.of_names), OTHER_GROUP)
 
 
 def width_of_terminal() -> int | None:
@@ -49,24 +51,24 @@ def wrapped(words: Iterable[str], width: int) -> list[str]:
     return lines
 
 
-def fitted(told: Iterable[str], width: int | None) -> Iterator[str]:
+def fitted(lines: Iterable[str], width: int | None) -> Iterator[str]:
     """Lines wrapped to a width; continuation lines are indented."""
-    for line in told:
+    for line in lines:
         for at, part in enumerate(wrapped(line.split(), width - 2) if width is not None else [line]):
             yield f"{'  ' * (at > 0)}{part}"
 
 
 def _summary(surface: Surface) -> str:
     counts = surface.counts
-    shown = [said for said in SAID if counts[said] or said in (ALLOWED, DEPENDS, DENIED)]
-    one, told = surface.asker.architecture, ", ".join(f"{said} {counts[said]}" for said in shown)
-    return told if one.oci == NATIVE else f"{one.name}: {told}"
+    architecture = surface.asker.architecture
+    text = ", ".join(f"{word} {counts[word]}" for word in ROW_WORDS if counts[word] or word in ALWAYS_COUNTED)
+    return text if architecture.oci == NATIVE else f"{architecture.name}: {text}"
 
 
 def of_whole(surface: Surface) -> list[str]:
     """How many syscalls are allowed, denied and so on; those of other ABIs, beside x86-64; numbers without a name."""
     foreign = ["; ".join(other_abis.describe(surface.foreign))] if surface.asker.architecture.oci == NATIVE else []
-    others = [f"{_summary(it)} (--arch {it.asker.architecture.name} lists them)" for it in surface.others]
+    others = [f"{_summary(beside)} (--arch {beside.asker.architecture.name} lists them)" for beside in surface.others]
     return [_summary(surface), *foreign, *others, f"numbers without a name: {surface.unnamed.describe()}"]
 
 
@@ -92,13 +94,13 @@ def plain(rows: Iterable[Row], groups: Groups) -> Iterator[str]:
 
 def grouped(rows: Iterable[Row], groups: Groups) -> list[tuple[str, list[Row]]]:
     """The rows of each group, in the order of the groups; empty groups are left out."""
-    found: dict[str, list[Row]] = {group: [] for group in groups.order}
+    rows_of_groups: dict[str, list[Row]] = {group: [] for group in groups.order}
     for row in rows:
-        found[groups.of_call(row.names)].append(row)
-    return [(group, members) for group, members in found.items() if members]
+        rows_of_groups[groups.of_call(row.names)].append(row)
+    return [(group, members) for group, members in rows_of_groups.items() if members]
 
 
-def _cell(said: str, rows: Sequence[Row], width: int) -> list[str]:
+def _cell(disposition: str, rows: Sequence[Row], width: int) -> list[str]:
     """A group's syscalls with the same disposition: their names, or with examples a line or more each."""
     if not any(row.shown or row.conditions or row.has_examples for row in rows):
         names = [" or ".join(row.names) for row in rows]
@@ -113,21 +115,21 @@ def _cell(said: str, rows: Sequence[Row], width: int) -> list[str]:
 
 def as_table(rows: Iterable[Row], groups: Groups, width: int) -> Iterator[str]:
     """The syscalls of each group, by disposition."""
-    found = grouped(rows, groups)
-    before, next_to = max((len(group) for group, _ in found), default=0) + 2, max(map(len, SAID)) + 2
-    is_narrow = width - before - next_to < LEAST
-    for group, members in found:
+    members_of_groups = grouped(rows, groups)
+    before, next_to = max((len(group) for group, _ in members_of_groups), default=0) + 2, max(map(len, ROW_WORDS)) + 2
+    is_narrow = width - before - next_to < LEAST_WIDTH
+    for group, members in members_of_groups:
         heading = group
-        for said in SAID:
-            those = [row for row in members if row.said == said]
-            if not those:
+        for disposition in ROW_WORDS:
+            column = [row for row in members if row.said == disposition]
+            if not column:
                 continue
             if is_narrow:
-                yield from ([heading] if heading else []) + [f" {said}"]
-                yield from (f"  {line}" for line in _cell(said, those, width - 2))
+                yield from ([heading] if heading else []) + [f" {disposition}"]
+                yield from (f"  {line}" for line in _cell(disposition, column, width - 2))
             else:
-                for at, line in enumerate(_cell(said, those, width - before - next_to)):
-                    yield f"{heading if at == 0 else '':{before}}{said if at == 0 else '':{next_to}}{line}"
+                for at, line in enumerate(_cell(disposition, column, width - before - next_to)):
+                    yield f"{heading if at == 0 else '':{before}}{disposition if at == 0 else '':{next_to}}{line}"
             heading = ""
 
 
@@ -138,25 +140,27 @@ def lines(surface: Surface, groups: Groups, width: int | None) -> Iterator[str]:
 
 
 def row_json(row: Row, groups: Groups) -> dict[str, object]:
-    found: dict[str, object] = {"number": row.number, "names": row.names, "group": groups.of_call(row.names),
+    members: dict[str, object] = {"number": row.number, "names": row.names, "group": groups.of_call(row.names),
                                 "disposition": row.said}
     if row.shown:
-        found["examples"] = {disposition: shown.as_json() for disposition, shown in row.shown.items()}
-        found["never"] = row.never
+        members["examples"] = {disposition: shown.as_json() for disposition, shown in row.shown.items()}
+        members["never"] = row.never
     elif row.answer:
-        found["answer"] = row.answer.as_json()
+        members["answer"] = row.answer.as_json()
     if row.conditions is not None:
-        found["conditions"] = row.conditions.as_json()
+        members["conditions"] = row.conditions.as_json()
     if row.has_examples:
-        found["region_examples"] = [shown.as_json() for shown in row.of_regions]
-    return found
+        members["region_examples"] = [shown.as_json() for shown in row.of_regions]
+    return members
+
+
+def _counts_json(surface: Surface) -> dict[str, object]:
+    counts = surface.counts
+    return {"architecture": surface.asker.architecture.name, "counts": {word: counts[word] for word in ROW_WORDS}}
 
 
 def as_json(surface: Surface, groups: Groups) -> dict[str, object]:
-    counts = surface.counts
-    others = [{"architecture": it.asker.architecture.name, "counts": {said: it.counts[said] for said in SAID}}
-              for it in surface.others]
-    return {"architecture": surface.asker.architecture.name, "counts": {said: counts[said] for said in SAID},
-            **({"other_abis": others} if others else {}),
-            "foreign": [one.as_json() for one in surface.foreign],
+    others = [_counts_json(beside) for beside in surface.others]
+    return {**_counts_json(surface), **({"other_abis": others} if others else {}),
+            "foreign": [access.as_json() for access in surface.foreign],
             "unnamed": surface.unnamed.as_json(), "calls": [row_json(row, groups) for row in surface.rows]}

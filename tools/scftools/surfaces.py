@@ -2,7 +2,6 @@
 where these are open by comparisons with profiles of a single answer."""
 from __future__ import annotations
 
-import bisect
 from collections import Counter
 from collections.abc import Iterable, Sequence
 
@@ -20,10 +19,10 @@ TYPE_CHECKING = False
 if TYPE_CHECKING:
     from .row_conditions import Conditions
 
-DISPOSITIONS = (ALLOWED, DELEGATED, DENIED)
+MOST_PERMISSIVE_FIRST = (ALLOWED, DELEGATED, DENIED)
 # What may hold for all syscalls of a number, in the order in which it is printed; the last two if scf can't decide.
 DEPENDS = "depends"
-SAID = (ALLOWED, DEPENDS, DELEGATED, DENIED, UNDECIDED, UNFINISHED)
+ROW_WORDS = (ALLOWED, DEPENDS, DELEGATED, DENIED, UNDECIDED, UNFINISHED)
 # The dispositions that may occur if a relation holds.
 QUESTIONS = {IS_DENIED: {DENIED}, IS_ALLOWED: {ALLOWED}, IS_NEVER_ALLOWED: {DELEGATED, DENIED},
              IS_NEVER_DENIED: {ALLOWED, DELEGATED}}
@@ -44,7 +43,8 @@ class Shown:
         return f"{at}{constants.call_text(name, self.call.arguments)} {self.answer.named()}"
 
     def as_json(self) -> dict[str, object]:
-        return {"arguments": [hex(it) for it in self.call.arguments], "pointer": hex(self.call.pointer or 0),
+        return {"arguments": [hex(argument) for argument in self.call.arguments],
+                "pointer": hex(self.call.pointer or 0),
                 "answer": self.answer.as_json(explains=True)}
 
 
@@ -52,11 +52,12 @@ class Row:
     """A number of an architecture, its regions, none if these are unfinished, the dispositions that its syscalls may
     have, and examples that comparisons add."""
 
-    def __init__(self, number: int, names: list[str], one: Architecture, found: Sequence[Region]):
-        self.number, self.names, self.architecture, self.regions = number, names, one, found
-        self.possible = {it.answer.disposition if it.answer is not None else UNDECIDED for it in found}
+    def __init__(self, number: int, names: list[str], architecture: Architecture, regions_of_number: Sequence[Region]):
+        self.number, self.names, self.architecture, self.regions = number, names, architecture, regions_of_number
+        self.possible = {region.answer.disposition if region.answer is not None else UNDECIDED
+                         for region in regions_of_number}
         if not self.possible or UNDECIDED in self.possible:
-            self.possible = set(DISPOSITIONS)
+            self.possible = set(MOST_PERMISSIVE_FIRST)
         self.more: dict[str, Shown] = {}
         # which arguments get which answer, and whether to show a syscall of each region, on request
         self.conditions: Conditions | None = None
@@ -64,25 +65,25 @@ class Row:
 
     def _shown_in(self, region: Region) -> Shown:
         """A syscall of a region that is decided."""
-        one = self.architecture
-        return Shown(region.call_of(one.first + self.number, one.number), region.answer)
+        architecture = self.architecture
+        return Shown(region.call_of(architecture.first + self.number, architecture.number), region.answer)
 
     @property
     def of_regions(self) -> list[Shown]:
         """A syscall of each region that is decided."""
-        return [self._shown_in(it) for it in self.regions if it.is_decided]
+        return [self._shown_in(region) for region in self.regions if region.is_decided]
 
     def example(self, disposition: str) -> Shown | None:
         """A syscall with this disposition, if one is known."""
-        for it in self.regions:
-            if it.is_decided and it.answer.disposition == disposition:
-                return self._shown_in(it)
+        for region in self.regions:
+            if region.is_decided and region.answer.disposition == disposition:
+                return self._shown_in(region)
         return self.more.get(disposition)
 
     @property
     def occurring(self) -> set[str]:
         """The dispositions of which there is an example."""
-        return {it.answer.disposition for it in self.regions if it.is_decided}.union(self.more)
+        return {region.answer.disposition for region in self.regions if region.is_decided}.union(self.more)
 
     @property
     def said(self) -> str:
@@ -98,19 +99,20 @@ class Row:
     @property
     def shown(self) -> dict[str, Shown]:
         """An example for each disposition that occurs, if it depends or is undecided."""
-        found = {it: self.example(it) for it in DISPOSITIONS if len(self.possible) > 1}
-        return {it: shown for it, shown in found.items() if shown is not None}
+        ranks = MOST_PERMISSIVE_FIRST if len(self.possible) > 1 else ()
+        examples = {disposition: self.example(disposition) for disposition in ranks}
+        return {disposition: shown for disposition, shown in examples.items() if shown is not None}
 
     @property
     def never(self) -> list[str]:
         """The dispositions that are proved not to occur."""
-        return [it for it in (ALLOWED, DENIED) if it not in self.possible]
+        return [disposition for disposition in (ALLOWED, DENIED) if disposition not in self.possible]
 
     @property
     def answer(self) -> Answer | None:
         """The answer to some syscall of the number."""
-        return next((it.answer for it in self.regions if it.is_decided), None) or \
-            next((it.answer for it in self.more.values()), None)
+        return next((region.answer for region in self.regions if region.is_decided), None) or \
+            next((shown.answer for shown in self.more.values()), None)
 
 
 @dataclass
@@ -151,22 +153,22 @@ class Unnamed:
         return f"{which} are allowed or delegated with some arguments{self._as_shown}"
 
     def as_json(self) -> dict[str, object]:
-        found: dict[str, object] = {"count": self.count, "not_denied": self.not_denied, "undecided": self.undecided,
+        members: dict[str, object] = {"count": self.count, "not_denied": self.not_denied, "undecided": self.undecided,
                                     "are_allowed": self.are_allowed}
         if self.shown is not None:
-            found["example"] = {"number": self.shown.call.number, "answer": self.shown.answer.as_json()}
-        return found
+            members["example"] = {"number": self.shown.call.number, "answer": self.shown.answer.as_json()}
+        return members
 
 
 @dataclass
 class Surface:
-    """What filters allow, and the regions that say it; None if they are unfinished."""
+    """The syscalls that filters allow, and the regions that say so; None if they are unfinished."""
 
     asker: Asker
     table: Table
     regions: Sequence[Region] | None
     rows: list[Row]
-    foreign: list[other_abis.Known]
+    foreign: list[other_abis.AbiAccess]
     unnamed: Unnamed
     # those of other ABIs of which some syscall may be allowed, on request
     others: list[Surface] = field(default_factory=list)
@@ -182,15 +184,15 @@ class Surface:
         """Whether scf decided everything."""
         return (all(row.is_decided for row in self.rows) and not self.unnamed.undecided
                 and self.are_conditions_finished
-                and all(one.is_decided for one in self.foreign)
-                and all(one.is_decided for one in self.others))
+                and all(access.is_decided for access in self.foreign)
+                and all(surface.is_decided for surface in self.others))
 
     def add_others(self) -> None:
         """Adds the surfaces of the ABIs that aren't proved to be denied."""
-        for one in (it.abi for it in self.foreign if not it.are_denied):
-            table = tables.of_architecture(one.oci)
+        for architecture in (access.abi for access in self.foreign if not access.are_denied):
+            table = tables.of_architecture(architecture.oci)
             if table is not None:
-                self.others.append(of_regions(self.asker.filters, self.regions, table, one))
+                self.others.append(of_regions(self.asker.filters, self.regions, table, architecture))
 
 
 def _ask(asker: Asker, rows: Iterable[Row]) -> None:
@@ -209,34 +211,27 @@ def _ask(asker: Asker, rows: Iterable[Row]) -> None:
                 row.more.setdefault(verdict.filters.disposition, Shown(verdict.call, verdict.filters))
 
 
-def _of_unnamed(numbers: Numbers, table: Table, one: Architecture) -> Unnamed:
-    """What is known of the numbers without a name."""
-    named = sorted(one.first + it for it in table.numbers())
-    found = Unnamed(one.last - one.first + 1 - len(named))
-    whole = [(one.first, one.last, [])]
-    for low, high, here in whole if numbers.ranges is None else numbers.ranges:
-        those = named[bisect.bisect_left(named, low):bisect.bisect(named, high)]
-        if len(those) <= high - low:
-            number = next((low + at for at, it in enumerate(those) if it != low + at), low + len(those))
-            found.add(Row(number - one.first, [], one, here), high - low + 1 - len(those))
-    return found
+def _of_unnamed(numbers: Numbers, table: Table, architecture: Architecture) -> Unnamed:
+    """The numbers without a name."""
+    unnamed = Unnamed(architecture.last - architecture.first + 1 - len(table.numbers()))
+    for number, count, here in numbers.unnamed(table):
+        unnamed.add(Row(number, [], architecture, here), count)
+    return unnamed
 
 
-def of_regions(filters: Sequence[bytes], found: Sequence[Region] | None, table: Table, one: Architecture) -> Surface:
+def of_regions(filters: Sequence[bytes], filter_regions: Sequence[Region] | None, table: Table,
+               architecture: Architecture) -> Surface:
     """The surface of filters with these regions, or None if they are unfinished, to an architecture with this table."""
-    asker, numbers = Asker(filters, one), Numbers(found or (), one)
-    rows = [Row(number, table.names_of(number), one, numbers.of(one.first + number))
+    asker, numbers = Asker(filters, architecture), Numbers(filter_regions, architecture)
+    rows = [Row(number, table.names_of(number), architecture, numbers.of(architecture.first + number))
             for number in sorted(table.numbers())]
-    if found is not None:
+    if filter_regions is not None:
         asker.check(table)
         _ask(asker, rows)
-    foreign = other_abis.of_regions(filters, found) if one.oci == NATIVE else []
-    return Surface(asker, table, found, rows, foreign, _of_unnamed(numbers, table, one))
+    foreign = other_abis.of_regions(filters, filter_regions) if architecture.oci == NATIVE else []
+    return Surface(asker, table, filter_regions, rows, foreign, _of_unnamed(numbers, table, architecture))
 
 
-def of_filters(filters: Sequence[bytes], table: Table, one: Architecture = JUDGED[NATIVE]) -> Surface:
+def of_filters(filters: Sequence[bytes], table: Table, architecture: Architecture = JUDGED[NATIVE]) -> Surface:
     """The surface of filters, oldest first, to an architecture with this table."""
-    try:
-        return of_regions(filters, regions.of_filters(filters), table, one)
-    except regions.Unfinished:
-        return of_regions(filters, None, table, one)
+    return of_regions(filters, regions.of_filters(filters), table, architecture)

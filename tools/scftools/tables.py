@@ -2,15 +2,15 @@
 from __future__ import annotations
 
 import functools
-from collections.abc import Iterable, Sequence
+from collections.abc import Collection, Iterable, Sequence
 
 from . import architectures, inputs, profiles, program
 from .architectures import JUDGED, NATIVE, Architecture
-from .values import Pattern, dataclass
+from .values import Pattern, dataclass, field, replace
 
-LINE = Pattern(rb"[ \t]*([A-Za-z_][A-Za-z0-9_]*)[ \t]+0*([0-9]{1,10})[ \t]*\r?")
+TABLE_LINE = Pattern(rb"[ \t]*([A-Za-z_][A-Za-z0-9_]*)[ \t]+0*([0-9]{1,10})[ \t]*\r?")
 # At most so many unknown names are listed, and longer ones get no nearest name.
-MOST_LISTED, LONGEST = 20, 64
+MOST_LISTED, LONGEST_NAME = 20, 64
 # The least similarity of a nearest name (difflib's ratio): two swapped letters in a name of four.
 NEAR = 0.75
 
@@ -30,7 +30,7 @@ class Table:
         names: dict[int, list[str]] = {}
         numbers: dict[str, int] = {}
         for line in self.data.split(b"\n"):
-            entry = LINE.fullmatch(line)
+            entry = TABLE_LINE.fullmatch(line)
             if entry:
                 name, number = entry[1].decode(), int(entry[2])
                 names.setdefault(number, []).append(name)
@@ -50,15 +50,15 @@ class Table:
     def numbers(self) -> Iterable[int]:
         return self._parsed[0].keys()
 
-    def below(self, number: int) -> Table:
-        """The same without the syscalls from a number on."""
-        entries = [(line, LINE.fullmatch(line)) for line in self.data.split(b"\n")]
-        return Table(b"\n".join(line for line, entry in entries if entry is None or int(entry[2]) < number))
+    def without(self, names: Collection[str]) -> Table:
+        """The table without some names."""
+        entries = [(line, TABLE_LINE.fullmatch(line)) for line in self.data.split(b"\n")]
+        return Table(b"\n".join(line for line, entry in entries if entry is None or entry[1].decode() not in names))
 
 
-def read(name: str | None, one: Architecture = JUDGED[NATIVE]) -> Table:
+def read(name: str | None, architecture: Architecture = JUDGED[NATIVE]) -> Table:
     """The table in a file, or by default the one of an architecture that comes with scf."""
-    return Table(inputs.read_whole(one.file if name is None else name, "table"))
+    return Table(inputs.read_whole(architecture.file if name is None else name, "table"))
 
 
 @functools.lru_cache(None)
@@ -74,9 +74,13 @@ def of_architecture(name: str) -> Table | None:
 
 @dataclass(frozen=True)
 class Tables:
-    """The tables of the architectures that a profile is judged for, by OCI names in scf's order."""
+    """The tables of the architectures that a profile is judged for, by OCI names in scf's order; and how the profile is
+    read: by its words or as a runtime reads it, with the least number of a record that runc's stub answers, by
+    architecture."""
 
     of: dict[str, Table]
+    reading: str = profiles.STRICT
+    stub: dict[str, int] = field(default_factory=dict)
 
     @property
     def is_native(self) -> bool:
@@ -85,8 +89,8 @@ class Tables:
 
     def numbers_of(self, name: str) -> dict[str, int]:
         """The numbers of a syscall in those that have it, by OCI names."""
-        found = {one: table.number_of(name) for one, table in self.of.items()}
-        return {one: number for one, number in found.items() if number is not None}
+        numbers = {oci: table.number_of(name) for oci, table in self.of.items()}
+        return {oci: number for oci, number in numbers.items() if number is not None}
 
     def number_of(self, name: str) -> int | None:
         """The number of a syscall in the first one that has it."""
@@ -98,7 +102,7 @@ class Tables:
 
     @property
     def names(self) -> list[str]:
-        """What people call the architectures."""
+        """The common names of the architectures."""
         return architectures.names_of(list(self.of))
 
     @property
@@ -107,44 +111,50 @@ class Tables:
         return self.of.get(NATIVE) or next(iter(self.of.values()))
 
     @property
+    def reading_words(self) -> list[str]:
+        """The option by which scf reads the profile."""
+        return [] if self.reading == profiles.STRICT else [f"--reading={self.reading}"]
+
+    @property
     def words(self) -> list[str]:
-        """The option by which scf judges these architectures."""
-        return [] if self.is_native else ["--architectures"]
+        """The options by which scf judges these architectures, and reads the profile."""
+        return [*([] if self.is_native else ["--architectures"]), *self.reading_words]
 
     @property
     def parts(self) -> list[tuple[str, bytes]]:
         """The parts of a bundle."""
-        return [(JUDGED[name].kind, table.data) for name, table in self.of.items()]
+        stubs = [(f"stub-{JUDGED[name].kind}", str(first).encode()) for name, first in self.stub.items()
+                 if name in self.of]
+        return [*((JUDGED[name].kind, table.data) for name, table in self.of.items()), *stubs]
 
-    def below(self, bounds: dict[str, int]) -> Tables:
-        """The same without the syscalls from some numbers of records on, by OCI names."""
-        return Tables({name: table.below(bounds[name] - JUDGED[name].first) if name in bounds else table
-                       for name, table in self.of.items()})
-
-    def only(self, name: str) -> Tables:
-        """The table of one of the architectures."""
-        return Tables({name: self.of[name]})
+    def only(self, name: str, table: Table | None = None) -> Tables:
+        """The table of one of the architectures, on request another one in its place."""
+        return replace(self, of={name: table or self.of[name]})
 
 
 def native_alone(data: bytes) -> Tables:
-    """A table of x86-64 and no other."""
+    """A table of x86-64 and no other, for a profile that is read by its words."""
     return Tables({NATIVE: Table(data)})
 
 
-def of_architectures(names: Iterable[str], table: Table, own: str = NATIVE) -> Tables:
+def of_architectures(names: Iterable[str], table: Table, default: str = NATIVE) -> Tables:
     """The tables of those architectures with these OCI names that scf judges, with this one for x86-64's, or another's
     own; this one alone if scf judges none of them."""
-    found = {name: table if name == own else of_architecture(name) for name in JUDGED if name in set(names)}
-    known = {name: its for name, its in found.items() if its is not None}
-    return Tables(known or {own: table})
+    tables = {name: table if name == default else of_architecture(name) for name in JUDGED if name in set(names)}
+    known_tables = {name: its for name, its in tables.items() if its is not None}
+    return Tables(known_tables or {default: table})
 
 
-def of_profile(profile: bytes, table: Table, is_native: bool = False, own: str = NATIVE) -> Tables:
+def of_profile(profile: bytes, table: Table, is_native: bool = False, default: str = NATIVE) -> Tables:
     """The tables of the architectures that a profile names, with this one for x86-64's, or another's own; on request
-    this one alone. A profile that names none is for this machine's own."""
-    if is_native:
-        return Tables({own: table})
-    return of_architectures(profiles.architectures_of(profile) or [architectures.of_machine()], table, own)
+    this one alone. A profile that names none is for this machine's own, and one that a runtime reads for that, too."""
+    reading, names = profiles.reading_of(profile), profiles.architectures_of(profile)
+    if not names or reading != profiles.STRICT:
+        names = (architectures.of_machine(), *names)
+    tables = Tables({default: table}) if is_native else of_architectures(names, table, default)
+    absent = profile.absent if isinstance(profile, profiles.DerivedProfile) else {}
+    return Tables({name: each.without(absent[name]) if name in absent else each for name, each in tables.of.items()},
+                  reading)
 
 
 def names_elsewhere() -> set[str]:
@@ -167,30 +177,30 @@ class Skipped:
     unknown: list[tuple[str, str | None]]
 
 
-def most_like(name: str, known: Iterable[str], least: float = NEAR) -> str | None:
+def most_like(name: str, names: Iterable[str], least: float = NEAR) -> str | None:
     """The name most similar to this one, None if none is so similar, or if it is a long one."""
-    if len(name) > LONGEST:
+    if len(name) > LONGEST_NAME:
         return None
     from difflib import get_close_matches  # pylint: disable=import-outside-toplevel
 
-    return next(iter(get_close_matches(name, list(known), 1, least)), None)
+    return next(iter(get_close_matches(name, list(names), 1, least)), None)
 
 
 def nearest(name: str, *among: Table) -> str | None:
     """The name in the tables most similar to this one in small letters, or None if none is similar."""
-    return most_like(name.lower(), dict.fromkeys(it for table in among for it in table.names()))
+    return most_like(name.lower(), dict.fromkeys(name for table in among for name in table.names()))
 
 
 def classify(names: Sequence[str], judged: Tables) -> Skipped:
-    """What the names are that no table has; each once, in order."""
-    elsewhere, known = names_elsewhere(), read(None)
-    found = Skipped([], [], [])
+    """The kinds of names that no table has; each once, in order."""
+    elsewhere, table = names_elsewhere(), read(None)
+    skipped = Skipped([], [], [])
     for name in dict.fromkeys(names):
         if name in elsewhere:
-            found.elsewhere.append(name)
-        elif known.number_of(name) is not None:
-            (found.left_out if NATIVE in judged.of else found.elsewhere).append(name)
+            skipped.elsewhere.append(name)
+        elif table.number_of(name) is not None:
+            (skipped.left_out if NATIVE in judged.of else skipped.elsewhere).append(name)
         else:
-            near = nearest(name, *judged.of.values()) if len(found.unknown) < MOST_LISTED else None
-            found.unknown.append((name, near))
-    return found
+            near = nearest(name, *judged.of.values()) if len(skipped.unknown) < MOST_LISTED else None
+            skipped.unknown.append((name, near))
+    return skipped

@@ -1,14 +1,15 @@
 """Says of each container, systemd unit and other confined program of this machine whether it is confined as configured.
 
     scf audit [--expect FILE] [--baseline no-more:FILE] [--allow-unconfined] [--force]
-              [--runtime-root FOLDER] [--json | --json-lines] [--prometheus FILE] [--html FILE]
-              [--since FILE] [--watch SECONDS] [--native] [--limit N] [--splits N]
-              [--table FILE]
+              [--programs] [--runtime-root FOLDER] [--json | --json-lines] [--since FILE]
+              [--prometheus FILE] [--html FILE] [--watch SECONDS] [--native] [--limit N]
+              [--splits N] [--table FILE]
 
 All processes are read in one pass. Those with a filter are stopped for a moment, one after another, and their filters
 are compared with what is configured, each distinct stack with each distinct profile once. A container's profile is that
 of its config.json, as its runtime applies it; a unit's is what `scf unit-profile` prints. --expect takes one profile
-for all instead. Nothing is configured for other programs, of which there is a row for each executable with a filter.
+for all instead. Nothing is configured for other programs, of which there is a row for each executable with a filter;
+unless one is weaker than the baseline, unconfined or not known, these rows are only counted, and listed by --programs.
 
 Each row has a verdict. `unconfined though configured`: some thread has no filter. `unconfined by configuration`: so it
 is configured. `weaker`: some syscall is more permissive than configured, and one is shown. `not known`: and why.
@@ -23,10 +24,11 @@ was given to a runtime as --root, may have wildcards, and may be given several t
 there describes only processes of that user, in a row of its own; a user's rows come last, and have 5 seconds. A line
 says what wasn't looked at.
 
---json prints one object, and --json-lines an object for each row and a last one for the whole. --prometheus writes
-metrics for the textfile collector of node_exporter, and --html a page without scripts, which also shows what each
-distinct stack allows, and with --since what changed since an object that --json printed. Both replace FILE at once.
---watch audits again and again, and after the first time prints a line for each change.
+--json prints one object, and --json-lines an object for each row and a last one for the whole; both have all rows.
+--since compares with an object that --json printed, and says which rows are new or gone, or have another verdict:
+in lines, in the member `since`, and on the page. --prometheus writes metrics for the textfile collector of
+node_exporter, and --html a page without scripts, which also shows what each distinct stack allows. Both replace FILE at
+once. --watch audits again and again, and after the first time prints a line for each change.
 
 Exit status: 0 nothing is weaker than configured or unconfined; 1 something is, with --allow-unconfined unless it is so
 by configuration; 2 usage error; 3 an input or the output failed; 4 something isn't known or wasn't looked at.
@@ -52,15 +54,16 @@ def read_words():
     parser.add_argument("--allow-unconfined", action="store_true",
                         help="what is unconfined by configuration doesn't count for the status")
     parser.add("--force")
+    parser.add_argument("--programs", action="store_true", help="list the programs without a configuration, too")
     parser.add_argument("--runtime-root", metavar="FOLDER", action="append", default=[],
                         help="where a runtime keeps its containers, as given to its own --root")
     form = parser.add_mutually_exclusive_group()
     form.add_argument("--json", action="store_true",
-                      help="print one JSON object instead of lines (OPERATIONS.md says what it holds)")
+                      help="print one JSON object instead of lines (JSON.md says what it holds)")
     form.add_argument("--json-lines", action="store_true", help="print an object for each row, and one for the whole")
     parser.add_argument("--prometheus", metavar="FILE", help="write metrics in Prometheus's text format")
     parser.add_argument("--html", metavar="FILE", help="write a page of HTML")
-    parser.add_argument("--since", metavar="FILE", help="for --html: an object that --json printed earlier")
+    parser.add_argument("--since", metavar="FILE", help="say what changed since an object that --json printed")
     parser.add_argument("--watch", metavar="SECONDS", type=words.seconds, help="again and again, with this pause")
     parser.add("--native", "--limit", "--splits", "--table")
     given = parser.parse_args()
@@ -68,8 +71,7 @@ def read_words():
         parser.error(f"--baseline takes {BASELINE}FILE")
     if given.watch is not None and not 0.1 <= given.watch <= 86400:
         parser.error("--watch takes 0.1 to 86400 seconds")
-    if given.since is not None and given.html is None:
-        parser.error("--since needs --html")
+
     given.baseline = None if given.baseline is None else given.baseline[len(BASELINE):]
     parser.one_standard_input([given.expect, given.baseline, given.since, given.table])
     return given
@@ -81,45 +83,43 @@ def options_of(given):
 
     return audit.Options(tables.read(given.table), profile(given.expect), profile(given.baseline),
                          given.force, given.allow_unconfined, tuple(given.runtime_root),
-                         verdicts.NATIVE if given.native else None)
+                         verdicts.NATIVE_SCOPE if given.native else None)
 
 
-def earlier(name):
-    """The rows of an object that --json printed earlier."""
+def earlier_in(name):
+    """The audit of an object that --json printed."""
     if name is None:
         return None
     try:
-        return audit_output.rows_in(json.loads(inputs.read_whole(name, "bundle")))
+        return audit_output.Earlier.of_object(json.loads(inputs.read_whole(name, "bundle")))
     except (ValueError, RecursionError) as why:
         raise program.ToolError(f"'{name}' isn't an object that --json printed", program.IO_ERROR) from why
 
 
-def write(found, given, options, since):
+def write(report, given, options, earlier):
     """Writes the files that are asked for."""
     if given.prometheus is not None:
-        output.replace_file(given.prometheus, audit_output.metrics(found))
+        output.replace_file(given.prometheus, audit_output.metrics(report))
     if given.html is not None:
         from . import audit_page  # pylint: disable=import-outside-toplevel
 
-        output.replace_file(given.html, audit_page.page(found, options.table, since))
+        output.replace_file(given.html, audit_page.page(report, options.table, earlier))
 
 
-def show(found, given, table):
-    """Prints an audit."""
+def show(report, given, table, earlier):
+    """Prints an audit, and what changed since an earlier one."""
     if given.json:
-        output.put_json(audit_output.as_json(found, table))
+        output.put_json(audit_output.as_json(report, table, earlier))
     elif given.json_lines:
-        for value in audit_output.json_lines(found, table):
+        for value in audit_output.json_lines(report, table, earlier):
             output.put_json(value)
     else:
-        output.put_lines(audit_output.lines(found, table))
+        output.put_lines(audit_output.lines(report, table, given.programs, earlier))
 
 
-def show_changes(before, found, given, table):
-    """Prints what changed since an earlier audit; with --json the whole again."""
-    if given.json:
-        show(found, given, table)
-    for change in () if given.json else audit_output.changes(before, found):
+def show_changes(before, report, given):
+    """Prints a line, or an object, for each change since the audit before."""
+    for change in audit_output.changes(before, report, given.programs or given.json_lines):
         if given.json_lines:
             output.put_json(change)
         else:
@@ -134,19 +134,19 @@ def progress(count):
 
 def main():
     given = read_words()
-    options, since, before = options_of(given), earlier(given.since), None
+    options, earlier, before = options_of(given), earlier_in(given.since), None
     options.check()
-    judge = audit.Judge(options.table, progress)
+    judge = audit.StackJudge(options.table, progress)
     while True:
-        found = processes.read_or_end(lambda: audit.of_machine(options, judge), is_json=given.json)
+        report = processes.read_or_end(lambda: audit.of_machine(options, judge), is_json=given.json)
         progress(None)
-        write(found, given, options, since)
-        if before is None:
-            show(found, given, options.table)
+        write(report, given, options, earlier)
+        if before is None or given.json:
+            show(report, given, options.table, earlier)
         else:
-            show_changes(before, found, given, options.table)
+            show_changes(before, report, given)
         output.flush()
         if given.watch is None:
-            return found.status
-        before = audit_output.known_rows(found)
+            return report.status
+        before = audit_output.Earlier.of(report)
         time.sleep(given.watch)

@@ -2,9 +2,12 @@
 
     scf bundle KIND FILE [KIND FILE ..]
 
-KIND is filter, profile or table, or for scf's `--architectures` table-x86, table-x32, table-aarch64 or table-arm; FILE
-is a file or a pipe, by whatever name (/dev/stdin is standard input, `-` a file of that name). Each part is a header,
-`KIND COUNT` and a newline, and then the COUNT bytes of its file. The parts stand in the order of the arguments.
+KIND is filter, profile or table, or for scf's `--architectures` table-x86, table-x32, table-aarch64 or table-arm; for
+`scf compare` beside, a filter of the other side (with --beside), or beside-profile, a profile beside the first. FILE is
+a file or a pipe, by whatever name (/dev/stdin is standard input, `-` a file of that name). A stub-table, stub-table-x86
+or the like is a decimal number without a line end: from it on runc's stub answers the numbers of that table's
+architecture with ENOSYS. Each part is a header, `KIND COUNT` and a newline, and then the COUNT bytes of its file. The
+parts stand in the order of the arguments.
 
 scf compares a bundle over all records, unless --architectures is given; `scf compare` compares files on each
 architecture that the profile names. So the same filter and profile can be `same` by files and `differs` by a bundle.
@@ -23,7 +26,9 @@ from . import bundles, inputs, output, program
 
 USAGE = """usage: {} KIND FILE [KIND FILE ..]
 KIND is filter, profile or table, or for another architecture than x86-64 table-x86, table-x32, table-aarch64
-or table-arm; FILE a file or a pipe. Prints the parts, each after a header `KIND COUNT`.
+or table-arm; beside and beside-profile are of the other side of `scf compare`; stub-table, stub-table-x86 .. is the
+first number of a table's architecture that runc answers with ENOSYS. FILE is a file or a pipe. Prints the parts, each
+after a header `KIND COUNT`.
 scf compares a bundle over all records, unless --architectures is given; `scf compare` compares files on each
 architecture that the profile names. So the same filter and profile can be `same` by files and `differs` by a bundle.
 """
@@ -33,10 +38,15 @@ def parts_of(words):
     """The kinds and bytes of the parts, each file read once, so that a pipe has a length."""
     length = 0
     for kind, name in zip(words[::2], words[1::2]):
-        data = inputs.read_whole(os.path.join(".", name) if name == "-" else name, kind)
+        form = kind.partition("-")[0]
+        data = inputs.read_whole(os.path.join(".", name) if name == "-" else name, form)
+        if form == "stub" and not (data.isdigit() and int(data) < 1 << 32):
+            raise program.ToolError(f"{inputs.label(name)} isn't a {kind}: one decimal number below 4294967296, "
+                                    "without a line end, as `printf 449` prints it")
         length += len(data)
-        if length > bundles.LIMIT:
-            raise program.ToolError(f"the files have more than {bundles.LIMIT} bytes together, the most that scf reads")
+        if length > bundles.LONGEST_BUNDLE:
+            raise program.ToolError(f"the files have more than {bundles.LONGEST_BUNDLE} bytes together, the most that "
+                                    "scf reads")
         yield kind, data
 
 
@@ -57,7 +67,8 @@ def main():
     if len(words) % 2:
         refuse("a KIND without a FILE")
     for kind in words[::2]:
-        if kind not in bundles.KINDS:
-            refuse(f"'{kind}' isn't a KIND (filter, profile, table, table-x86 ..)")
+        if kind not in bundles.PART_KINDS:
+            refuse(f"'{kind}' isn't a KIND (filter, profile, beside, beside-profile, table, table-x86 .., "
+                   "stub-table ..)")
     output.put(bundles.bundle(list(parts_of(words))))
     return program.SUCCESS

@@ -1,8 +1,9 @@
 """Compares filters with a profile: runs `scf compare`, and says what its verdict means.
 
     scf compare [--native|--all|--calls] [--no-more|--no-less|--disposition] [--limit N]
-                [--splits N] [--strict] [--table FILE] [--caps LIST] [--verbose] [--json]
-                [--html FILE] FILTER.. PROFILE
+                [--splits N] [--strict] [--runtime runc|crun|docker|podman] [--table FILE]
+                [--caps LIST] [--machine amd64|arm64] [--verbose] [--json] [--html FILE]
+                FILTER.. PROFILE
     scf compare [--native|--all|--calls] [--no-more|--no-less|--disposition] [--limit N]
                 [--splits N] [--table FILE] [--json] FILTER.. --beside FILTER..
 
@@ -31,6 +32,9 @@ than the profile, --no-less whether they are nowhere stricter, --disposition whe
 allow the same, whatever the errno or other data. Without any, if they differ but are nowhere more permissive, the first
 added line says so.
 
+With --runtime the profile is read as that runtime reads it (RUNTIMES.md). runc's filters also fail syscalls whose
+numbers are above all that the profile names with ENOSYS, which no profile says: these may do so, or not.
+
 With --beside the filters are compared with other filters, a stack too, over each possible record unless --native: an
 old release beside a new one, a filter made by hand beside a generated one. The added lines show the tests of both.
 
@@ -48,7 +52,7 @@ Examples:
 import itertools
 import sys
 
-from . import compare, compare_output, filters, output, profile_inputs, program, tables, words
+from . import compare, compare_output, filters, output, program, runtimes, tables, verdicts, words
 
 
 def read_words():
@@ -56,19 +60,21 @@ def read_words():
     parser.scope("x86-64 syscalls alone, whatever architectures the profile names",
                  "all syscalls, also those of other ABIs [default with --beside]")
     parser.relation(of_disposition=words.OF_DISPOSITION)
-    parser.add("--limit", "--splits", "--strict", "--table", "--verbose", "--caps", "--json", "--html")
-    parser.add("--architectures", "--total-limit", "--nr-from", "--nr-to")
+    parser.add("--limit", "--splits", "--strict", "--table", "--verbose", "--caps", "--machine", "--json", "--html")
+    parser.add("--architectures", "--reading", "--total-limit", "--nr-from", "--nr-to")
+    runtimes.add_option(parser)
     parser.add_argument("--beside", metavar="FILTER", nargs="*",
                         help="compare with these filters, oldest first, and not with a profile")
     parser.add("filters")
-    if not any(it.partition("=")[0] == "--beside" for it in sys.argv):
+    if not any(word.partition("=")[0] == "--beside" for word in sys.argv):
         parser.add_argument("profile", metavar="PROFILE",
                             help="a resolved profile, or a config.json; - is standard input; none with --beside")
     options = parser.parse_args()
     if options.beside == []:
         parser.error("argument --beside: expected at least one argument")
     for name, value in (("--caps", options.caps), ("--verbose", options.verbose), ("--html", options.html),
-                        ("--strict", options.strict)):
+                        ("--strict", options.strict), ("--runtime", options.runtime),
+                        ("--machine", options.machine)):
         if options.beside is not None and value:
             parser.error(f"{name} speaks of a profile, and --beside has none")
     others = [options.profile] if options.beside is None else options.beside
@@ -84,8 +90,9 @@ def write_page(options, comparison, report, scope):
 
     added = [*compare_output.notes(comparison, report, scope),
              *compare_output.foreign_lines(comparison, report, scope, is_quiet=True)]
-    own = [it for at, it in enumerate(sys.argv[1:]) if it not in ("--json", "--html") and sys.argv[at] != "--html"]
-    page = pages.of_comparison(comparison, report, added, shlex.join([program.name(), *own]))
+    words_of_record = [word for at, word in enumerate(sys.argv[1:]) if word not in ("--json", "--html")
+                       and sys.argv[at] != "--html"]
+    page = pages.of_comparison(comparison, report, added, shlex.join([program.name(), *words_of_record]))
     output.replace_file(options.html, page)
 
 
@@ -96,11 +103,12 @@ def main():
 
         return stack_comparison.tell(options)
     stack = filters.read_stack(options.filters)
-    profile = profile_inputs.read(options.profile, options.caps, is_strict=options.strict)
-    comparison = compare.Comparison(stack, profile.data, tables.read(options.table), options.relation,
-                                    profile.origins, is_native=options.scope == compare.NATIVE)
+    profile = runtimes.read(options)
+    comparison = compare.Comparison(stack, profile.data, tables.read(options.table), options.relation, profile.origins,
+                                    profile.stub, is_native=options.scope == verdicts.NATIVE_SCOPE)
     scope = options.scope or comparison.scope
     status, report = comparison.run(scope)
+    report = verdicts.most_telling(report, comparison.table, lambda: comparison.run(compare.CALLS)[1].calls)
     if options.html is not None:
         write_page(options, comparison, report, scope)
     if options.json:

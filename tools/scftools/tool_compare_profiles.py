@@ -2,7 +2,8 @@
 
     scf compare-profiles [--native] [--no-more|--no-less] [--runtime runc|crun|docker|podman]
                          [--engine docker|docker-20.10|podman] [--caps LIST] [--kernel X.Y]
-                         [--arch native|all] [--ignore MEMBER ..] [--keep-first] [--limit N]
+                         [--machine amd64|arm64] [--arch-map native|all] [--ignore MEMBER ..]
+                         [--keep-first] [--limit N]
                          [--splits N] [--table FILE] [--json] OLD NEW
 
 OLD and NEW are resolved OCI seccomp profiles, or whole config.json files that hold one. Both are compiled, as by
@@ -15,10 +16,10 @@ answer to it and what gives it, as `scf ask` says. Lines marked by `# ` add the 
 at the end the entries. --no-more asks whether NEW is nowhere more permissive than OLD, --no-less whether it is nowhere
 stricter: the verdict and the exit status answer that.
 
-With --engine, --caps, --kernel, --arch, --ignore or --keep-first both are an engine's own profiles, and are resolved
-for one container as by `scf resolve-profile`. With --runtime both are read as that runtime reads them, and the
-numbers that runc answers with ENOSYS, above all that a profile names, count too; they are called `stub`. What is left
-out of one profile alone goes to standard error. Entries are always numbered by their index in OLD and NEW.
+With --engine, --caps, --kernel, --machine, --arch-map, --ignore or --keep-first both are an engine's own profiles, and
+are resolved for one container as by `scf resolve-profile`. With --runtime both are read as that runtime reads them, and
+the numbers that runc answers with ENOSYS, above all that a profile names, count too; they are called `stub`. What is
+left out of one profile alone goes to standard error. Entries are always numbered by their index in OLD and NEW.
 
 Exit status: 0 same, no more or no less; 1 differs, more, less, or a profile is refused; 2 usage error; 3 an input or
 the output failed; 4 undecided or unfinished.
@@ -28,8 +29,7 @@ Examples:
     scf compare-profiles old.json new.json
     scf compare-profiles --no-more old.json new.json
 """
-from . import (changes, client, engines, output, profile_inputs, profiles, program, refusals, runtimes,
-               tables, words)
+from . import changes, client, engines, output, profile_inputs, profiles, program, refusals, runtimes, tables, words
 
 
 def read_words():
@@ -39,7 +39,7 @@ def read_words():
     runtimes.add_options(parser)
     parser.add_argument("--keep-first", action="store_true", help="both are an engine's: of two answers to a syscall, "
                                                                   "both without conditions, keep the first")
-    parser.add("--limit", "--splits", "--table", "--json")
+    parser.add("--machine", "--limit", "--splits", "--table", "--json")
     parser.add_argument("old", metavar="OLD", help="a profile, or a config.json; - is standard input")
     parser.add_argument("new", metavar="NEW", help="another one, to compare with it")
     options = parser.parse_args()
@@ -54,9 +54,8 @@ def resolved(path, options):
     try:
         value = engines.read(profile_inputs.read_engines(path))
         if options.runtime is not None:
-            found = runtimes.applied(value, options.runtime, options.setting)
-            notes += [*engines.at_most(found.notes), *found.remarks]
-            return profile_inputs.ProfileInput(found.data, found.origins, found.stub), notes
+            given = runtimes.applied(value, options.runtime, options.setting)
+            return given.input, [*engines.at_most(given.notes), *given.remarks]
         profile, origins = engines.resolve(value, options.setting, notes.append, options.keep_first)
         return profile_inputs.ProfileInput(engines.to_bytes(profile), origins), notes
     except engines.Refused as why:
@@ -80,19 +79,19 @@ def refuse(why, options, table, source):
     fault, (side, data) = why.fault, why.subject
     if fault is None:
         raise program.ToolError(f"scf ended with status {why.status} on the {side} profile", program.IO_ERROR)
-    said = list(refusals.sentences(fault, data, tables.of_profile(data, table, options.native)))
+    sentences = list(refusals.sentences(fault, data, tables.of_profile(data, table, options.native)))
     if fault.source == "profile" and source.origins is not None:
-        said += profiles.original_entries(fault.numbers, source.origins)
+        sentences += profiles.original_entries(fault.numbers, source.origins)
     if fault.source in ("profile", "compile"):
-        said.append(f"it is the {side} profile")
+        sentences.append(f"it is the {side} profile")
     if fault.kind == "EngineForm":
-        said.append("--caps and the like resolve both profiles as an engine does")
+        sentences.append("--caps and the like resolve both profiles as an engine does")
     if options.json:
         output.put_json({"status": why.status, "relation": options.relation, "verdict": None,
-                         "fault": {**fault.as_json(said), "side": side}})
+                         "fault": {**fault.as_json(sentences), "side": side}})
         return why.status
     output.put_line(fault.line)
-    output.put_lines(output.notes(said))
+    output.put_lines(output.notes(sentences))
     return why.status
 
 
@@ -101,11 +100,11 @@ def main():
     old, new = both(options)
     table = tables.read(options.table)
     try:
-        found = changes.of_profiles(old, new, table, options.relation, options.native)
+        profile_changes = changes.of_profiles(old, new, table, options.relation, options.native)
     except client.Refusal as why:
         return refuse(why, options, table, old if why.subject[0] == changes.OLD else new)
     if options.json:
-        output.put_json(changes.as_json(found, table))
-        return found.status
-    output.put_lines(changes.lines(found))
-    return found.status
+        output.put_json(changes.as_json(profile_changes, table))
+        return profile_changes.status
+    output.put_lines(changes.lines(profile_changes))
+    return profile_changes.status

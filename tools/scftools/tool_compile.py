@@ -1,13 +1,16 @@
 """Prints a filter that answers as a profile does: runs `scf compile`, and says what was left out.
 
-    scf compile [--native] [--strict] [--json] [--table FILE] [--caps LIST] PROFILE >FILTER
+    scf compile [--native] [--strict] [--runtime runc|crun|docker|podman] [--json] [--table FILE]
+                [--caps LIST] [--machine amd64|arm64] PROFILE >FILTER
 
 PROFILE is a resolved OCI seccomp profile, or another one as `scf ask` takes it: a file, a pipe, or `-` for standard
 input. The filter answers the syscalls of each architecture that the profile names, as far as scf has a table of it,
 with --native x86-64's alone, and kills a process that makes any other. Standard output is the raw filter alone; what
 was left out of the profile, and what a refusal means, go to standard error. So does a line on members that nothing
 reads, such as "arg" in place of "args", without which an entry has no conditions; with --strict such a profile is
-refused. Without a PROFILE standard input is read: a profile, or a bundle, to whose filter or fault nothing is added.
+refused. With --runtime the filter answers as the profile that this runtime reads (RUNTIMES.md); with runc it fails
+syscalls whose numbers are above all that the profile names with ENOSYS, as runc's own filter does. Without a PROFILE
+standard input is read: a profile, or a bundle, to whose filter or fault nothing is added.
 
 The exit status is that of `scf compile`: 0 success, 1 the table or the profile is refused or the filter would be too
 long, 2 usage error, 3 an input or the output failed; 125 scf can't be run.
@@ -17,25 +20,39 @@ Examples:
     scf compile profile.json >filter.bpf
     scf compile --table x86_64.table profile.json >filter.bpf
 """
-from . import compilation, output, profile_inputs, program, tables, words
+from . import bundles, client, compare, explanation, output, profiles, program, refusals, runtimes, tables, words
+from .client import Fault
 
 
 def main():
     parser = words.Parser(__doc__, command="compile")
-    parser.add("--native", "--strict", "--json", "--table", "--caps", "--architectures", "profile")
+    parser.add("--native", "--strict", "--json", "--table", "--caps", "--machine")
+    parser.add("--architectures", "--reading", "profile")
+    runtimes.add_option(parser)
     options = parser.parse_args()
     parser.one_standard_input([options.profile, options.table])
     if not options.json:
         parser.keep_off_terminal()
-    profile = profile_inputs.read(options.profile, options.caps, is_strict=options.strict)
-    table = tables.read(options.table)
-    judged = tables.of_profile(profile.data, table, options.native)
+    profile = runtimes.read(options)
+    judged = profile.judged(tables.read(options.table), options.native)
+    done = client.run(["compile", *judged.words], bundles.of_compilation(profile.data, judged))
+    fault = None if done.status == program.SUCCESS else Fault.read(done.line)
+    if fault:
+        sentences = list(refusals.sentences(fault, profile.data, judged, profile.origins))
+        if options.json:
+            output.put_json({"status": done.status, "fault": fault.as_json(sentences)})
+        else:
+            program.say(fault.line, *sentences)
+        return done.status
+    report = compare.left_out(profile.data, judged)
     if options.json:
-        value = compilation.compilation_as_json(profile.data, judged, profile.origins)
-        output.put_json(value)
-        return value["status"]
-    status, out, remarks = compilation.compile_profile(profile.data, judged, profile.origins)
-    output.put(out)
+        output.put_json({"status": done.status, "instructions": len(done.out) // 8, "hex": done.out.hex(),
+                         "skipped": list(report.skipped), "other_architectures": list(report.architectures)})
+        return done.status
+    output.put(done.out)
     output.flush()
-    program.say(*remarks)
-    return status
+    facts = profiles.read(profile.data) if report.skipped else None
+    program.say(*explanation.of_skipped(report, judged, bool(facts and facts.allows_by_default)),
+                *(f"{line}: the filter kills a process that makes such a syscall"
+                  for line in explanation.of_architectures(report)))
+    return done.status

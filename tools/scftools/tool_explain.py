@@ -1,11 +1,11 @@
-"""Says what a line means that scf or one of its tools printed, and what to do about it.
+"""Says what a line of scf or an exit status means, and what to do about it.
 
     scf explain [--table FILE] [LINE ..]
 
-LINE is a fault, a verdict, an answer, the syscall that shows a difference, a finding of `scf lint`, or an exit status.
-What a log puts before it doesn't matter. Of a fault these are the sentences of docs/FAULTS.md; syscalls have the names
-of FILE. Without a LINE standard input is read: each line of it is printed, and what those mean that scf can explain
-follows in lines marked by `# `:
+LINE is a fault, a verdict, an answer, the syscall that shows a difference, a finding of `scf lint`, or an exit status;
+what a log puts before it doesn't matter. Faults are explained by the sentences of docs/FAULTS.md, and syscalls have the
+names of FILE. Without a LINE standard input is copied, and below each line that scf can explain stands what it means,
+marked by `# `:
 
     scf compare <bundle | scf explain
 
@@ -28,17 +28,18 @@ def main():
     options = parser.parse_args()
     table = tables.read(options.table)
     if options.line:
-        found = meanings.of(" ".join(options.line), table)
-        if not found:
-            raise program.ToolError("that is no line of scf, and no exit status: see scf help", program.NEGATIVE)
-        output.put_lines(found)
+        sentences = meanings.of(" ".join(options.line), table)
+        if not sentences:
+            raise program.ToolError("scf prints no such line, and has no such exit status: see scf help",
+                                    program.NEGATIVE)
+        output.put_lines(sentences)
         return program.SUCCESS
     if os.isatty(0):
         parser.error("the following arguments are required: LINE")
     is_explained = False
     for line in inputs.read_whole("-", "bundle").decode("utf-8", "surrogateescape").splitlines():
-        found = meanings.of(line, table)
-        is_explained = is_explained or bool(found)
+        sentences = meanings.of(line, table)
+        is_explained = is_explained or bool(sentences)
         output.put_line(line)
-        output.put_lines(output.notes(found))
+        output.put_lines(output.notes(sentences))
     return program.SUCCESS if is_explained else program.NEGATIVE

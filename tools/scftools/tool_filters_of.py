@@ -32,7 +32,7 @@ import tempfile
 from . import c_arrays, filter_loads, filters, inputs, output, processes, program, strace, tracing, words
 from .processes import Stack
 
-OPTIONS = ("-f", "-v", "-e", f"trace={filter_loads.CALLS}", "-e", "signal=none", "--quiet=attach,personality")
+OPTIONS = ("-f", "-v", "-e", f"trace={filter_loads.TRACED_CALLS}", "-e", "signal=none", "--quiet=attach,personality")
 
 
 def read_words():
@@ -62,7 +62,7 @@ def read_words():
 def the_one_stack(stacks, process):
     """The stack that all threads share."""
     if len(stacks) > 1:
-        shares = "".join(f"; {processes.threads_text(it.threads[process])}: {it.description}" for it in stacks)
+        shares = "".join(f"; {processes.threads_text(stack.threads[process])}: {stack.description}" for stack in stacks)
         raise program.ToolError(f"the threads of process {process} don't have the same filters{shares}; --thread takes "
                                 "those of one thread", program.IO_ERROR)
     if not stacks[0].filters:
@@ -75,8 +75,8 @@ def the_one_stack(stacks, process):
 def loaded_in(log, label, thread):
     """The stack that the processes of a log share, or that one thread has."""
     try:
-        stacks = filter_loads.stacks_in(strace.lines(log, filter_loads.LINE))
-    except c_arrays.Malformed as why:
+        stacks = filter_loads.stacks_in(strace.lines(log, filter_loads.LONGEST_LINE))
+    except c_arrays.NotAnArray as why:
         raise program.ToolError(f"the filters in {label} can't be read: {why}", program.IO_ERROR) from why
     if thread is not None:
         stacks = {stack: threads for stack, threads in stacks.items() if str(thread) in threads}
@@ -105,14 +105,14 @@ def write(named, folder):
     """
     written, at = [], os.open(folder, os.O_PATH | os.O_DIRECTORY | os.O_CLOEXEC)
     try:
-        for one in named:
-            with open(one.name, "xb", opener=lambda name, flags: os.open(name, flags, 0o666, dir_fd=at)) as file:
-                written.append(one.name)
-                file.write(one.data)
+        for stack in named:
+            with open(stack.name, "xb", opener=lambda name, flags: os.open(name, flags, 0o666, dir_fd=at)) as file:
+                written.append(stack.name)
+                file.write(stack.data)
     except OSError as error:
         for name in written:
             os.unlink(name, dir_fd=at)
-        raise OSError(error.errno, error.strerror, os.path.join(folder, one.name)) from error
+        raise OSError(error.errno, error.strerror, os.path.join(folder, stack.name)) from error
     finally:
         os.close(at)
     for name in written:

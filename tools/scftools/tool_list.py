@@ -25,7 +25,7 @@ Examples:
     scf list filter.bpf
     scf list --nr openat filter.bpf
 """
-from . import (client, decisions, explanation, filters, flow_graph, listing, output, program, tables, words)
+from . import client, decisions, explanation, filters, flow_graph, listing, output, program, tables, words
 
 
 def refused(options, status, line):
@@ -38,12 +38,12 @@ def refused(options, status, line):
     return status
 
 
-def as_json(one, lines, table, query, path):
+def as_json(bpf_filter, lines, table, query, path):
     """The listing as an object; given a syscall with its answer and the instructions that run on it."""
     instructions = [{"index": index, "text": line, "meaning": meaning}
-                    for index, (line, meaning) in enumerate(zip(lines, listing.meanings(one.data, table)))]
+                    for index, (line, meaning) in enumerate(zip(lines, listing.meanings(bpf_filter.data, table)))]
     of_call = {} if path is None else {"call": query.call.as_json(table),
-                                       "path": listing.Giver(one, True, path).as_json(),
+                                       "path": listing.Giver(bpf_filter, True, path).as_json(),
                                        "answer": path.decision.answer.as_json(explains=True)}
     return {"status": program.SUCCESS, "instructions": instructions, **of_call}
 
@@ -60,8 +60,8 @@ def main():
     if options.dot and options.json:
         parser.error("give either --dot or --json")
     table = tables.read(options.table)
-    call, one = decisions.one_query(options, table), filters.read(options.filter)
-    data = one.data
+    call, bpf_filter = decisions.one_query(options, table), filters.read(options.filter)
+    data = bpf_filter.data
     done = client.run(["dis"], data)
     if done.status != program.SUCCESS:
         return refused(options, done.status, done.line)
@@ -69,7 +69,7 @@ def main():
     if path is not None and path.decision.answer is None:
         return refused(options, path.status, path.decision.line)
     if options.json:
-        output.put_json(as_json(one, done.lines, table, call, path))
+        output.put_json(as_json(bpf_filter, done.lines, table, call, path))
         return path.status if path else done.status
     lines = list(listing.listing_lines(data, done.lines, table))
     if options.dot:

@@ -1,7 +1,7 @@
 """Says which syscalls of a program a profile wouldn't allow, from logs of its syscalls.
 
-    scf needs [--profile] [--runtime runc|crun] [--arch ARCH] [--limit N] [--splits N]
-              [--table FILE] [--caps LIST] [--json] LOG.. PROFILE
+    scf needs [--profile] [--kubernetes NAME] [--runtime runc|crun] [--arch ARCH]
+              [--limit N] [--splits N] [--table FILE] [--caps LIST] [--json] LOG.. PROFILE
 
 A LOG is what `scf record LOG -- PROGRAM ..` or `strace -f --quiet=none -o LOG PROGRAM ..` wrote, or what strace wrote
 to standard error, with any options; without --quiet=none or -n a log file doesn't say which processes run in 32-bit
@@ -14,7 +14,8 @@ mode. Or it is one of these:
     - a map of `bpftrace -e 'tracepoint:raw_syscalls:sys_enter /pid == cpid/ { @[args->id] = count(); }' -c PROGRAM`, or
       of tracepoint:syscalls:sys_enter_* by `probe`;
     - sysdig's lines;
-    - a profile that was made of a log, as oci-seccomp-bpf-hook's: what it allows.
+    - a profile that was made of a log, as oci-seccomp-bpf-hook's, or Kubernetes' recorded SeccompProfile: what it
+      allows.
 
 PROFILE is a resolved OCI seccomp profile, or another one as `scf ask` takes it. Each may be a file or a pipe, and one
 of them `-` for standard input. Each syscall that the profile doesn't allow has a line: its number and name, the
@@ -60,7 +61,10 @@ Examples:
     scf needs log profile.json
     scf needs --profile log profile.json >smaller.json
 """
-from . import architectures, client, output, profile_inputs, program, refusals, requirements, strace, words
+import json
+
+from . import (architectures, client, engines, kubernetes, output, profile_inputs, program, refusals, requirements,
+               strace, words)
 
 
 def read_words():
@@ -69,13 +73,15 @@ def read_words():
                         help="print the smallest profile that allows the syscalls of the log")
     parser.add("--arch", help=words.ARCH_HELP.format(" of a log that doesn't say it",
                                                      ", or the first that PROFILE lists"))
-    parser.add("--limit", "--splits", "--table", "--caps", "--json")
+    parser.add("--kubernetes", "--limit", "--splits", "--table", "--caps", "--json")
     parser.add_argument("--runtime", choices=tuple(requirements.OF_RUNTIMES),
                         help="add what this container runtime calls itself before it executes the program")
     parser.add_argument("logs", metavar="LOG", nargs="+",
                         help="the output of strace -f, perf trace, bpftrace, sysdig or auditd; - is standard input")
     parser.add("profile")
     options = parser.parse_args()
+    if options.kubernetes is not None and not options.least:
+        parser.error("--kubernetes goes with --profile")
     if options.least and options.json:
         parser.error("--profile prints JSON already: leave out --json")
     parser.one_standard_input([*options.logs, options.profile, options.table])
@@ -86,6 +92,8 @@ def tell(options, needs, judges):
     """Prints what was found, and gives the status."""
     if options.least:
         text, remarks = requirements.least_profile(needs, judges)
+        if options.kubernetes is not None:
+            text = kubernetes.printed(json.loads(text), options.kubernetes)
         output.put(text)
         output.flush()
         program.say(*remarks)
@@ -106,6 +114,8 @@ def main():
     judges = requirements.Judges(profile, named, options.table)
     try:
         return tell(options, requirements.read(options.logs, judges, options.runtime), judges)
+    except engines.Refused as why:
+        raise program.ToolError(str(why), program.NEGATIVE) from why
     except client.Refusal as why:
         output.put_lines(refusals.lines_of(why, judges.profile, judges.listed))
         return why.status

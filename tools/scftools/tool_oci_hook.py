@@ -42,13 +42,13 @@ import sys
 
 from . import hooks, output, processes, program, runtimes, tables, verdicts, verify, words
 
-POLICIES = {"same": verdicts.SAME, "no-more": verdicts.NO_MORE}
+RELATION_OF_POLICY = {"same": verdicts.SAME, "no-more": verdicts.NO_MORE}
 MOST_SECONDS = 60
 
 
 def read_words():
     parser = words.Parser(__doc__, processes.NEEDS)
-    parser.add_argument("--policy", choices=tuple(POLICIES), default="same",
+    parser.add_argument("--policy", choices=tuple(RELATION_OF_POLICY), default="same",
                         help="whether each syscall is answered as the profile says, or none more permissively "
                              "[default: same]")
     parser.add_argument("--kill", action="store_true",
@@ -80,7 +80,7 @@ def read_words():
 
 def judge(options, process):
     """Whether the container is confined as its configuration says."""
-    config = hooks.configured(process.container)
+    config = hooks.configuration_of(process.container)
     if config is None:
         is_confined = process.kernel.status_of(process.container.pid).get("Seccomp") == "2"
         return hooks.plain_finding(program.SUCCESS if options.allow_unconfined else program.NEGATIVE, "unstated",
@@ -88,18 +88,18 @@ def judge(options, process):
                                        "the container's first process has a filter that isn't its runtime's"
                                        if is_confined else "the container isn't confined"))
     asked = verify.request_of(config, options.runtime, options.keep_first, tables.read(options.table),
-                              POLICIES[options.policy], verdicts.NATIVE if options.native else None)
+                              RELATION_OF_POLICY[options.policy], verdicts.NATIVE_SCOPE if options.native else None)
     return hooks.finding_of(process.confined(options.wait, options.force), asked, process)
 
 
 def tell(is_json, container, result, killed):
     """Writes what was found."""
-    lines = [hooks.verdict_line(container, result), *(it.line for it in killed), *result.lines()]
+    lines = [hooks.verdict_line(container, result), *(kill.line for kill in killed), *result.lines()]
     if is_dry_run():
         lines.append(hooks.dry_run_line(result.status, "--kill" in sys.argv[1:]))
     if is_json:
         name = None if container is None else output.escaped(container.name)
-        output.put_json({**result.value(), "id": name, "killed": any(it.is_so for it in killed),
+        output.put_json({**result.value(), "id": name, "killed": any(kill.is_so for kill in killed),
                          **({"dry_run": True} if is_dry_run() else {})})
         output.flush()
     else:

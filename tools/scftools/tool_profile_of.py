@@ -1,7 +1,8 @@
 """Prints the profile of filters: what they answer to syscalls, as an OCI seccomp profile.
 
-    scf profile-of [--arch ARCH|--runtime RUNTIME] [--no-more|--no-less] [--json]
-                   [--limit N] [--splits N] [--table FILE] FILTER.. >PROFILE
+    scf profile-of [--arch ARCH|--runtime RUNTIME] [--no-more|--no-less]
+                   [--json|--kubernetes NAME] [--limit N] [--splits N] [--table FILE]
+                   FILTER.. >PROFILE
 
 The FILTERs form one stack, oldest first; `scf filters-of` takes them from a process. Before a profile is printed, scf
 proves that it answers every syscall of each architecture that it lists as the filters do; `scf compare FILTER..
@@ -43,7 +44,8 @@ Examples:
     scf profile-of filter.bpf
     scf profile-of --no-more old.bpf new.bpf >stricter.json
 """
-from . import architectures, engines, explanation, filters, output, profile_of, program, runtimes, tables, words
+from . import (architectures, engines, explanation, filters, kubernetes, output, profile_of, program, runtimes, tables,
+               words)
 from .client import Refusal
 
 
@@ -52,22 +54,27 @@ def read_words():
     parser.add_argument("--runtime", choices=tuple(runtimes.RUNTIMES),
                         help="print a profile for this container runtime; docker stands for runc, podman for crun")
     parser.relation("print the nearest profile that is nowhere {} than the filters")
-    parser.add("--arch", "--json", "--limit", "--splits", "--table", "filters")
+    parser.add("--arch", "--json", "--kubernetes", "--limit", "--splits", "--table", "filters")
     options = parser.parse_args()
     if options.runtime is not None and options.arch is not None:
         parser.error("give either --arch or --runtime, which confines this machine's syscalls whatever a profile lists")
+    if options.json and options.kubernetes is not None:
+        parser.error("give either --json or --kubernetes")
     parser.one_standard_input([*options.filters, options.table])
     return options
 
 
 def main():
     options = read_words()
-    one = architectures.judged_in(options.arch)
-    others = [it for it in architectures.JUDGED if it != one.oci] if options.arch is None else []
-    request = profile_of.Request(filters.read_stack(options.filters), tables.read(options.table, one), one,
+    architecture = architectures.judged_in(options.arch)
+    others = [name for name in architectures.JUDGED if name != architecture.oci] if options.arch is None else []
+    request = profile_of.ProfileRequest(filters.read_stack(options.filters), tables.read(options.table, architecture),
+                                        architecture,
                                  options.runtime, others)
     try:
         result = profile_of.of_request(request, options.relation)
+        text = result.text if options.kubernetes is None or result.status != program.SUCCESS else \
+            kubernetes.printed(result.profiles[0].profile, options.kubernetes)
     except Refusal as why:
         if options.json and why.fault is not None:
             output.put_json({"status": why.status, "fault": why.fault.as_json(explanation.of_fault(why.fault))})
@@ -79,7 +86,7 @@ def main():
     if options.json:
         output.put_json(result.as_json())
         return result.status
-    output.put(result.text)
+    output.put(text)
     output.flush()
     program.say(*result.remarks)
     return result.status

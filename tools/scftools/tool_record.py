@@ -37,8 +37,8 @@ def read_words():
                         help="write the smallest profile that allows what was recorded, with BASE's default and "
                              "architectures")
     parser.add_argument("file", metavar="FILE", help="the log, or with --profile the new profile")
-    own, traced = tracing.split(sys.argv[1:])
-    options = parser.parse_args(own)
+    own_words, traced = tracing.split(sys.argv[1:])
+    options = parser.parse_args(own_words)
     if not traced:
         parser.error("no program is given: it stands behind --")
     options.traced = traced

@@ -2,15 +2,16 @@
 
     scf resolve-profile [--engine docker|docker-20.10|podman]
                         [--runtime runc|crun|docker|podman] [--caps LIST|docker|podman|none]
-                        [--machine amd64|arm64] [--kernel X.Y] [--arch native|all]
-                        [--ignore MEMBER ..] [--keep-first] [--multiplexed] ENGINE-PROFILE
+                        [--machine amd64|arm64] [--kernel X.Y] [--arch-map native|all]
+                        [--ignore MEMBER ..] [--keep-first] [--multiplexed]
+                        [--kubernetes NAME] ENGINE-PROFILE
 
 An engine's profile has entries that hold only with some capabilities, on some architectures or from some kernel on
 (`includes`, `excludes`), an `archMap`, entries with a single `name`, and errnos by name. The engine resolves them for
 one container before it passes the profile to the runtime; this tool does so for this machine, or with --machine for
 another one. scf reads such a resolved profile; its masks may be wide, so it needn't be plain in the sense of scf's
-theorem. ENGINE-PROFILE is a file, a pipe, or `-` for standard input; a whole config.json is read too. What is left out,
-and why, goes to standard error.
+theorem. ENGINE-PROFILE is a file, a pipe, or `-` for standard input; a whole config.json is read too, and lists of LXC,
+snapd and firejail. What is left out, and why, goes to standard error.
 
 The rules are those of moby (profiles/seccomp) and of containers-common (pkg/seccomp), which agree with these
 exceptions: only moby knows `minKernel`, and only containers-common `errno` and `defaultErrno`, which take precedence
@@ -18,15 +19,17 @@ over the numbers; moby 20.10 doesn't know `defaultErrnoRet`, `flags` and the lis
 without it, all members that one of them knows are read. A member of an entry that no engine knows may be a condition,
 and is refused without --ignore.
 
-With --runtime it is the profile as that runtime applies it: without the entries whose answer is the default's and those
-whose syscalls an entry without conditions covers, with an entry for each condition if two are on one argument, and
-without the names that this machine's libseccomp doesn't know. `docker` is the engine with runc, `podman` with crun;
-`runc` and `crun` alone take a resolved profile, or an engine's with --engine. runc also answers the numbers above all
-that the profile names with ENOSYS; a profile can't express that, so a note says it.
+With --runtime it is the profile as that runtime is given it, without the names that this machine's libseccomp doesn't
+know. `docker` is the engine with runc, `podman` with crun; `runc` and `crun` alone take a resolved profile, or an
+engine's with --engine, such as podman's where podman runs its containers by runc. Entries that a runtime reads
+otherwise than by their words (RUNTIMES.md) are printed as they are, and a note says how it reads them. With --runtime
+runc or crun `scf compare`, `ask` and `compile` read them so, too; tools without --runtime, such as `scf lint`, go by
+the words, and may refuse them as Conflict or RepeatedIndex. runc also answers the numbers above all that the profile
+names with ENOSYS; a profile can't express that, so a note says it.
 
-Some profiles give a syscall two answers, both without conditions. scf refuses this as a conflict; libseccomp keeps the
-first. --keep-first drops such a name from the later entry, unless an entry has conditions. --runtime includes this, and
-also ignores entries with the default's answer.
+Some profiles give a syscall two answers, both without conditions. Read by its words such a profile is refused as a
+conflict; runc and crun leave out an entry whose answer is the default's, and keep the first of the others. --keep-first
+drops the name from all other entries without conditions, so that tools without --runtime take the profile.
 
 On i386, 32 syscalls such as socket and shmat are also made by socketcall and ipc. libseccomp gives each rule of one of
 them a second rule: socketcall or ipc with its number as argument 0, in place of a condition on argument 0.
@@ -42,15 +45,14 @@ Examples:
     scf resolve-profile --engine docker engine.json >profile.json
     scf resolve-profile --runtime podman --caps podman,NET_RAW engine.json >profile.json
 """
-from . import engines, multiplexed, output, profile_inputs, program, runtimes, words
+from . import engines, kubernetes, multiplexed, output, profile_inputs, program, runtimes, words
+from .values import replace
 
 
 def read_words():
     parser = words.Parser(__doc__)
     runtimes.add_options(parser)
-    parser.add_argument("--machine", choices=tuple(engines.MACHINES),
-                        help="the machine that the container runs on [default: this one]")
-    parser.add("--keep-first")
+    parser.add("--machine", "--keep-first", "--kubernetes")
     parser.add_argument("--multiplexed", action="store_true",
                         help="add the rules of socketcall and ipc that libseccomp makes for i386")
     parser.add_argument("profile", metavar="ENGINE-PROFILE", help="a file or a pipe; - is standard input")
@@ -62,16 +64,19 @@ def read_words():
 def main():
     options = read_words()
     try:
-        value = engines.read(profile_inputs.read_engines(options.profile))
+        data = profile_inputs.read_engines(options.profile)
+        value = engines.read(data)
+        setting = replace(options.setting, keeps_comments=getattr(data, "has_comments", False))
         if options.runtime is not None:
-            found = runtimes.applied(value, options.runtime, options.setting)
+            found = runtimes.applied(value, options.runtime, setting, options.keep_first)
             program.say(*found.describe())
             profile = found.profile
         else:
-            profile, _ = engines.resolve(value, options.setting, program.say, options.keep_first)
+            profile, _ = engines.resolve(value, setting, program.say, options.keep_first)
         if options.multiplexed:
             profile, _ = multiplexed.with_rules(profile, program.say)
-        text = engines.printed(profile)
+        text = engines.printed(profile) if options.kubernetes is None else \
+            kubernetes.printed(profile, options.kubernetes)
     except engines.Refused as why:
         raise program.ToolError(str(why), program.NEGATIVE) from why
     output.put(text)

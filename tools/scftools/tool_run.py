@@ -25,5 +25,5 @@ def main():
     options = parser.parse_args()
     parser.one_standard_input([options.filter, options.table, options.calls_from])
     table = tables.read(options.table)
-    one = filters.read(options.filter)
-    return decisions.print_replies(options, table, lambda call: decisions.of_run(one, call, table, options.path))
+    filter_ = filters.read(options.filter)
+    return decisions.print_replies(options, table, lambda call: decisions.of_run(filter_, call, table, options.path))

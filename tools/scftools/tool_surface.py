@@ -19,7 +19,8 @@ With --conditions a syscall with several answers has them all instead of example
     socket denied (EINVAL) where domain == AF_NETLINK and protocol == NETLINK_AUDIT, else allowed
 
 Arguments have the names of their manual page, or are a0 to a5; they are compared as whole registers, those of i386, x32
-and arm as lower halves. Such a line is printed only if comparisons of scf prove it. If no profile gives an answer, as
+and arm as lower halves. `prot & ~PROT_READ == 0` allows no bit but PROT_READ, and `sig in {SIGINT, SIGTERM, ..}` is
+any of these values. Such a line is printed only if comparisons of scf prove it. If no profile gives an answer, as
 TRAP with data, the dispositions alone are told; where no profile says the conditions, there are examples. Filters that
 take too many steps have examples alone, and standard error says that their conditions are `unfinished`; --limit N gives
 them N steps, if that is more than they have. With --examples each syscall has a call for each of its regions, with its
@@ -78,18 +79,20 @@ def looked_at(options):
 def main():
     options = read_words()
     stack = filters.read_stack(options.filters)
-    one = architectures.judged_in(options.arch)
+    architecture = architectures.judged_in(options.arch)
     beside = filters.read_stack(options.beside)
-    settings = stack_surfaces.Settings(tables.read(options.table, one), beside, one, options.conditions,
+    settings = stack_surfaces.Settings(tables.read(options.table, architecture), beside, architecture,
+                                       options.conditions,
                                        options.examples)
-    found = None if options.pid is None else looked_at(options)
-    blocks = [stack_surfaces.of_stack(stack, settings)] if found is None else stack_surfaces.of_process(found, settings)
+    inspection = None if options.pid is None else looked_at(options)
+    blocks = [stack_surfaces.of_stack(stack, settings)] if inspection is None else \
+        stack_surfaces.of_process(inspection, settings)
     if options.html is not None:
         from . import pages  # pylint: disable=import-outside-toplevel
 
         output.replace_file(options.html, pages.of_surfaces(blocks, settings.table))
     if options.json:
-        output.put_json(stack_surfaces.as_json(blocks, found))
+        output.put_json(stack_surfaces.as_json(blocks, inspection))
     else:
-        output.put_lines(stack_surfaces.lines(blocks, found, surface_output.width_of_terminal()))
+        output.put_lines(stack_surfaces.lines(blocks, inspection, surface_output.width_of_terminal()))
     return client.worst(block.status for block in blocks)

@@ -54,7 +54,7 @@ def read_words():
     if options.unit is not None and (options.errno, options.architectures, options.log) != (None, None, None):
         parser.error("--errno, --architectures and --log go with --set")
     if options.set is not None and options.arch is not None:
-        parser.error("--arch goes with a unit: what --set says is said of all architectures")
+        parser.error("--arch needs a unit: --set states the same for all architectures")
     if options.unit is not None and (not options.unit or set(options.unit) & set("*?[\0")):
         parser.error(f"'{options.unit}' isn't the name of a unit")
     return options
@@ -62,14 +62,14 @@ def read_words():
 
 def group_of(settings, wanted, say):
     """The architectures for which a profile is printed, among them this one; says which others there are."""
-    group = next((it for it in unit_profiles.groups_of(settings) if wanted.oci in it), None)
+    group = next((group for group in unit_profiles.groups_of(settings) if wanted.oci in group), None)
     if group is None:
         raise program.ToolError(f"the unit permits no {wanted.name} syscalls", program.NEGATIVE)
-    alike, others = (architectures.names_of([it for it in units.LOCAL if it in settings.architectures
-                                             and (it in group) == is_alike]) for is_alike in (True, False))
+    alike, others = (architectures.names_of([oci for oci in units.LOCAL if oci in settings.architectures
+                                             and (oci in group) == is_alike]) for is_alike in (True, False))
     if others:
-        say(f"the profile is for {join_names(alike)} alone: something else is denied on {join_names(others)}, "
-            f"which --arch {others[0]} prints")
+        say(f"the profile is only for {join_names(alike)}: the unit denies other syscalls on {join_names(others)} "
+            f"(--arch {others[0]})")
     return group
 
 
@@ -78,7 +78,7 @@ def main():
     wanted = architectures.judged_in(options.arch or architectures.NATIVE)
     remarks = []
     say = remarks.append if options.json else program.say
-    reader = units.Reader(units.all_groups, say)
+    reader = units.ListReader(units.all_groups, say)
     if options.set is not None:
         try:
             reader.is_call = libseccomp.Library().knows
@@ -88,9 +88,9 @@ def main():
         if options.unit is not None:
             settings = units.settings_in(units.shown_by_systemctl([options.unit])[0], options.unit, reader)
         else:
-            settings = units.Settings(reader.assigned(options.set), units.refusal_of(options.errno or ""),
-                                      units.architectures_of(options.architectures or ""),
-                                      reader.assigned(options.log or (), None))
+            settings = units.UnitSettings(reader.assigned(options.set), units.refusal_of(options.errno or ""),
+                                          units.architectures_of(options.architectures or ""),
+                                          reader.assigned(options.log or (), None))
         reader.tell_unknown()
         text = unit_profiles.profile_of(settings, group_of(settings, wanted, say))
     except units.SettingError as why:

@@ -2,7 +2,7 @@
 
     scf verify-process [--native|--calls] [--no-more|--no-less] [--all] [--force]
                        [--runtime runc|crun|docker|podman] [--engine docker|docker-20.10|podman]
-                       [--caps LIST] [--kernel X.Y] [--arch native|all] [--ignore MEMBER ..]
+                       [--caps LIST] [--kernel X.Y] [--arch-map native|all] [--ignore MEMBER ..]
                        [--limit N] [--splits N] [--strict] [--table FILE] [--verbose] [--json]
                        PID PROFILE
     scf verify-process [--native|--calls] [--no-more|--no-less] [--all] [--force] [--limit N]
@@ -51,8 +51,7 @@ Examples:
 import os
 import sys
 
-from . import (containers, engines, inputs, output, processes, profile_inputs, program, runtimes, tables, verify,
-               words)
+from . import containers, engines, inputs, output, processes, profile_inputs, program, runtimes, tables, verify, words
 from .values import replace
 
 
@@ -65,7 +64,7 @@ def read_words():
     runtimes.add_options(parser, without_caps="the bounding set of PID")
     parser.add("--limit", "--splits", "--strict", "--table", "--verbose", "--json", "pid")
     parser.add_argument("--beside", metavar="FOLDER", help="compare with the filters that filters-of wrote")
-    if not any(it.partition("=")[0] == "--beside" for it in sys.argv):
+    if not any(word.partition("=")[0] == "--beside" for word in sys.argv):
         parser.add_argument("profile", metavar="PROFILE",
                             help="a resolved profile, or a config.json; with --runtime also an engine's; - is standard "
                                  "input")
@@ -75,7 +74,7 @@ def read_words():
         if options.runtime is not None or options.verbose or options.strict:
             parser.error("--runtime, --verbose and --strict speak of a profile, and --beside has none")
     if options.runtime is None and runtimes.is_engines(options):
-        parser.error("--engine, --caps, --kernel, --arch and --ignore need --runtime")
+        parser.error("--engine, --caps, --kernel, --arch-map and --ignore need --runtime")
     options.setting = runtimes.setting_of_words(options, parser)
     options.pid = processes.number_in(options.pid, parser)
     parser.one_standard_input([options.profile, options.table])
@@ -114,7 +113,7 @@ def check_owner(kernel, pid, value):
 
 
 def read_profile(name, is_engines):
-    """What is in the file of a profile or a configuration."""
+    """The bytes of a profile's or a configuration's file."""
     if not name:
         raise program.ToolError("the name of PROFILE is empty: the command that should print it printed nothing")
     if os.path.exists(os.path.join(name, verify.CONFIG)):
@@ -142,16 +141,15 @@ def request_of(options, kernel):
         profile = profile_inputs.profile_in(data, name, is_runtimes=True, is_strict=options.strict)
         request = verify.Request(profile.data, *settings)
         return replace(request, configured=True) if configured and request.is_accepted else request
-    applied = runtimes.applied_in(data, name, runtime, setting_of(options, kernel))
-    profile_inputs.tell_unread(profile_inputs.plain(data, name), name, options.strict)
+    applied = runtimes.applied_in(data, name, runtime, setting_of(options, kernel), options.strict)
     return verify.Request(applied.data, *settings, applied, configured=configured)
 
 
 def other_runtime(options, kernel, request, worst):
     """The line, where filters aren't as configured, that another runtime than was said reads the configuration."""
     if request.configured and worst.report is not None and worst.status == program.NEGATIVE:
-        known = [*verify.identifiers_of(kernel, options.pid), *verify.identifiers_in(options.profile)]
-        yield from filter(None, [verify.other_runtime(known, options.runtime)])
+        identifiers = [*verify.identifiers_of(kernel, options.pid), *verify.identifiers_in(options.profile)]
+        yield from filter(None, [verify.other_runtime(identifiers, options.runtime)])
 
 
 def main():
@@ -166,24 +164,24 @@ def main():
         container = processes.container_of(kernel, process)
         return container, processes.look_at_container(kernel, container, is_forced=options.force)
 
-    container, found = processes.read_or_end(read, has_force=True, is_json=options.json)
-    blocks = verify.blocks(found, request)
+    container, inspection = processes.read_or_end(read, has_force=True, is_json=options.json)
+    blocks = verify.blocks(inspection, request)
     others = None if container is None else containers.others_note(kernel, container)
     is_unknown = others is not None and blocks[0].status == program.SUCCESS
     status = program.UNKNOWN if is_unknown else blocks[0].status
     remarks = [*request.remarks, *other_runtime(options, kernel, request, blocks[0])]
     if options.json:
         group = None if container is None else container.description
-        value = {**verify.as_json(blocks, found, request, group), "status": status, "not_checked": others}
+        value = {**verify.as_json(blocks, inspection, request, group), "status": status, "not_checked": others}
         if options.runtime is not None or remarks:
             value["remarks"] = remarks
         output.put_json({**value, "verdict": None} if is_unknown else value)
         return status
-    output.put_lines(verify.lines(blocks, found, request, options.verbose))
+    output.put_lines(verify.lines(blocks, inspection, request, options.verbose))
     output.put_lines(output.notes(remarks))
     if others is not None:
         output.put_line(f"# {others}")
     if container is not None:
         output.put_line(f"# the container is {container.description}; its processes that were checked: "
-                        f"{len(found.names)}")
+                        f"{len(inspection.names)}")
     return status

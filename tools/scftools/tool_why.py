@@ -1,18 +1,21 @@
 """Says why a syscall was denied, delegated or logged: by which entry of a profile, and which tests of a filter.
 
-    scf why [--native] [--limit N] [--splits N] [--table FILE] [--caps LIST] [--json] LINE|-
-            [PROFILE|FILTER ..]
+    scf why [--native] [--limit N] [--splits N] [--table FILE] [--caps LIST] [--all] [--json]
+            LINE|- [PROFILE|FILTER ..]
     scf why .. --pid PID [PROFILE|FILTER ..]
     scf why .. --core FILE [PROFILE|FILTER ..]
 
 LINE is what was logged when it happened, and `-` is standard input, with any number of lines:
 
     - an audit record of seccomp, in the kernel's log (dmesg), in journald's, in auditd's or as ausearch prints it, and
-      behind nothing but what these put before it, since other messages have words that processes choose;
-    - the end of what strace wrote: the syscall that failed, or that and SIGSYS.
+      behind nothing but what these put before it, since other messages have words that processes choose; or an entry
+      that `journalctl -o json` prints, of the kernel or of audit;
+    - what strace wrote: a whole log, or the end of one, with the syscalls that failed, and SIGSYS;
+    - what `coredumpctl info` or `coredumpctl --json=short` prints, which has no syscall: each core that has one is
+      named.
 
---pid takes the records of a process from this machine's kernel log; while it runs, and no file is given, also its
-filters. --core takes a core that SIGSYS left, which has the arguments; `-` is standard input.
+--pid takes the records of a process from this machine's kernel log and auditd's; while it runs, and no file is given,
+also its filters. --core takes a core that SIGSYS left, which has the arguments; `-` is standard input.
 
 PROFILE is a resolved OCI seccomp profile, or another one as `scf ask` takes it, whose entries have with --caps the
 numbers that they have in the resolved one; the FILTERs are the raw filters of the process, oldest first, as `scf
@@ -24,6 +27,15 @@ it isn't under this profile. At the end stand changes of the profile that allow 
 known, but for addresses, and with all that the entry denies. scf has proved of each that no other answer to an x86-64
 syscall changes. With --native the profile is judged for x86-64 alone, otherwise for each architecture that it names.
 
+Of what strace wrote each SIGSYS is judged, and each syscall that failed as PROFILE, or else the FILTERs, answer to it.
+The failed ones are counted by syscall and entry, and the most telling stand first: the last one of a process that ended
+with a failure, then those that were tried least often, since libraries try some again and again and ignore the failure.
+Five are shown, and the others counted; --all shows every one. The changes of the profile are then those that allow what
+all of a count have in common. If the log shows a filter being loaded (seccomp, prctl), only
+processes and threads that loaded it, or were made by one that did, are judged, and from then on. What failed with EPERM
+though PROFILE allows it is named at the end: the kernel itself answers so if a process lacks a capability. If none is
+answered so, the last syscall is judged, if it failed.
+
 A record doesn't have the arguments. If the profile or the filters test them, all of their values are judged, and a call
 that is answered as the record says is shown as an example. Nor does it have the data of an action: an errno
 isn't known from it. The kernel logs KILL_THREAD, KILL_PROCESS, LOG and actions without a name; another action only if
@@ -32,6 +44,7 @@ the filter was loaded with SECCOMP_FILTER_FLAG_LOG (`flags` of a profile); and e
 
     scf why "$(dmesg | grep type=1326 | tail -n 1)" profile.json
     ulimit -c unlimited; ./program; scf why --core core profile.json
+    strace -f -o log ./program; scf why --all - profile.json <log
 
 Exit status: 0 each syscall is answered so; 1 one isn't, or an input is refused; 2 usage error; 3 an input or the output
 failed, or a record has a value that no kernel writes; 4 it isn't known, or there is no such syscall; 125 scf can't be
@@ -45,8 +58,8 @@ Examples:
 import os
 import re
 
-from . import (audit_records, causes, events, filters, inputs, output, profile_inputs, program, strace, tables, trials,
-               words)
+from . import (audit_records, cause_report, causes, events, filters, inputs, output, profile_inputs, program, strace,
+               tables, trials, words)
 
 # By how many seconds the clock may differ between a record and the start of a process.
 TOLERANCE = 2.0
@@ -55,8 +68,10 @@ TOLERANCE = 2.0
 def read_words():
     parser = words.Parser(__doc__)
     group = parser.add_mutually_exclusive_group()
-    group.add_argument("--pid", metavar="PID", help="take the records of this process from the kernel's log")
+    group.add_argument("--pid", metavar="PID", help="take this process's records from the kernel's log and auditd's")
     group.add_argument("--core", metavar="FILE", help="take the syscall from a core; - is standard input")
+    parser.add_argument("--all", action="store_true",
+                        help="show every denied syscall of a strace log, not the most telling ones alone")
     parser.add("--limit", "--splits", "--native", "--table", "--caps", "--json")
     parser.add_argument("words", metavar="LINE|PROFILE|FILTER", nargs="*",
                         help="without --pid and --core first what was logged, or - for standard input; then a profile "
@@ -91,11 +106,6 @@ def read_files(names, trial, caps, is_native):
     return causes.Inputs(trial, profile, found, is_native)
 
 
-def is_of(line, process):
-    found = audit_records.WHO.search(line)
-    return found is not None and found[1] == str(process)
-
-
 def started(process):
     """When a process began, in seconds since 1970; None if it has ended."""
     from . import ptrace  # pylint: disable=import-outside-toplevel
@@ -107,20 +117,23 @@ def started(process):
 def lacking(process):
     """The lines for a process without a record."""
     logged = audit_records.actions_logged()
-    return [f"the kernel's log has no record of process {process}",
+    return [f"neither the kernel's log nor auditd's has a record of process {process}",
             "the kernel logs ERRNO, TRAP, TRACE and USER_NOTIF only if the filter was loaded with "
             "SECCOMP_FILTER_FLAG_LOG",
             "the kernel doesn't say which actions it logs" if logged is None else
             f"of all actions this kernel logs {logged or 'none'} ({audit_records.ACTIONS_LOGGED})",
-            "auditd takes the records where it runs: ausearch -m SECCOMP -p PID --raw prints them"]
+            f"auditd takes the records where it runs: ausearch -m SECCOMP -p {process} --raw prints older ones, too"]
 
 
-def filters_of(process, found):
-    """The filters of a process, if it runs, and is the one of the records: it didn't begin after them."""
-    begun = started(process)
-    times = [event.time for event, _ in found.events.values() if event.time is not None]
-    if begun is None or not times or min(times) < begun - TOLERANCE:
-        return []
+def records():
+    """The lines of the kernel's log, and of auditd's, which takes the kernel's records where it runs."""
+    yield from audit_records.kernel_lines()
+    if os.path.exists(audit_records.AUDITD_LOG):
+        yield from strace.lines(audit_records.AUDITD_LOG)
+
+
+def filters_of(process):
+    """The filters of a process that runs."""
     from . import processes  # pylint: disable=import-outside-toplevel
 
     stacks = processes.read_or_end(lambda: processes.look_at_process(processes.Kernel(), process)).stacks
@@ -131,10 +144,13 @@ def filters_of(process, found):
 
 
 def of_process(options, files, table):
-    """The records of a process, and files; without any the filters that it has, if it runs."""
-    found = events.read((line for line in audit_records.kernel_lines() if is_of(line, options.pid)), table)
+    """The records of a process, those of an earlier one with its number left out, and files; without any the filters
+    that it has, if it runs."""
+    begun = started(options.pid)
+    since = None if begun is None else begun - TOLERANCE
+    found = events.read((line for line in records() if audit_records.is_of(line, options.pid, since)), table)
     if not options.words:
-        files = causes.Inputs(files.trial, None, filters_of(options.pid, found))
+        files = causes.Inputs(files.trial, None, filters_of(options.pid) if begun is not None and found.events else [])
     return found, files
 
 
@@ -157,11 +173,11 @@ def main():
     table = tables.read(options.table)
     files = read_files(options.words, trials.Trial(tables.native_alone(table.data)), options.caps, options.native)
     found, files = read(options, files, table)
-    report = causes.Report(found, [causes.of(event, count, files) for event, count in found.events.values()])
+    report = cause_report.of(found, files, options.all)
     if options.pid is not None:
         report.lacking = lacking(options.pid)
     if options.json:
-        output.put_json(causes.report_as_json(report))
+        output.put_json(cause_report.as_json(report))
     else:
-        output.put_lines(causes.report_lines(report))
+        output.put_lines(cause_report.lines(report))
     return report.status

@@ -12,14 +12,17 @@ import json
 import re
 from collections.abc import Callable, Iterator, Sequence
 
-from . import architectures, audit_records, output, program, strace
+from . import architectures, audit_records, output, profile_inputs, program, strace
 from .architectures import JUDGED, NATIVE
 from .calls import SKIPPED
+from .engines import Refused
 from .profiles import ALLOWING
-from .strace import KEPT, LEFT
+from .strace import LEFT, MOST_REMEMBERED
 from .tables import Table
 from .values import Pattern
 
+# How an object of Kubernetes begins as YAML.
+YAML = ("apiVersion:", "kind:")
 NAME, HEXADECIMAL = "[a-z_][a-z0-9_]{0,63}", Pattern("0x[0-9a-f]{1,16}")
 # perf trace: `0.017 ( 0.002 ms): ls/1234 brk() = 0x1`; one that was interrupted ends with `...`, and goes on behind
 # `... [continued]: `.
@@ -93,7 +96,7 @@ class Trace(strace.Log):
         else:
             nr -= JUDGED[of].first
             names = self.tables[of].names_of(nr)
-            known = {at: (it & strace.GREATEST[of],) for at, it in arguments.items()}
+            known = {at: (it & strace.GREATEST_ARGUMENTS[of],) for at, it in arguments.items()}
             self.keep(number, of, names[0] if names else f"syscall_{nr:#x}", known, count)
 
     def _is_record(self, number: int, line: str) -> bool:
@@ -173,8 +176,11 @@ class Trace(strace.Log):
     def add_profile(self, text: str) -> None:
         """Takes a profile that was made of a log: each syscall that it allows, with arguments that aren't known."""
         try:
-            entries = json.loads(text)["syscalls"]
+            spec = profile_inputs.spec_of(text.encode("utf-8", "surrogateescape"))
+            entries = json.loads(text if spec is None else spec)["syscalls"]
             names = [name for entry in entries if entry["action"] in ALLOWING for name in entry["names"]]
+        except Refused as why:
+            raise program.ToolError(f"the log '{output.escaped(self._name)}': {why}", program.IO_ERROR) from why
         except (ValueError, LookupError, TypeError, RecursionError) as error:
             raise program.ToolError(f"the log '{output.escaped(self._name)}' is a profile that can't be read",
                                     program.IO_ERROR) from error
@@ -184,18 +190,18 @@ class Trace(strace.Log):
 
 
 def _read(name: str, lines: Iterator[str], found: Trace) -> None:
-    """Takes the lines of a log, or the text of a profile, which is an object."""
+    """Takes the lines of a log, or the text of a profile, which is an object or Kubernetes' YAML."""
     found.begin(name)
     numbered = enumerate(lines, 1)
     first = next(((number, line) for number, line in numbered if line.strip()), (1, ""))
-    if first[1].lstrip()[:1] == "{":
+    if first[1].lstrip()[:1] == "{" or first[1].startswith(YAML) or first[1].rstrip() == "---":
         found.add_profile("\n".join([first[1], *(line for _, line in numbered)]))
         return
     for number, line in itertools.chain([first], numbered):
         found.add(number, line)
         if found.left.count > LEFT:
-            raise program.ToolError(f"the log has more than {KEPT + LEFT} syscalls with other names or arguments: log "
-                                    "fewer syscalls by strace -e trace=..")
+            raise program.ToolError(f"the log has more than {MOST_REMEMBERED + LEFT} syscalls with other names or "
+                                    "arguments: log fewer syscalls by strace -e trace=..")
     found.end()
 
 

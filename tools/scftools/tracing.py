@@ -24,7 +24,7 @@ def split(words: Sequence[str]) -> tuple[list[str], list[str]]:
 def _path_of(name: str) -> str:
     """The file of a program, as execvp(3) finds it."""
     shown, status = output.escaped(name), NOT_THERE
-    for path in [name] if "/" in name else [os.path.join(it, name) for it in os.get_exec_path()]:
+    for path in [name] if "/" in name else [os.path.join(folder, name) for folder in os.get_exec_path()]:
         if os.path.isfile(path):
             if os.access(path, os.X_OK):
                 return path

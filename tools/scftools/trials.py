@@ -17,9 +17,9 @@ class Trial:
 
     tables: Tables
 
-    def profile_of(self, default: Answer, found: Iterable[Entry]) -> bytes:
+    def profile_of(self, default: Answer, rules: Iterable[Entry]) -> bytes:
         """The text of a profile for the architectures, without entries that have no names."""
-        return entries.profile_of(default, found, self.tables.of)
+        return entries.profile_of(default, rules, self.tables.of)
 
     def filter_of(self, profile: bytes) -> bytes:
         """The filter of a profile for the architectures."""

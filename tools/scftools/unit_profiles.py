@@ -11,55 +11,57 @@ from . import multiplexed, unit_restrictions
 from .answers import Answer
 from .architectures import I386
 from .unit_restrictions import Alternative, Restriction
-from .units import Settings
+from .units import UnitSettings
 
 
-def groups_of(settings: Settings) -> list[list[str]]:
+def groups_of(settings: UnitSettings) -> list[list[str]]:
     """The architectures that a unit permits, together with those on which the same is denied; the native one first."""
-    found: list[tuple[unit_restrictions.Rules, list[str]]] = []
-    for one in settings.architectures:
-        rules = unit_restrictions.rules_of(settings.restrictions, one)
-        group = next((group for its, group in found if its == rules), None)
+    groups: list[tuple[unit_restrictions.Rules, list[str]]] = []
+    for oci in settings.architectures:
+        rules = unit_restrictions.rules_of(settings.restrictions, oci)
+        group = next((group for its, group in groups if its == rules), None)
         if group is None:
-            found.append((rules, [one]))
+            groups.append((rules, [oci]))
         else:
-            group.append(one)
-    return [group for _, group in found]
+            group.append(oci)
+    return [group for _, group in groups]
 
 
-def _of_call(settings: Settings, name: str, restriction: Restriction | None) -> Iterator[tuple[Answer, Alternative]]:
-    """What a syscall is answered, and on which conditions. What the lists deny they answer."""
+def _of_call(settings: UnitSettings, name: str,
+             restriction: Restriction | None) -> Iterator[tuple[Answer, Alternative]]:
+    """The answers to a syscall with their conditions. The lists answer what they deny."""
     answer = settings.answer_of(name)
     if restriction is None or answer.denies:
         yield answer, ()
         return
-    yield from ((restriction.answer, it) for it in restriction.denied)
-    yield from ((answer, it) for it in restriction.allowed)
+    yield from ((restriction.answer, conditions) for conditions in restriction.denied)
+    yield from ((answer, conditions) for conditions in restriction.allowed)
 
 
-def _of_multiplexer(settings: Settings, name: str) -> Iterator[tuple[Answer, Alternative]]:
-    """What i386's socketcall or ipc is answered. Where a list doesn't name it, libseccomp adds the rules of what it is
+def _of_multiplexer(settings: UnitSettings, name: str) -> Iterator[tuple[Answer, Alternative]]:
+    """The answers to i386's socketcall or ipc. Where a list doesn't name it, libseccomp adds the rules of what it is
     called for: each names that by argument 0."""
     answer = settings.answer_of(name)
-    own = {number: settings.answer_of(one, name) for one, number in multiplexed.NUMBERS[name].items()}
-    others = {number: one for number, one in own.items() if one != answer}
-    yield from ((one, it) for number, one in others.items() for it in unit_restrictions.among(0, [number]))
-    yield from ((answer, it) for it in (unit_restrictions.outside(0, list(others)) if others else [()]))
+    answers = {number: settings.answer_of(call, name) for call, number in multiplexed.CALL_NUMBERS[name].items()}
+    others = [number for number in answers if answers[number] != answer]
+    yield from ((answers[number], conditions) for number in others
+                for conditions in unit_restrictions.among(0, [number]))
+    yield from ((answer, conditions) for conditions in (unit_restrictions.outside(0, others) if others else [()]))
 
 
-def profile_of(settings: Settings, architectures: Sequence[str]) -> str:
+def profile_of(settings: UnitSettings, architectures: Sequence[str]) -> str:
     """The text of the profile that the settings describe, for architectures of one group."""
     default, rules = settings.answer_of(None), unit_restrictions.rules_of(settings.restrictions, architectures[0])
-    multiplexers = [*multiplexed.NUMBERS] if I386 in architectures else []
+    multiplexers = [*multiplexed.CALL_NUMBERS] if I386 in architectures else []
     named: dict[tuple[Answer, Alternative], list[str]] = {}
     for name in dict.fromkeys([*settings.names(), *rules, *multiplexers]):
-        found = _of_multiplexer(settings, name) if name in multiplexers else _of_call(settings, name, rules.get(name))
-        for answer, conditions in found:
+        answers = _of_multiplexer(settings, name) if name in multiplexers else _of_call(settings, name, rules.get(name))
+        for answer, conditions in answers:
             if answer != default:
                 named.setdefault((answer, conditions), []).append(name)
     entries = []
     for (answer, conditions), names in named.items():
-        args = {"args": [it.as_json() for it in conditions]} if conditions else {}
+        args = {"args": [condition.as_json() for condition in conditions]} if conditions else {}
         entries.append({"names": names, **answer.members(), **args})
     top = {**default.default(), "architectures": list(architectures), "syscalls": entries}
     return json.dumps(top, indent=4) + "\n"

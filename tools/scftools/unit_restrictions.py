@@ -20,7 +20,7 @@ from collections.abc import Callable, Iterable, Sequence
 from . import constants
 from .answers import ENOSYS, Answer
 from .architectures import I386
-from .entries import MOST, Condition
+from .entries import GREATEST_VALUE, Condition
 from .values import dataclass
 
 # The versions of systemd whose rules these are, as texts and by the first number; from the second number on.
@@ -35,7 +35,7 @@ EPERM, EAFNOSUPPORT = Answer("ERRNO", 1), Answer("ERRNO", 97)
 NAMESPACES = {"cgroup": "CLONE_NEWCGROUP", "ipc": "CLONE_NEWIPC", "net": "CLONE_NEWNET", "mnt": "CLONE_NEWNS",
               "pid": "CLONE_NEWPID", "user": "CLONE_NEWUSER", "uts": "CLONE_NEWUTS", "time": "CLONE_NEWTIME"}
 # The policies of sched(7) that aren't of real time: SCHED_OTHER, SCHED_BATCH and SCHED_IDLE (linux/sched.h).
-POLICIES = (0, 3, 5)
+SCHEDULING_POLICIES = (0, 3, 5)
 # linux/personality.h, by what `systemctl show` prints of Personality=, if anything.
 PERSONALITIES = {"": 0, "x86-64": 0, "x86": 8}
 SXID = (stat.S_ISUID, stat.S_ISGID)
@@ -46,13 +46,13 @@ RAW_IO = ("ioperm", "iopl")
 
 
 class SettingError(Exception):
-    """What systemd prints, or what is given in its place, isn't as systemd.exec(5) says."""
+    """A setting that systemd prints, or that is given in its place, isn't as systemd.exec(5) says."""
 
 
 @dataclass(frozen=True)
 class Restriction:
-    """What a setting denies of a syscall, and by which answer: the alternatives of which one holds if it is denied, and
-    those of which one holds if it isn't. Without conditions all of it is denied."""
+    """The part of a syscall that a setting denies, and by which answer: the alternatives of which one holds if it is
+    denied, and those of which one holds if it isn't. Without conditions all of it is denied."""
 
     answer: Answer
     denied: Sequence[Alternative] = ((),)
@@ -107,7 +107,7 @@ def _namespaces(text: str, _: str) -> Rules:
     joins = Restriction(EPERM)
     if permitted:
         # a 0 stands for any namespace
-        others = [1 << at for at in range(MOST.bit_length()) if 1 << at not in bits]
+        others = [1 << at for at in range(GREATEST_VALUE.bit_length()) if 1 << at not in bits]
         joins = Restriction(EPERM, [*_with_any(1, bits).denied, *among(1, [0])],
                             [_masked(1, sum(bits) | bit, bit) for bit in others])
     return {**dict.fromkeys(("clone", "unshare"), _with_any(0, bits)), "setns": joins, "clone3": Restriction(ENOSYS)}
@@ -117,12 +117,12 @@ def _families(text: str, architecture: str) -> Rules:
     """RestrictAddressFamilies=: families that are permitted, or after `~` that aren't. i386 has socketcall(2), which
     can't be looked at, so that no filter is made for it."""
     names = text.lstrip("~").split()
-    known = constants.numbers()
-    if not all(name.startswith("AF_") and name in known for name in names):
+    constant_values = constants.numbers()
+    if not all(name.startswith("AF_") and name in constant_values for name in names):
         raise SettingError(f"'{text[:64]}' aren't address families")
     if architecture == I386:
         return {}
-    values = [known[name] for name in names]
+    values = [constant_values[name] for name in names]
     if not values:
         return _whole(["socket"], EAFNOSUPPORT)
     sides = among(0, values), outside(0, values)
@@ -134,15 +134,15 @@ def _memory(_: str, architecture: str) -> Rules:
     """MemoryDenyWriteExecute=: memory that is to be written and executed. i386's mmap(2) has its arguments in memory,
     and its shmat is one of ipc(2)."""
     write, execute, attach = (constants.numbers()[name] for name in ("PROT_WRITE", "PROT_EXEC", "SHM_EXEC"))
-    found = dict.fromkeys(("mprotect", "pkey_mprotect"), _with_any(2, [execute]))
+    rules = dict.fromkeys(("mprotect", "pkey_mprotect"), _with_any(2, [execute]))
     maps = _with_all(2, (write, execute))
     if architecture == I386:
-        return {**found, "mmap2": maps, **_whole(["mmap"])}
-    return {**found, "mmap": maps, "shmat": _with_any(2, [attach])}
+        return {**rules, "mmap2": maps, **_whole(["mmap"])}
+    return {**rules, "mmap": maps, "shmat": _with_any(2, [attach])}
 
 
 def _realtime(_: str, __: str) -> Rules:
-    return {"sched_setscheduler": Restriction(EPERM, outside(1, POLICIES), among(1, POLICIES))}
+    return {"sched_setscheduler": Restriction(EPERM, outside(1, SCHEDULING_POLICIES), among(1, SCHEDULING_POLICIES))}
 
 
 def _created(flags: int, mode: int) -> Restriction:
@@ -178,32 +178,33 @@ RULES: dict[str, Callable[[str, str], Rules]] = {
 # Those that aren't `yes` or `no` alone, and what `systemctl show` prints of one that isn't set, if that isn't `no`.
 LISTS = ("RestrictNamespaces", "RestrictAddressFamilies")
 UNSET = {"RestrictAddressFamilies": "~"}
-PROPERTIES = (*RULES, "Personality")
+RESTRICTION_PROPERTIES = (*RULES, "Personality")
 
 
 def texts_in(shown: dict[str, str]) -> dict[str, str]:
-    """What `systemctl show` prints of the settings that a unit has, of all that it prints of the unit."""
+    """The texts of the settings that a unit has, among all properties that `systemctl show` prints."""
     return {name: shown[name] for name in RULES if shown.get(name) not in (None, UNSET.get(name, "no"))}
 
 
 def set_in(shown: dict[str, str]) -> dict[str, str]:
     """The settings that a unit has, each with its text; that of LockPersonality= is the personality."""
-    found = texts_in(shown)
-    for name, text in found.items():
+    texts = texts_in(shown)
+    for name, text in texts.items():
         if name not in LISTS and text != "yes":
             raise SettingError(f"{name}={text[:64]} isn't yes or no")
-    return {**found, **({"LockPersonality": shown.get("Personality", "")} if "LockPersonality" in found else {})}
+    return {**texts, **({"LockPersonality": shown.get("Personality", "")} if "LockPersonality" in texts else {})}
 
 
 def rules_of(settings: dict[str, str], architecture: str) -> Rules:
-    """What settings deny on an architecture by its OCI name: by the names of syscalls."""
-    return {name: it for setting, text in settings.items() for name, it in RULES[setting](text, architecture).items()}
+    """The restrictions of settings on an architecture by its OCI name, by the names of syscalls."""
+    return {name: rule for setting, text in settings.items()
+            for name, rule in RULES[setting](text, architecture).items()}
 
 
 def numbers_of(version: str) -> tuple[int, int] | None:
     """The two first numbers of a version as systemd prints it: 252.39-1~deb12u2, 256~rc1."""
-    found = re.match(r"([0-9]{1,4})(?:\.([0-9]{1,4}))?(?![0-9])", version)
-    return (int(found[1]), int(found[2] or 0)) if found else None
+    match = re.match(r"([0-9]{1,4})(?:\.([0-9]{1,4}))?(?![0-9])", version)
+    return (int(match[1]), int(match[2] or 0)) if match else None
 
 
 def is_modelled(version: str) -> bool:

@@ -8,6 +8,7 @@ empty, all of them are. What other settings deny stands in unit_restrictions.py.
 from __future__ import annotations
 
 import errno
+import functools
 import os
 import re
 from collections.abc import Callable, Collection, Iterator, Sequence
@@ -19,24 +20,25 @@ from .unit_restrictions import SettingError
 from .values import Pattern, dataclass, field
 
 PROPERTIES = ("Id", "LoadState", "NeedDaemonReload", "FragmentPath", "DropInPaths", "SystemCallFilter",
-              "SystemCallErrorNumber", "SystemCallArchitectures", "SystemCallLog", *unit_restrictions.PROPERTIES)
+              "SystemCallErrorNumber", "SystemCallArchitectures", "SystemCallLog",
+              *unit_restrictions.RESTRICTION_PROPERTIES)
 # The manager's version, which is added to what a unit shows; and the first one that is known to allow write(2) in each
 # list, and in an allow-list to deny what systemd doesn't know by ENOSYS (apply_syscall_filter of exec-invoke.c, and
 # override_default_action of seccomp-util.c).
-VERSION, WITH_ENOSYS = "Version", (257, 13)
+MANAGER_VERSION, WITH_ENOSYS = "Version", (257, 13)
 # The sections of those units that run processes (systemd.exec(5)).
 SECTIONS = {kind: f"[{kind.capitalize()}]" for kind in ("service", "socket", "mount", "swap")}
 # How `systemctl show` prints the error number of what is killed: SECCOMP_ERROR_NUMBER_KILL, which is INT_MAX - 1; older
 # systemds print 0.
-KILLED = ("2147483646", "0", "kill", "")
+KILL_NUMBERS = ("2147483646", "0", "kill", "")
 # asm-generic/errno.h; Python's module lacks it.
-ERRNOS = {**{name: number for number, name in errno.errorcode.items()}, "EHWPOISON": 133}
+ERRNO_NUMBERS = {**{name: number for number, name in errno.errorcode.items()}, "EHWPOISON": 133}
 # An errno as safe_atoi of systemd's basic/parse-util.c reads it: in C's notation, also with the prefixes 0b and 0o.
-NUMBER = Pattern(r"\+?(?:0[xX][0-9a-fA-F]+|0[bB][01]+|0[oO][0-7]+|0[0-7]*|[1-9][0-9]*)|-0", re.A)
+ERRNO_NUMBER = Pattern(r"\+?(?:0[xX][0-9a-fA-F]+|0[bB][01]+|0[oO][0-7]+|0[0-7]*|[1-9][0-9]*)|-0", re.A)
 # What each allow-list has beside what it names.
 IMPLIED = "@default"
 # The names of ConditionArchitecture= and SystemCallArchitectures=, and those of the OCI specification.
-ARCHITECTURES = {name: f"SCMP_ARCH_{oci}" for name, oci in (
+OCI_NAMES = {name: f"SCMP_ARCH_{oci}" for name, oci in (
     ("native", "X86_64"), ("x86-64", "X86_64"), ("x86", "X86"), ("x32", "X32"), ("arm", "ARM"), ("arm64", "AARCH64"),
     ("loongarch64", "LOONGARCH64"), ("mips", "MIPS"), ("mips64", "MIPS64"), ("mips64-n32", "MIPS64N32"),
     ("mips-le", "MIPSEL"), ("mips64-le", "MIPSEL64"), ("mips64-le-n32", "MIPSEL64N32"), ("parisc", "PARISC"),
@@ -45,9 +47,9 @@ ARCHITECTURES = {name: f"SCMP_ARCH_{oci}" for name, oci in (
 # What an x86-64 kernel runs, of which systemd filters each.
 LOCAL = (NATIVE, "SCMP_ARCH_X86", "SCMP_ARCH_X32")
 # The most bytes of what a command of systemd prints, and the deepest nesting of groups.
-MOST_PRINTED, DEEPEST = 1 << 20, 16
+MOST_PRINTED, DEEPEST_GROUP = 1 << 20, 16
 # The most bytes of a unit's file, and the most names that are listed as left out.
-MOST_BYTES, MOST_TOLD = 1 << 20, 20
+MOST_FILE_BYTES, MOST_TOLD = 1 << 20, 20
 
 
 class UnknownSettings(Exception):
@@ -66,7 +68,7 @@ class CallList:
 
 
 @dataclass
-class Settings:
+class UnitSettings:
     """A unit's settings; lists that aren't set are None."""
 
     filter: CallList | None
@@ -77,7 +79,7 @@ class Settings:
     restrictions: dict[str, str] = field(default_factory=dict)
     version: str = ""
     # of an allow-list the names that `refusal` is for, while others get ENOSYS; None if it is for all
-    known: Collection[str] | None = None
+    known_names: Collection[str] | None = None
 
     @property
     def have_filters(self) -> bool:
@@ -95,15 +97,15 @@ class Settings:
         return f"the rules of {names} are known of systemd {unit_restrictions.VERSIONS}, and this is {version}"
 
     def answer_of(self, name: str | None, first: str | None = None) -> Answer:
-        """What the lists answer to a call by this name; by None, what to one that none names. A list that has the name
+        """The lists' answer to a syscall by this name; None stands for one that no list names. A list that has the name
         `first` goes by that."""
         answer = ALLOW
         if self.filter is not None:
-            one = first if first in self.filter.calls else name
-            own = self.filter.calls.get(one) if one is not None else None
-            is_denied = own is not None or (one in self.filter.calls) == self.filter.is_inverted
-            refusal = self.refusal if self.known is None or one in self.known else ENOSYS
-            answer = (own or refusal) if is_denied else ALLOW
+            listed_name = first if first in self.filter.calls else name
+            errno_answer = self.filter.calls.get(listed_name) if listed_name is not None else None
+            is_denied = errno_answer is not None or (listed_name in self.filter.calls) == self.filter.is_inverted
+            refusal = self.refusal if self.known_names is None or listed_name in self.known_names else ENOSYS
+            answer = (errno_answer or refusal) if is_denied else ALLOW
         if answer != ALLOW or self.log is None:
             return answer
         is_logged = (name in self.log.calls or first in self.log.calls) != self.log.is_inverted
@@ -111,16 +113,16 @@ class Settings:
 
     def names(self) -> Iterator[str]:
         """The names of all lists, and those that are known, each once."""
-        lists = [one.calls for one in (self.filter, self.log) if one is not None]
-        yield from dict.fromkeys(name for calls in (*lists, self.known or ()) for name in calls)
+        lists = [call_list.calls for call_list in (self.filter, self.log) if call_list is not None]
+        yield from dict.fromkeys(name for calls in (*lists, self.known_names or ()) for name in calls)
 
 
 def answer_of_errno(text: str) -> Answer:
-    """What an errno by its name or its number stands for, or the word `kill`."""
-    if text in (KILLED[0], "kill"):
+    """The answer of an errno by its name or its number, or of the word `kill`."""
+    if text in (KILL_NUMBERS[0], "kill"):
         return KILL_PROCESS
-    number = getattr(errno, text, ERRNOS.get(text)) if re.fullmatch("E[A-Z0-9]+", text) else None
-    if number is None and len(text) <= 16 and NUMBER.fullmatch(text):
+    number = getattr(errno, text, ERRNO_NUMBERS.get(text)) if re.fullmatch("E[A-Z0-9]+", text) else None
+    if number is None and len(text) <= 16 and ERRNO_NUMBER.fullmatch(text):
         number = int(re.sub("^([+-]?)0(?=[0-7])", r"\g<1>0o", text), 0)
     if number is None or number > MAX_ERRNO:
         raise SettingError(f"'{text[:64]}' isn't an errno")
@@ -128,35 +130,35 @@ def answer_of_errno(text: str) -> Answer:
 
 
 def refusal_of(text: str) -> Answer:
-    """What SystemCallErrorNumber= stands for."""
-    return KILL_PROCESS if text in KILLED else answer_of_errno(text)
+    """The answer of a value of SystemCallErrorNumber=."""
+    return KILL_PROCESS if text in KILL_NUMBERS else answer_of_errno(text)
 
 
 def architectures_of(text: str) -> list[str]:
     """The architectures of a profile by SystemCallArchitectures=: the native one, and those that it names."""
     words = text.split()
     for word in words:
-        if word not in ARCHITECTURES:
+        if word not in OCI_NAMES:
             raise SettingError(f"'{word[:64]}' isn't an architecture")
-    return list(dict.fromkeys([NATIVE, *(ARCHITECTURES[word] for word in words)])) if words else list(LOCAL)
+    return list(dict.fromkeys([NATIVE, *(OCI_NAMES[word] for word in words)])) if words else list(LOCAL)
 
 
 def groups_of(text: str) -> dict[str, list[str]]:
     """The groups of calls that `systemd-analyze syscall-filter` prints; a group may name others."""
-    found: dict[str, list[str]] = {}
+    groups: dict[str, list[str]] = {}
     members: list[str] = []
     for line in text.split("\n"):
         word = line.strip()
         if not word or word.startswith("#"):
             continue
         if line.startswith("@"):
-            members = found.setdefault(word, [])
+            members = groups.setdefault(word, [])
         else:
             members.append(word)
-    return found
+    return groups
 
 
-class Reader:
+class ListReader:
     """Reads lists of syscalls; asks for groups if a list names one, and reports what is left out.
 
     A name that systemd's libseccomp doesn't know is left out, as systemd does; without a libseccomp, none is.
@@ -169,9 +171,14 @@ class Reader:
         self.is_call = is_call
         # whether a word that systemd leaves out is left out, and not refused
         self.is_lenient = is_lenient
-        self.known: dict[str, list[str]] | None = None
+
         # the names that are left out, in their order
-        self.unknown: dict[str, None] = {}
+        self.unknown_names: dict[str, None] = {}
+
+    @functools.cached_property
+    def groups(self) -> dict[str, list[str]]:
+        """systemd's groups of syscalls."""
+        return self.ask()
 
     def calls_of(self, name: str, depth: int = 0) -> Iterator[str]:
         """The calls of a name, which may be a group's."""
@@ -179,67 +186,63 @@ class Reader:
             if self.is_call(name):
                 yield name
             else:
-                self.unknown[name] = None
+                self.unknown_names[name] = None
             return
-        if self.known is None:
-            self.known = self.ask()
-        if name not in self.known:
+        if name not in self.groups:
             self.tell(f"{name} left out: systemd knows no such group")
-        elif depth > DEEPEST:
+        elif depth > DEEPEST_GROUP:
             raise SettingError(f"the group {name} is nested too deep")
         else:
-            for member in self.known[name]:
+            for member in self.groups[name]:
                 yield from self.calls_of(member, depth + 1)
 
     def known_calls(self) -> list[str]:
         """The calls of x86-64 that systemd knows: those of @known, but not of the groups in it."""
-        if self.known is None:
-            self.known = self.ask()
         library = libseccomp.Library()
-        numbers = {name: library.number_of(name) for name in self.known.get("@known", ())}
+        numbers = {name: library.number_of(name) for name in self.groups.get("@known", ())}
         return [name for name, number in numbers.items() if number is not None and number >= 0]
 
-    def add(self, found: CallList, word: str, is_inverted: bool) -> None:
+    def add(self, call_list: CallList, word: str, is_inverted: bool) -> None:
         """Adds a word of a list to what was listed before, or takes it away, as systemd merges assignments."""
         name, colon, text = word.partition(":")
         if colon and not is_inverted:
             self.tell(f"{word} left out: a syscall that is allowed takes no errno")
             return
         try:
-            own = answer_of_errno(text) if colon else None
+            errno_answer = answer_of_errno(text) if colon else None
         except SettingError as why:
             if not self.is_lenient:
                 raise
             self.tell(f"{word} left out: {why}")
             return
         for call in self.calls_of(name):
-            if is_inverted == found.is_inverted or own is not None:
-                found.calls[call] = own
+            if is_inverted == call_list.is_inverted or errno_answer is not None:
+                call_list.calls[call] = errno_answer
             else:
-                found.calls.pop(call, None)
+                call_list.calls.pop(call, None)
 
     def assigned(self, values: Sequence[str], implied: str | None = IMPLIED) -> CallList | None:
         """The list of several assignments in their order: the first one says of which kind it is."""
-        found = None
+        call_list = None
         for value in values:
             if not value.strip():
-                found = None
+                call_list = None
                 continue
             is_inverted = value.startswith("~")
             words = value[is_inverted:].split()
-            if found is None:
-                found = CallList(is_inverted)
+            if call_list is None:
+                call_list = CallList(is_inverted)
                 if implied is not None and not is_inverted:
-                    self.add(found, implied, False)
+                    self.add(call_list, implied, False)
             for word in words:
-                self.add(found, word, is_inverted)
-        return found if found is None or found.calls or not found.is_inverted else None
+                self.add(call_list, word, is_inverted)
+        return call_list if call_list is None or call_list.calls or not call_list.is_inverted else None
 
     def tell_unknown(self) -> None:
         """Reports the names that were left out, since libseccomp doesn't know them."""
-        if self.unknown:
+        if self.unknown_names:
             self.tell("left out, as by systemd, since libseccomp doesn't know them: "
-                      + output.some(list(self.unknown), MOST_TOLD))
+                      + output.some(list(self.unknown_names), MOST_TOLD))
 
     def shown(self, text: str) -> CallList | None:
         """The list that `systemctl show` prints, in which groups are resolved; `~` alone is one that isn't set."""
@@ -247,7 +250,7 @@ class Reader:
 
 
 def printed_by(words: Sequence[str]) -> str:
-    """What a command of systemd prints."""
+    """The text that a command of systemd prints."""
     import subprocess  # pylint: disable=import-outside-toplevel
 
     try:
@@ -258,8 +261,8 @@ def printed_by(words: Sequence[str]) -> str:
     except OSError as error:
         raise program.ToolError(f"{words[0]} can't be run: {error.strerror}", program.IO_ERROR) from error
     if done.returncode:
-        said = done.stderr.decode("utf-8", "backslashreplace").strip().split("\n")[0]
-        raise program.ToolError(f"{words[0]} ended with status {done.returncode}" + (f": {said}" if said else ""),
+        message = done.stderr.decode("utf-8", "backslashreplace").strip().split("\n")[0]
+        raise program.ToolError(f"{words[0]} ended with status {done.returncode}" + (f": {message}" if message else ""),
                               program.IO_ERROR)
     if len(done.stdout) > MOST_PRINTED:
         raise program.ToolError(f"{words[0]} printed more than {MOST_PRINTED} bytes", program.IO_ERROR)
@@ -280,7 +283,7 @@ def assignments_of(text: str, section: str, setting: str) -> Iterator[str]:
         if (len(whole) - len(whole.rstrip("\\"))) % 2:
             begun = f"{whole[:-1]} "
             continue
-        name, equals, value = (it.strip() for it in whole.partition("="))
+        name, equals, value = (part.strip() for part in whole.partition("="))
         if name.startswith("["):
             current = whole.strip()
         elif equals and name == setting and current == section:
@@ -288,7 +291,7 @@ def assignments_of(text: str, section: str, setting: str) -> Iterator[str]:
 
 
 def _systemds_root() -> str:
-    """What stands before a path of systemd's: a tool in a container of the machine has another root."""
+    """The prefix of systemd's paths: a tool in a container of the machine has another root."""
     try:
         return "" if os.path.samefile("/proc/1/root", "/") else "/proc/1/root"
     except OSError:
@@ -303,15 +306,15 @@ def files_of(shown: dict[str, str]) -> Iterator[str]:
     for path in [shown.get("FragmentPath", ""), *shlex.split(shown.get("DropInPaths", ""))]:
         try:
             with open(_systemds_root() + path, "rb") as file:
-                data = file.read(MOST_BYTES + 1)
+                data = file.read(MOST_FILE_BYTES + 1)
         except OSError as error:
             raise UnknownSettings(f"'{output.escaped(path)}' can't be read: {error.strerror}") from error
-        if len(data) > MOST_BYTES:
-            raise UnknownSettings(f"'{output.escaped(path)}' has more than {MOST_BYTES} bytes")
+        if len(data) > MOST_FILE_BYTES:
+            raise UnknownSettings(f"'{output.escaped(path)}' has more than {MOST_FILE_BYTES} bytes")
         yield data.decode("utf-8", "surrogateescape")
 
 
-def denied_by(shown: dict[str, str], allowed: CallList, reader: Reader) -> dict[str, Answer | None]:
+def denied_by(shown: dict[str, str], allowed: CallList, reader: ListReader) -> dict[str, Answer | None]:
     """The syscalls that an allow-list denies with an errno of their own, as in `SystemCallFilter=~clone3:EINVAL`.
 
     systemd doesn't show them (property_get_syscall_filter of its core/dbus-execute.c), so the unit's files are read.
@@ -322,15 +325,15 @@ def denied_by(shown: dict[str, str], allowed: CallList, reader: Reader) -> dict[
     values = [value for text in files_of(shown) for value in assignments_of(text, section, "SystemCallFilter")]
     if not any(value.startswith("~") and ":" in value for value in values):
         return {}
-    lenient = Reader(reader.ask, reader.tell, libseccomp.Library().knows, is_lenient=True)
+    lenient = ListReader(reader.ask, reader.tell, libseccomp.Library().knows, is_lenient=True)
     listed = lenient.assigned(values)
     lenient.tell_unknown()
     if listed is None or listed.is_inverted:
-        raise UnknownSettings("its files have another list than systemd shows")
-    own = {call: answer for call, answer in listed.calls.items() if answer is not None}
-    if not allowed.calls.keys() <= listed.calls.keys() - own.keys():
-        raise UnknownSettings("its files have another list than systemd shows")
-    return own
+        raise UnknownSettings("the list in its files differs from the one that systemd shows")
+    answers = {call: answer for call, answer in listed.calls.items() if answer is not None}
+    if not allowed.calls.keys() <= listed.calls.keys() - answers.keys():
+        raise UnknownSettings("the list in its files differs from the one that systemd shows")
+    return answers
 
 
 def _blocks(text: str) -> list[dict[str, str]]:
@@ -339,51 +342,52 @@ def _blocks(text: str) -> list[dict[str, str]]:
 
 
 def shown_by_systemctl(names: Sequence[str]) -> list[dict[str, str]]:
-    """What systemctl shows of some units, by the names of the properties."""
+    """The properties that systemctl shows of some units, by their names."""
     show = ["systemctl", "--no-pager", "show"]
-    found = _blocks(printed_by([*show, *(f"--property={name}" for name in PROPERTIES), "--", *names]))
-    if any(it.get("SystemCallFilter", "~") != "~" or unit_restrictions.texts_in(it) for it in found):
-        version = _blocks(printed_by([*show, f"--property={VERSION}"]))[0].get(VERSION, "")
-        found = [{**it, VERSION: version} for it in found]
-    return found
+    units = _blocks(printed_by([*show, *(f"--property={name}" for name in PROPERTIES), "--", *names]))
+    if any(unit.get("SystemCallFilter", "~") != "~" or unit_restrictions.texts_in(unit) for unit in units):
+        version = _blocks(printed_by([*show, f"--property={MANAGER_VERSION}"]))[0].get(MANAGER_VERSION, "")
+        units = [{**properties, MANAGER_VERSION: version} for properties in units]
+    return units
 
 
-def _restrictions_in(shown: dict[str, str], version: str, reader: Reader) -> dict[str, str]:
+def _restrictions_in(shown: dict[str, str], version: str, reader: ListReader) -> dict[str, str]:
     """The other settings of a unit that have filters."""
-    found = unit_restrictions.set_in(shown)
-    if "MemoryDenyWriteExecute" in found and unit_restrictions.is_by_prctl(version):
-        del found["MemoryDenyWriteExecute"]
+    restrictions = unit_restrictions.set_in(shown)
+    if "MemoryDenyWriteExecute" in restrictions and unit_restrictions.is_by_prctl(version):
+        del restrictions["MemoryDenyWriteExecute"]
         reader.tell("MemoryDenyWriteExecute= is applied by prctl(2), and has no filter")
-    return found
+    return restrictions
 
 
-def _as_newer(found: CallList, reader: Reader) -> list[str] | None:
+def _as_newer(call_list: CallList, reader: ListReader) -> list[str] | None:
     """Makes a list what newer versions take it for, which allow write(2); what they know, if it is an allow-list."""
-    if found.is_inverted:
-        found.calls.pop("write", None)
+    if call_list.is_inverted:
+        call_list.calls.pop("write", None)
         return None
-    found.calls["write"] = None
+    call_list.calls["write"] = None
     return reader.known_calls()
 
 
-def settings_in(shown: dict[str, str], unit: str, reader: Reader) -> Settings:
+def settings_in(shown: dict[str, str], unit: str, reader: ListReader) -> UnitSettings:
     """The settings of a unit of which systemctl shows this."""
     if shown.get("LoadState", "loaded") != "loaded":
         raise program.ToolError(f"the unit {unit} isn't loaded: {shown['LoadState']}", program.IO_ERROR)
     if "SystemCallFilter" not in shown:
         raise program.ToolError(f"the unit {unit} runs no processes of its own: it has no SystemCallFilter",
                               program.IO_ERROR)
-    found = reader.shown(shown["SystemCallFilter"])
-    if found is not None and not found.is_inverted:
+    call_list = reader.shown(shown["SystemCallFilter"])
+    if call_list is not None and not call_list.is_inverted:
         try:
-            found.calls.update(denied_by(shown, found, reader))
+            call_list.calls.update(denied_by(shown, call_list, reader))
         except (UnknownSettings, ValueError) as why:
-            raise program.ToolError("it can't be known which syscalls the allow-list denies with an errno of their "
-                                    f"own, which systemctl show doesn't print: {why}", program.UNKNOWN) from why
-    version = shown.get(VERSION, "")
-    is_newer = found is not None and (unit_restrictions.numbers_of(version) or (0, 0)) >= WITH_ENOSYS
-    known = _as_newer(found, reader) if is_newer else None
-    return Settings(found, refusal_of(shown.get("SystemCallErrorNumber", "")),
-                    architectures_of(shown.get("SystemCallArchitectures", "")),
-                    reader.shown(shown.get("SystemCallLog", "~")), _restrictions_in(shown, version, reader), version,
-                    known)
+            raise program.ToolError("systemctl show doesn't print which syscalls the allow-list denies with an errno "
+                                    f"of their own, and the unit's files don't say it: {why}",
+                                    program.UNKNOWN) from why
+    version = shown.get(MANAGER_VERSION, "")
+    is_newer = call_list is not None and (unit_restrictions.numbers_of(version) or (0, 0)) >= WITH_ENOSYS
+    known_names = _as_newer(call_list, reader) if is_newer else None
+    return UnitSettings(call_list, refusal_of(shown.get("SystemCallErrorNumber", "")),
+                        architectures_of(shown.get("SystemCallArchitectures", "")),
+                        reader.shown(shown.get("SystemCallLog", "~")), _restrictions_in(shown, version, reader),
+                        version, known_names)

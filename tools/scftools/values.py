@@ -25,12 +25,13 @@ class Pattern:
 
     def __getattr__(self, name: str) -> Any:
         compiled = re.compile(self.pattern, self._flags)
-        self.__dict__.update((it, getattr(compiled, it)) for it in ("finditer", "fullmatch", "match", "search", "sub"))
+        self.__dict__.update((name, getattr(compiled, name))
+                             for name in ("finditer", "fullmatch", "match", "search", "sub"))
         return getattr(compiled, name)
 
 
 class Default:
-    """What makes a member's value if none is given."""
+    """The maker of a member's value where none is given."""
 
     def __init__(self, make: Callable[[], Any]):
         self.make = make
@@ -38,6 +39,9 @@ class Default:
 
 def _init(self: Any, *given: object, **named: object) -> None:
     names, defaults = self.__match_args__, self.__defaults__
+    if not named and len(given) == len(names):
+        self.__dict__.update(zip(names, given))
+        return
     members = {**dict(zip(names, given)), **named}
     for name in names:
         if name not in members and name in defaults:
@@ -50,7 +54,7 @@ def _init(self: Any, *given: object, **named: object) -> None:
 
 
 def _members(self: Any) -> tuple[object, ...]:
-    return tuple(self.__dict__[name] for name in self.__match_args__)
+    return tuple(map(self.__dict__.__getitem__, self.__match_args__))
 
 
 def _eq(self: Any, other: object) -> bool:
@@ -71,7 +75,7 @@ if not TYPE_CHECKING:
 
     def dataclass(cls=None, frozen=False):
         if cls is None:
-            return lambda it: dataclass(it, frozen)
+            return lambda class_body: dataclass(class_body, frozen)
         cls.__match_args__ = tuple(cls.__annotations__)
         cls.__defaults__ = {name: cls.__dict__[name] for name in cls.__annotations__ if name in cls.__dict__}
         cls.__init__, cls.__eq__, cls.__repr__ = _init, _eq, _repr

@@ -1,4 +1,4 @@
-"""What scf prints, as values.
+"""scf's printed lines as values.
 
 Lines are parsed by their order, since the names in them are untrusted: the first line is the verdict or a fault, the
 next ones are its example, or syscalls by name; and after the first `skipped` or `other` line nothing is a syscall or a
@@ -10,9 +10,8 @@ import re
 from collections.abc import Callable, Sequence
 
 from . import bundles, client, program
-from .answers import Answer
-from .architectures import NATIVE as X86_64
-from .architectures import Architecture
+from .answers import ALLOWED, DENIED, Answer
+from .architectures import NATIVE, Architecture
 from .calls import Call
 from .client import Fault, Refusal
 from .tables import Table, Tables
@@ -20,10 +19,10 @@ from .values import Pattern, dataclass, replace
 
 # The sets of syscalls that are compared: all records, x86-64's, x86-64's in the table one by one, or those of each
 # architecture that the profile names and scf has a table of.
-ALL, NATIVE, CALLS, LISTED = "all", "native", "calls", "listed"
+ALL, NATIVE_SCOPE, CALLS, LISTED = "all", "native", "calls", "listed"
 SAME, DIFFERS, UNDECIDED, UNFINISHED = "same", "differs", "undecided", "unfinished"
 # The options of scf for each of them.
-SCOPES = {ALL: [], NATIVE: ["--native"], CALLS: ["--calls"], LISTED: ["--architectures"]}
+SCOPES = {ALL: [], NATIVE_SCOPE: ["--native"], CALLS: ["--calls"], LISTED: ["--architectures"]}
 # Only from the tools: the syscall that decides is of an architecture that the profile names, and scf has no table of
 # it.
 UNDETERMINED = "undetermined"
@@ -34,8 +33,8 @@ NO_MORE, MORE, NO_LESS, LESS = "no more", "more", "no less", "less"
 SAME_DISPOSITION = "same disposition"
 # The options for each relation, by the verdict if it holds.
 RELATIONS = {SAME: [], NO_MORE: ["--no-more"], NO_LESS: ["--no-less"], SAME_DISPOSITION: ["--disposition"]}
-HOLDS, FAILS = (SAME, NO_MORE, NO_LESS, SAME_DISPOSITION), (DIFFERS, MORE, LESS)
-NAMED = Pattern(r"([0-9]+) ([A-Za-z0-9_,]+) (differs|more|less|undecided|unfinished)\b(.*)")
+HOLDING, FAILING = (SAME, NO_MORE, NO_LESS, SAME_DISPOSITION), (DIFFERS, MORE, LESS)
+NAMED_CALL_LINE = Pattern(r"([0-9]+) ([A-Za-z0-9_,]+) (differs|more|less|undecided|unfinished)\b(.*)")
 ANSWERED = Pattern(r" args((?: 0x[0-9a-f]+){6}) filter (\w+ \w+) (?:profile|beside) (\w+ \w+)")
 LEFT_OUT = ("skipped ", "other ")
 
@@ -53,23 +52,29 @@ class Verdict:
 
     @property
     def holds(self) -> bool:
-        return self.word in HOLDS
+        return self.word in HOLDING
 
     @property
     def fails(self) -> bool:
-        return self.word in FAILS
+        return self.word in FAILING
 
     @property
     def both_deny(self) -> bool:
         return bool(self.filters and self.profile and self.filters.denies and self.profile.denies)
 
-    def as_json(self, table: Table, other: str = "profile") -> dict[str, object]:
+    @property
+    def is_allowed_and_denied(self) -> bool:
+        """Whether one side allows the example, and the other denies it."""
+        answers = (answer for answer in (self.filters, self.profile) if answer is not None)
+        return {ALLOWED, DENIED} == {answer.disposition for answer in answers}
+
+    def as_json(self, table: Table, other_side: str = "profile") -> dict[str, object]:
         """Its example, as members of an object; `other` is what the other side is called."""
-        found: dict[str, object] = {} if self.call is None else {"call": self.call.as_json(table)}
-        for side, answer in (("filter", self.filters), (other, self.profile)):
+        members: dict[str, object] = {} if self.call is None else {"call": self.call.as_json(table)}
+        for side, answer in (("filter", self.filters), (other_side, self.profile)):
             if answer is not None:
-                found[side] = answer.as_json()
-        return found if self.at is None else {**found, "at": self.at}
+                members[side] = answer.as_json()
+        return members if self.at is None else {**members, "at": self.at}
 
 
 @dataclass(frozen=True)
@@ -90,24 +95,24 @@ class NamedCall:
             return self.verdict.call or Call(self.number)
         return Call(self.architecture.first + self.number, self.architecture.number)
 
-    def on(self, one: Architecture) -> NamedCall:
+    def on(self, architecture: Architecture) -> NamedCall:
         """The same line as that of a table of this architecture."""
         verdict, call = self.verdict, self.verdict.call
         if call is not None:
-            call = replace(call, number=one.first + self.number, architecture=one.number)
+            call = replace(call, number=architecture.first + self.number, architecture=architecture.number)
             verdict = replace(verdict, call=call)
-        return replace(self, line=one.marked(self.line), verdict=verdict, architecture=one)
+        return replace(self, line=architecture.marked(self.line), verdict=verdict, architecture=architecture)
 
     def as_json(self) -> dict[str, object]:
-        found: dict[str, object] = {"number": self.number, "names": list(self.names), "verdict": self.verdict.word}
-        if self.architecture is not None and self.architecture.oci != X86_64:
-            found["architecture"] = self.architecture.name
-        return found
+        members: dict[str, object] = {"number": self.number, "names": list(self.names), "verdict": self.verdict.word}
+        if self.architecture is not None and self.architecture.oci != NATIVE:
+            members["architecture"] = self.architecture.name
+        return members
 
 
 @dataclass(frozen=True)
 class Report:
-    """What `scf compare` printed: a verdict or a fault, and what was left out of the profile.
+    """The output of `scf compare`: a verdict or a fault, and what was left out of the profile.
 
     `lines` are those of the verdict and the syscalls. Names and architectures are untrusted.
     """
@@ -119,9 +124,9 @@ class Report:
     skipped: tuple[str, ...] = ()
     architectures: tuple[str, ...] = ()
 
-    def on(self, one: Architecture) -> Report:
+    def on(self, architecture: Architecture) -> Report:
         """The same report as one on the table of this architecture."""
-        return replace(self, calls=tuple(it.on(one) for it in self.calls))
+        return replace(self, calls=tuple(call.on(architecture) for call in self.calls))
 
     @property
     def printed(self) -> list[str]:
@@ -136,28 +141,28 @@ class Report:
 
 
 def _verdict(lines: Sequence[str]) -> Verdict | None:
-    word, _, rest = lines[0].partition(" ")
-    if lines[0] in FAILS:
+    word, _, text = lines[0].partition(" ")
+    if lines[0] in FAILING:
         call = Call.read(lines[1]) if len(lines) > 3 else None
         sides = [] if call is None else [Answer.read(line.partition(" ")[2]) for line in lines[2:4]]
         return Verdict(lines[0], call, *sides)
-    if lines[0] in (*HOLDS, UNFINISHED):
+    if lines[0] in (*HOLDING, UNFINISHED):
         return Verdict(lines[0])
-    place = re.fullmatch("at ([0-9]+)", rest)
+    place = re.fullmatch("at ([0-9]+)", text)
     return Verdict(UNDECIDED, at=int(place[1])) if word == UNDECIDED and place else None
 
 
 def named_call(line: str, pointer: int | None = 0) -> NamedCall | None:
     """Parses a line of `--calls`, which lacks the instruction pointer."""
-    found = NAMED.fullmatch(line)
-    if not found:
+    match = NAMED_CALL_LINE.fullmatch(line)
+    if not match:
         return None
-    number, answered = int(found[1]), ANSWERED.fullmatch(found[4])
-    verdict = Verdict(found[3])
+    number, answered = int(match[1]), ANSWERED.fullmatch(match[4])
+    verdict = Verdict(match[3])
     if verdict.fails and answered:
-        call = Call(number, pointer=pointer, arguments=tuple(int(it, 16) for it in answered[1].split()))
-        verdict = Verdict(found[3], call, Answer.read(answered[2]), Answer.read(answered[3]))
-    return NamedCall(line, number, tuple(found[2].split(",")), verdict)
+        call = Call(number, pointer=pointer, arguments=tuple(int(argument, 16) for argument in answered[1].split()))
+        verdict = Verdict(match[3], call, Answer.read(answered[2]), Answer.read(answered[3]))
+    return NamedCall(line, number, tuple(match[2].split(",")), verdict)
 
 
 def _names(lines: Sequence[str]) -> tuple[list[str], list[str]]:
@@ -166,16 +171,16 @@ def _names(lines: Sequence[str]) -> tuple[list[str], list[str]]:
     A line that begins as neither belongs to the name before it, which has a newline in it.
     """
     # the lines of each name: they are joined once, since a name may have millions of them
-    found: dict[str, list[list[str]]] = {word: [] for word in LEFT_OUT}
-    last = found[LEFT_OUT[0]]
+    pieces: dict[str, list[list[str]]] = {word: [] for word in LEFT_OUT}
+    last = pieces[LEFT_OUT[0]]
     for line in lines:
         word = next((word for word in LEFT_OUT if line.startswith(word)), None)
         if word:
-            last = found[word]
+            last = pieces[word]
             last.append([line[len(word):]])
         elif last:
             last[-1].append(line)
-    skipped, others = (["\n".join(name) for name in found[word]] for word in LEFT_OUT)
+    skipped, others = (["\n".join(name) for name in pieces[word]] for word in LEFT_OUT)
     return skipped, others
 
 
@@ -189,28 +194,49 @@ def report(text: str, profile_names: Sequence[str] | None = None, is_known: Call
     """
     lines = client.lines_of(text)
     count = next((at for at, line in enumerate(lines) if line.startswith(LEFT_OUT)), len(lines))
-    own, rest = lines[:count], lines[count:]
-    skipped, architectures = _names(rest)
+    verdict_lines, left_out_lines = lines[:count], lines[count:]
+    skipped, architectures = _names(left_out_lines)
     if profile_names is not None:
         exact = [name for name in profile_names if not is_known(name)]
-        head, tail = "".join(f"skipped {name}\n" for name in exact), "".join(f"{line}\n" for line in rest)
+        head, tail = "".join(f"skipped {name}\n" for name in exact), "".join(f"{line}\n" for line in left_out_lines)
         if tail.startswith(head) and not tail.startswith(LEFT_OUT[0], len(head)):
             skipped, architectures = exact, _names(tail[len(head):].split("\n")[:-1])[1]
-    calls = tuple(filter(None, (named_call(line, pointer) for line in own[1:])))
-    return Report(tuple(own), _verdict(own) if own else None, Fault.read(own[0]) if own else None, calls,
+    calls = tuple(filter(None, (named_call(line, pointer) for line in verdict_lines[1:])))
+    verdict, fault = (_verdict(verdict_lines), Fault.read(verdict_lines[0])) if verdict_lines else (None, None)
+    return Report(tuple(verdict_lines), verdict, fault, calls,
                   tuple(skipped), tuple(architectures))
 
 
-def checked(status: int, found: Report, is_by_call: bool = False) -> Report:
+def checked(status: int, checked_report: Report, is_by_call: bool = False) -> Report:
     """A report with a verdict; raises Refusal if it has a fault instead, and ToolError if it isn't parsed completely,
     since the relation is taken to hold for a syscall without a line."""
-    if found.fault is not None:
-        raise Refusal(found.fault.line, status)
-    verdict = found.verdict
+    if checked_report.fault is not None:
+        raise Refusal(checked_report.fault.line, status)
+    verdict = checked_report.verdict
     expected = None if verdict is None else 0 if verdict.holds else 1 if verdict.fails else program.UNKNOWN
-    if status != expected or is_by_call and len(found.calls) != len(found.lines) - 1:
+    if status != expected or is_by_call and len(checked_report.calls) != len(checked_report.lines) - 1:
         raise program.ToolError(f"scf ended with status {status} and unexpected output", program.IO_ERROR)
-    return found
+    return checked_report
+
+
+def most_telling(checked_report: Report, table: Table, calls_of: Callable[[], Sequence[NamedCall]]) -> Report:
+    """A report of a difference with the most telling example: a native syscall with a name that one side allows and the
+    other denies, if there is one among those that scf lists."""
+    def is_telling(verdict: Verdict) -> bool:
+        return verdict.call is not None and verdict.call.is_native and verdict.call.pointer is not None and \
+            verdict.is_allowed_and_denied and bool(table.names_of(verdict.call.number))
+
+    whole = checked_report.verdict
+    if whole is None or not whole.fails or whole.call is None or is_telling(whole):
+        return checked_report
+    shown = next((named.verdict for named in calls_of() if is_telling(named.verdict)), None)
+    if shown is None:
+        return checked_report
+    sides = [f"{line.partition(' ')[0]} {answer.line}"
+             for line, answer in zip(checked_report.lines[2:4], (shown.filters, shown.profile))]
+    lines = (checked_report.lines[0], shown.call.line, *sides)
+    return replace(checked_report, lines=(*lines, *checked_report.lines[4:]), verdict=replace(
+        whole, call=shown.call, filters=shown.filters, profile=shown.profile))
 
 
 def compared(filters: Sequence[bytes], profile: bytes, tables: Tables, words: Sequence[str]) -> Report:
@@ -221,7 +247,7 @@ def compared(filters: Sequence[bytes], profile: bytes, tables: Tables, words: Se
 
 @dataclass(frozen=True)
 class Decision:
-    """What `scf run` or `scf decide` printed for a record: an answer and how many instructions ran, or a fault."""
+    """The output of `scf run` or `scf decide` for a record: an answer and how many instructions ran, or a fault."""
 
     line: str
     answer: Answer | None = None
@@ -231,29 +257,8 @@ class Decision:
 
 def decision(text: str) -> Decision:
     line = text.split("\n", 1)[0]
-    found = re.fullmatch(r"(\w+ \w+)(?: steps ([0-9]+))?", line)
-    answer = Answer.read(found[1]) if found else None
-    if answer is None or found is None:
+    match = re.fullmatch(r"(\w+ \w+)(?: steps ([0-9]+))?", line)
+    answer = Answer.read(match[1]) if match else None
+    if answer is None or match is None:
         return Decision(line, fault=Fault.read(line))
-    return Decision(line, answer, int(found[2]) if found[2] else None)
-
-
-def check_answers(found: Report, filters: Sequence[bytes], others: Sequence[bytes] | None = None) -> Report:
-    """The same report, once filters, oldest first, have answered each call in it again, and so have the others that
-    they were compared with. The tools compare more filters than those that they are given; raises InternalError where
-    what would be shown isn't the answer of these."""
-    shown = [it for it in (found.verdict, *(call.verdict for call in found.calls)) if it is not None]
-    for call, left, right in dict.fromkeys((it.call, it.filters, it.profile) for it in shown):
-        # (a record without its instruction pointer can't be answered)
-        if call is not None and call.pointer is not None:
-            _check_answer(call, left, filters)
-            if others is not None:
-                _check_answer(call, right, others)
-    return found
-
-
-def _check_answer(call: Call, answer: Answer | None, filters: Sequence[bytes]) -> None:
-    again = decision(client.run(["decide", *call.words()], bundles.of_stack(filters)).text)
-    if answer is None or again.answer != answer:
-        raise program.InternalError(f"the filters answer {again.answer or again.line} where {answer} would be shown, "
-                                    f"to {' '.join(call.words())}")
+    return Decision(line, answer, int(match[2]) if match[2] else None)

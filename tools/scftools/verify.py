@@ -11,6 +11,7 @@ from . import (client, compare, compare_output, engines, filters, output, profil
 from .compare import Comparison
 from .filters import Filter
 from .processes import Inspection, Kernel, Stack, threads_text
+from .ptrace import PROC_PID_INIT_INO
 from .runtimes import AppliedProfile
 from .stack_comparison import StackComparison
 from .tables import Table
@@ -32,8 +33,6 @@ CONFIG = "config.json"
 IDENTIFIER, SHORT = Pattern("(?<![0-9a-f])[0-9a-f]{64}(?![0-9a-f])"), 12
 # The file that a runtime keeps of a container of root's, in a folder with its identifier below /run/RUNTIME.
 STATES = {"runc": "state.json", "crun": "status"}
-# linux/proc_fs.h: the inode of the machine's own PID namespace.
-PROC_PID_INIT_INO = 0xEFFFFFFC
 
 
 class ContainerError(Exception):
@@ -51,7 +50,7 @@ class Block:
     # by architecture the least number that runc answers with ENOSYS, if it does so here
     stub: dict[str, int] = field(default_factory=dict)
     # the scope of the comparison
-    scope: str = verdicts.NATIVE
+    scope: str = verdicts.NATIVE_SCOPE
     # whether a container's configuration has a profile, as in UNCONFINED
     configured: bool | None = None
 
@@ -80,6 +79,8 @@ class Request:
     applied: AppliedProfile | None = None
     # the OCI names of architectures of which another profile speaks
     elsewhere: tuple[str, ...] = ()
+    # those of which nothing is known
+    unknown: tuple[str, ...] = ()
     # whether the profile is what a container's configuration says, and that has one
     configured: bool | None = None
 
@@ -95,21 +96,21 @@ class Request:
     def is_accepted(self) -> bool:
         """Whether scf takes the profile, or leaves it to the runtimes, which accept two answers to a syscall, and two
         conditions on one argument."""
-        judged = tables.of_profile(self.profile, self.table, self.scope == verdicts.NATIVE)
+        judged = tables.of_profile(self.profile, self.table, self.scope == verdicts.NATIVE_SCOPE)
         fault = compare.left_out(self.profile, judged).fault
         return fault is None or fault.kind in ("Conflict", "RepeatedIndex")
 
     def judge(self, stack: Stack) -> Block:
         comparison = self.comparison(stack.named)
-        stub, scope = comparison.stub, self.scope or comparison.scope
-        status, report, has_stub = comparison.run_with_stub(scope, stub)
-        return Block(stack, status, comparison, report, stub if has_stub else {}, scope)
+        scope = self.scope or comparison.scope
+        status, report, has_stub = comparison.run_with_stub(scope)
+        return Block(stack, status, comparison, report, comparison.stub if has_stub else {}, scope)
 
     def comparison(self, stack: Sequence[Filter], relation: str | None = None) -> Comparison:
         """The comparison of filters with the profile."""
         origins, stub = (None, {}) if self.applied is None else (self.applied.origins, self.applied.stub)
         return Comparison(stack, self.profile, self.table, relation or self.relation, origins, stub,
-                          is_native=self.scope == verdicts.NATIVE)
+                          is_native=self.scope == verdicts.NATIVE_SCOPE)
 
     def notes(self, block: Block) -> Iterator[str]:
         """What is added to scf's lines."""
@@ -119,8 +120,8 @@ class Request:
         yield from compare_output.foreign_lines(block.comparison, block.report, block.scope)
 
     def as_json(self, block: Block) -> dict[str, object]:
-        own = compare_output.as_json(block.comparison, block.report, block.scope, block.status)
-        return {**own, "stub": block.stub} if block.stub else own
+        members = compare_output.as_json(block.comparison, block.report, block.scope, block.status)
+        return {**members, "stub": block.stub} if block.stub else members
 
 
 def configuration_in(data: bytes) -> dict[str, Any] | None:
@@ -142,12 +143,12 @@ def configuration_in(data: bytes) -> dict[str, Any] | None:
 
 
 def seccomp_in(value: Any, name: str) -> dict[str, Any] | None:
-    """What a configuration with this name says about seccomp, as a config.json with nothing else in it, or None if it
-    says nothing. Runtimes read only `linux.seccomp`, whatever else is in it; runc takes one without an action and
-    without syscalls for none (SetupSeccomp of specconv), and crun starts no container with it."""
+    """The seccomp part of a configuration with this name, as a config.json with nothing else in it, or None if it says
+    nothing. Runtimes read only `linux.seccomp`, whatever else is in it; runc takes one without an action and without
+    syscalls for none (SetupSeccomp of specconv), and crun starts no container with it."""
     linux = member(value, "linux", name)
     seccomp = None if linux is None else member(linux, "seccomp", name)
-    says = [profiles.folded(it) for it in ("defaultAction", "syscalls")]
+    says = [profiles.folded(member_name) for member_name in ("defaultAction", "syscalls")]
     is_empty = isinstance(seccomp, dict) and not any(it for one, it in seccomp.items() if profiles.folded(one) in says)
     return None if seccomp is None or is_empty else {"linux": {"seccomp": seccomp}}
 
@@ -156,7 +157,7 @@ def member(value: Any, wanted: str, path: str) -> Any:
     """A member of an object in a configuration; refused if a runtime in Go also reads another one as it."""
     if not isinstance(value, dict):
         raise ContainerError(f"'{path}' isn't a container's configuration")
-    others = [it for it in value if it != wanted and profiles.folded(it) == wanted]
+    others = [name for name in value if name != wanted and profiles.folded(name) == wanted]
     if others:
         raise ContainerError(f"'{path}' has a member '{others[0]}', which runc reads as {wanted} and crun doesn't")
     return value.get(wanted)
@@ -164,21 +165,23 @@ def member(value: Any, wanted: str, path: str) -> Any:
 
 def identifiers_in(text: str) -> list[str]:
     """The identifiers of containers in a text."""
-    return [it[0] for it in IDENTIFIER.finditer(text)]
+    return [match[0] for match in IDENTIFIER.finditer(text)]
 
 
 def identifiers_of(kernel: Kernel, process: int) -> list[str]:
     """The identifiers of containers in the paths of a process's control groups."""
-    return [it for group in kernel.groups_of(process).values() for it in identifiers_in(os.fsdecode(group))]
+    return [identifier for group in kernel.groups_of(process).values()
+            for identifier in identifiers_in(os.fsdecode(group))]
 
 
 def other_runtime(identifiers: Sequence[str], runtime: str | None) -> str | None:
     """The line on the runtime of a container with one of these identifiers, where its own files show that it is another
     one than was said."""
-    said = runtimes.RUNTIMES[runtime].program if runtime is not None else None
+    runtime_program = runtimes.RUNTIMES[runtime].program if runtime is not None else None
     for name, file in STATES.items():
-        folder = next((f"/run/{name}/{it}" for it in identifiers if os.path.exists(f"/run/{name}/{it}/{file}")), None)
-        if folder is not None and name != said:
+        folders = (f"/run/{name}/{identifier}" for identifier in identifiers)
+        folder = next((folder for folder in folders if os.path.exists(f"{folder}/{file}")), None)
+        if folder is not None and name != runtime_program:
             return f"the container's runtime is {name}, by {folder}: --runtime {name} reads the profile as it does"
     return None
 
@@ -193,10 +196,10 @@ def why_not_its(kernel: Kernel, process: int, config: dict[str, Any]) -> str | N
     linux = linux if isinstance(linux, dict) else {}
     who = f"process {process} ({output.escaped(kernel.name_of(process))})"
     path, spaces = linux.get("cgroupsPath"), linux.get("namespaces")
-    stated, known = identifiers_in(path) if isinstance(path, str) else [], identifiers_of(kernel, process)
-    if stated and known and stated[-1] not in known:
+    stated, actual = identifiers_in(path) if isinstance(path, str) else [], identifiers_of(kernel, process)
+    if stated and actual and stated[-1] not in actual:
         return (f"the configuration is that of the container {stated[-1][:SHORT]}, and {who} is in the container "
-                f"{known[-1][:SHORT]}")
+                f"{actual[-1][:SHORT]}")
     makes_space = isinstance(spaces, list) and {"type": "pid"} in spaces
     if makes_space and [inode for _, inode in kernel.namespaces_of(process)] == [PROC_PID_INIT_INO]:
         return f"{who} is in no container with this configuration, which has a PID namespace of its own"
@@ -256,28 +259,31 @@ class SavedRequest:
         return stack_comparison.as_json(block.comparison, block.report, block.scope, block.status)
 
 
-def blocks_of(found: Inspection, judge: Callable[[Stack], Any], unfiltered: Callable[[Stack, int], Any]) -> list[Any]:
+def blocks_of(inspection: Inspection, judge: Callable[[Stack], Any],
+              unfiltered: Callable[[Stack, int], Any]) -> list[Any]:
     """A block for each distinct stack, the worst first, and before all that of threads that aren't confined; a fault of
     all stacks is reported once."""
     # strict mode allows four syscalls, which no profile can express
-    unconfined = [unfiltered(it, program.NEGATIVE) for it in found.stacks if not it.filters and not it.is_strict]
-    made: list[Any] = [unfiltered(it, program.UNKNOWN) for it in found.stacks if it.is_strict]
-    for stack in found.stacks:
+    unconfined = [unfiltered(stack, program.NEGATIVE)
+                  for stack in inspection.stacks if not stack.filters and not stack.is_strict]
+    made: list[Any] = [unfiltered(stack, program.UNKNOWN) for stack in inspection.stacks if stack.is_strict]
+    for stack in inspection.stacks:
         if stack.filters and not any(block.is_of_all for block in made):
             made.append(judge(stack))
-    return unconfined + sorted(made, key=lambda it: client.rank(it.status))
+    return unconfined + sorted(made, key=lambda block: client.rank(block.status))
 
 
-def blocks(found: Inspection, request: Request | SavedRequest) -> list[Block]:
+def blocks(inspection: Inspection, request: Request | SavedRequest) -> list[Block]:
     """The blocks of stacks that are compared."""
-    return blocks_of(found, request.judge, lambda stack, status: Block(stack, status, configured=request.configured))
+    return blocks_of(inspection, request.judge,
+                     lambda stack, status: Block(stack, status, configured=request.configured))
 
 
-def of_threads(stack: Stack, found: Inspection) -> Iterator[str]:
+def of_threads(stack: Stack, inspection: Inspection) -> Iterator[str]:
     """Which threads have a stack: a line for each process."""
     for process, threads in stack.threads.items():
-        who = f"process {process} ({output.escaped(found.names[process])})"
-        count = sum(len(it.threads.get(process, ())) for it in found.stacks)
+        who = f"process {process} ({output.escaped(inspection.names[process])})"
+        count = sum(len(other_stack.threads.get(process, ())) for other_stack in inspection.stacks)
         if len(threads) < count:
             line = f"{threads_text(threads)} of {who} {'have' if len(threads) > 1 else 'has'} {stack.description}"
         else:
@@ -288,7 +294,7 @@ def of_threads(stack: Stack, found: Inspection) -> Iterator[str]:
         yield line
 
 
-def lines(made: Sequence[Block], found: Inspection, request: Request | SavedRequest, is_verbose: bool = False) -> \
+def lines(made: Sequence[Block], inspection: Inspection, request: Request | SavedRequest, is_verbose: bool = False) -> \
         Iterator[str]:
     """The text output: scf's lines for each block, with --verbose also the skipped names, and then added lines,
     marked by `# `."""
@@ -305,22 +311,22 @@ def lines(made: Sequence[Block], found: Inspection, request: Request | SavedRequ
             yield from output.notes(request.notes(replace(block, report=report)))
         elif request.configured is not None:
             yield block.verdict or ""
-        yield from output.notes(of_threads(block.stack, found))
-    yield from output.notes(found.notes)
+        yield from output.notes(of_threads(block.stack, inspection))
+    yield from output.notes(inspection.notes)
 
 
-def _block_json(block: Block, found: Inspection, request: Request | SavedRequest) -> dict[str, object]:
-    own: dict[str, object] = {"status": block.status, "verdict": block.verdict}
+def _block_json(block: Block, inspection: Inspection, request: Request | SavedRequest) -> dict[str, object]:
+    members: dict[str, object] = {"status": block.status, "verdict": block.verdict}
     if block.report is not None:
-        own = request.as_json(block)
-    return {**own, **block.stack.as_json(found.names)}
+        members = request.as_json(block)
+    return {**members, **block.stack.as_json(inspection.names)}
 
 
-def as_json(made: Sequence[Block], found: Inspection, request: Request | SavedRequest, container: str | None) -> \
+def as_json(made: Sequence[Block], inspection: Inspection, request: Request | SavedRequest, container: str | None) -> \
         dict[str, object]:
-    """The same as `lines`, as one object, with the container: the verdict is that of the worst stack."""
-    scope = request.scope or next((it.scope for it in made if it.report is not None), verdicts.NATIVE)
+    """The object with everything that `lines` prints, and the container: the verdict is that of the worst stack."""
+    scope = request.scope or next((block.scope for block in made if block.report is not None), verdicts.NATIVE_SCOPE)
     return {"status": made[0].status, "scope": scope, "verdict": made[0].verdict, "container": container,
-            "stacks": [_block_json(block, found, request) for block in made],
-            "passed_over": [{"process": process, "why": why} for process, why in found.passed_over.items()],
-            "asked_again": [{"process": process, "thread": thread} for process, thread in found.asked_again]}
+            "stacks": [_block_json(block, inspection, request) for block in made],
+            "passed_over": [{"process": process, "why": why} for process, why in inspection.passed_over.items()],
+            "asked_again": [{"process": process, "thread": thread} for process, thread in inspection.asked_again]}

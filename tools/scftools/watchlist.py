@@ -114,13 +114,13 @@ class Watch:
 
     def __init__(self, one: Architecture, table: Table, found: Sequence[Region] | None):
         self.architecture, self.table, self.is_finished = one, table, found is not None
-        self._numbers, self._sets = Numbers(found or (), one), Sets(one.bits, Steps())
+        self._numbers, self._sets = Numbers(found, one), Sets(one.bits, Steps())
         self._allowed: dict[str, tuple[Region, tuple[int, ...]] | None] = {}
 
     def has(self, name: str) -> bool:
         return self.table.number_of(name) is not None
 
-    def _regions_of(self, name: str) -> list[Region]:
+    def regions_of(self, name: str) -> list[Region]:
         """The regions of a syscall; none if it has no number."""
         number = self.table.number_of(name)
         return [] if number is None else self._numbers.of(self.architecture.first + number)
@@ -133,7 +133,7 @@ class Watch:
 
     def _find_allowed(self, name: str) -> tuple[Region, tuple[int, ...]] | None:
         sets, those = self._sets, meant()[name]
-        for one in self._regions_of(name):
+        for one in self.regions_of(name):
             if one.answer is not None and one.answer.allows:
                 found = sets.both(arguments_of(sets, one), sets.union(sets.of_conditions(it) for it in those))
                 if found:
@@ -142,7 +142,7 @@ class Watch:
 
     def denied(self, name: str) -> Region | None:
         """A region in which a syscall isn't allowed."""
-        return next((it for it in self._regions_of(name) if it.answer is not None and not it.answer.allows), None)
+        return next((it for it in self.regions_of(name) if it.answer is not None and not it.answer.allows), None)
 
     def how(self, name: str) -> str | None:
         """How a syscall is allowed, None if it isn't: a verdict if that is undecided."""
@@ -153,7 +153,7 @@ class Watch:
     def at(self, name: str, first: int = 0) -> Region | None:
         """The region of a syscall with this first argument, and zeros behind it."""
         given = {index: first if index == 0 else 0 for index in range(6)}
-        return next((it for it in self._regions_of(name) if it.has(given)), None)
+        return next((it for it in self.regions_of(name) if it.has(given)), None)
 
     def users(self, one: Needed) -> list[str]:
         """The users of a syscall that are allowed, or of which that is undecided."""
@@ -202,12 +202,28 @@ def _allowed(name: str, danger: Dangerous, watch: Watch, owners: Owners) -> Find
                     **owners.as_json()})
 
 
+def _allowed_by_default(names: Sequence[str], owners: Owners) -> Finding:
+    """Several dangerous syscalls that the default always allows, so that one change of the profile denies them all."""
+    return Finding("dangerous-call", f"the default allows {len(names)} syscalls{owners.where} that make a sandbox "
+                   f"useless: {listed(names, 'and')}",
+                   {"names": list(names), "reasons": {name: dangerous()[name].reason for name in names},
+                    "is_always": True, "entry": None, **owners.as_json()})
+
+
 def of_dangerous(judged: Tables, watches: Mapping[str, Watch]) -> Iterator[Finding]:
-    """The dangerous syscalls that are allowed, or of which that is undecided."""
+    """The dangerous syscalls that are allowed, or of which that is undecided; what the default allows together."""
+    by_default: dict[Owners, list[str]] = {}
     for name, danger in dangerous().items():
         how = {one: watch.how(name) for one, watch in watches.items() if watch.has(name)}
-        for _, owners in by_owners(how, judged):
-            yield _allowed(name, danger, watches[owners.first], owners)
+        for answer, owners in by_owners(how, judged):
+            allowed = watches[owners.first].allowed(name)
+            if answer == ALWAYS and allowed and allowed[0].entry is None:
+                by_default.setdefault(owners, []).append(name)
+            else:
+                yield _allowed(name, danger, watches[owners.first], owners)
+    for owners, names in by_default.items():
+        yield _allowed_by_default(names, owners) if len(names) > 1 else \
+            _allowed(names[0], dangerous()[names[0]], watches[owners.first], owners)
 
 
 def _lacking(one: Needed, watch: Watch, owners: Owners) -> Finding:

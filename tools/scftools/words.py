@@ -7,11 +7,11 @@ import types
 from collections.abc import Iterable
 
 from . import client, output, program, standard_input, tables, verdicts
-from .values import Any, NoReturn
+from .values import Any, NoReturn, Pattern
 
 # argparse imports gettext, and looks for translations of its messages at each start: the tools have none.
 sys.modules.setdefault("gettext", types.SimpleNamespace(  # type: ignore
-    gettext=str, ngettext=lambda one, several, count: one if count == 1 else several))
+    gettext=str, ngettext=lambda singular, several, count: singular if count == 1 else several))
 
 import argparse  # noqa: E402 pylint: disable=wrong-import-position
 
@@ -20,12 +20,28 @@ ARCH_HELP = ("the architecture of the syscalls{}, and of the table if none is gi
              "[default: this machine's{}]")
 # Options that few need, which -h leaves out, and the most others that it shows.
 COMMON, MOST_IN_SHORT = ("--color", "--limit", "--splits", "--strict", "--table", "--version"), 5
+OBJECT_NAME, LONGEST_OBJECT_NAME = Pattern(r"[a-z0-9]([-a-z0-9]*[a-z0-9])?(\.[a-z0-9]([-a-z0-9]*[a-z0-9])?)*"), 253
 OF_DISPOSITION = "only check that both sides deny, delegate and allow the same"
+
+
+def is_object_name(text: str) -> bool:
+    """Whether a text is a name of Kubernetes' objects (RFC 1123, section 2.1)."""
+    return len(text) <= LONGEST_OBJECT_NAME and OBJECT_NAME.fullmatch(text) is not None
+
+
+def _object_name(text: str) -> str:
+    """The name of an object of Kubernetes."""
+    if not is_object_name(text):
+        raise argparse.ArgumentTypeError(f"'{text}' isn't a name of small letters, digits, '-' and '.'")
+    return text
+
+
 # The options and arguments that several tools take.
 SHARED: dict[str, dict[str, Any]] = {
     "--arch": {"metavar": "ARCH", "help": ARCH_HELP.format("", "")},
     "--architectures": {"action": "store_true", "help": argparse.SUPPRESS},
-    **{name: {"metavar": "N", "help": argparse.SUPPRESS} for name in ("--nr-from", "--nr-to", "--total-limit")},
+    **{name: {"metavar": "N", "help": argparse.SUPPRESS}
+       for name in ("--nr-from", "--nr-to", "--reading", "--total-limit")},
     "--caps": {"metavar": "LIST",
                "help": "PROFILE is an engine's own: resolve it, as resolve-profile does, for a container with these "
                        "capabilities, such as docker, podman, none or CAP_KILL,SYS_ADMIN"},
@@ -34,10 +50,14 @@ SHARED: dict[str, dict[str, Any]] = {
                         "second time"},
     "--html": {"metavar": "FILE", "help": "also write a page of HTML"},
     "--json": {"action": "store_true", "help": "print one JSON object instead of lines (JSON.md says what it holds)"},
+    "--kubernetes": {"metavar": "NAME", "type": _object_name,
+                     "help": "print a SeccompProfile of Kubernetes' Security Profiles Operator by this name"},
     "--keep-first": {"action": "store_true",
-                     "help": "of two answers to a syscall, both without conditions, keep the first, as libseccomp "
-                             "does"},
-    **{f"--{name}": {"metavar": "N", "help": text} for name, text in client.LIMITS.items()},
+                     "help": "of two answers to a syscall, both without conditions, keep the first that isn't the "
+                             "default's, as runc and crun do"},
+    **{f"--{name}": {"metavar": "N", "help": text} for name, text in client.LIMIT_OPTIONS.items()},
+    "--machine": {"choices": ("amd64", "arm64"),
+                  "help": "the machine for whose containers an engine's profile is resolved [default: this one]"},
     "--native": {"action": "store_true", "help": "x86-64 alone, whatever architectures the profile names"},
     "--strict": {"action": "store_true",
                  "help": "refuse a profile with members that nothing reads, which may be misspelt"},
@@ -90,8 +110,8 @@ class Parser(argparse.ArgumentParser):
     def __init__(self, doc: str, needs: str = "", command: str | None = None):
         self.command, self.record_words = command, lambda options: []
         text, _, examples = doc.partition("\nExamples:\n")
-        (summary, usage, *rest), name = text.split("\n\n"), output.escaped(program.name())
-        statuses = [it for it in rest if it.startswith(("Exit status:", "The exit status is"))]
+        (summary, usage, *paragraphs), name = text.split("\n\n"), output.escaped(program.name())
+        statuses = [text for text in paragraphs if text.startswith(("Exit status:", "The exit status is"))]
         # (a percent sign would be argparse's)
         usage = re.sub(r"(?m)^    (?:scf )?[\w/-]+", lambda _: f"    {name}", usage)
         usage = re.sub("(?m)^   ", " " * len("usage:"), usage)
@@ -110,16 +130,17 @@ class Parser(argparse.ArgumentParser):
         """The given words; for what makes completions of the options, these are printed instead."""
         if sys._xoptions.get("scf") == "options":  # pylint: disable=protected-access
             output.put_json({"options": [
-                {"names": it.option_strings, "help": (it.help or "").split(" [default")[0],
-                 "value": None if it.nargs == 0 else it.metavar or "", "choices": it.choices and [*it.choices]}
-                for it in self._actions if it.option_strings and it.help != argparse.SUPPRESS]})
+                {"names": action.option_strings, "help": (action.help or "").split(" [default")[0],
+                 "value": None if action.nargs == 0 else action.metavar or "",
+                 "choices": action.choices and [*action.choices]}
+                for action in self._actions if action.help != argparse.SUPPRESS]})
             program.finish(program.SUCCESS)
         for argument in self._actions if self.command is not None else ():
             # (argparse would ask for files)
             argument.required = argument.required and bool(argument.option_strings)
         options = super().parse_args(*given, **named)
         output.color = options.color
-        texts = {name: getattr(options, name, None) for name in client.LIMITS}
+        texts = {name: getattr(options, name, None) for name in client.LIMIT_OPTIONS}
         client.limits = {name: text for name, text in texts.items() if text is not None}
         if self.command is not None:
             standard_input.take(self, options)
@@ -131,24 +152,30 @@ class Parser(argparse.ArgumentParser):
                 self.print_usage(sys.stderr)
         except (OSError, AttributeError):
             pass
-        raise program.ToolError(message + self._nearest(message))
+        raise program.ToolError(self._misspelt(message) or message)
 
-    def _nearest(self, message: str) -> str:
-        """The option that a misspelt one may be."""
-        found = re.match("unrecognized arguments: (--?[A-Za-z0-9-]+)", message)
-        flags = [flag for it in self._actions if it.help != argparse.SUPPRESS for flag in it.option_strings]
-        near = tables.most_like(found[1].lower(), flags) if found else None
-        return f"; the nearest is {near}" if near else ""
+    def _misspelt(self, message: str) -> str | None:
+        """The message on an unknown option, with the nearest one, where words are unknown or too few."""
+        if not message.startswith(("unrecognized arguments: -", "the following arguments are required: ")):
+            return None
+        given = (word.partition("=")[0] for word in sys.argv[1:])
+        flags = [flag for action in self._actions for flag in action.option_strings]
+        wrong = next((it for it in given if re.fullmatch("--?[A-Za-z][A-Za-z0-9-]+", it) and it not in flags), None)
+        shown = [flag for action in self._actions if action.help != argparse.SUPPRESS for flag in action.option_strings]
+        near = tables.most_like(wrong.lower(), shown) if wrong is not None else None
+        return f"unrecognized arguments: {wrong}; the nearest is {near}" if near else None
 
     def print_help(self, file: Any = None, is_short: bool = False) -> None:
         """Prints the help like any other output."""
         output.put(self._format_short() if is_short else self.format_help())
-        output.put("".join(["\nexamples:\n", *(f"  {it}\n" for it in self.examples)] if self.examples else []))
+        if self.examples:
+            output.put("".join(["\nexamples:\n", *(f"  {example}\n" for example in self.examples)]))
 
     def _format_short(self) -> str:
-        own = [it for it in self._actions if it.help != argparse.SUPPRESS
-               and not {"-h", "--help"}.union(COMMON).intersection(it.option_strings)]
-        files, options = ([it for it in own if bool(it.option_strings) == is_option] for is_option in (False, True))
+        shown_actions = [action for action in self._actions if action.help != argparse.SUPPRESS
+                         and not {"-h", "--help"}.union(COMMON).intersection(action.option_strings)]
+        files = [action for action in shown_actions if not action.option_strings]
+        options = [action for action in shown_actions if action.option_strings]
         formatter = self._get_formatter()
         formatter.add_usage(self.usage, self._actions, [])
         formatter.add_text(self.description)
@@ -172,7 +199,7 @@ class Parser(argparse.ArgumentParser):
 
     def scope(self, native: str, of_all: str = "") -> None:
         """Adds `--native` and `--calls`, on request `--all`."""
-        self.one_of("scope", None, ("--native", verdicts.NATIVE, native), ("--all", verdicts.ALL, of_all),
+        self.one_of("scope", None, ("--native", verdicts.NATIVE_SCOPE, native), ("--all", verdicts.ALL, of_all),
                     ("--calls", verdicts.CALLS, "each syscall that a table names by itself, and no other"))
 
     def relation(self, text: str = "only check that nothing is {} than the profile", of_disposition: str = "") -> None:

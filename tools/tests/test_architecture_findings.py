@@ -6,6 +6,7 @@ import sys
 import unittest
 
 from support.common import I386, TOP, Case
+from support.oci import ALLOW, ERRNO, NATIVE, X32, X86, condition, entry, profile
 from support.seccomp_library import NEEDED, Library, answer_of
 from support.stand_in import StandIn, unpacked, words_of
 
@@ -15,30 +16,17 @@ import kernel_profiles  # noqa: E402
 from scftools import architecture_findings, entries, tables  # noqa: E402
 from scftools.calls import Call  # noqa: E402
 
-ALLOW, ERRNO = "SCMP_ACT_ALLOW", "SCMP_ACT_ERRNO"
-NATIVE, X86, X32, AARCH64, ARM, S390 = (f"SCMP_ARCH_{it}" for it in ("X86_64", "X86", "X32", "AARCH64", "ARM", "S390"))
+AARCH64, ARM, S390 = map("SCMP_ARCH_{}".format, ("AARCH64", "ARM", "S390"))
 OPERATORS = ("NE", "LT", "LE", "EQ", "GE", "GT", "MASKED_EQ")
 WORD = 1 << 32
-
-
-def condition(index, op, value, two=0):
-    return {"index": index, "op": f"SCMP_CMP_{op}", "value": value, "valueTwo": two}
-
-
-def entry(*names, args=(), action=ALLOW):
-    return {"names": list(names), "action": action, **({"args": list(args)} if args else {})}
-
-
-def profile(*found, architectures=(NATIVE, X86, X32), **members):
-    return {"defaultAction": ERRNO, "architectures": list(architectures), **members, "syscalls": list(found)}
 
 
 class Linted(Case):
     def found(self, kind, given, *words):
         status, out, err = self.run_tool("lint", "--json", *words, self.file("p.json", json.dumps(given)))
         self.assertEqual((status, err), (0, ""))
-        findings = [it for it in json.loads(out)["findings"] if it["kind"] == kind]
-        return [{name: value for name, value in it.items() if name != "grade"} for it in findings]
+        findings = [finding for finding in json.loads(out)["findings"] if finding["kind"] == kind]
+        return [{name: value for name, value in finding.items() if name != "grade"} for finding in findings]
 
 
 class Wide(Linted):
@@ -55,17 +43,17 @@ class Wide(Linted):
 
     def test_where_no_such_rule_is(self):
         """No architecture of 32 bits is named, or has the syscall, or the entry answers as the default does."""
-        one = condition(0, "EQ", WORD)
+        wide = condition(0, "EQ", WORD)
         for architectures, names, action, there in (
                 ((NATIVE, X86), ["personality"], ALLOW, ["i386"]), ((NATIVE, AARCH64), ["personality"], ALLOW, []),
                 ((NATIVE,), ["personality"], ALLOW, []), ((NATIVE, AARCH64, ARM), ["read"], ALLOW, ["arm"]),
                 ((NATIVE, X86, X32), ["newfstatat"], ALLOW, ["x32"]), ((NATIVE, X86), ["newfstatat"], ALLOW, []),
                 ((NATIVE, X86, X32), ["personality"], ERRNO, []), ((NATIVE, X86), ["send"], ALLOW, []),
                 ((NATIVE, X86), ["bind"], ALLOW, ["i386"])):
-            found = self.found("wide", profile(entry(*names, args=[one], action=action), architectures=architectures))
-            self.assertEqual([name for it in found for name in it["architectures"]], there, (architectures, names))
-        found = self.found("wide", profile(entry("send", args=[condition(1, "EQ", WORD)])))
-        self.assertEqual(found[0]["architectures"], ["i386"])
+            actual = self.found("wide", profile(entry(*names, args=[wide], action=action), architectures=architectures))
+            self.assertEqual([name for item in actual for name in item["architectures"]], there, (architectures, names))
+        actual = self.found("wide", profile(entry("send", args=[condition(1, "EQ", WORD)])))
+        self.assertEqual(actual[0]["architectures"], ["i386"])
 
     @NEEDED
     def test_where_libseccomp_does_something_else(self):
@@ -78,11 +66,12 @@ class Wide(Linted):
             given = profile(entry("personality", args=[condition(0, op, value, two)]), entry("read"))
             program, allowed = unpacked(library.filter_of(given)), answer_of(ALLOW, None)
             number = tables.of_architecture(X86).number_of("personality")
-            arguments = {(it + step) % WORD for it in (*values, value, two) for step in (0, 1, -1)}
-            differs = any((machine.answer(program, words_of(Call(number, I386, arguments=(it, *[0] * 5)))) == allowed)
-                          != kernel_profiles.holds(given["syscalls"][0]["args"][0], [it]) for it in arguments)
-            found = list(architecture_findings.of_wide(entries.read(json.dumps(given).encode())))
-            self.assertEqual(bool(found), differs, (op, hex(value), hex(two)))
+            calls = [Call(number, I386, arguments=((constant + step) % WORD, *[0] * 5))
+                     for constant in (*values, value, two) for step in (0, 1, -1)]
+            differs = any((machine.answer(program, words_of(call)) == allowed)
+                          != kernel_profiles.holds(given["syscalls"][0]["args"][0], call.arguments) for call in calls)
+            actual = list(architecture_findings.of_wide(entries.read(json.dumps(given).encode())))
+            self.assertEqual(bool(actual), differs, (op, hex(value), hex(two)))
             seen.add((op, differs))
         self.assertEqual(len(seen), 2 * len(OPERATORS))
 
@@ -111,8 +100,8 @@ class Unlisted(Linted):
                 (["mmap2"], (NATIVE, S390), []), (["mmap2"], (NATIVE, "SCMP_ARCH_I387"), ["mmap2"])):
             given = profile(entry(*names))
             given["architectures"] = architectures
-            found = self.found("unlisted", given)
-            self.assertEqual([name for it in found for name in it["names"]], lacking, (names, architectures))
+            actual = self.found("unlisted", given)
+            self.assertEqual([name for item in actual for name in item["names"]], lacking, (names, architectures))
 
     def test_a_table_of_ones_own(self):
         given, table = profile(entry("set_tls", "read")), self.file("table", "set_tls 600\nread 0\n")
@@ -120,8 +109,8 @@ class Unlisted(Linted):
 
     def test_names_that_no_architecture_has_are_unknown(self):
         given = profile(entry("set_tls", "no_such_call"))
-        self.assertEqual([it["names"] for it in self.found("unlisted", given)], [["set_tls"]])
-        self.assertEqual([it["name"] for it in self.found("unknown-name", given)], ["no_such_call"])
+        self.assertEqual([item["names"] for item in self.found("unlisted", given)], [["set_tls"]])
+        self.assertEqual([item["name"] for item in self.found("unknown-name", given)], ["no_such_call"])
 
 
 if __name__ == "__main__":

@@ -5,14 +5,13 @@ import re
 import sys
 import unittest
 
-from support.common import ALLOW, EPERM, I386, TOP, X86_64, Case, jeq, load, ret
+from support.common import ALLOW, EPERM, I386, TOP, X32, X86_64, Case, jeq, load, ret
 
 sys.path.append(os.path.join(TOP, "tools"))
 
 from scftools import architectures, program  # noqa: E402
 
 AUDIT, MACHINES = "/usr/include/linux/audit.h", "/usr/include/linux/elf-em.h"
-X32 = 0x40000000
 # Each answers ERRNO 1 to one architecture, and allows all else.
 I386_ALONE, AARCH64_ALONE = (load(4) + jeq(number, 0, 1) + ret(EPERM) + ret(ALLOW) for number in (I386, 0xC00000B7))
 NUMBER_41_OF_X32 = load(0) + jeq(X32 + 41, 0, 1) + ret(EPERM) + ret(ALLOW)
@@ -26,12 +25,12 @@ def numbers_of_headers():
         text = audit.read().replace("\\\n", " ")
         values = dict(re.findall(r"#define\s+(EM_\w+)\s+(\d+)", machines.read()))
     values.update(re.findall(r"#define\s+(__AUDIT_ARCH_\w+)\s+(0x[0-9a-f]+)", text))
-    found = {}
+    actual = {}
     for name, parts in re.findall(r"#define\s+AUDIT_ARCH_(\w+)\s+\(([^)]*)\)", text):
         parts = [part.strip() for part in parts.split("|")]
         if all(part in values for part in parts):
-            found[name] = sum(int(values[part], 0) for part in parts)
-    return found
+            actual[name] = sum(int(values[part], 0) for part in parts)
+    return actual
 
 
 class Numbers(unittest.TestCase):
@@ -81,22 +80,22 @@ class Words(Case):
     def test_names_and_audits_hexadecimal(self):
         for word in ("i386", "SCMP_ARCH_X86", "0x40000003", "x86"):
             self.assertEqual(self.answer("--arch", word, "--nr=41", self.i386), "ERRNO 1", word)
-            self.assertEqual(self.answer(f"--arch={word}", self.aarch64), "ALLOW 0", word)
+            self.assertEqual(self.answer(f"--arch={word}", "--nr=0", self.aarch64), "ALLOW 0", word)
         for word in ("aarch64", "c00000b7", "SCMP_ARCH_AARCH64"):
             self.assertEqual(self.answer("--arch", word, "--nr=41", self.aarch64), "ERRNO 1", word)
         self.assertEqual(self.answer("--arch=c000003e", "--nr=socket", self.i386), "ALLOW 0")
         status, out, err = self.run_tool("decide", "--arch=40000003", "--nr=41", self.i386)
         self.assertEqual((status, out), (2, ""))
         self.assertIn("--arch 40000003 is ambiguous: write 0x40000003 for SCMP_ARCH_X86", err)
-        self.assertEqual(self.run_tool("decide", "--arch", "0x1ffffffff", self.i386)[:2][1].split("\n")[0],
+        self.assertEqual(self.run_tool("decide", "--nr=0", "--arch", "0x1ffffffff", self.i386)[:2][1].split("\n")[0],
                          "fault number arch")
 
     def test_an_x32_number_has_its_bit(self):
         for number in ("41", "0x40000029"):
             self.assertEqual(self.answer("--arch=x32", "--nr", number, self.x32), "ERRNO 1")
         self.assertEqual(self.answer("--nr", "41", self.x32), "ALLOW 0")
-        found = json.loads(self.run_tool("decide", "--json", "--arch=x32", self.x32)[1])
-        self.assertEqual(found["calls"][0]["call"]["number"], X32)
+        value = json.loads(self.run_tool("decide", "--nr=0", "--json", "--arch=x32", self.x32)[1])
+        self.assertEqual(value["calls"][0]["call"]["number"], X32)
 
     def test_a_name_is_that_of_the_architecture(self):
         """socket is 359 on i386, 41 of x32, and 198 on aarch64 (asm/unistd*.h)."""
@@ -111,8 +110,8 @@ class Words(Case):
         for word, number in (("i386", 359), ("0x40000003", 359), ("x32", X32 + 41), ("aarch64", 198), ("arm", 281)):
             for words in (("decide", "--nr=socket", self.i386), ("run", "--nr=socket", self.i386),
                           ("ask", "--nr=socket", self.profile), ("decide", "--calls-from", calls, self.i386)):
-                found = json.loads(self.run_tool(words[0], "--json", "--arch", word, *words[1:])[1])
-                self.assertEqual(found["calls"][0]["call"]["number"], number, (word, words))
+                value = json.loads(self.run_tool(words[0], "--json", "--arch", word, *words[1:])[1])
+                self.assertEqual(value["calls"][0]["call"]["number"], number, (word, words))
             shown = "0x40000000 + 41" if word == "x32" else f"{number}"
             self.assertIn(f"# the syscall is socket ({shown})",
                           self.run_tool("list", "--nr=socket", "--arch", word, self.i386)[1])

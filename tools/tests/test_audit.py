@@ -10,9 +10,10 @@ import unittest
 from unittest import mock
 
 from support.common import ALLOW, EPERM, TOP, Case, filter_of, profile_of, ret, tool
+from support import json_schema
 from support.confined import processes
 from support.own_machine import OwnMachine, Systemd
-from scftools import audit, audit_output, container_files, machine, output, tables
+from scftools import audit, audit_output, container_files, firejail_programs, machine, output, tables
 from scftools.values import replace
 
 # What is configured for containers, and the same with one call more.
@@ -69,24 +70,42 @@ time.sleep(1000)
 NO_FILTER = r"\A(unconfined though configured\n)?# process {} \({}\) has no filter: it isn't confined"
 
 
+# Changes the seccomp settings in a state.json of runc, if it is there, to those of standard input.
+RESTATE = """
+import json, os, sys
+if os.path.exists(sys.argv[1]):
+    with open(sys.argv[1]) as file:
+        state = json.load(file)
+    state["config"]["seccomp"] = json.load(sys.stdin)
+    with open(sys.argv[1], "w") as file:
+        json.dump(state, file)
+"""
+
+
 class Audited:
     """What the tool says of a machine."""
 
     def audit(self, *words, status=None, **env):
         """The object that is printed."""
-        found, out, err = self.on(tool("audit"), "--json", *words, **env)
+        ended_with, out, err = self.on(tool("audit"), "--json", *words, **env)
         self.assertFalse(err, err)
-        self.assertIn(found, (1, 4) if status is None else (status,))
+        self.assertIn(ended_with, (1, 4) if status is None else (status,))
         value = json.loads(out)
-        self.assertEqual(value["status"], found)
+        self.assertEqual(value["status"], ended_with)
         return value
 
     def rows(self, *words, status=None, **env):
         """The rows by their kind and name."""
-        return {(it["kind"], it["name"]): it for it in self.audit(*words, status=status, **env)["rows"]}
+        return {(row["kind"], row["name"]): row for row in self.audit(*words, status=status, **env)["rows"]}
 
-    def restate(self, name, seccomp):
-        """Changes what a container's configuration says, after its start."""
+    def restate(self, name, seccomp, keeps=False):
+        """Changes what a container's configuration says, after its start, and unless `keeps` what runc says that it was
+        started with."""
+        kept = None if seccomp is None else {"default_action": 4, "architectures": ["amd64"], "syscalls": [
+            {"name": called, "action": 2, "errnoRet": entry["errnoRet"], "args": []}
+            for entry in seccomp["syscalls"] for called in entry["names"]]}
+        if not keeps:
+            self.on("/usr/bin/python3", "-c", RESTATE, f"/run/runc/{name}/state.json", given=json.dumps(kept).encode())
         path = os.path.join(self.folder, "bundles", name, "config.json")
         with open(path, encoding="utf-8") as file:
             config = json.load(file)
@@ -99,16 +118,17 @@ class Audited:
 class Programs(Audited, OwnMachine):
     def test_confined_programs(self):
         """Each executable with a filter has a row, with the processes of each stack; the others are counted."""
-        one, two = filter_of([0, 1, 317]), filter_of([0, 1, 2])
-        numbers = self.crowd(("alpha", [one], 3, 1), ("beta", [one, two], 2, 2), ("gamma", [], 4, 1))
+        first, two = filter_of([0, 1, 317]), filter_of([0, 1, 2])
+        numbers = self.crowd(("alpha", [first], 3, 1), ("beta", [first, two], 2, 2), ("gamma", [], 4, 1))
         value = self.audit()
         (row,) = value["rows"]
         self.assertEqual((row["kind"], row["verdict"]), ("program", "stricter"))
         self.assertEqual(row["name"], os.path.realpath("/usr/bin/python3"))
-        parts = {tuple(value["stacks"][it["stack"]]["filters"]): it for it in row["parts"]}
-        self.assertEqual({key: sorted(it["process"] for it in part["processes"]) for key, part in parts.items()},
-                         {(len(one) // 8,): numbers[:3], (len(one) // 8, len(two) // 8): numbers[3:5]})
-        self.assertEqual([it["threads"] for it in parts[len(one) // 8, len(two) // 8]["processes"]], [2, 2])
+        parts = {tuple(value["stacks"][part["stack"]]["filters"]): part for part in row["parts"]}
+        self.assertEqual({lengths: sorted(process["process"] for process in part["processes"])
+                          for lengths, part in parts.items()},
+                         {(len(first) // 8,): numbers[:3], (len(first) // 8, len(two) // 8): numbers[3:5]})
+        self.assertEqual([process["threads"] for process in parts[len(first) // 8, len(two) // 8]["processes"]], [2, 2])
         # those without a filter, the first process of the machine, and the audit's shell, if there is one
         self.assertEqual(value["processes"], {"confined": 5, "unconfined": 5, "unread": 0})
         self.assertEqual(value["left_out"], ["processes outside of the PID namespace that this tool runs in"])
@@ -116,19 +136,41 @@ class Programs(Audited, OwnMachine):
             self.assertEqual(self.on("cat", f"/proc/{number}/wchan")[0], 0)
             self.assertRegex(self.on("grep", "TracerPid", f"/proc/{number}/status")[1], r"TracerPid:\t0\n")
 
+    def test_since_an_earlier_audit(self):
+        """Of programs without a configuration the lines have only the count; the object has all changes."""
+        self.crowd(("alpha", [filter_of([0])], 1, 1))
+        value = self.audit()
+        name, count = value["rows"][0]["name"], "other confined programs: stricter 1"
+        status, out, err = self.on(tool("audit"), "--since", self.file("same.json", json.dumps(value)))
+        self.assertEqual((status, err), (4, ""))
+        lines = out.splitlines()
+        self.assertIn(f"# nothing changed since {value['time']}", lines)
+        self.assertIn(f"# {count}; without a configuration, and listed by --programs: 1", lines)
+        self.assertNotIn(name, out)
+        value["rows"][0]["name"] = "/bin/gone"
+        path = self.file("earlier.json", json.dumps(value))
+        since = self.audit("--since", path)["since"]
+        self.assertEqual((since["time"], [(change["change"], change["row"]) for change in since["changes"]]),
+                         (value["time"], [("new", f"program {name}"), ("gone", "program /bin/gone")]))
+        lines = self.on(tool("audit"), "--since", path, "--programs")[1].splitlines()
+        for line in (f"stricter: program {name}: 1 process", f"# {count}",
+                     f"# new since {value['time']}: program {name}: stricter",
+                     f"# gone since {value['time']}: program /bin/gone (was stricter)"):
+            self.assertIn(line, lines)
+
 
     def test_many_threads_and_hostile_names(self):
         """A process with many threads, and names that try to be lines and labels: each is one text."""
         hostile = ["x\n# done", 'a"} 1\nb', "\x1b[2J", "y\\", "\udcff"]
-        self.crowd(("many", [filter_of([0])], 1, 300), *((it, [filter_of([0])], 1, 1) for it in hostile))
+        self.crowd(("many", [filter_of([0])], 1, 300), *((item, [filter_of([0])], 1, 1) for item in hostile))
         (row,) = self.audit()["rows"]
         (part,) = row["parts"]
-        self.assertEqual([it["threads"] for it in part["processes"]], [300, 1, 1, 1, 1, 1])
-        self.assertEqual([it["name"] for it in part["processes"]],
+        self.assertEqual([process["threads"] for process in part["processes"]], [300, 1, 1, 1, 1, 1])
+        self.assertEqual([process["name"] for process in part["processes"]],
                          ["many", "x\\x0a# done", 'a"} 1\\x0ab', "\\x1b[2J", "y\\", "\\xff"])
-        status, out, err = self.on(tool("audit"))
+        status, out, err = self.on(tool("audit"), "--programs")
         self.assertEqual((status, err), (4, ""))
-        self.assertTrue(all(line.startswith(("stricter: ", "# ")) for line in out.splitlines()), out)
+        self.assertEqual({line[:10] for line in out.splitlines() if line[:2] != "# "}, {"stricter: "}, out)
         self.assertTrue(out.replace("\n", "").isprintable())
 
     def test_one_that_cannot_be_stopped(self):
@@ -142,10 +184,10 @@ class Programs(Audited, OwnMachine):
         self.assertEqual(self.on("sh", "-c", script)[0], 0)
         self.addCleanup(self.on, "sh", "-c", f"echo THAWED >{freezer}/freezer.state")
         (row,) = self.audit(status=4)["rows"]
-        self.assertEqual((row["verdict"], [it["verdict"] for it in row["parts"]]),
+        self.assertEqual((row["verdict"], [part["verdict"] for part in row["parts"]]),
                          ("not known", ["not known", "stricter"]))
         self.assertIn("its control group is frozen", row["parts"][0]["why"])
-        self.assertEqual([it["process"] for it in row["parts"][0]["processes"]], numbers[2:])
+        self.assertEqual([process["process"] for process in row["parts"][0]["processes"]], numbers[2:])
         self.on("sh", "-c", f"echo THAWED >{freezer}/freezer.state")
         self.assertEqual(self.audit(status=4)["rows"][0]["verdict"], "stricter")
 
@@ -159,7 +201,7 @@ class Programs(Audited, OwnMachine):
             (row,) = value["rows"]
             stay = [part for part in row["parts"] if part["stack"] is not None and
                     value["stacks"][part["stack"]]["filters"] == [9]]
-            self.assertEqual([it["process"] for it in stay[0]["processes"]], numbers)
+            self.assertEqual([process["process"] for process in stay[0]["processes"]], numbers)
 
     def test_what_is_expected_of_all(self):
         """--expect and --baseline: of programs, too."""
@@ -181,7 +223,7 @@ class Containers(Audited, OwnMachine):
     def test_each_verdict(self):
         """Containers of runc and crun; what their configurations say is changed after their start."""
         self.container("runc", "same", STATED)
-        self.container("crun", "more", STATED, change=lambda it: it["linux"].pop("cgroupsPath"))
+        self.container("crun", "more", STATED, change=lambda config: config["linux"].pop("cgroupsPath"))
         self.container("runc", "errno", STATED)
         self.container("runc", "less", STRICTER)
         self.container("runc", "open", None)
@@ -189,15 +231,64 @@ class Containers(Audited, OwnMachine):
         for name, stated in (("more", STRICTER), ("errno", OTHER_ERRNO), ("less", STATED), ("lost", STATED)):
             self.restate(name, stated)
         rows = self.rows()
-        self.assertEqual({name: it["verdict"] for (_, name), it in rows.items()},
+        self.assertEqual({name: row["verdict"] for (_, name), row in rows.items()},
                          {"same": "as configured", "more": "weaker", "errno": "otherwise", "less": "stricter",
                           "open": "unconfined by configuration", "lost": "unconfined though configured"})
         self.assertEqual([name for _, name in rows][:2], ["lost", "open"])
-        self.assertEqual({(it["engine"], it["runtime"]) for it in rows.values()}, {("runc", "runc"), ("crun", "crun")})
+        self.assertEqual({(row["engine"], row["runtime"]) for row in rows.values()},
+                         {("runc", "runc"), ("crun", "crun")})
         (part,) = rows["container", "more"]["parts"]
         self.assertEqual((part["call"]["names"], part["filter"]["action"], part["profile"]),
                          (["chroot"], "ALLOW", {"action": "ERRNO", "data": 1, "errno": "EPERM"}))
         self.assertEqual(rows["container", "same"]["profile"]["source"], f"{self.folder}/bundles/same/config.json")
+
+    def test_a_configuration_that_changed(self):
+        """A container of runc is judged by what it was started with, which runc keeps."""
+        entries = [*STATED["syscalls"], {"names": ["swapon"], "action": "SCMP_ACT_KILL_PROCESS", "args": [
+            {"index": 1, "value": 7, "valueTwo": 3, "op": "SCMP_CMP_MASKED_EQ"},
+            {"index": 0, "value": 7, "op": "SCMP_CMP_NE"}]}, {"names": ["swapoff"], "action": "SCMP_ACT_LOG"}]
+        stated = {**STATED, "syscalls": entries}
+        self.container("runc", "same", stated)
+        self.container("runc", "more", stated)
+        self.container("runc", "open", None)
+        for name in ("more", "open"):
+            self.restate(name, STRICTER, keeps=True)
+        rows = {name: row for (_, name), row in self.rows("--allow-unconfined", status=4).items()}
+        self.assertEqual({name: (row["verdict"], row["profile"].get("changed")) for name, row in rows.items()}, {
+            "same": ("as configured", None), "more": ("as configured", True),
+            "open": ("unconfined by configuration", True)})
+        said = self.on(tool("audit"))[1]
+        for name in ("more", "open"):
+            self.assertIn(f"\n    {self.folder}/bundles/{name}/config.json has changed: judged is the profile that "
+                          "the container was started with\n", said)
+        self.assertNotIn("bundles/same/config.json", said)
+
+    def test_one_of_lxc(self):
+        """Its configuration, and the policy that this names through a file that it includes."""
+        if not shutil.which("lxc-start"):
+            self.skipTest("there is no LXC here")
+        where = "/var/lib/lxc/scf-web"
+        policy = self.file("policy", "2\ndenylist\nmount errno 1\nsocket errno 1 [0,16,==]\n")
+        included = self.file("more.conf", f"lxc.seccomp.profile = {policy}\n")
+        config = ("lxc.net.0.type = none\nlxc.rootfs.path = dir:{0}/root\nlxc.mount.auto = proc:mixed\n"
+                  "lxc.mount.entry = /usr usr none bind,ro 0 0\nlxc.pty.max = 1\nlxc.init.cmd = /usr/bin/sleep 1000\n"
+                  "lxc.include = {1}\n").format(where, included)
+        script = (f"mount -t tmpfs tmpfs /var/lib/lxc && cd {os.path.dirname(where)} && mkdir -p scf-web/root/usr "
+                  "scf-web/root/proc scf-web/root/dev scf-web/root/sys && cat >scf-web/config && "
+                  "for it in bin lib lib64 sbin; do ln -s usr/$it scf-web/root/$it; done; "
+                  "lxc-start -d -n scf-web && lxc-wait -n scf-web -s RUNNING -t 10")
+        status, out, err = self.on("sh", "-c", script, given=config.encode())
+        if status:
+            self.skipTest(f"LXC starts no container here: {out + err}")
+        self.addCleanup(self.on, "lxc-stop", "-k", "-n", "scf-web")
+        row = self.rows("--allow-unconfined")["container", "scf-web"]
+        self.assertEqual((row["engine"], row["verdict"], row["profile"]["source"]), ("LXC", "as configured", policy))
+        self.file("policy", "2\ndenylist\nmount errno 1\nsync errno 1\n")
+        row = self.rows("--allow-unconfined", status=1)["container", "scf-web"]
+        self.assertEqual((row["verdict"], row["parts"][0]["call"]["names"]), ("weaker", ["sync"]))
+        self.file("policy", "2\ndenylist\nmount log\n")
+        row = self.rows("--allow-unconfined", status=4)["container", "scf-web"]
+        self.assertIn("line 3: 'log' isn't an action of LXC", row["profile"]["why"])
 
     def test_processes_brought_in(self):
         """One that enters a container without its filter is unconfined though configured."""
@@ -208,21 +299,21 @@ class Containers(Audited, OwnMachine):
         if self.on("timeout", "300", "sh", "-c", script)[0]:
             self.skipTest("nothing can be brought into a container here")
         (row,) = self.audit(status=1)["rows"]
-        self.assertEqual((row["verdict"], [it["verdict"] for it in row["parts"]]),
+        self.assertEqual((row["verdict"], [part["verdict"] for part in row["parts"]]),
                          ("unconfined though configured", ["unconfined though configured", "as configured"]))
 
     def groups_of(self, name):
         """The folders of a container's control groups, by their hierarchies."""
-        found = {os.path.basename(os.path.dirname(os.path.dirname(it))): it
-                 for it in glob.glob(f"/sys/fs/cgroup/*/{self.group}/{name}")}
-        if not {"pids", "systemd"} <= found.keys():
+        folders = {os.path.basename(os.path.dirname(os.path.dirname(path))): path
+                   for path in glob.glob(f"/sys/fs/cgroup/*/{self.group}/{name}")}
+        if not {"pids", "systemd"} <= folders.keys():
             self.skipTest("there are no control groups of version 1 here")
-        return found
+        return folders
 
     def verify_all(self, name):
         """What verify-process --all says of a container, given its process."""
-        pid = next(it for row in self.audit()["rows"] if row["name"] == name for part in row["parts"]
-                   if part["stack"] is not None for it in part["processes"])["process"]
+        pid = next(process for row in self.audit()["rows"] if row["name"] == name for part in row["parts"]
+                   if part["stack"] is not None for process in part["processes"])["process"]
         return self.on(tool("verify-process"), "--all", "--runtime", "runc", str(pid),
                        f"{self.folder}/bundles/{name}/config.json")
 
@@ -269,7 +360,7 @@ class Containers(Audited, OwnMachine):
         if status:
             self.skipTest(f"crun starts no container of a user here: {(out + err).strip()}")
         rows = self.rows()
-        self.assertEqual({name: (it["verdict"], it["users"]) for name, it in rows.items()},
+        self.assertEqual({name: (row["verdict"], row["users"]) for name, row in rows.items()},
                          {("container", "mine"): ("as configured", [12345])})
 
     def test_files_that_raise(self):
@@ -287,8 +378,8 @@ class Containers(Audited, OwnMachine):
             self.on("sh", "-c", f"mkdir -p /run/{os.path.dirname(name)}; cat >/run/{name}",
                     given=json.dumps(state).encode())
         value = self.audit(status=4)
-        rows = {it["name"]: it for it in value["rows"]}
-        self.assertEqual({name: it["verdict"] for name, it in rows.items()}, {
+        rows = {row["name"]: row for row in value["rows"]}
+        self.assertEqual({name: row["verdict"] for name, row in rows.items()}, {
             "box": "as configured", **dict.fromkeys(("labels", "text", "config"), "not known")})
         self.assertIn("'/run/crun/list/status' isn't an object", value["left_out"])
         self.assertIn("name no bundle", rows["labels"]["profile"]["why"])
@@ -305,10 +396,10 @@ class Containers(Audited, OwnMachine):
         if status:
             self.skipTest(f"runc starts no second container here: {(out + err).strip()}")
         rows = self.audit(status=1)["rows"]
-        self.assertEqual([(it["name"], it["verdict"]) for it in rows],
+        self.assertEqual([(row["name"], row["verdict"]) for row in rows],
                          [("web", "unconfined by configuration"), ("web", "as configured")])
         self.assertEqual(rows[1]["parts"][0]["processes"][0]["process"], pid)
-        self.assertEqual(len({it["id"] for it in rows}), 2)
+        self.assertEqual(len({row["id"] for row in rows}), 2)
 
 
 class Users(Audited, OwnMachine):
@@ -339,8 +430,8 @@ class Users(Audited, OwnMachine):
         """A bundle of the user's."""
         path = self.file(f"{name}/config.json", json.dumps(
             {"linux": {} if seccomp is None else {"seccomp": seccomp}}) if text is None else text)
-        for it in (path, os.path.dirname(path)):
-            os.chown(it, self.USER, self.USER)
+        for place in (path, os.path.dirname(path)):
+            os.chown(place, self.USER, self.USER)
         return os.path.dirname(path)
 
     def test_a_row_of_root(self):
@@ -353,11 +444,11 @@ class Users(Audited, OwnMachine):
             rows = self.audit(*words, status=1)["rows"]
             self.assertIn(f"container web (crun, of user {self.USER}, /run/user/{self.USER}/crun/web): 1 process\n",
                           self.on(tool("audit"))[1])
-            self.assertEqual([(it["name"], it["verdict"]) for it in rows], [
+            self.assertEqual([(row["name"], row["verdict"]) for row in rows], [
                 ("web", "unconfined though configured"), ("web", "unconfined by configuration")])
-            self.assertEqual([it["id"] for it in rows],
+            self.assertEqual([row["id"] for row in rows],
                              ["web", f"web of /run/user/{self.USER}/crun/web"])
-            self.assertEqual([it["user"] for it in rows], [None, self.USER])
+            self.assertEqual([row["user"] for row in rows], [None, self.USER])
 
     def test_a_name_of_a_group(self):
         """A group that is named as an engine names that of root's container is another row."""
@@ -370,10 +461,10 @@ class Users(Audited, OwnMachine):
         os.makedirs(group)
         self.assertEqual(self.on("sh", "-c", f"echo {number} >{group}/cgroup.procs")[0], 0)
         rows = self.audit("--allow-unconfined", status=1)["rows"]
-        self.assertEqual({(it["engine"], it["verdict"]) for it in rows},
+        self.assertEqual({(row["engine"], row["verdict"]) for row in rows},
                          {("runc", "unconfined though configured"), ("podman", "not known")})
-        self.assertEqual([it["profile"].get("why") for it in rows], [None, "no file of a runtime describes it"])
-        ids = {it["engine"]: it["id"] for it in rows}
+        self.assertEqual([row["profile"].get("why") for row in rows], [None, "no file of a runtime describes it"])
+        ids = {row["engine"]: row["id"] for row in rows}
         self.assertEqual(ids["runc"], IDENTIFIER)
         self.assertTrue(ids["podman"].startswith(f"{IDENTIFIER} of /{self.group}/mine/libpod-"), ids)
 
@@ -400,7 +491,7 @@ class Users(Audited, OwnMachine):
         script = f"mkdir b c; mkfifo b/status; ln -s {state} c/status; chown -hR {self.USER} ."
         self.assertEqual(self.on("sh", "-c", f"cd /run/user/{self.USER}/crun && {script}")[0], 0)
         value = self.audit(status=4)
-        self.assertEqual([it["kind"] for it in value["rows"]], ["program"])
+        self.assertEqual([row["kind"] for row in value["rows"]], ["program"])
         self.assertIn(f"2 of the folders of containers of user {self.USER}: '/run/user/{self.USER}/crun/b/status' "
                       f"isn't a regular file", value["left_out"])
 
@@ -417,12 +508,12 @@ class Users(Audited, OwnMachine):
         self.assertEqual((row["name"], row["verdict"], row["user"]), ("web", "unconfined though configured", None))
         # the first process of a container of root's
         self.on("kill", "-9", str(number))
-        self.container("runc", "inner", None, change=lambda it: it["process"].update(
+        self.container("runc", "inner", None, change=lambda config: config["process"].update(
             user={"uid": self.USER, "gid": self.USER}))
         self.restate("inner", STATED)
-        rows = {it["name"]: it for it in self.audit(status=1)["rows"]}
+        rows = {row["name"]: row for row in self.audit(status=1)["rows"]}
         self.says("mine", rows["inner"]["parts"][0]["processes"][0]["process"], self.users_bundle())
-        rows = {it["name"]: it for it in self.audit("--allow-unconfined", status=1)["rows"]}
+        rows = {row["name"]: row for row in self.audit("--allow-unconfined", status=1)["rows"]}
         self.assertEqual((set(rows), rows["inner"]["verdict"]), ({"web", "inner"}, "unconfined though configured"))
 
     def test_what_only_root_can_read(self):
@@ -465,7 +556,7 @@ class Users(Audited, OwnMachine):
                 self.skipTest("no file system in user space can be mounted here")
             self.addCleanup(self.on, "umount", "-l", where)
         value = self.audit(status=4)
-        self.assertEqual([(it["name"], it["verdict"]) for it in value["rows"]],
+        self.assertEqual([(row["name"], row["verdict"]) for row in value["rows"]],
                          [("other", "not known"), ("web", "as configured")])
         self.assertIn(f"1 of the folders of containers of user {self.USER}: '/run/user/{self.USER}/crun' leads into a "
                       f"file system of user {self.USER}", value["left_out"])
@@ -484,7 +575,7 @@ class Users(Audited, OwnMachine):
                   "print(time.monotonic() - began, resource.getrusage(resource.RUSAGE_CHILDREN).ru_maxrss)")
         _, out, err = self.on("/usr/bin/python3", "-c", script, tool("audit"), "--json")
         value = json.loads(err)
-        rows = {it["name"]: it["verdict"] for it in value["rows"]}
+        rows = {row["name"]: row["verdict"] for row in value["rows"]}
         self.assertEqual(rows.pop("web"), "unconfined though configured")
         seconds, kibibytes = map(float, out.split())
         return value, rows, seconds, kibibytes * 1024
@@ -520,7 +611,7 @@ class Users(Audited, OwnMachine):
         self.assertEqual(set(rows.values()), {"not known"})
         self.assertLess(seconds, 15)
         self.assertLess(size, 300 << 20)
-        (line,) = [it for it in value["left_out"] if f"of user {self.USER}" in it]
+        (line,) = [line for line in value["left_out"] if f"of user {self.USER}" in line]
         self.assertRegex(line, r"\A[0-9]+ rows of user 12345: to judge all of this user takes longer than 5 s")
         path = f"{self.folder}/scf.prom"
         self.on(tool("audit"), "--prometheus", path)
@@ -532,10 +623,10 @@ def rootless(config):
     """Changes a configuration for a user who isn't root, as `runc spec --rootless` does."""
     config["linux"].pop("cgroupsPath")
     config["linux"].pop("resources", None)
-    config["linux"]["namespaces"] = [it for it in config["linux"]["namespaces"]
-                                     if it["type"] not in ("network", "cgroup")] + [{"type": "user"}]
+    config["linux"]["namespaces"] = [namespace for namespace in config["linux"]["namespaces"]
+                                     if namespace["type"] not in ("network", "cgroup")] + [{"type": "user"}]
     config["linux"]["uidMappings"] = config["linux"]["gidMappings"] = [{"containerID": 0, "hostID": 12345, "size": 1}]
-    config["mounts"] = [it for it in config["mounts"] if it["destination"] in ("/proc", "/dev", "/dev/shm")]
+    config["mounts"] = [mount for mount in config["mounts"] if mount["destination"] in ("/proc", "/dev", "/dev/shm")]
 
 
 class Units(Audited, OwnMachine):
@@ -569,7 +660,7 @@ class Units(Audited, OwnMachine):
         path = self.file("bin/systemctl", f"#!/bin/sh\ncat <<'END'\n{text}\nEND\n")
         os.chmod(path, 0o755)
         rows = self.rows(PATH=f"{self.folder}/bin:/usr/bin:/bin")
-        self.assertEqual({name: it["verdict"] for (_, name), it in rows.items()},
+        self.assertEqual({name: row["verdict"] for (_, name), row in rows.items()},
                          {"lost.service": "unconfined though configured", "none.service": "unconfined by configuration",
                           "more.service": "weaker", "gone.service": "not known", "same.service": "as configured"})
         self.assertEqual({kind for kind, _ in rows}, {"unit"})
@@ -578,8 +669,8 @@ class Units(Audited, OwnMachine):
         # without systemd nothing is known of them, but that two aren't confined
         path = self.file("bin/systemctl", "#!/bin/sh\necho no bus >&2\nexit 1\n")
         rows = self.rows(PATH=f"{self.folder}/bin:/usr/bin:/bin")
-        self.assertEqual({it["verdict"] for it in rows.values()}, {"not known"})
-        self.assertEqual([name for (_, name), it in rows.items() if it["is_unconfined"]],
+        self.assertEqual({row["verdict"] for row in rows.values()}, {"not known"})
+        self.assertEqual([name for (_, name), row in rows.items() if row["is_unconfined"]],
                          ["lost.service", "none.service"])
         self.assertIn("no bus", rows["unit", "same.service"]["profile"]["why"])
 
@@ -633,11 +724,11 @@ class Pods(Podman, OwnMachine):
             if status:
                 self.skipTest(f"podman starts no pod here: {err.strip()}")
         watching = self.on("sh", "-c", "grep -lx conmon /proc/[0-9]*/comm | cut -d / -f 3")[1].split()
-        groups = "".join(self.on("cat", f"/proc/{it}/cgroup")[1] for it in watching)
+        groups = "".join(self.on("cat", f"/proc/{process_id}/cgroup")[1] for process_id in watching)
         self.assertRegex(groups, f"/{self.group}/[0-9a-f]{{64}}/conmon\n")
         rows = self.audit("--allow-unconfined", status=4)["rows"]
-        self.assertEqual([it["verdict"] for it in rows], ["as configured"] * 2, rows)
-        self.assertEqual({it["name"][-5:] for it in rows}, {"front", "infra"})
+        self.assertEqual([row["verdict"] for row in rows], ["as configured"] * 2, rows)
+        self.assertEqual({row["name"][-5:] for row in rows}, {"front", "infra"})
 
 
 class Node(Podman, Systemd):
@@ -689,15 +780,15 @@ class Node(Podman, Systemd):
         self.container_in(self.bundle("open", None), ["crun"], "open")
         self.start_users()
         self.start_pod()
-        numbers = self.crowd(*((f"crowd{it}", [filter_of([0, it])], 10, 1) for it in range(1, 21)))
+        numbers = self.crowd(*((f"crowd{number}", [filter_of([0, number])], 10, 1) for number in range(1, 21)))
         rows = self.rows(status=1)
-        self.assertEqual({name: it["verdict"] for (_, name), it in rows.items()}, {
+        self.assertEqual({name: row["verdict"] for (_, name), row in rows.items()}, {
             "scf-same.service": "as configured", "scf-more.service": "weaker",
             "scf-none.service": "unconfined by configuration", "box": "as configured",
             "open": "unconfined by configuration", "mine": "as configured", "front": "as configured",
             "back": "as configured", "admin": "as configured", "free": "unconfined by configuration",
             os.path.realpath("/usr/bin/python3"): "stricter"})
-        self.assertEqual({name: it["engine"] for (kind, name), it in rows.items() if kind == "container"}, {
+        self.assertEqual({name: row["engine"] for (kind, name), row in rows.items() if kind == "container"}, {
             "box": "runc", "open": "crun", "mine": "crun",
             **dict.fromkeys(("front", "back", "admin", "free"), "podman")})
         pods = {rows["container", name]["pod"] for name in ("front", "back")}
@@ -707,8 +798,8 @@ class Node(Podman, Systemd):
         (call,) = [part["call"] for part in rows["unit", "scf-more.service"]["parts"]]
         self.assertEqual(call["names"], ["chroot"])
         (row,) = [row for (kind, _), row in rows.items() if kind == "program"]
-        found = sorted(it["process"] for part in row["parts"] for it in part["processes"])
-        self.assertEqual((len(row["parts"]), found), (20, sorted(numbers)))
+        numbers_of_row = sorted(process["process"] for part in row["parts"] for process in part["processes"])
+        self.assertEqual((len(row["parts"]), numbers_of_row), (20, sorted(numbers)))
 
 
 class Service(Audited, Systemd):
@@ -768,8 +859,8 @@ class Belonging(Case):
                                ("/", None), ("/box/ssh.service", None), ("/../ssh.service", None),
                                ("/system.slice/a\nb.service", None)):
             for hierarchy in ("", "name=systemd"):
-                found = container_files.unit_of(process(groups={hierarchy: path.encode()}))
-                self.assertEqual(found, expected, path)
+                unit = container_files.unit_of(process(groups={hierarchy: path.encode()}))
+                self.assertEqual(unit, expected, path)
 
     kernel = mock.Mock(group_owner=lambda *_: None)
 
@@ -782,11 +873,52 @@ class Belonging(Case):
                                    ("/system.slice/runc-box.scope", "runc", "box"),
                                    ("/lxc.payload.box/init.scope", "LXC", "box"),
                                    ("/machine.slice/machine-box.scope/payload", "systemd-nspawn", "box")):
-            found = container_files.named_container(process(groups={"": path.encode()}), self.kernel)
-            self.assertEqual((found.engine, found.identifier), (engine, name), path)
+            container = container_files.named_container(process(groups={"": path.encode()}), self.kernel)
+            self.assertEqual((container.engine, container.identifier), (engine, name), path)
         for path in ("/system.slice/x.service", f"/machine.slice/libpod-conmon-{IDENTIFIER}.scope",
                      f"/system.slice/crio-conmon-{IDENTIFIER}.scope"):
             self.assertIsNone(container_files.named_container(process(groups={"": path.encode()}), self.kernel), path)
+
+
+class Firejail(Case):
+    """Programs that firejail confines, by its own files on the profiles of sandboxes."""
+
+    def setUp(self):
+        super().setUp()
+        patch = mock.patch.object(firejail_programs, "FOLDER", os.path.join(self.folder, "profile"))
+        patch.start()
+        self.addCleanup(patch.stop)
+        self.profile = self.file("p.profile", "seccomp.drop mkdir\n")
+
+    def started(self, *words):
+        """A process with these words, in place of firejail's, and the sandbox that it started."""
+        child = subprocess.Popen(["sh", "-c", "read x", *words], stdin=subprocess.PIPE)
+        self.addCleanup(child.communicate)
+        self.file(f"profile/{child.pid}", f"{self.profile}\n")
+        return firejail_programs.Sandboxes({child.pid: process(child.pid)}).of_number[child.pid]
+
+    def test_whose_a_process_is(self):
+        for name, path in (("5", self.profile), ("7", "p"), ("x", self.profile), ("9", self.profile)):
+            self.file(f"profile/{name}", f"{path}\n")
+        parents = {1: 1, 5: 1, 6: 5, 7: 6, 8: 1}
+        processes = {number: process(number, parent=parent) for number, parent in parents.items()}
+        sandboxes = firejail_programs.Sandboxes(processes)
+        self.assertEqual({number: found.number for number in processes
+                          if (found := sandboxes.sandbox_of(processes[number])) is not None}, {5: 5, 6: 5, 7: 5})
+        os.chown(os.path.join(self.folder, "profile", "5"), 12345, 12345)
+        self.assertEqual(firejail_programs.Sandboxes(processes).of_number, {})
+
+    def test_what_is_expected(self):
+        expectations = audit.Expectations(audit.Options(tables.read(None)))
+        expected = expectations.of_firejail(self.started("--profile=p", "--", "--seccomp.drop=rmdir"))
+        self.assertEqual((expected.source, expected.asked.unknown), (self.profile, ("SCMP_ARCH_X86",)))
+        self.assertEqual(json.loads(expected.asked.profile)["syscalls"], [
+            {"names": ["mkdir"], "action": "SCMP_ACT_ERRNO", "errnoRet": 1, "comment": "line 1"}])
+        expected = expectations.of_firejail(self.started("--profile=p", "--seccomp.drop=rmdir"))
+        self.assertEqual((expected.asked, expected.why), (None, "firejail was given --seccomp.drop=rmdir"))
+        os.chown(self.profile, 12345, 12345)
+        expected = expectations.of_firejail(self.started())
+        self.assertEqual((expected.asked, expected.why), (None, f"'{self.profile}' may be changed by users"))
 
 
 class Descriptions(Case):
@@ -795,24 +927,24 @@ class Descriptions(Case):
     USER = 12345
     OWN = f"/user.slice/user-{USER}.slice/user@{USER}.service/user.slice/libpod-{IDENTIFIER}.scope"
 
-    def belongs(self, path, *described, is_stated=False, number=7, other=(8, "/"), user=USER, real=None, owner=None,
+    def belongs(self, path, *described, is_stated=False, number=7, neighbour=(8, "/"), user=USER, real=None, owner=None,
                 **settings):
         """The name of the container of a process in this group, beside another process of the user's; descriptions are
         of a name, a first process and a user, and may state a group."""
         kernel = mock.Mock()
         kernel.groups_of.side_effect = lambda _: {"": b"/init.scope"}
         kernel.group_owner.side_effect = lambda *_: owner
-        kernel.status_of.side_effect = lambda it: {
-            "Uid": f"{every[it].user if real is None else real}\t{every[it].user}\t0\t0"}
+        kernel.makers_of_namespaces.return_value = []
+        kernel.status_of.side_effect = lambda number: {
+            "Uid": f"{every[number].user if real is None else real}\t{every[number].user}\t0\t0"}
         every = {number: process(number, groups={"": path.encode()}, user=user, **settings),
-                 other[0]: process(other[0], groups={"": other[1].encode()}, user=self.USER)}
-        made = [container_files.Described(name, "crun", "crun", first, "", folder=f"/{name}", user=its_user,
-                                          groups=tuple(it.encode() for it in groups))
+                 neighbour[0]: process(neighbour[0], groups={"": neighbour[1].encode()}, user=self.USER)}
+        made = [container_files.ContainerDescription(name, "crun", "crun", first, "", folder=f"/{name}", user=its_user,
+                                                     groups=tuple(group.encode() for group in groups))
                 for name, first, its_user, *groups in described]
         members = container_files.Membership(kernel, made, every)
-        with mock.patch.object(container_files, "_owner_of", lambda _: None):
-            found = members.container_of(every[number], is_stated)
-        return None if found is None else found.identifier
+        container = members.container_of(every[number], is_stated)
+        return None if container is None else container.identifier
 
     def test_root_and_a_user(self):
         root, user = ("root", 7, None), ("user", 7, self.USER)
@@ -830,7 +962,7 @@ class Descriptions(Case):
 
     def test_a_group_that_a_user_states(self):
         """It isn't believed, and a named one only in the slices of users."""
-        self.assertIsNone(self.belongs("/x", ("user", 8, self.USER, "/x"), other=(8, "/x")))
+        self.assertIsNone(self.belongs("/x", ("user", 8, self.USER, "/x"), neighbour=(8, "/x")))
         self.assertEqual(self.belongs("/x", ("root", 7, None, "/x")), "root")
         named = f"/machine.slice/libpod-{IDENTIFIER}.scope"
         self.assertEqual(self.belongs(named, ("user", 7, self.USER)), IDENTIFIER)
@@ -850,15 +982,15 @@ class Descriptions(Case):
         """Its processes are the unit's, whatever users say, and whatever their groups are called; root's containers in
         it are containers."""
         path = f"/system.slice/x.service/libpod-{IDENTIFIER}"
-        for described, stated, other in (((("user", 7, self.USER),), None, IDENTIFIER), ((), None, IDENTIFIER),
-                                         ((("root", 7, None),), "root", "root")):
+        for described, stated, expected in (((("user", 7, self.USER),), None, IDENTIFIER), ((), None, IDENTIFIER),
+                                            ((("root", 7, None),), "root", "root")):
             self.assertEqual(self.belongs(path, *described, is_stated=True), stated)
-            self.assertEqual(self.belongs(path, *described), other)
+            self.assertEqual(self.belongs(path, *described), expected)
 
     def test_a_pod(self):
         """The group of a pod, in which root's containers have groups, isn't a container's, wherever it is."""
         pod = f"/mine/{IDENTIFIER}"
-        inside = {"number": 8, "other": (7, f"{pod}/libpod-x")}
+        inside = {"number": 8, "neighbour": (7, f"{pod}/libpod-x")}
         self.assertIsNone(self.belongs(f"{pod}/conmon", ("root", 7, None, f"{pod}/libpod-x"), **inside))
         self.assertEqual(self.belongs(f"{pod}/conmon", **inside), IDENTIFIER)
 
@@ -868,13 +1000,13 @@ class Files(unittest.TestCase):
     libpod/annotations.go of podman), by where these keep their bundles."""
 
     def of(self, bundle, **annotations):
-        one = container_files.Described(IDENTIFIER, "runc", "runc", 7, f"{bundle}/config.json",
-                                        {"annotations": annotations})
-        found = container_files.with_engine(one, container_files.Names())
-        return found.engine, found.name, found.image, found.pod
+        container = container_files.ContainerDescription(IDENTIFIER, "runc", "runc", 7, f"{bundle}/config.json",
+                                                         {"annotations": annotations})
+        described = container_files.with_engine(container, container_files.Names())
+        return described.engine, described.name, described.image, described.pod
 
     def test_containerd(self):
-        cri = {f"io.kubernetes.cri.{name}": it for name, it in (
+        cri = {f"io.kubernetes.cri.{name}": item for name, item in (
             ("container-type", "container"), ("container-name", "web"), ("image-name", "docker.io/library/nginx:1"),
             ("sandbox-id", "ab" * 32), ("sandbox-name", "web-1"), ("sandbox-namespace", "default"))}
         for top in ("/run/containerd", "/run/k3s/containerd"):
@@ -885,16 +1017,16 @@ class Files(unittest.TestCase):
                          ("containerd", None, None, None))
 
     def test_cri_o(self):
-        found = self.of(f"/run/containers/storage/overlay-containers/{IDENTIFIER}/userdata", **{
+        container = self.of(f"/run/containers/storage/overlay-containers/{IDENTIFIER}/userdata", **{
             "io.container.manager": "cri-o", "io.kubernetes.container.name": "web",
             "io.kubernetes.cri-o.ImageName": "docker.io/library/nginx:1", "io.kubernetes.pod.name": "web-1",
             "io.kubernetes.pod.namespace": "default", "io.kubernetes.cri-o.SandboxID": "ab" * 32})
-        self.assertEqual(found, ("CRI-O", "web", "docker.io/library/nginx:1", "default/web-1"))
+        self.assertEqual(container, ("CRI-O", "web", "docker.io/library/nginx:1", "default/web-1"))
 
     def test_podman(self):
-        found = self.of(f"/var/lib/containers/storage/overlay-containers/{IDENTIFIER}/userdata", **{
+        container = self.of(f"/var/lib/containers/storage/overlay-containers/{IDENTIFIER}/userdata", **{
             "io.container.manager": "libpod", "io.kubernetes.cri-o.SandboxID": "ab" * 32})
-        self.assertEqual(found, ("podman", None, None, "ab" * 32))
+        self.assertEqual(container, ("podman", None, None, "ab" * 32))
 
 
 class Limits(Case):
@@ -907,12 +1039,13 @@ class Limits(Case):
         self.snapshot = machine.Snapshot({7: process()}, {(self.stack.filters, False): self.stack})
 
     def row(self, user):
-        return audit.Row(audit.CONTAINER, "box", [process()], audit.Expected(), container_files.Described(
-            "box", "crun", "crun", 7, "/config.json", folder="/box", user=user))
+        container = container_files.ContainerDescription("box", "crun", "crun", 7, "/config.json", folder="/box",
+                                                         user=user)
+        return audit.AuditRow(audit.CONTAINER, "box", [process()], audit.Expectation(), container)
 
     def assessed(self, rows, work):
         """An assessor that has judged rows; `work` is done in place of reading a container's files."""
-        assessor = audit.Assessor(self.snapshot, audit.Expectations(self.options), audit.Judge(self.options.table))
+        assessor = audit.Assessor(self.snapshot, audit.Expectations(self.options), audit.StackJudge(self.options.table))
         with mock.patch.object(container_files, "with_config", work):
             assessor.fill(rows)
         return assessor
@@ -922,24 +1055,24 @@ class Limits(Case):
         for work, seconds in ((lambda *_: time.sleep(60), 0.2), (lambda *_: os._exit(1), 10), (lambda *_: 1 / 0, 10)):
             began = time.monotonic()
             with mock.patch.object(container_files, "_in_roots", work):
-                found = container_files._in_child(None, [], "of user 5", seconds)
-            self.assertEqual((found.described, len(found.left_out)), ([], 1))
-            self.assertIn("the folders of containers of user 5: they can't be read", found.left_out[0])
+                descriptions = container_files._in_child(None, [], "of user 5", seconds)
+            self.assertEqual((descriptions.containers, len(descriptions.left_out)), ([], 1))
+            self.assertIn("the folders of containers of user 5: they can't be read", descriptions.left_out[0])
             self.assertLess(time.monotonic() - began, 5)
 
     def test_roots_that_take_for_ever(self):
         """Whether --runtime-root is a folder isn't waited for, either: a user may answer that."""
         began, options = time.monotonic(), audit.replace(self.options, roots=("/box/*",))
         with mock.patch.object(machine, "read", lambda *_: machine.Snapshot()), \
-                mock.patch.object(container_files, "all_described", lambda *_: container_files.Found()), \
-                mock.patch.object(container_files, "matching", lambda _: time.sleep(20) or []):
-            found = audit.of_machine(options, audit.Judge(self.options.table))
-        self.assertEqual((found.rows, found.snapshot.notes), ([], []))
+                mock.patch.object(container_files, "descriptions_of", lambda *_: container_files.Descriptions()), \
+                mock.patch.object(container_files, "paths_matching", lambda _: time.sleep(20) or []):
+            report = audit.of_machine(options, audit.StackJudge(self.options.table))
+        self.assertEqual((report.rows, report.snapshot.notes), ([], []))
         self.assertLess(time.monotonic() - began, 10)
 
     def test_to_look_again(self):
         """It has no time of a whole pass, which a user's processes could take a second time."""
-        row = audit.Row(audit.UNIT, "x", [process()], audit.Expected(dropped="x"))
+        row = audit.AuditRow(audit.UNIT, "x", [process()], audit.Expectation(dropped="x"))
         snapshot = machine.Snapshot({7: process()}, {((), False): processes.Stack((), False, {7: [7]})})
         with mock.patch.object(machine, "read_more") as again, mock.patch.object(audit, "TO_CONFINE", 0):
             audit._look_again(processes.Kernel(), snapshot, [row], self.options)
@@ -947,18 +1080,18 @@ class Limits(Case):
 
     def test_a_user_who_takes_for_ever(self):
         """Root's row is judged before, and the user's isn't known; another user has time left."""
-        def work(one):
-            if one.user == 5:
+        def work(container):
+            if container.user == 5:
                 time.sleep(60)
-            return container_files.replace(one, why="read")
+            return container_files.replace(container, why="read")
 
         began, rows = time.monotonic(), [self.row(5), self.row(None), self.row(6)]
         with mock.patch.object(audit, "SECONDS_OF_A_USER", 0.5):
             assessor = self.assessed(rows, work)
         self.assertLess(time.monotonic() - began, 10)
-        self.assertEqual([it.expected.why for it in rows],
+        self.assertEqual([row.expected.why for row in rows],
                          ["it isn't looked at: to judge all of this user takes too long", "read", "read"])
-        self.assertEqual({it.verdict for it in rows}, {"not known"})
+        self.assertEqual({row.verdict for row in rows}, {"not known"})
         self.assertEqual(len(assessor.left_out), 1)
         self.assertTrue(assessor.left_out[0].startswith("1 row of user 5: to judge all of this user takes"))
 
@@ -966,43 +1099,43 @@ class Limits(Case):
         """Each has some time, whatever the others before took."""
         budgets = audit.Budgets()
         for user in range(100, 140):
-            left = budgets.of_user(user, 140 - user)
-            self.assertGreaterEqual(left, audit.LEAST_SECONDS)
-            self.assertLessEqual(left, audit.SECONDS_OF_A_USER)
-            budgets.spend(user, left)
-        self.assertEqual(budgets.left, 0)
+            seconds = budgets.of_user(user, 140 - user)
+            self.assertGreaterEqual(seconds, audit.LEAST_SECONDS)
+            self.assertLessEqual(seconds, audit.SECONDS_OF_A_USER)
+            budgets.spend(user, seconds)
+        self.assertEqual(budgets.remaining, 0)
         self.assertEqual({audit.Budgets().of_user(100, count) for count in (78, 500)}, {audit.LEAST_SECONDS + 0.5,
                                                                                        audit.LEAST_SECONDS})
 
     def test_many_identifiers_of_a_user(self):
         """What runs by IDs that a user has in namespaces (subuid(5)) is that user's, and takes no time of others."""
         stacks = [processes.Stack((filter_of([0, at]),), False, {at: [at]}) for at in range(7, 12)]
-        self.snapshot = machine.Snapshot({}, {(it.filters, False): it for it in stacks})
-        row = audit.Row(audit.PROGRAM, "x", [process(at, user=100000 + at, owner=5) for at in range(7, 12)],
-                        audit.Expected())
-        with mock.patch.object(audit, "judged", lambda *_: audit.Judgement(audit.STRICTER)):
+        self.snapshot = machine.Snapshot({}, {(stack.filters, False): stack for stack in stacks})
+        row = audit.AuditRow(audit.OTHER_PROGRAM, "x", [process(at, user=100000 + at, owner=5) for at in range(7, 12)],
+                             audit.Expectation())
+        with mock.patch.object(audit, "judgement_of", lambda *_: audit.StackJudgement(audit.STRICTER)):
             assessor = self.assessed([row], None)
         self.assertEqual(set(assessor.budgets.of), {5})
 
     def test_filters_of_a_user(self):
         """Those of a program and of a unit that only a user's processes have come after root's, and have a budget."""
         stacks = [processes.Stack((filter_of([0, at]),), False, {at: [at]}) for at in range(7, 12)]
-        self.snapshot = machine.Snapshot({it: process(it) for it in range(7, 12)},
-                                         {(it.filters, False): it for it in stacks})
-        rows = [audit.Row(kind, "x", [process(it, user=5) for it in numbers], audit.Expected())
-                for kind, numbers in ((audit.PROGRAM, (7, 8)), (audit.UNIT, (9, 10)))]
+        self.snapshot = machine.Snapshot({number: process(number) for number in range(7, 12)},
+                                         {(stack.filters, False): stack for stack in stacks})
+        rows = [audit.AuditRow(kind, "x", [process(number, user=5) for number in numbers], audit.Expectation())
+                for kind, numbers in ((audit.OTHER_PROGRAM, (7, 8)), (audit.UNIT, (9, 10)))]
         rows[0].processes.append(process(11))
         order = []
 
         def judge(stack, *_):
             order.extend(stack.threads)
             time.sleep(0 if 11 in stack.threads else 0.3)
-            return audit.Judgement(audit.STRICTER)
+            return audit.StackJudgement(audit.STRICTER)
 
-        with mock.patch.object(audit, "SECONDS_OF_A_USER", 0.7), mock.patch.object(audit, "judged", judge):
+        with mock.patch.object(audit, "SECONDS_OF_A_USER", 0.7), mock.patch.object(audit, "judgement_of", judge):
             assessor = self.assessed(rows, None)
         self.assertEqual(order, [11, 7, 8, 9])
-        self.assertEqual([[it.judgement.verdict for it in row.parts] for row in rows],
+        self.assertEqual([[part.judgement.verdict for part in row.parts] for row in rows],
                          [["stricter"] * 3, ["not known", "stricter"]])
         self.assertEqual(assessor.beyond, {5: 1})
 
@@ -1015,17 +1148,17 @@ class Limits(Case):
 
     def test_what_is_kept(self):
         """Some results, and some bytes; what isn't known is asked again."""
-        with mock.patch.object(audit, "MOST_KNOWN", 3), mock.patch.object(audit, "MOST_BYTES", 100):
-            for sizes, left in (([10] * 5, 1), ([60, 30], 2), ([60, 30, 20], 1)):
-                kept = audit.Kept()
+        with mock.patch.object(audit, "MOST_CACHED", 3), mock.patch.object(audit, "MOST_CACHED_BYTES", 100):
+            for sizes, remaining in (([10] * 5, 1), ([60, 30], 2), ([60, 30, 20], 1)):
+                cache = audit.Cache()
                 for at, size in enumerate(sizes):
-                    kept.keep((at,), at, size)
-                self.assertEqual((len(kept.values), kept.values[len(sizes) - 1,]), (left, len(sizes) - 1), sizes)
-        judge = audit.Judge(self.options.table)
-        judge.keep((1,), audit.Judgement(audit.NOT_KNOWN))
-        judge.keep((2,), audit.Judgement(audit.WEAKER))
+                    cache.keep((at,), at, size)
+                self.assertEqual((len(cache.values), cache.values[len(sizes) - 1,]), (remaining, len(sizes) - 1), sizes)
+        judge = audit.StackJudge(self.options.table)
+        judge.keep((1,), audit.StackJudgement(audit.NOT_KNOWN))
+        judge.keep((2,), audit.StackJudgement(audit.WEAKER))
         judge.forget_unknown()
-        self.assertEqual(list(judge.known.values), [(2,)])
+        self.assertEqual(list(judge.judgements.values), [(2,)])
 
 
 class Output(Case):
@@ -1034,11 +1167,12 @@ class Output(Case):
     def setUp(self):
         super().setUp()
         self.table = tables.read(None)
-        container = container_files.Described("ab" * 32, "podman", "crun", 7, "/c", name='a"} 1\nb\\', image="i\x1b[0m")
-        self.row = audit.Row(audit.CONTAINER, container.identifier, [process(name=b"x\n# y")], audit.Expected(),
-                             container)
+        container = container_files.ContainerDescription("ab" * 32, "podman", "crun", 7, "/c", name='a"} 1\nb\\',
+                                                         image="i\x1b[0m")
+        self.row = audit.AuditRow(audit.CONTAINER, container.identifier, [process(name=b"x\n# y")], audit.Expectation(),
+                                  container)
         stack = processes.Stack((filter_of([0]),), False, {7: [7]})
-        self.row.parts = [audit.Part(stack, {7: [7]}, audit.Judgement(audit.NOT_KNOWN, "it\nis"))]
+        self.row.parts = [audit.RowPart(stack, {7: [7]}, audit.StackJudgement(audit.NOT_KNOWN, "it\nis"))]
         snapshot = machine.Snapshot({7: self.row.processes[0]}, {(stack.filters, False): stack})
         self.audit = audit.Audit([self.row], snapshot, 0.0, 1.5)
 
@@ -1073,7 +1207,7 @@ class Output(Case):
         label = re.compile(r'name="((?:[^"\\\n]|\\["\\n])*)",engine=')
         labels = [label.search(self.metrics_of(name))[1] for name in names]
         self.assertEqual(len({*labels}), len(names))
-        self.assertTrue(all(it.isprintable() for it in labels))
+        self.assertTrue(all(label.isprintable() for label in labels))
         self.assertLess(max(map(len, labels)), 2000)
         self.assertEqual(labels[:3], ["a\\\\x0ab", "a\\\\\\\\nb", "a\\\\\\\\x0ab"])
 
@@ -1097,8 +1231,8 @@ class Output(Case):
         """contrib's rules on these metrics: those alerts come that have to, as where the audit sees nothing."""
         rules = os.path.join(TOP, "contrib", "prometheus", "scf.rules.yml")
         self.assertIn("SUCCESS: 5 rules found", self.run_words(["promtool", "check", "rules", rules])[1])
-        unit = audit.Row(audit.UNIT, "a.service", [], audit.Expected())
-        unit.parts = [audit.Part(processes.Stack((), False), {}, audit.Judgement("weaker"))]
+        unit = audit.AuditRow(audit.UNIT, "a.service", [], audit.Expectation())
+        unit.parts = [audit.RowPart(processes.Stack((), False), {}, audit.StackJudgement("weaker"))]
         for rows, left_out, step, alerts in (
                 ([], [], 60, []), ([], ["no filters could be read"], 60, ["ScfNotLookedAt"]),
                 ([], [], 0, ["ScfAuditStale"]), ([self.row], [], 60, ["ScfNotKnown"]), (None, [], 60, ["ScfAuditAbsent"]),
@@ -1111,7 +1245,7 @@ class Output(Case):
             self.file("test.json", json.dumps({"rule_files": [rules], "evaluation_interval": "1m", "tests": [{
                 "interval": "1m", "input_series": series, "promql_expr_test": [{
                     "expr": 'count by (alertname) (ALERTS{alertstate="firing"})', "eval_time": "50m",
-                    "exp_samples": [{"labels": f'{{alertname="{it}"}}', "value": 1} for it in alerts]}]}]}))
+                    "exp_samples": [{"labels": f'{{alertname="{alert}"}}', "value": 1} for alert in alerts]}]}]}))
             status, out, err = self.run_words(["promtool", "test", "rules", "test.json"])
             self.assertEqual(status, 0, (alerts, out, err))
 
@@ -1142,20 +1276,74 @@ class Output(Case):
         self.assertEqual((os.path.islink(path), os.stat(path).st_mode & 0o777), (False, 0o644))
 
     def test_changes(self):
-        before = {("container", "gone"): ("container gone", "weaker"),
-                  ("container", "ab" * 32): ("container x", "as configured")}
-        found = [audit_output.change_text(it) for it in audit_output.changes(before, self.audit)]
-        self.assertEqual(found, ["1970-01-01T00:00:00Z not known: container a\"} 1\\x0ab\\ (podman, i\\x1b[0m, "
-                                 "abababababab) (was as configured)",
-                                 "1970-01-01T00:00:00Z gone: container gone (was weaker)"])
-        self.assertEqual([*audit_output.changes(audit_output.known_rows(self.audit), self.audit)], [])
+        """Rows that are new, gone, or have another verdict, in lines and objects; a key is a container's identifier."""
+        earlier = audit_output.Earlier.of_object({"time": "yes\nterday", "rows": [
+            {"kind": "container", "name": "gone", "verdict": "weaker"},
+            {"kind": "container", "name": "x", "id": "ab" * 32, "verdict": "as configured"},
+            {"kind": "unit", "name": "a.service", "verdict": "weaker"}]})
+        units = [audit.AuditRow(audit.UNIT, name, [], audit.Expectation()) for name in ("a.service", "b.service")]
+        for unit in units:
+            unit.parts = [audit.RowPart(processes.Stack((), False), {}, audit.StackJudgement("weaker"))]
+        self.audit.rows += units
+        changes = [*audit_output.changes(earlier, self.audit)]
+        self.assertEqual([(change["change"], change["verdict"], change["was"]) for change in changes], [
+            ("changed", "not known", "as configured"), ("new", "weaker", None), ("gone", None, "weaker")])
+        name = "container a\"} 1\\x0ab\\ (podman, i\\x1b[0m, abababababab)"
+        self.assertEqual([*map(audit_output.change_text, changes)], [
+            f"1970-01-01T00:00:00Z not known: {name} (was as configured)",
+            "1970-01-01T00:00:00Z weaker: unit b.service",
+            "1970-01-01T00:00:00Z gone: container gone (was weaker)"])
+        lines = [line for line in audit_output.lines(self.audit, self.table, earlier=earlier) if " since " in line]
+        self.assertEqual(lines, [
+            f"# changed since yes\\x0aterday: {name}: not known (was as configured)",
+            "# new since yes\\x0aterday: unit b.service: weaker",
+            "# gone since yes\\x0aterday: container gone (was weaker)"])
+        value = audit_output.as_json(self.audit, self.table, earlier)
+        self.assertEqual(value["since"], {"time": "yes\\x0aterday", "changes": changes})
+        for name, each in (("audit", value), *(("audit-lines", change) for change in changes)):
+            self.assertEqual([*json_schema.faults({"schema": 2, **each}, {"$ref": f"#/$defs/{name}"}, name)], [])
+
+    def test_nothing_changed(self):
+        earlier = audit_output.Earlier.of_object(audit_output.as_json(self.audit, self.table))
+        self.assertEqual([*audit_output.changes(earlier, self.audit)], [])
+        self.assertIn("# nothing changed since 1970-01-01T00:00:00Z",
+                      [*audit_output.lines(self.audit, self.table, earlier=earlier)])
+
+    def test_programs_are_counted(self):
+        """Those without a configuration that don't bear on the status are listed by --programs alone, and so are the
+        changes of them; objects have all."""
+        stated = audit.Expectation(source="x", dropped="x")
+        programs = [audit.AuditRow(audit.OTHER_PROGRAM, name, [], expectation) for name, expectation in (
+            ("fine", audit.Expectation()), ("worse", audit.Expectation()), ("stated", stated))]
+        for row, verdict in zip(programs, ("stricter", "weaker", "stricter")):
+            row.parts = [audit.RowPart(processes.Stack((), False), {}, audit.StackJudgement(verdict))]
+        self.audit.rows = programs
+        gone = {"kind": "program", "verdict": "stricter", "profile": {"source": None, "sha256": None}}
+        earlier = audit_output.Earlier.of_object({
+            "time": "T", "rows": [{**gone, "name": "gone"}, {**gone, "name": "worse"}]})
+        for lists_all, names, changed in ((False, ["worse", "stated"], ["worse", "stated"]),
+                                          (True, ["fine", "worse", "stated"], ["fine", "worse", "stated", "gone"])):
+            lines = [*audit_output.lines(self.audit, self.table, lists_all, earlier)]
+            self.assertEqual([line.split()[2].rstrip(":") for line in lines if line[0] not in " #"], names)
+            self.assertEqual([line.split()[5].rstrip(":") for line in lines if " since " in line], changed)
+            count = "; without a configuration, and listed by --programs: 1"
+            self.assertIn(f"# other confined programs: weaker 1, stricter 2{'' if lists_all else count}", lines)
+        self.assertEqual(len(audit_output.as_json(self.audit, self.table)["rows"]), 3)
+
+    def test_a_reason_stands_once(self):
+        rows = [audit.AuditRow(audit.UNIT, name, [], audit.Expectation()) for name in "abcd"]
+        for row, why in zip(rows, ("slow", "slow", "late", None)):
+            row.parts = [audit.RowPart(processes.Stack((), False), {7: [7]}, audit.StackJudgement("not known", why))]
+        self.audit.rows = rows
+        lines = [line.split(": ", 2)[2] for line in audit_output.lines(self.audit, self.table) if line[0] == " "]
+        self.assertEqual(lines, ["slow", "as for unit a", "late"])
 
     def test_status(self):
         """1 before 4 before 0; what is unconfined by configuration counts, unless it is allowed."""
         def status(*verdicts, allows=False, left_out=()):
-            rows = [audit.Row(audit.UNIT, str(at), [], audit.Expected()) for at, _ in enumerate(verdicts)]
+            rows = [audit.AuditRow(audit.UNIT, str(at), [], audit.Expectation()) for at, _ in enumerate(verdicts)]
             for row, verdict in zip(rows, verdicts):
-                row.parts = [audit.Part(processes.Stack((), False), {}, audit.Judgement(verdict))]
+                row.parts = [audit.RowPart(processes.Stack((), False), {}, audit.StackJudgement(verdict))]
             return audit.Audit(rows, machine.Snapshot(), 0.0, left_out=list(left_out), allows_unconfined=allows).status
 
         for verdict, expected in (("as configured", 0), ("stricter", 0), ("otherwise", 0), ("not known", 4),
@@ -1184,9 +1372,10 @@ class Words(Case):
 
     def test_an_earlier_object(self):
         for text in ("{", "[]", "{}", '{"rows": [{}]}', '{"rows": [{"kind": 1}]}'):
-            status, out, err = self.run_tool("audit", "--html", "x", "--since", self.file("a.json", text))
-            self.assertEqual((status, out), (3, ""), text)
-            self.assertIn("a.json' isn't an object that --json printed", err)
+            for words in ((), ("--html", "x"), ("--json",)):
+                status, out, err = self.run_tool("audit", *words, "--since", self.file("a.json", text))
+                self.assertEqual((status, out), (3, ""), text)
+                self.assertIn("a.json' isn't an object that --json printed", err)
 
     def test_what_scf_refuses(self):
         """It is said before anything is looked at."""
@@ -1205,7 +1394,7 @@ class Words(Case):
     def test_what_runtimes_accept(self):
         """Two answers to a syscall are no reason to look at nothing."""
         name = self.file("p.json", json.dumps({"defaultAction": "SCMP_ACT_ALLOW", "syscalls": [
-            {"names": ["mount"], "action": it} for it in ("SCMP_ACT_ERRNO", "SCMP_ACT_LOG")]}))
+            {"names": ["mount"], "action": name} for name in ("SCMP_ACT_ERRNO", "SCMP_ACT_LOG")]}))
         self.assertIn(self.run_tool("audit", "--expect", name)[0], (0, 1, 4))
 
     def test_places_that_are_not_there(self):

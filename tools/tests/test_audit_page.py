@@ -10,11 +10,12 @@ import unittest
 
 from support.common import Case, filter_of, profile_of
 from test_audit import process
-from scftools import audit, audit_page, compare, container_files, machine, processes, tables, verdicts
+from scftools import audit, audit_output, audit_page, compare, container_files, machine, processes, tables, verdicts
 
 # The elements that a page has, and their attributes.
 TAGS = {"html": {"lang"}, "head": set(), "meta": {"charset", "http-equiv", "content", "name"}, "title": set(),
-        "style": set(), "body": set(), **{it: {"class", "id"} for it in "h1 h2 h3 p ul li code pre span div".split()},
+        "style": set(), "body": set(),
+        **{name: {"class", "id"} for name in "h1 h2 h3 p ul li code pre span div".split()},
         "strong": {"class"}, "code": {"class", "title"}, "details": set(), "summary": set(), "table": {"class"},
         "thead": set(), "tbody": set(), "tr": set(), "th": {"scope"}, "td": {"data-label"}, "a": {"href"}}
 HOSTILE = '"><script>alert(1)</script><img src=x onerror=alert(1)>&lt;\n\x1b[2J\u202e\udcff'
@@ -65,20 +66,23 @@ class Pages(Case):
     def made(self):
         """A page of an audit in which all names are hostile."""
         table = tables.read(None)
-        container = container_files.Described("i" * 64, "podman", "crun", 7, HOSTILE, name=HOSTILE, image=HOSTILE,
-                                              pod=HOSTILE)
+        container = container_files.ContainerDescription("i" * 64, "podman", "crun", 7, HOSTILE, name=HOSTILE,
+                                                         image=HOSTILE, pod=HOSTILE)
         stack = processes.Stack((filter_of([0, 41]),), False, {7: [7]})
         seven, eight = process(name=os.fsencode(HOSTILE)), process(8)
         asked = compare.Comparison(stack.named, profile_of("read"), table)
-        verdict = asked.run(compare.NATIVE, verdicts.NO_MORE)[1].verdict
-        rows = [audit.Row(audit.CONTAINER, container.identifier, [seven], audit.Expected(source=HOSTILE), container),
-                audit.Row(audit.UNIT, "a.service", [eight], audit.Expected(why=HOSTILE))]
-        rows[0].parts = [audit.Part(stack, {7: [7]}, audit.Judgement(audit.WEAKER, shown=verdict, comparison=asked))]
-        rows[1].parts = [audit.Part(processes.Stack((), False, {8: [8]}), {8: [8]}, audit.Judgement(
+        verdict = asked.run(verdicts.NATIVE_SCOPE, verdicts.NO_MORE)[1].verdict
+        rows = [audit.AuditRow(audit.CONTAINER, container.identifier, [seven], audit.Expectation(source=HOSTILE),
+                               container),
+                audit.AuditRow(audit.UNIT, "a.service", [eight], audit.Expectation(why=HOSTILE))]
+        weaker = audit.StackJudgement(audit.WEAKER, shown=verdict, comparison=asked)
+        rows[0].parts = [audit.RowPart(stack, {7: [7]}, weaker)]
+        rows[1].parts = [audit.RowPart(processes.Stack((), False, {8: [8]}), {8: [8]}, audit.StackJudgement(
             audit.NOT_KNOWN, HOSTILE, is_unconfined=True))]
         snapshot = machine.Snapshot({7: seven, 8: eight}, {(stack.filters, False): stack})
-        found = audit.Audit(rows, snapshot, 0.0, left_out=[HOSTILE])
-        return audit_page.page(found, table, {("unit", HOSTILE): (HOSTILE, "weaker")})
+        report = audit.Audit(rows, snapshot, 0.0, left_out=[HOSTILE])
+        earlier = audit_output.Earlier(HOSTILE, {("unit", HOSTILE): audit_output.EarlierRow(HOSTILE, "weaker", False)})
+        return audit_page.page(report, table, earlier)
 
     def test_an_audit(self):
         text = Page(self.made(), self).check()
@@ -91,13 +95,23 @@ class Pages(Case):
                          "(was weaker)", "unconfined"):
             self.assertIn(expected, text)
 
+    def test_a_reason_stands_once(self):
+        rows = [audit.AuditRow(audit.UNIT, name, [process(8)], audit.Expectation()) for name in ("a", "b")]
+        for row in rows:
+            judgement = audit.StackJudgement(audit.NOT_KNOWN, "slow")
+            row.parts = [audit.RowPart(processes.Stack((), False), {8: [8]}, judgement)]
+        text = Page(audit_page.page(audit.Audit(rows, machine.Snapshot(), 0.0), tables.read(None)), self).check()
+        self.assertIn("not known unit a, unit b", text)
+        self.assertEqual(text[text.index("What shows the verdicts"):].count("slow"), 1)
+
     def test_what_is_configured(self):
         """It is known that nothing is, or not known what."""
-        for expected, says in ((audit.Expected(), "nothing is configured"),
-                               (audit.Expected(why="no bus"), "what is configured isn't known: no bus"),
-                               (audit.Expected(source="systemctl", why="no bus"), "systemctl no bus")):
-            row = audit.Row(audit.UNIT, "a.service", [process(8)], expected)
-            row.parts = [audit.Part(processes.Stack((), False, {8: [8]}), {8: [8]}, audit.Judgement(audit.NOT_KNOWN))]
+        for expected, says in ((audit.Expectation(), "nothing is configured"),
+                               (audit.Expectation(why="no bus"), "what is configured isn't known: no bus"),
+                               (audit.Expectation(source="systemctl", why="no bus"), "systemctl no bus")):
+            row = audit.AuditRow(audit.UNIT, "a.service", [process(8)], expected)
+            stack = processes.Stack((), False, {8: [8]})
+            row.parts = [audit.RowPart(stack, {8: [8]}, audit.StackJudgement(audit.NOT_KNOWN))]
             text = Page(audit_page.page(audit.Audit([row], machine.Snapshot(), 0.0), tables.read(None)), self).check()
             self.assertIn(says, text)
             self.assertEqual("nothing is configured" in text, says == "nothing is configured")
@@ -109,9 +123,9 @@ class Pages(Case):
         self.assertNotIn("Dangerous syscalls", text)
 
     def test_a_surface_and_a_comparison(self):
-        one, two = self.file("one.bpf", filter_of([0, 1])), self.file("<two>.bpf", filter_of([0]))
+        first, two = self.file("one.bpf", filter_of([0, 1])), self.file("<two>.bpf", filter_of([0]))
         path = os.path.join(self.folder, "page.html")
-        self.assertEqual(self.run_tool("surface", "--html", path, one, "--beside", two)[0], 1)
+        self.assertEqual(self.run_tool("surface", "--html", path, first, "--beside", two)[0], 1)
         with open(path, encoding="utf-8") as file:
             text = Page(file.read(), self).check()
         self.assertIn("some: 2 allowed of ", text)
@@ -124,7 +138,7 @@ class Pages(Case):
         self.assertIn("syscall(SYS_write, ", text)
         self.assertIn(f"compare '{two}' '{profile}'", text)
         for name in ("surface", "compare"):
-            words = [one, self.file("p.json", profile_of("read"))] if name == "compare" else [one]
+            words = [first, self.file("p.json", profile_of("read"))] if name == "compare" else [first]
             status, _, err = self.run_tool(name, "--html", f"{self.folder}/none/x.html", *words)
             self.assertEqual((status, err), (3, f"{name}: '{self.folder}/none/x.html': No such file or directory\n"))
 

@@ -113,7 +113,7 @@ pub fn stored<S: Store>(n: &S) -> u32
 }
 """,
 }
-WORDS, FINE, ALIKE = (f"crates/{it}.antt" for it in ("low/specs/Words", "low/specs/Fine", "top/specs/Alike"))
+WORDS, FINE, ALIKE = (f"crates/{path}.antt" for path in ("low/specs/Words", "low/specs/Fine", "top/specs/Alike"))
 LOW, BY_KINDS, IS_FINE = f"{WORDS}:7-10 low", f"{WORDS}:25-26 by_kinds", f"{FINE}:6-9 IsFine"
 KIND, PART = "crates/low/src/kind.rt:3-9 Kind", "crates/low/src/part.rt:1-4 Part"
 
@@ -170,7 +170,7 @@ class Believe(Case):
         self.assertIn(f"{ALIKE}:3-4 Alike\n", out)
 
     def test_wrong_words(self):
-        for words, said in ((["none"], "there is no public call 'none'"),
+        for words, message in ((["none"], "there is no public call 'none'"),
                             (["made"], "'made' is one of low::made, top::made"),
                             (["low::made", "none"], "low::made has no clause 'none'"),
                             ([], "either a CALL, a --page or --all"), (["a", "b", "c"], "unrecognized"),
@@ -178,7 +178,7 @@ class Believe(Case):
                             (["--page", "none"], "No such file"), (["\udcff"], r"no public call '\udcff'")):
             status, out, err = self.believe(*words)
             self.assertEqual((status, out), (2, ""), words)
-            self.assertIn(said, err)
+            self.assertIn(message, err)
             self.assertNotIn("Traceback", err)
 
     def test_a_public_clause_stands_on_no_internal_definition(self):
@@ -190,16 +190,17 @@ class Believe(Case):
         imports = "ghost use Rattle.low.specs.internal.States.{IsState, ◌~~◌};\n" + FILES[calls]
         private = imports + "\nfn own() -> u32\n    ensures { IsState 1 }\n{\n    1\n}\n"
         self.assertEqual(self.believe("--all", **inner, **{calls: private}), (0, "", ""))
-        said = "stands on {} of crates/low/specs/internal/States.antt, which is internal"
+        message = "stands on {} of crates/low/specs/internal/States.antt, which is internal"
         named = "names an internal definition"
         for name, text, *wanted in (
-                (calls, imports.replace("IsFine result", "IsState result"), "low::made", said.format("IsState")),
-                (calls, imports.replace("n < 7", "n ~~ 7"), "low::made", said.format("◌~~◌")),
-                (calls, imports.replace("{ Outcome }", "{ IsState 1 }"), "low::Made::get", said.format("IsState")),
-                (calls, FILES[calls].replace("n < 7", "Rattle.low.specs.internal.States.IsState n"), "low::made", named),
+                (calls, imports.replace("IsFine result", "IsState result"), "low::made", message.format("IsState")),
+                (calls, imports.replace("n < 7", "n ~~ 7"), "low::made", message.format("◌~~◌")),
+                (calls, imports.replace("{ Outcome }", "{ IsState 1 }"), "low::Made::get", message.format("IsState")),
+                (calls, FILES[calls].replace("n < 7", "Rattle.low.specs.internal.States.IsState n"), "low::made",
+                 named),
                 ("crates/low/specs/Fine.antt", fine.replace("words.by_kinds n ≡", "states.IsState n ×").replace(
                     "as words", "as words\nuse Rattle.low.specs.internal.States as states"), "low::made",
-                 said.format("IsState"))):
+                 message.format("IsState"))):
             with self.subTest(name + wanted[1]):
                 status, out, err = self.believe("--all", **inner, **{name: text})
                 self.assertEqual((status, err), (1, ""))
@@ -238,12 +239,12 @@ a ~~ b = a ≡ b
     def test_what_no_list_of_a_page_has(self):
         """What stands behind a public clause has to stand in a list, whose mark is a call's or of all other calls."""
         path = self.file("page.md", self.PAGE.format(self.LISTS, ""))
-        said = [f"{call} stands on {name} of {file}, which no list has" for call, name, file in (
+        messages = [f"{call} stands on {name} of {file}, which no list has" for call, name, file in (
             ("low::Made::get", "Outcome", WORDS), ("low::made", "of_kind", WORDS),
             ("top::Store::put", "Alike", ALIKE))]
         for words in ([], ["--write"]):
             status, out, err = self.believe("--page", path, *words)
-            self.assertEqual((status, out.splitlines(), err), (1, said, ""))
+            self.assertEqual((status, out.splitlines(), err), (1, messages, ""))
         calls = "".join(f"<!-- believe {call} -->\n<!-- end -->\n" for call in
                         ("low::made beside low::made fine", "get", "put beside low::made fine"))
         path = self.file("page.md", self.PAGE.format(self.LISTS, calls))

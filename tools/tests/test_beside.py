@@ -6,8 +6,8 @@ import os
 import random
 import sys
 
-from support.common import (ALLOW, CORE, EPERM, KILL_PROCESS, TOP, X86_64, Case, filter_of, insn, jeq, jge, load, part,
-                            ret)
+from support.common import (ALLOW, CORE, EPERM, KILL_PROCESS, TOP, X32, X86_64, Case, filter_of, insn, jeq, jge, load,
+                            part, ret)
 from support.confined import NEWEST, OLDEST, Confined, here
 from support.stand_in import StandIn
 
@@ -17,17 +17,16 @@ from scftools import answers, calls  # noqa: E402
 
 READ, WRITE, SOCKET, CLONE = 0, 1, 41, 56
 ENOSYS, TRACE, LOG = 0x00050026, 0x7FF00000, 0x7FFC0000
-X32 = 0x40000000
 NUMBERS, ARCHITECTURES = (0, 1, 2, 41, 42, 43, X32 - 1, X32, 0xFFFFFFFF), (X86_64, 0x40000003, 0)
 ARGUMENTS = (0, 1, 2, 3, 6, 40, 41, 42, 1 << 32, (1 << 32) + 41, (1 << 64) - 1)
-CORNERS = [calls.Call(number, architecture, 0, (one, other, 0, 0, 0, 0)) for architecture, number, one, other
+CORNERS = [calls.Call(number, architecture, 0, (first, second, 0, 0, 0, 0)) for architecture, number, first, second
            in itertools.product(ARCHITECTURES, NUMBERS, ARGUMENTS, (0, 41))]
 # The options of each relation, what is printed if it holds and if not, and whether it does of two answers.
 RELATIONS = {
-    "": ("same", "differs", lambda one, other: one == other),
-    "--no-more": ("no more", "more", lambda one, other: degree(one) <= degree(other)),
-    "--no-less": ("no less", "less", lambda one, other: degree(one) >= degree(other)),
-    "--disposition": ("same disposition", "differs", lambda one, other: degree(one) == degree(other)),
+    "": ("same", "differs", lambda first, second: first == second),
+    "--no-more": ("no more", "more", lambda first, second: degree(first) <= degree(second)),
+    "--no-less": ("no less", "less", lambda first, second: degree(first) >= degree(second)),
+    "--disposition": ("same disposition", "differs", lambda first, second: degree(first) == degree(second)),
 }
 # Sets of syscalls, by options.
 SCOPES = {
@@ -68,8 +67,8 @@ def mutated(dice, data):
     at = dice.randrange(len(data) // 8) * 8
     code, k = int.from_bytes(data[at:at + 2], "little"), int.from_bytes(data[at + 4:at + 8], "little")
     new = {6: dice.choice((ALLOW, EPERM, ENOSYS, LOG)), 0x20: k}.get(code, dice.choice((k, k ^ 1, 41, 42)))
-    one, other = data[at + 2], data[at + 3]
-    return data[:at] + insn(code, new, *dice.choice(((one, other), (other, one)))) + data[at + 8:]
+    first, second = data[at + 2], data[at + 3]
+    return data[:at] + insn(code, new, *dice.choice(((first, second), (second, first)))) + data[at + 8:]
 
 
 class Drawn(Case):
@@ -82,16 +81,16 @@ class Drawn(Case):
         related = RELATIONS[relation][2]
         at_corners = [all(related(*(decided(side, call) for side in (left, right)))
                           for call in CORNERS if SCOPES[scope](call))]
-        without, found = (self.verdict(left, right, scope, relation, at_corners, words) for words in (
+        without, status = (self.verdict(left, right, scope, relation, at_corners, words) for words in (
             ["--splits", "0"], []))
         # no verdict changes, but that an undecided pair may be decided
-        self.assertIn(without, ("undecided", found))
-        return without, found
+        self.assertIn(without, ("undecided", status))
+        return without, status
 
     def verdict(self, left, right, scope, relation, at_corners, words):
         """The word of a verdict that agrees with the other machine."""
         holds, fails, related = RELATIONS[relation]
-        data = b"".join([*(part("filter", it) for it in left), *(part("beside", it) for it in right)])
+        data = b"".join([*(part("filter", data) for data in left), *(part("beside", data) for data in right)])
         status, out, err = self.run_words([*CORE, "compare", "--beside", *f"{scope} {relation}".split(), *words], data)
         lines, both = out.split("\n"), [left, right]
         self.assertEqual(err, "")
@@ -110,14 +109,14 @@ class Drawn(Case):
         return lines[0].split(" at ")[0]
 
     def test_each(self):
-        dice, found = random.Random(54), []
-        while len(found) < self.COUNT:
-            left = [drawn(dice) for _ in range(dice.choice((0, 1, 1, 2)))]
-            right = [mutated(dice, it) for it in left] if dice.randrange(2) else [drawn(dice)]
-            if any(StandIn().fault(unpacked(it)) for it in left + right):
+        dice, status = random.Random(54), []
+        while len(status) < self.COUNT:
+            actual = [drawn(dice) for _ in range(dice.choice((0, 1, 1, 2)))]
+            right = [mutated(dice, data) for data in actual] if dice.randrange(2) else [drawn(dice)]
+            if any(StandIn().fault(unpacked(data)) for data in actual + right):
                 continue
-            found.append(self.judge(left, right, dice.choice(list(SCOPES)), dice.choice(list(RELATIONS))))
-        without, by_splits = zip(*found)
+            status.append(self.judge(actual, right, dice.choice(list(SCOPES)), dice.choice(list(RELATIONS))))
+        without, by_splits = zip(*status)
         for word in ("same", "differs", "no more", "more", "no less", "less", "same disposition", "undecided"):
             self.assertGreater(without.count(word), 5, word)
         # those of the default decide most of these
@@ -141,33 +140,33 @@ class Tools(Case):
     def test_equal_stacks_are_the_same_without_a_step(self):
         """Whatever the filters are, and each relation holds; what isn't a filter is still refused."""
         bits = load(16) + b"".join(insn(0x45, 1 << at % 32, 0, 1) for at in range(4080)) + ret(ALLOW) * 2
-        one, other = self.file("one.bpf", bits), self.file("other.bpf", bits)
+        first, second = self.file("one.bpf", bits), self.file("other.bpf", bits)
         for words, verdict in (((), "same"), (("--no-more",), "no more"), (("--calls",), "same"),
                                (("--disposition", "--native"), "same disposition")):
             for limit in ((), ("--limit", "0"), ("--limit", "10")):
-                status, out, err = self.run_tool("diff", *words, *limit, one, other, seconds=5)
+                status, out, err = self.run_tool("diff", *words, *limit, first, second, seconds=5)
                 self.assertEqual((status, out, err), (0, f"{verdict}\n", ""), (words, limit))
-        status, out, _ = self.run_tool("compare", "--limit", "0", one, one, "--beside", one, one)
+        status, out, _ = self.run_tool("compare", "--limit", "0", first, first, "--beside", first, first)
         self.assertEqual((status, out), (0, "same\n"))
         bad = self.file("bad.bpf", ret(ALLOW)[:-1])
         self.assertEqual(self.run_tool("diff", bad, bad)[1].split("\n")[0], "fault filter Truncated offset 0")
-        self.assertEqual(self.run_tool("diff", "--limit", "x", one, one)[0], 2)
+        self.assertEqual(self.run_tool("diff", "--limit", "x", first, first)[0], 2)
 
     def test_a_difference_of_each_kind(self):
         """A condition of clone, ENOSYS for EPERM, LOG for ALLOW."""
-        one = self.file("1.bpf", clone_of(0x10000000))
-        for name, other, both in (("condition", clone_of(0x30000000), {"ERRNO 1", "ALLOW 0"}),
-                                  ("errno", clone_of(0x10000000, ENOSYS), {"ERRNO 1", "ERRNO 38"}),
-                                  ("log", clone_of(0x10000000, EPERM, LOG), {"ALLOW 0", "LOG 0"})):
-            path = self.file(f"{name}.bpf", other)
-            for words in (("compare", one, "--beside", path), ("diff", one, path)):
+        first = self.file("1.bpf", clone_of(0x10000000))
+        for name, second, both in (("condition", clone_of(0x30000000), {"ERRNO 1", "ALLOW 0"}),
+                                   ("errno", clone_of(0x10000000, ENOSYS), {"ERRNO 1", "ERRNO 38"}),
+                                   ("log", clone_of(0x10000000, EPERM, LOG), {"ALLOW 0", "LOG 0"})):
+            path = self.file(f"{name}.bpf", second)
+            for words in (("compare", first, "--beside", path), ("diff", first, path)):
                 status, out, err = self.run_tool(*words)
                 lines = out.split("\n")
                 self.assertEqual((status, err, lines[0]), (1, "", "differs"), words)
                 self.assertEqual({line.partition(" ")[2] for line in lines[2:4]}, both)
-                self.assertIn(f"# the last tests on the path in {one}:", out)
+                self.assertIn(f"# the last tests on the path in {first}:", out)
                 self.assertIn(f"# the last tests on the path in {path}:", out)
-            status, lines = self.said("surface", one, "--beside", path)
+            status, lines = self.said("surface", first, "--beside", path)
             self.assertEqual((status, lines.count("syscalls that differ: 0")), (1, 0), name)
 
     def said(self, *words):
@@ -191,42 +190,42 @@ class Tools(Case):
                          "# it is neither more permissive nor stricter than the other side: only the answers differ")
 
     def test_stacks(self):
-        one, other, both = (self.file(f"{at}.bpf", filter_of(it)) for at, it in
-                            enumerate(([READ, WRITE], [READ, SOCKET], [READ])))
-        self.assertEqual(self.said("compare", one, other, "--beside", both), (0, ["same"]))
-        self.assertEqual(self.said("compare", both, "--beside", other, one), (0, ["same"]))
+        first, second, both = (self.file(f"{at}.bpf", filter_of(item)) for at, item in
+                               enumerate(([READ, WRITE], [READ, SOCKET], [READ])))
+        self.assertEqual(self.said("compare", first, second, "--beside", both), (0, ["same"]))
+        self.assertEqual(self.said("compare", both, "--beside", second, first), (0, ["same"]))
 
     def test_filters_beside_themselves(self):
         """Splits don't decide whether two free words are equal, but a stack answers as itself."""
         equal = load(16) + insn(0x07, 0) + load(24) + insn(0x1D, 0, 0, 1) + ret(ALLOW) + ret(EPERM)
-        paths = [self.file(f"{at}.bpf", it) for at, it in enumerate((equal, filter_of([READ, WRITE]), equal))]
+        paths = [self.file(f"{at}.bpf", item) for at, item in enumerate((equal, filter_of([READ, WRITE]), equal))]
         for option, (holds, _, _) in RELATIONS.items():
             self.assertEqual(self.said("diff", *option.split(), "--splits=0", paths[0], paths[2]), (0, [holds]))
         self.assertEqual(self.said("compare", *paths[:2], "--beside", paths[2], paths[1]), (0, ["same"]))
 
     def test_more_splits_and_steps(self):
         """Two halves are added, in one order and in the other."""
-        one, other = (self.file(f"{at}.bpf", load(it[0]) + insn(0x54, 0xFFFF) + insn(0x07, 0) + load(it[1])
-                                + insn(0x54, 0xFFFF) + insn(0x0C, 0) + jeq(0x1234, 0, 1) + ret(ALLOW) + ret(EPERM))
-                      for at, it in enumerate(((16, 24), (24, 16))))
-        status, lines = self.said("diff", one, other)
+        first, second = (self.file(f"{at}.bpf", load(item[0]) + insn(0x54, 0xFFFF) + insn(0x07, 0) + load(item[1])
+                                   + insn(0x54, 0xFFFF) + insn(0x0C, 0) + jeq(0x1234, 0, 1) + ret(ALLOW) + ret(EPERM))
+                         for at, item in enumerate(((16, 24), (24, 16))))
+        status, lines = self.said("diff", first, second)
         self.assertEqual((status, lines[0], lines[-1]), (
             4, "undecided at 7", "# not known: allow more splits and steps, --splits N --limit N"))
-        self.assertEqual(self.said("diff", "--splits=10000000", one, other)[0], 4)
-        self.assertEqual(self.said("diff", "--splits=10000000", "--limit=100000000", one, other), (0, ["same"]))
+        self.assertEqual(self.said("diff", "--splits=10000000", first, second)[0], 4)
+        self.assertEqual(self.said("diff", "--splits=10000000", "--limit=100000000", first, second), (0, ["same"]))
 
     def test_json(self):
-        one, other = self.file("1.bpf", filter_of([READ])), self.file("2.bpf", filter_of([WRITE]))
-        found = json.loads(self.run_tool("diff", "--json", one, other)[1])
-        self.assertEqual((found["status"], found["scope"], found["relation"], found["verdict"]),
+        first, second = self.file("1.bpf", filter_of([READ])), self.file("2.bpf", filter_of([WRITE]))
+        value = json.loads(self.run_tool("diff", "--json", first, second)[1])
+        self.assertEqual((value["status"], value["scope"], value["relation"], value["verdict"]),
                          (1, "all", "same", "differs"))
-        self.assertEqual({found["filter"]["action"], found["beside"]["action"]}, {"ALLOW", "ERRNO"})
-        self.assertEqual((found["path"]["filter"], found["path_beside"]["filter"]), (one, other))
-        self.assertEqual((found["no_more"], found["no_less"]), ("more", "less"))
-        self.assertEqual([(it["number"], it["names"], it["filter"]["action"], it["beside"]["action"])
-                          for it in found["calls"]],
+        self.assertEqual({value["filter"]["action"], value["beside"]["action"]}, {"ALLOW", "ERRNO"})
+        self.assertEqual((value["path"]["filter"], value["path_beside"]["filter"]), (first, second))
+        self.assertEqual((value["no_more"], value["no_less"]), ("more", "less"))
+        self.assertEqual([(call["number"], call["names"], call["filter"]["action"], call["beside"]["action"])
+                          for call in value["calls"]],
                          [(READ, ["read"], "ALLOW", "ERRNO"), (WRITE, ["write"], "ERRNO", "ALLOW")])
-        self.assertEqual(json.loads(self.run_tool("diff", "--json", one, one)[1])["verdict"], "same")
+        self.assertEqual(json.loads(self.run_tool("diff", "--json", first, first)[1])["verdict"], "same")
 
     def test_faults(self):
         good, bad = self.file("1.bpf", filter_of([READ])), self.file("2.bpf", jeq(0, 0, 9) + ret(ALLOW))
@@ -244,9 +243,32 @@ class Tools(Case):
     def test_disposition_of_a_profile(self):
         profile = self.file("p.json", json.dumps({"defaultAction": "SCMP_ACT_ERRNO", "syscalls": [
             {"names": ["read"], "action": "SCMP_ACT_LOG"}]}).encode())
-        one = self.file("1.bpf", filter_of([READ]))
-        self.assertEqual(self.said("compare", "--disposition", one, profile), (0, ["same disposition"]))
-        self.assertEqual(self.said("compare", one, profile)[1][0], "differs")
+        first = self.file("1.bpf", filter_of([READ]))
+        self.assertEqual(self.said("compare", "--disposition", first, profile), (0, ["same disposition"]))
+        self.assertEqual(self.said("compare", first, profile)[1][0], "differs")
+
+    def test_the_most_telling_syscall_is_shown(self):
+        """A native one with a name that one side allows and the other denies, before x32 numbers without a name; where
+        there is none scf's own example stays."""
+        def filter_file(name, x32, own=b""):
+            return self.file(name, load(4) + jeq(X86_64, 1, 0) + ret(KILL_PROCESS) + load(0) + jge(X32, 0, 1) + ret(x32)
+                             + own + ret(ALLOW))
+
+        chroot = jeq(161, 0, 1) + ret(EPERM)
+        one, other, alike = filter_file("1", ALLOW, chroot), filter_file("2", KILL_PROCESS), filter_file("3", ALLOW)
+        shown = ["call nr 161 arch 0xc000003e ip 0x0 args 0x0 0x0 0x0 0x0 0x0 0x0", "filter ERRNO 1", "beside ALLOW 0"]
+        for words in ([], ["--no-less"]):
+            out = self.run_tool("diff", *words, one, other)[1].split("\n")
+            self.assertEqual(out[1:4], shown)
+            self.assertIn("# the syscall is chroot (161)", out)
+            found = json.loads(self.run_tool("diff", "--json", *words, one, other)[1])
+            self.assertEqual((found["call"]["names"], found["filter"]["action"]), (["chroot"], "ERRNO"))
+        for words, first in (([], alike), (["--no-more"], one)):
+            out = self.run_tool("diff", *words, first, other)[1].split("\n")
+            self.assertEqual(out[1], shown[0].replace("161", str(X32)))
+        profile = self.file("p.json", json.dumps({"defaultAction": "SCMP_ACT_ALLOW", "syscalls": []}))
+        self.assertEqual(self.run_tool("compare", "--all", one, profile)[1].split("\n")[1:4],
+                         [*shown[:2], "profile ALLOW 0"])
 
 
 class Saved(Confined):
@@ -262,9 +284,9 @@ class Saved(Confined):
         self.assertRegex(out.split("\n")[1], rf"\A# process {child.pid} \(.*\) has ")
         os.remove(os.path.join(folder, "1.bpf"))
         status, out, err = self.run_tool("verify-process", "--json", str(child.pid), "--beside", folder)
-        found = json.loads(out)
-        self.assertEqual((status, err, found["verdict"], found["stacks"][0]["no_more"]), (1, "", "differs", "no more"))
-        self.assertEqual(found["stacks"][0]["processes"][0]["process"], child.pid)
+        value = json.loads(out)
+        self.assertEqual((status, err, value["verdict"], value["stacks"][0]["no_more"]), (1, "", "differs", "no more"))
+        self.assertEqual(value["stacks"][0]["processes"][0]["process"], child.pid)
 
     @here
     def test_usage(self):

@@ -23,6 +23,18 @@ class Bundle(Case):
         self.assertEqual(self.run_tool("bundle", "filter", b, "profile", a, "table", a),
                          (0, "filter 0\nprofile 4\none\ntable 4\none\n", ""))
 
+    def test_each_kind(self):
+        """Tables of each architecture, and stubs, which are numbers without a line end."""
+        for architecture in ("", "-x86", "-x32", "-aarch64", "-arm"):
+            for kind, most in (("table", 4194304), ("stub-table", 1024)):
+                for text in (b"0", b"4294967295", b"0" * (most - 1) + b"7"):
+                    self.assertEqual(self.run_tool("bundle", kind + architecture, self.file("a", text)),
+                                     (0, f"{kind}{architecture} {len(text)}\n{text.decode()}", ""))
+        for text in (b"", b"449\n", b" 449", b"0x1c1", b"-1", b"4294967296", "٣".encode()):
+            status, out, err = self.run_tool("bundle", "stub-table-x86", self.file("a", text))
+            self.assertEqual((status, out), (2, ""), text)
+            self.assertIn("isn't a stub-table-x86: one decimal number below 4294967296, without a line end", err)
+
     def test_names_that_look_like_options(self):
         for name in ("-", "-n", "--", "a b", "*"):
             self.file(name, name.encode())
@@ -55,14 +67,14 @@ class Bundle(Case):
 
     def test_too_long(self):
         """Each kind has the limit that scf has for it, and all together the one of scf's input."""
-        for kind, limit in (("filter", 32768), ("profile", 4194304), ("table", 4194304)):
-            path = self.file("long", bytes(limit))
+        for kind, limit in (("filter", 32768), ("profile", 4194304), ("table", 4194304), ("stub-table", 1024)):
+            path = self.file("long", b"0" * limit)
             self.assertEqual(self.run_tool("bundle", kind, path)[0::2], (0, ""))
             with open(path, "ab") as file:
                 file.write(b"\0")
             status, out, err = self.run_tool("bundle", kind, path)
             self.assertEqual((status, out), (2, ""))
-            self.assertIn(f"the {kind} '{path}' has more than {limit} bytes", err)
+            self.assertIn(f"the {kind.partition('-')[0]} '{path}' has more than {limit} bytes", err)
         whole = self.file("whole", bytes(4194304))
         status, out, err = self.run_tool("bundle", *["profile", whole] * 4, "table", self.file("one", b"x"))
         self.assertEqual((status, out), (2, ""))

@@ -130,10 +130,10 @@ class CallTable(Case):
         self.assertEqual(self.run_tool("call-table", "--architecture", "mips")[:2], (2, ""))
         self.assertIn("only one input can be '-'", self.run_tool("call-table", "-", "-")[2])
 
-    def refuses(self, given, said):
+    def refuses(self, given, message):
         done = self.run_tool("call-table", given=given)
         self.assertEqual(done[:2], (2, ""))
-        self.assertIn(said, done[2])
+        self.assertIn(message, done[2])
         self.assertNotIn("Traceback", done[2])
         self.assertRegex(done[2], r"^call-table: [ -~]*\n$")
 
@@ -201,12 +201,12 @@ class CallTable(Case):
         lines = out.splitlines()
         self.assertRegex(lines[0], r"^# The x86-64 syscalls that libseccomp [0-9]+\.[0-9]+\.[0-9]+ knows\.$")
         with open(TABLE, encoding="ascii") as file:
-            known = {line.split(" ")[0]: line.rstrip("\n") for line in file}
+            actual = {line.split(" ")[0]: line.rstrip("\n") for line in file}
         rows = lines[1:]
         self.assertEqual(rows, sorted(rows, key=lambda row: int(row.split(" ")[1])))
         self.assertGreater(len(rows), 300)
         # what this library knows and the table doesn't came after the table
-        unlike = [row for row in rows if known.get(row.split(" ")[0]) != row]
+        unlike = [row for row in rows if actual.get(row.split(" ")[0]) != row]
         self.assertEqual([row for row in unlike if int(row.split(" ")[1]) <= 469], [])
         self.assertIn("read 0", rows)
         self.assertIn("pidfd_getfd 438", rows)
@@ -276,10 +276,11 @@ class OtherTables(Case):
             its = {number: each.decode() for number, each in its.items() if each is not None}
             self.assertGreater(len(its), least, name)
             # all count the newest ones alike, below x32's own from 512 on
-            known, newest = (max(number for number in numbers if number < 512) for numbers in (its, table.numbers()))
+            highest_known, newest = (max(number for number in numbers if number < 512)
+                                     for numbers in (its, table.numbers()))
             self.assertEqual({number: each for number, each in its.items() if each not in table.names_of(number)
                               and not newest < number < 512}, {}, name)
-            alone = {each for each in table.names() if table.number_of(each) <= known} - set(its.values())
+            alone = {each for each in table.names() if table.number_of(each) <= highest_known} - set(its.values())
             self.assertEqual(alone - self.LACKING.get(name, set()), set(), name)
             theirs = {each: number_of(token, each.encode()) for each in table.names()}
             # numbers below 0 are libseccomp's own, for names that it knows of other architectures
@@ -300,9 +301,9 @@ class OtherTables(Case):
         """Each is one of x86-64, or stands among those that only other architectures have."""
         # of Linux 7.2, which is newer than x86-64's table
         newer = {"listns", "rseq_slice_yield"}
-        known = {row[0] for row in rows(TABLE)} | tables.names_elsewhere() | newer
-        for path in [it.file for it in architectures.JUDGED.values() if it.oci != architectures.NATIVE]:
-            self.assertEqual({row[0] for row in rows(path)} - known, set(), path)
+        known_names = {row[0] for row in rows(TABLE)} | tables.names_elsewhere() | newer
+        for path in [item.file for item in architectures.JUDGED.values() if item.oci != architectures.NATIVE]:
+            self.assertEqual({row[0] for row in rows(path)} - known_names, set(), path)
             with open(path, encoding="ascii") as file:
                 self.assertRegex(file.readline(), r"^# The syscalls of \w+, from \S+\.h .*linux-libc-dev 7\.2\.12")
 
@@ -339,7 +340,7 @@ class OtherArchitectures(Case):
 
     def test_it_has_none_of_x86_64_and_all_that_engines_name(self):
         with open(TABLE, encoding="ascii") as file:
-            own = {line.split(" ")[0] for line in file if line[0] != "#"}
-        self.assertEqual(own & set(self.lines()), set())
+            names = {line.split(" ")[0] for line in file if line[0] != "#"}
+        self.assertEqual(names & set(self.lines()), set())
         self.assertEqual(set(self.NAMED.split()) - set(self.lines()), set())
         self.assertEqual({"umont2", "reed", "syscalls", "BASE"} & set(self.lines()), set())

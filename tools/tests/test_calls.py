@@ -2,9 +2,9 @@
 import itertools
 import re
 
-from support.common import TABLE, X86_64, part, taken
-from support.on_parts import (ALL, ALLOW, NATIVE, NO_TABLE, ONE_CALL, READ_WRITE_TABLE, X32, OnProgram, a_filter,
-                              a_profile, a_table, bundle, ran)
+from support.common import TABLE, X32, X86_64, part, taken
+from support.on_parts import (ALL, ALLOW, NATIVE, NO_TABLE, ONE_CALL, READ_WRITE_TABLE, OnProgram, a_filter, a_profile,
+                              a_table, bundle, ran)
 
 # The most seconds of a processor for all calls together: three are measured on a machine that does nothing else.
 MOST_SECONDS = 30
@@ -167,9 +167,9 @@ class Calls(OnProgram):
             self.prints(["compare", "--calls"], bundle(parts), text, 1)
 
     def test_a_stub_differs_only_on_calls_that_the_table_lacks(self):
-        own, status = ran(["compile"], bundle([READ, KNOWN]))
+        output, status = ran(["compile"], bundle([READ, KNOWN]))
         self.assertEqual(status, 0)
-        given = part("filter", own) + bundle([STUB, READ, KNOWN])
+        given = part("filter", output) + bundle([STUB, READ, KNOWN])
         number, arch, _, ours, theirs = self.shown(["compare", "--native"], given)
         self.assertTrue(arch == X86_64 and 451 <= number < X32, number)
         self.assertEqual((ours, theirs), ("ERRNO 38", "ERRNO 1"))
@@ -191,7 +191,7 @@ class Calls(OnProgram):
             for at, until in enumerate(whole):
                 with self.subTest(numbers=numbers, at=at):
                     # one step fewer than is wanted up to this call: it and those behind it are unfinished
-                    self.assertEqual(self.unfinished_of(given, until - 1), [str(it) for it in numbers[at:]])
+                    self.assertEqual(self.unfinished_of(given, until - 1), [str(number) for number in numbers[at:]])
 
     def steps_of(self, filters, number):
         """The least limit of steps with which a call is told by itself."""

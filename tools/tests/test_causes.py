@@ -8,16 +8,17 @@ import struct
 import subprocess
 import sys
 import time
+import types
 import unittest
 import unittest.mock
 
-from support.common import ALLOW, I386, KILL_PROCESS, PATIENCE, TOP, X86_64, Case, jeq, profile_of, ret
+from support.common import ALLOW, I386, KILL_PROCESS, PATIENCE, TOP, X86_64, Case, jeq, module, profile_of, ret
 
 sys.path.append(os.path.join(TOP, "tools"))
 
 # pylint: disable=wrong-import-position
 from scftools import audit_records, cores, events, filters, tables  # noqa: E402
-from scftools.diagnosis import Stack  # noqa: E402
+from scftools.diagnosis import AnsweringStack  # noqa: E402
 
 TABLE = tables.read(None)
 SOCKET, AF_NETLINK, NETLINK_AUDIT = 41, 16, 9
@@ -273,7 +274,8 @@ class Records(Causes):
         self.assertIn(f"# process {child.pid} (python3", lines[0])
         self.assertIn("ERRNO 1", lines)
         self.assertIn("# so the filter answers it", lines)
-        self.assertEqual(self.why("--pid", "1", status=4)[0], "# the kernel's log has no record of process 1")
+        self.assertEqual(self.why("--pid", "1", status=4)[0],
+                         "# neither the kernel's log nor auditd's has a record of process 1")
 
 
 class Cores(Causes):
@@ -639,6 +641,20 @@ class Lines(Causes):
         with unittest.mock.patch.object(os, "open", return_value=one.detach()):
             self.assertEqual([*audit_records.kernel_lines()], [WRITTEN])
 
+    def test_the_log_of_auditd(self):
+        """--pid reads it, too, but for what an earlier process with that number left."""
+        log = self.file("audit.log", "".join(
+            f"type=SECCOMP msg=audit({seconds}.752:2): auid={self.TAIL.replace('syscall=41', f'syscall={number}')}\n"
+            for seconds, number in ((1795757000, 1), (1795757700, 2))))
+        why = module("why")
+        options = types.SimpleNamespace(pid=12551, words=["p.json"])
+        with unittest.mock.patch.multiple(audit_records, AUDITD_LOG=log, kernel_lines=lambda: iter([WRITTEN])):
+            for begun, numbers in ((None, [41, 1, 2]), (1795757600.0, [41, 2]), (1795757701.5, [41, 2]),
+                                   (1795757800.0, [])):
+                with unittest.mock.patch.object(why, "started", lambda _, begun=begun: begun):
+                    found, _ = why.of_process(options, None, TABLE)
+                self.assertEqual([it.call.number for it, _ in found.events.values()], numbers, begun)
+
     def test_values_that_no_kernel_writes(self):
         for old, new, says in (("syscall=41", "syscall=4294967296", "=4294967296 isn't a number up to 4294967295"),
                                ("syscall=41", "syscall=" + "9" * 70, "syscall=" + "9" * 64 + ".."),
@@ -694,6 +710,89 @@ class Lines(Causes):
                                                                                        status=4)[0])
 
 
+def entry(message, **members):
+    """An entry as journalctl prints one of the kernel; members that are None are left out."""
+    found = {"PRIORITY": "5", "_TRANSPORT": "kernel", "SYSLOG_FACILITY": "0", "SYSLOG_IDENTIFIER": "kernel",
+             "MESSAGE": message, **members}
+    return json.dumps({name: value for name, value in found.items() if value is not None})
+
+
+class Journals(Causes):
+    """`journalctl -o json`, `coredumpctl info` and its list as JSON, as systemd 252 prints them."""
+
+    SECCOMP = f"SECCOMP auid={WRITTEN.partition('auid=')[2]}"
+    OF_AUDIT = {"_TRANSPORT": "audit", "SYSLOG_FACILITY": "4", "SYSLOG_IDENTIFIER": "audit", "_AUDIT_TYPE": "1326"}
+    INFO = """\
+           PID: 1065 (sleep)
+           UID: 0 (root)
+        Signal: %s
+  Command Line: sleep 300
+       Storage: /var/lib/systemd/coredump/core.sleep.0.01dec6f0.1065.1795897289000000.zst (%s)
+       Message: Process 1065 (sleep) of user 0 dumped core.
+"""
+    LISTED = [{"time": 1795897289313761, "pid": 1064, "uid": 0, "gid": 0, "sig": 11, "corefile": "none",
+               "exe": "/usr/bin/sleep", "size": None},
+              {"time": 1795897289449915, "pid": 1065, "uid": 0, "gid": 0, "sig": 31, "corefile": "present",
+               "exe": "/usr/bin/sl\x1b[2Jeep", "size": 1566101}]
+
+    def numbers(self, text):
+        found = events.read(text.split("\n"), TABLE)
+        self.assertEqual((found.faults, found.failures.count), ([], 0))
+        return [(it.call.number, it.process, count) for it, count in found.events.values()], found.suppressed
+
+    def test_entries_of_the_kernel_and_of_audit(self):
+        suppressed = "audit: kauditd_printk_skb: 12 callbacks suppressed"
+        for text in (entry(WRITTEN), entry([*WRITTEN.encode()]), entry(self.SECCOMP, **self.OF_AUDIT)):
+            self.assertEqual(self.numbers(text), ([(41, 12551, 1)], 0), text)
+        self.assertEqual(self.numbers("\n".join([entry(WRITTEN), entry("usb 1-1: new"), entry(suppressed), WRITTEN])),
+                         ([(41, 12551, 2)], 12))
+
+    def test_what_a_program_writes_is_no_record(self):
+        """A program's message has another transport, or, in the kernel's log, another facility."""
+        for text in (entry(WRITTEN, _TRANSPORT="syslog"), entry(WRITTEN, _TRANSPORT="stdout", SYSLOG_FACILITY="3"),
+                     entry(WRITTEN, SYSLOG_FACILITY="1", SYSLOG_IDENTIFIER="audit"), entry(WRITTEN, _TRANSPORT=None),
+                     entry(self.SECCOMP, **{**self.OF_AUDIT, "_TRANSPORT": "journal"}), entry(None), entry([1, 999]),
+                     entry(f"process '/tmp/x {WRITTEN}' launched", SYSLOG_FACILITY=None),
+                     entry(f"process '/tmp/x {WRITTEN}' launched '/tmp/x' with NULL argv"),
+                     entry(f"x\n{WRITTEN}"), entry(["kernel", WRITTEN]), entry({"audit": WRITTEN})):
+            self.assertEqual(self.numbers(text), ([], 0), text)
+
+    def test_what_cannot_be_read(self):
+        for text in (entry(WRITTEN)[:-1], '{"MESSAGE": ' + "[" * 5000, '[{"pid": 1', "[\n{", '{"'):
+            status, out, err = self.run_tool("why", "-", given=text.encode())
+            self.assertEqual((status, err), (3, ""), text[:40])
+            self.assertIn("# line 1 isn't judged: it isn't a", out)
+
+    def test_cores(self):
+        present = ("# process 1065 (sleep) was ended by SIGSYS, and its core has the syscall: coredumpctl dump 1065 | "
+                   "scf why --core - ..")
+        for signal, storage, said in (
+                ("31 (SYS)", "present", present),
+                ("31 (SYS)", "missing", "# process 1065 (sleep) was ended by SIGSYS, and its core, which has the "
+                                        "syscall, isn't kept"),
+                ("11 (SEGV)", "present", "# process 1065 (sleep) was ended by signal 11, and a filter ends a process "
+                                         "by SIGSYS")):
+            text = (self.INFO % (signal, storage)).encode()
+            self.assertEqual(self.why("-", given=text, status=4), [said])
+            # beside what is judged, a core that has a syscall isn't
+            lines = self.why("-", given=WRITTEN.encode() + b"\n" + text, status=4 if said == present else 0)
+            self.assertIn("the syscall is socket (41)", lines[0])
+
+    def test_lists_of_cores(self):
+        short, pretty = json.dumps(self.LISTED), json.dumps(self.LISTED, indent="\t", separators=(",", " : "))
+        lines = ["# process 1064 (/usr/bin/sleep) was ended by signal 11, and a filter ends a process by SIGSYS",
+                 "# process 1065 (/usr/bin/sl\\x1b[2Jeep) was ended by SIGSYS, and its core has the syscall: "
+                 "coredumpctl dump 1065 | scf why --core - .."]
+        for text in (short, pretty, f"{pretty}\nbehind\n"):
+            self.assertEqual(self.why("-", given=text.encode(), status=4), lines)
+        for text in ('[{"pid": "x", "sig": 31}]', '[{"sig": 31}, 7]'):
+            self.assertIn("# no syscall that a filter may have", self.why("-", given=text.encode(), status=4)[0])
+        many = json.dumps([self.LISTED[1]] * 300)
+        self.assertEqual(len(self.why("-", given=many.encode(), status=4)), 200)
+        out = self.run_tool("why", "--json", "-", given=short.encode())[1]
+        self.assertEqual([it["process"] for it in json.loads(out)["cores"] if it["is_present"]], [1065])
+
+
 class Words(Causes):
     def test_usage(self):
         self.says_usage("why")
@@ -742,7 +841,7 @@ class Exceptions(Causes):
 
     def test_they_answer_so(self):
         conditions = ((0, (1 << 64) - 1, 0x100000010), (2, 0xFFFFFFFF, 9), (5, 0xF0, 0x37))
-        stack = Stack.of_filters([filters.with_exception(ret(ERRNO | 1), SOCKET, conditions, TRAP)])
+        stack = AnsweringStack.of_filters([filters.with_exception(ret(ERRNO | 1), SOCKET, conditions, TRAP)])
         for number, first, third, last in ((SOCKET, 0x100000010, 9, 0x30), (SOCKET, 0x100000010, 1 << 32 | 9, 0x13F),
                                            (SOCKET, 0x10, 9, 0x30), (SOCKET, 0x100000010, 8, 0x30),
                                            (SOCKET, 0x100000010, 9, 0x40), (42, 0x100000010, 9, 0x30)):

@@ -7,11 +7,13 @@ import pty
 import re
 import shutil
 import subprocess
+import unittest
+import unittest.mock
 
-from support.common import CORE, SCF, TABLE, TOP, Case, filter_of, for_developers, part, profile_of, ret, source_of
+from support.common import (CORE, PROGRAM, SCF, TABLE, TOP, Case, filter_of, for_developers, part, profile_of, ret,
+                            source_of)
 from support.confined import OLDEST, Confined, here
 
-PROGRAM = os.path.join(TOP, "crates", "scf", "out", "scf")
 TOOLS = {name for name in os.listdir(os.path.join(TOP, "tools")) if os.path.isfile(os.path.join(TOP, "tools", name))}
 GROUPS = ["Look at a filter", "Look at a profile", "Look at a process", "Compare", "Make"]
 
@@ -50,7 +52,7 @@ class Dispatch(Case):
             done = [subprocess.run([*name, *words], input=given, stdout=subprocess.PIPE, stderr=subprocess.PIPE,
                                    env={"PATH": "/nowhere"}, cwd=self.folder, check=False)
                     for name in ([PROGRAM], CORE)]
-            self.assertEqual(*((it.returncode, it.stdout, it.stderr) for it in done), words)
+            self.assertEqual(*((item.returncode, item.stdout, item.stderr) for item in done), words)
 
     def test_without_a_file_the_program_answers_standard_input(self):
         """Its lines and its status, and nothing else."""
@@ -71,7 +73,7 @@ class Dispatch(Case):
                              (["decide"], b"filter 8\r\n"), (["ask"], b"profile 123456789\n"), (["compile"], b"")):
             done = [subprocess.run([*name, *words], input=given, stdout=subprocess.PIPE, stderr=subprocess.PIPE,
                                    cwd=self.folder, check=False) for name in (CORE, [SCF])]
-            self.assertEqual(*((it.returncode, it.stdout, it.stderr) for it in done), words)
+            self.assertEqual(*((item.returncode, item.stdout, item.stderr) for item in done), words)
         # with names, and a filter or a profile in place of a bundle
         for words, given, out in ((["run", "--nr", "read"], filter_, "ALLOW 0 steps 6\n"),
                                   (["run", "--nr", "read,write"], filter_, "ALLOW 0 steps 6\nERRNO 1 steps 6\n"),
@@ -85,6 +87,11 @@ class Dispatch(Case):
                            for words, given in (([SCF, "compile"], profile), ([*CORE, "compile"], compilation))))
         self.assertEqual(json.loads(self.scf("check", "--json", given=filter_)[1])["filters"],
                          [{"file": "-", "status": 0, "instructions": 9}])
+
+    def test_several_syscalls_in_a_word(self):
+        filter_, profile = self.file("f.bpf", filter_of([0, 1])), self.file("p.json", profile_of("read", "write"))
+        for command, path in (("decide", filter_), ("run", filter_), ("ask", profile)):
+            self.assertEqual(self.scf(command, "--nr", "read,write", path)[1].count("# the syscall is "), 2, command)
 
     def test_files_are_explained(self):
         for words in (["check", self.filter], ["compare", self.filter, self.profile], ["run", "--nr", "read", "f.bpf"],
@@ -195,8 +202,8 @@ class Help(Case):
         """In it `--a0 N .. --a5 N` stands for those between, too."""
         between = {f"--a{at}" for at in range(1, 5)}
         for name in sorted(TOOLS - {"bundle"}):
-            usage, _, rest = self.scf("help", name)[1].partition("\n\n")
-            options = set(re.findall(r"(?m)^  (?:-h, )?(--[a-z0-9-]+)", rest)) - {"--help", "--version", "--color"}
+            usage, _, remaining = self.scf("help", name)[1].partition("\n\n")
+            options = set(re.findall(r"(?m)^  (?:-h, )?(--[a-z0-9-]+)", remaining)) - {"--help", "--version", "--color"}
             self.assertEqual(set(re.findall(r"--[a-z0-9-]+", usage)), options - between, name)
             self.assertLessEqual(max(map(len, usage.split("\n"))), 100, name)
 
@@ -212,7 +219,8 @@ class Help(Case):
     def test_a_wrong_option_names_the_nearest(self):
         for words, near in ((["compare", "--no-mor", "a", "b"], "--no-more"), (["lint", "--strcit", "p"], "--strict"),
                             (["surface", "--condition", "f"], "--conditions"), (["run", "--Path"], "--path"),
-                            (["check", "--jsn=1"], "--json")):
+                            (["check", "--jsn=1"], "--json"), (["lint", "--strcit"], "--strict"),
+                            (["diff", "--jsno", "a"], "--json")):
             status, out, err = self.scf(*words)
             self.assertEqual((status, out), (2, ""))
             self.assertTrue(err.endswith(f"; the nearest is {near}\n"), err)
@@ -246,9 +254,9 @@ class Examples(Confined):
         os.symlink(SCF, os.path.join(self.folder, "scf"))
 
     def run_examples(self, name, **more):
-        found = examples_of(name)
-        self.assertEqual(len(found), 2, name)
-        for line in found:
+        actual = examples_of(name)
+        self.assertEqual(len(actual), 2, name)
+        for line in actual:
             with self.subTest(line):
                 env = {**os.environ, "PATH": f"{self.folder}:{os.environ['PATH']}", **more}
                 status, out, err = self.run_words(["sh", "-c", line], env=env)
@@ -273,7 +281,7 @@ class Examples(Confined):
 class Completion(Case):
     def setUp(self):
         super().setUp()
-        self.paths = [os.path.join(self.folder, f"scf.{it}") for it in ("bash", "zsh", "fish")]
+        self.paths = [os.path.join(self.folder, f"scf.{name}") for name in ("bash", "zsh", "fish")]
         self.assertEqual(self.run_words([for_developers("completion"), *self.paths]), (0, "", ""))
 
     def completed(self, *words):
@@ -290,10 +298,36 @@ class Completion(Case):
         self.assertEqual(self.completed("scf", "ask", "--arch", "i38"), {"i386"})
         self.assertEqual(self.completed("scf", "lint", "--except", "x3"), {"x32"})
         self.assertIn(str(os.getpid()), self.completed("scf", "filters-of", "--thread", str(os.getpid())))
-        errnos = {it for it in errno.errorcode.values() if it.startswith("EP")}
+        errnos = {item for item in errno.errorcode.values() if item.startswith("EP")}
         self.assertEqual(self.completed("scf", "unit-profile", "--errno", "EP"), errnos)
         self.file("a file.bpf", b"")
         self.assertEqual(self.completed("scf", "compare", "--table", "a"), {"a", "file.bpf"})
+
+    def test_values_in_bash(self):
+        """Constants, capabilities, lists of values, arguments that are no files, and the commands scf-NAME."""
+        for words, values in ((["decide", "--a0", "AF_IN"], {"AF_INET", "AF_INET6"}),
+                              (["decide", "--nr", "=", "read,renameat"], {"read,renameat", "read,renameat2"}),
+                              (["compile", "--caps", "docker,CAP_SYS_A"], {"docker,CAP_SYS_ADMIN"}),
+                              (["verify-process", str(os.getpid())], {str(os.getpid())}),
+                              (["lint", "--except", "x3"], {"x32"})):
+            self.assertLessEqual(values, self.completed("scf", *words), words)
+            self.assertEqual(self.completed(f"/usr/bin/scf-{words[0]}", *words[1:]), self.completed("scf", *words))
+        units = self.file("systemctl", "#!/bin/sh\nprintf 'a.service enabled x\nb@.service static -\nc.socket - -\n'\n")
+        os.chmod(units, 0o755)
+        with unittest.mock.patch.dict(os.environ, PATH=f"{self.folder}:{os.environ['PATH']}"):
+            self.assertEqual(self.completed("scf", "unit-profile", ""), {"a.service", "b@.service", "c.socket"})
+            self.assertEqual(self.completed("scf", "unit-profile", "--json", "b"), {"b@.service"})
+
+    @unittest.skipUnless(shutil.which("zsh"), "there is no zsh here")
+    def test_values_in_zsh(self):
+        """The words of `--nr=`, by stand-ins for zsh's own functions, which need a terminal."""
+        script = ('_arguments() { print -rl -- "$@" }; _files() { }; compset() { }; compadd() { print -rl -- "$@" }; '
+                  'service=$2 words=($2 $3) CURRENT=3; source $1; for name in ${(k)functions[(I)_scf_values_*]}; do '
+                  'print -r -- "# $name"; $name; done')
+        for words in (["scf", "decide"], ["scf-decide", ""]):
+            out = self.run_words(["zsh", "-fc", script, "zsh", self.paths[1], *words])[1]
+            name = re.search(r"(?m)^\*--nr=\[.*\]:value:(_scf_values_\d+)$", out)[1]
+            self.assertIn("\nrenameat2\n", out.partition(f"# {name}\n")[2].partition("\n# ")[0])
 
     def test_every_option_of_a_tool(self):
         for name in sorted(TOOLS - {"bundle"}):
@@ -308,6 +342,12 @@ class Completion(Case):
         if shutil.which("fish"):
             out = self.run_words(["fish", "-c", f"source {self.paths[2]}; complete -C 'scf compare --no-'"])[1]
             self.assertEqual(re.findall(r"(?m)^--no-\w+", out), ["--no-less", "--no-more"])
+            for line, values in (("scf-compare --no-", ["--no-less", "--no-more"]),
+                                 ("scf decide --a0 AF_INET6", ["AF_INET6"]),
+                                 ("scf-decide --nr=read,renameat2", ["--nr=read,renameat2"]),
+                                 (f"scf verify-process {os.getpid()}", [str(os.getpid())])):
+                out = self.run_words(["fish", "-c", f"source {self.paths[2]}; complete -C '{line}'"])[1]
+                self.assertEqual([it.split("\t")[0] for it in out.splitlines()], values)
 
 
 class Color(Case):
@@ -326,7 +366,7 @@ class Color(Case):
         self.assertTrue(all(re.fullmatch(r"\x1b\[2m# .*\x1b\[0m", line) for line in out[4:-1]), out)
         for more, is_green in (({}, True), ({"NO_COLOR": "1"}, False)):
             ours, theirs = pty.openpty()
-            env = {name: it for name, it in os.environ.items() if name != "NO_COLOR"}
+            env = {name: value for name, value in os.environ.items() if name != "NO_COLOR"}
             self.run_words(words, stdout=theirs, env={**env, **more})
             os.close(theirs)
             self.assertEqual(os.read(ours, 99).decode().replace("\r", ""), green if is_green else "same\n")

@@ -28,7 +28,7 @@ class Compare(Case):
     def bundle(self, *filters, profile=None):
         with open(TABLE, "rb") as file:
             table = file.read()
-        return b"".join(part("filter", it) for it in filters) + part("profile",
+        return b"".join(part("filter", data) for data in filters) + part("profile",
             profile or profile_of("read", "write")) + part("table", table)
 
     def test_usage(self):
@@ -126,8 +126,8 @@ class Compare(Case):
             for words, pointer in zip((("--calls",), ("--native",)), pointers):
                 report = json.loads(self.run_tool("compare", "--json", *words, "--table", table,
                                                   self.file("f.bpf", data), allows)[1])
-                found = report["calls"][0] if words == ("--calls",) else report
-                self.assertEqual(found["call"]["pointer"], pointer, (words, report))
+                members = report["calls"][0] if words == ("--calls",) else report
+                self.assertEqual(members["call"]["pointer"], pointer, (words, report))
 
     def test_wrong_files(self):
         for words in (("none.bpf", self.profile), (self.same, "none.json"), (self.folder, self.profile),
@@ -155,7 +155,7 @@ class Compare(Case):
         status, out, _ = self.run_tool("compare", self.same, self.file("c", conflict))
         self.assertEqual(status, 1)
         self.assertTrue(out.startswith("fault profile Conflict number 41 first 0 second 1\n# Two entries"), out)
-        columns = [it.start() + 1 for it in re.finditer(rb'\{"names"', conflict)]
+        columns = [match.start() + 1 for match in re.finditer(rb'\{"names"', conflict)]
         self.assertTrue(out.endswith("# the syscall is socket (41)\n# the entries begin at line 1, column "
                                      f"{columns[0]} and at line 1, column {columns[1]}\n"), out)
 
@@ -171,9 +171,9 @@ class Compare(Case):
 
     def of_each(self, data):
         """The command lines that compare a filter with one that allows each x86-64 syscall, or a profile that does."""
-        one, other = self.file("one.bpf", NATIVE + data), self.file("other.bpf", NATIVE + ret(ALLOW))
+        first, second = self.file("one.bpf", NATIVE + data), self.file("other.bpf", NATIVE + ret(ALLOW))
         profile = self.file("p", b'{"defaultAction":"SCMP_ACT_ALLOW"}')
-        return ["compare", one, profile], ["diff", one, other], ["compare", one, "--beside", other]
+        return ["compare", first, profile], ["diff", first, second], ["compare", first, "--beside", second]
 
     def test_undecided(self):
         for words in self.of_each(UNKNOWN_ZERO + jeq(0, 1, 0) + ret(EPERM) + ret(ALLOW)):
@@ -219,9 +219,9 @@ class Compare(Case):
                      "x\n# the syscall is read (0)", "x\nundecided at 1"):
             profile, shown = self.file("p", profile_of("read", "write", name)), name.replace("\n", "\\x0a")
             # a long name is cut where it is told again
-            told = name if len(name) <= 64 else f"{name[:64]}.."
+            shown_name = name if len(name) <= 64 else f"{name[:64]}.."
             added = ("# names in the profile that were skipped because the table doesn't have them: 1\n# no known "
-                     "syscall is named " + told.replace("\n", "\\x0a") + "\n")
+                     "syscall is named " + shown_name.replace("\n", "\\x0a") + "\n")
             for scope in ("--all", "--native", "--calls"):
                 self.assertEqual(self.run_tool("compare", "--verbose", scope, self.same, profile),
                                  (0, f"same\nskipped {shown}\n{added}", ""))
@@ -260,16 +260,16 @@ class Compare(Case):
     @needs("--calls")
     def test_native_calls_that_differ_are_told_by_name(self):
         line = "231 exit_group differs args 0x0 0x0 0x0 0x0 0x0 0x0 filter ALLOW 0 profile ERRNO 1"
-        said = "syscalls in the table that differ"
+        heading = "syscalls in the table that differ"
         self.assertTrue(self.run_tool("compare", "--native", self.wrong, self.profile)[1].endswith(
-            f"# {said}: 1\n# {line}\n"))
+            f"# {heading}: 1\n# {line}\n"))
         # as runc puts in front of a filter: numbers that it doesn't know fail with ENOSYS
         stub = load(0) + jge(500, 0, 1) + ret(0x00050026)
         status, out, _ = self.run_tool("compare", "--native",
                                        self.file("stub.bpf", stub + filter_of([READ, WRITE])), self.profile)
         self.assertEqual(status, 1)
         self.assertTrue(out.endswith("# each syscall in the table is answered as the profile says\n"), out)
-        self.assertNotIn(said, self.run_tool("compare", "--all", self.wrong, self.profile)[1])
+        self.assertNotIn(heading, self.run_tool("compare", "--all", self.wrong, self.profile)[1])
 
     @needs("--native")
     def test_several_filters(self):
@@ -328,8 +328,9 @@ class OtherAbis(Case):
         self.assertEqual((status, lines[0]), (1, "differs"))
         self.assertEqual(named[0], "i386 3 read differs args 0x0 0x0 0x0 0x0 0x0 0x0 filter ERRNO 1 profile ALLOW 0")
         self.assertEqual([line.split()[:2] for line in named[1:]], [["x32", str(number)] for number in numbers])
-        found = json.loads(self.run_tool("compare", "--calls", "--json", self.lets_both, profile)[1])
-        self.assertEqual([(it["architecture"], it["call"]["number"], it["call"]["architecture"]) for it in found["calls"]],
+        report_json = json.loads(self.run_tool("compare", "--calls", "--json", self.lets_both, profile)[1])
+        self.assertEqual([(call["architecture"], call["call"]["number"], call["call"]["architecture"])
+                          for call in report_json["calls"]],
                          [("i386", 3, hex(I386)), *(("x32", 0x40000000 + number, hex(X86_64)) for number in numbers)])
 
     def test_each_architecture_that_is_named_is_judged(self):
@@ -343,13 +344,14 @@ class OtherAbis(Case):
                 "differs", f"call nr {number} arch {arch:#x} ip 0x0 args 0x0 0x0 0x0 0x0 0x0 0x0", "filter ERRNO 1",
                 "profile ALLOW 0"]))
             self.assertIn(f"# the syscall is {shown}", lines)
-            self.assertTrue(any(it.startswith("# by entry 0 of syscalls: ") for it in lines), lines)
-        rows = [it for it in lines if it.startswith(("# i386 ", "# x32 "))]
+            self.assertTrue(any(line.startswith("# by entry 0 of syscalls: ") for line in lines), lines)
+        rows = [line for line in lines if line.startswith(("# i386 ", "# x32 "))]
         self.assertEqual(rows[0], "# i386 3 read differs args 0x0 0x0 0x0 0x0 0x0 0x0 filter ERRNO 1 profile ALLOW 0")
         self.assertEqual(rows[1].split()[1:5], ["x32", "1", "write", "differs"])
-        found = json.loads(self.run_tool("compare", "--json", self.lets_i386, self.profile("X86"))[1])
-        self.assertEqual((found["scope"], found["architectures"]), ("listed", ["SCMP_ARCH_X86_64", "SCMP_ARCH_X86"]))
-        self.assertEqual([(it["architecture"], it["number"], it["names"]) for it in found["calls"]],
+        report_json = json.loads(self.run_tool("compare", "--json", self.lets_i386, self.profile("X86"))[1])
+        self.assertEqual((report_json["scope"], report_json["architectures"]),
+                         ("listed", ["SCMP_ARCH_X86_64", "SCMP_ARCH_X86"]))
+        self.assertEqual([(call["architecture"], call["number"], call["names"]) for call in report_json["calls"]],
                          [("i386", 3, ["read"])])
 
     def test_all_records(self):
@@ -375,16 +377,17 @@ class OtherAbis(Case):
         for words in ((), ("--no-less",)):
             status, lines = self.said("--all", *words, fits, self.profile("MIPS"))
             self.assertEqual((status, lines[0]), (0, "no less") if words else (4, self.UNDETERMINED))
-        self.assertEqual(lines[2:3], ["# the profile's other architectures aren't judged, since scf has no table of them"])
-        found = json.loads(self.run_tool("compare", "--all", "--json", fits, self.profile("MIPS"))[1])
-        self.assertEqual((found["status"], found["verdict"]), (4, "undetermined"))
-        self.assertNotIn("profile", found)
+        self.assertEqual(lines[2:3],
+                         ["# the profile's other architectures aren't judged, since scf has no table of them"])
+        report_json = json.loads(self.run_tool("compare", "--all", "--json", fits, self.profile("MIPS"))[1])
+        self.assertEqual((report_json["status"], report_json["verdict"]), (4, "undetermined"))
+        self.assertNotIn("profile", report_json)
         self.assertEqual(self.said("--all", fits, self.profile())[1][0], "differs")
         self.assertEqual(self.said("--all", wrong, self.profile("MIPS"))[1][:2], [
             "differs", "call nr 0 arch 0xc000003e ip 0x0 args 0x0 0x0 0x0 0x0 0x0 0x0"])
         self.assertEqual(self.said(fits, self.profile("MIPS"))[1][:2], ["same", "other SCMP_ARCH_MIPS"])
 
-    def test_what_is_let_through_is_said(self):
+    def test_what_is_allowed_is_said(self):
         """Behind the verdict; nothing where nothing is."""
         both, x32 = self.profile("X86", "X32"), "x32: some syscalls are allowed, such as read (0x40000000 + 0): ALLOW"
         status, lines = self.said("--native", self.lets_both, both)
@@ -402,8 +405,8 @@ class OtherAbis(Case):
             "same", "# compared: x86-64 and i386 syscalls; other ABIs are only checked for any allowed syscall:",
             f"# {x32}", "# other ABIs: the kernel has no others", ""]))
         self.assertEqual(self.said(self.lets_i386, self.profile())[1], ["same", ""])
-        found = json.loads(self.run_tool("compare", "--native", "--json", self.lets_both, both)[1])
-        self.assertEqual([bool(one["not_denied"]) for one in found["foreign"]], [False, True])
+        report_json = json.loads(self.run_tool("compare", "--native", "--json", self.lets_both, both)[1])
+        self.assertEqual([bool(access["not_denied"]) for access in report_json["foreign"]], [False, True])
 
     def test_ask(self):
         for arch, number, names, line in (("i386", "3", ("X86",), "ALLOW 0 entry 0"),
@@ -420,8 +423,8 @@ class OtherAbis(Case):
             words = ("ask", f"--arch={arch}", "--nr", number)
             status, out, _ = self.run_tool(*words, self.profile(*names))
             self.assertEqual((status, out.split("\n")[0]), (4 if line == self.UNDETERMINED else 0, line), words)
-            found = json.loads(self.run_tool(*words, "--json", self.profile(*names))[1])["calls"][0]
-            self.assertEqual("answer" in found, line != self.UNDETERMINED)
+            first_call = json.loads(self.run_tool(*words, "--json", self.profile(*names))[1])["calls"][0]
+            self.assertEqual("answer" in first_call, line != self.UNDETERMINED)
         native = self.run_tool("ask", "--native", "--arch=i386", "--nr=read", self.profile("X86"))
         self.assertEqual((native[0], native[1].split("\n")[0]), (4, self.UNDETERMINED))
 
@@ -445,12 +448,12 @@ class WithAnotherScf(Case):
 
     def run_fake(self, *words):
         tree = self.made_tree(FAKE)
-        kept = os.path.join(self.folder, "kept")
+        copy = os.path.join(self.folder, "kept")
         for name, data in (("a.bpf", b"AAAA"), ("b.bpf", b"BB"), ("p.json", b"{}"), ("t", b"getpid 39\n")):
             self.file(name, data)
         done = self.run_words([os.path.join(tree, "tools", "compare"), *words],
-                              env={**os.environ, "KEPT": kept})
-        with open(kept, "rb") as bundle, open(f"{kept}.words", encoding="ascii") as handed:
+                              env={**os.environ, "KEPT": copy})
+        with open(copy, "rb") as bundle, open(f"{copy}.words", encoding="ascii") as handed:
             return done, bundle.read(), handed.read()
 
     def test_filters_stand_oldest_first(self):
@@ -462,8 +465,8 @@ class WithAnotherScf(Case):
         with open(os.path.join(self.folder, "kept.calls"), encoding="ascii") as handed:
             self.assertEqual(handed.read(), "compare --calls --limit=7\n")
         with open(os.path.join(self.folder, "kept.relations"), encoding="ascii") as handed:
-            self.assertEqual(handed.read().split("\n"), [f"compare --native --no-{it} --limit=7"
-                                                         for it in ("more", "less")]
+            self.assertEqual(handed.read().split("\n"), [f"compare --native --no-{word} --limit=7"
+                                                         for word in ("more", "less")]
                              + [""])
         self.assertEqual(self.run_fake("--all", "--table", "t", "a.bpf", "p.json")[2], "compare\n")
 
@@ -481,7 +484,7 @@ class Decide(Case):
             self.assertEqual(self.run_tool("decide", "--nr", number, self.filter),
                              (0, "ERRNO 1\n# the syscall is write (1)\n# ERRNO 1: the syscall fails with "
                                  "EPERM\n# the path in the filter: 0 1 3 4 6 7\n", ""))
-        self.assertEqual(self.run_tool("decide", self.filter)[1],
+        self.assertEqual(self.run_tool("decide", "--nr=0", self.filter)[1],
                          "ALLOW 0\n# the syscall is read (0)\n# ALLOW: the syscall is executed\n# the path in the filter: 0 1 3 "
                          "4 6 8\n")
         self.file("-t", b"own 1\n")
@@ -502,23 +505,25 @@ class Decide(Case):
         for at in range(6):
             for half in range(2):
                 asks = load(16 + 8 * at + 4 * half) + jeq(7, 0, 1) + ret(ALLOW) + ret(EPERM)
-                out = self.run_tool("decide", f"--a{at}", str(7 << 32 * half), self.file("a.bpf", asks))[1]
+                out = self.run_tool("decide", "--nr=0", f"--a{at}", str(7 << 32 * half), self.file("a.bpf", asks))[1]
                 self.assertTrue(out.startswith("ALLOW 0\n"), (at, half))
         ip = load(8) + jeq(9, 0, 1) + ret(ALLOW) + ret(EPERM)
-        self.assertTrue(self.run_tool("decide", "--ip", "9", self.file("ip.bpf", ip))[1].startswith("ALLOW 0\n"))
-        out = self.run_tool("decide", "--arch", "0x40000003", self.filter)[1]
+        out = self.run_tool("decide", "--nr=0", "--ip", "9", self.file("ip.bpf", ip))[1]
+        self.assertTrue(out.startswith("ALLOW 0\n"))
+        out = self.run_tool("decide", "--nr=0", "--arch", "0x40000003", self.filter)[1]
         self.assertEqual(out,
                          "KILL_PROCESS 0\n# the syscall is restart_syscall (0) of the architecture i386\n"
                          "# KILL_PROCESS: the process is killed\n# the path in the filter: 0-2\n")
 
     def test_filters_stand_oldest_first(self):
-        one, two = self.file("one.bpf", ret(0x00050001)), self.file("two.bpf", ret(0x00050002))
-        self.assertTrue(self.run_tool("decide", one, two)[1].startswith("ERRNO 2\n"))
-        self.assertTrue(self.run_tool("decide", two, one)[1].startswith("ERRNO 1\n"))
-        self.assertTrue(self.run_tool("decide", one, "-", given=ret(KILL_PROCESS))[1].startswith("KILL_PROCESS 0\n"))
+        first, two = self.file("one.bpf", ret(0x00050001)), self.file("two.bpf", ret(0x00050002))
+        self.assertTrue(self.run_tool("decide", "--nr=0", first, two)[1].startswith("ERRNO 2\n"))
+        self.assertTrue(self.run_tool("decide", "--nr=0", two, first)[1].startswith("ERRNO 1\n"))
+        out = self.run_tool("decide", "--nr=0", first, "-", given=ret(KILL_PROCESS))[1]
+        self.assertTrue(out.startswith("KILL_PROCESS 0\n"))
 
     def test_faults_and_wrong_words(self):
-        status, out, _ = self.run_tool("decide", self.file("e.bpf", b""))
+        status, out, _ = self.run_tool("decide", "--nr=0", self.file("e.bpf", b""))
         self.assertEqual(status, 1)
         self.assertTrue(out.startswith("fault filter Empty\n# The filter has no instruction"), out)
         status, out, _ = self.run_tool("decide", "--nr", "4294967296", self.filter)
@@ -531,7 +536,7 @@ class Decide(Case):
             self.assertNotIn("Traceback", err)
 
     def test_output_that_fails(self):
-        status, _, err = self.closed_output("decide", self.filter)
+        status, _, err = self.closed_output("decide", "--nr=0", self.filter)
         self.assertEqual(status, 3)
         self.assertIn("the output failed", err)
 
@@ -550,8 +555,8 @@ class Explain(Case):
         self.assertIn("usage: explain ", out)
         for words, status in ((["no", "such", "line"], 1), (["a page fault in kernel mode"], 1), (["fault x Y"], 1),
                               (["299"], 1), (["--no-such"], 2)):
-            found, out, err = self.run_tool("explain", *words)
-            self.assertEqual((found, out), (status, ""), words)
+            exit_status, out, err = self.run_tool("explain", *words)
+            self.assertEqual((exit_status, out), (status, ""), words)
             self.assertIn("explain: ", err)
 
     def test_lines_of_logs(self):
@@ -560,13 +565,14 @@ class Explain(Case):
                        "[job 3] 12:00:01.5 ", "\x1b[31m"):
             for line, means in (("fault filter Empty", "The filter has no instruction."),
                                 ("fault profile Conflict number 41 first 1 second 2", "the syscall is socket (41)"),
-                                ("same", "every syscall that was compared"), ("no more", "nowhere are the filters more"),
+                                ("same", "every syscall that was compared"),
+                                ("no more", "nowhere are the filters more"),
                                 ("unconfined though configured", "though its configuration has a profile"),
                                 ("ERRNO 1 entry 3", "entry 3 of the profile's syscalls"),
                                 ("undecided at 7", "Runs of a filter end at this instruction"),
                                 ("exit code 70.", "an internal error"), ("status 137", "signal 9 ended it")):
                 lines = self.explained(before + line)
-                self.assertTrue(any(means in it for it in lines), (before + line, lines))
+                self.assertTrue(any(means in line for line in lines), (before + line, lines))
         self.assertEqual(self.explained("fault", "filter", "Empty"), self.explained("fault filter Empty"))
         for number in (0, 1, 2, 3, 4, 70, 125):
             self.assertEqual(len(self.explained(str(number))), 1)
@@ -585,7 +591,8 @@ class Explain(Case):
 
     def test_what_each_answer_does(self):
         for answer, line, means in ((0x7FFC0000, "LOG 0", "LOG: the syscall is executed, and logged"),
-                                    (0x00030007, "TRAP 7", "TRAP 7: the syscall isn't executed, and the thread gets SIGSYS"),
+                                    (0x00030007, "TRAP 7",
+                                     "TRAP 7: the syscall isn't executed, and the thread gets SIGSYS"),
                                     (0x7FC00000, "USER_NOTIF 0", "USER_NOTIF: a supervisor handles the syscall; "
                                                                  "without one it fails with ENOSYS"),
                                     (0x7FF00000, "TRACE 0",

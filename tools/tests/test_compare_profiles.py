@@ -78,8 +78,8 @@ class Program(Case):
             '# new: entry 2 of syscalls: {"names": ["open"], "action": "SCMP_ACT_ERRNO", "errnoRet": 38}',
             "# new: default: ERRNO 1: the syscall fails with EPERM"]))
 
-    def test_a_call_of_which_more_and_less_is_let_through(self):
-        old, new = (profile(("socket", "ALLOW", {"args": it})) for it in (NOT_40, IS_41))
+    def test_a_call_that_is_answered_more_and_less_permissively(self):
+        old, new = (profile(("socket", "ALLOW", {"args": args})) for args in (NOT_40, IS_41))
         status, lines = self.compared(profile(("socket", "ALLOW", {"args": [{**IS_41[0], "value": 40}]})),
                                       profile(("socket", "ALLOW", {"args": NOT_40})))
         self.assertEqual((status, lines[1]), (1, "more 1, less 1, otherwise 0"))
@@ -98,9 +98,9 @@ class Program(Case):
                                       (profile(("read write", "LOG", {})), 0, 0),
                                       (profile(("read write", "ALLOW", {}), default="SCMP_ACT_TRACE"), 1, 0)):
             for flag, status in (("--no-more", no_more), ("--no-less", no_less)):
-                found, lines = self.compared(READ_WRITE, new, flag)
+                exit_status, lines = self.compared(READ_WRITE, new, flag)
                 held, fails = ("no more", "more") if flag == "--no-more" else ("no less", "less")
-                self.assertEqual((found, lines[0]), (status, fails if status else held), (new, flag))
+                self.assertEqual((exit_status, lines[0]), (status, fails if status else held), (new, flag))
             self.assertEqual(self.compared(READ_WRITE, new)[0], 1)
 
     def test_numbers_without_a_name(self):
@@ -132,8 +132,8 @@ class Program(Case):
             "# other architectures, not compared: 1 in the old profile, 2 in the new one",
             "# only in the old one: SCMP_ARCH_MIPS",
             "# only in the new one: SCMP_ARCH_S390, \\xc2\\x9b\\x0a# same"]))
-        found = json.loads(self.compared(old, new, "--json")[1][0])
-        self.assertEqual(found["skipped"], {"old": ["waitpid", "umont2"], "new": ["waitpid", hostile]})
+        report = json.loads(self.compared(old, new, "--json")[1][0])
+        self.assertEqual(report["skipped"], {"old": ["waitpid", "umont2"], "new": ["waitpid", hostile]})
         many = profile((" ".join(["read", *(f"x{at}" for at in range(25))]), "ALLOW", {}))
         self.assertEqual(self.compared(many, profile(("read", "ALLOW", {})))[1][-1],
                          f"# only in the old one: {', '.join(f'x{at}' for at in range(20))} and 5 more")
@@ -150,15 +150,15 @@ class Program(Case):
             "differs", "more 0, less 1, otherwise 0", "# syscalls for which the new profile is stricter: 1",
             "i386 7 waitpid less args 0x0 0x0 0x0 0x0 0x0 0x0 old ALLOW entry 0 new ERRNO 1 default"]))
         self.assertEqual(self.compared(old, new, "--native")[1][0], "same")
-        found = json.loads(self.compared(old, new, "--json")[1][0])
-        self.assertEqual([(it["architecture"], it["number"]) for it in found["changes"]], [("i386", 7)])
+        report = json.loads(self.compared(old, new, "--json")[1][0])
+        self.assertEqual([(change["architecture"], change["number"]) for change in report["changes"]], [("i386", 7)])
         alone = profile(("read", "ALLOW", {}), architectures=["SCMP_ARCH_X86_64"])
-        for one, other, word in ((new, alone, "old"), (alone, new, "new")):
-            status, lines = self.compared(one, other)
+        for old_path, new_path, word in ((new, alone, "old"), (alone, new, "new")):
+            status, lines = self.compared(old_path, new_path)
             self.assertEqual((status, lines[:2]), (1, ["differs", "more 0, less 0, otherwise 0"]))
             self.assertIn(f"# only the {word} profile names SCMP_ARCH_X86: the {'new' if word == 'old' else 'old'} one "
                           "kills a process that makes such a syscall", lines)
-            self.assertEqual(self.compared(one, other, "--no-more")[0], 0 if word == "old" else 1)
+            self.assertEqual(self.compared(old_path, new_path, "--no-more")[0], 0 if word == "old" else 1)
 
     def test_a_strangers_entry(self):
         """It is one line, without a control character, and bounded."""
@@ -176,11 +176,11 @@ class Program(Case):
         new = profile(("read", "ALLOW", {}), ("socket", "ALLOW", {"args": NOT_40}))
         status, lines = self.compared(READ_WRITE, new, "--json")
         self.assertEqual((status, len(lines)), (1, 1))
-        found = json.loads(lines[0])
-        self.assertEqual({key: found[key] for key in ("status", "relation", "verdict", "counts", "unnamed")}, {
+        report = json.loads(lines[0])
+        self.assertEqual({key: report[key] for key in ("status", "relation", "verdict", "counts", "unnamed")}, {
             "status": 1, "relation": "same", "verdict": "differs", "unnamed": None,
             "counts": {MORE: 1, LESS: 1, OTHERWISE: 0, "undecided": 0, "unfinished": 0}})
-        more, less = found["changes"]
+        more, less = report["changes"]
         self.assertEqual([more[key] for key in ("number", "names", "change")], [41, ["socket"], MORE])
         self.assertEqual((more["old"]["reason"], more["new"]["reason"], more["new"]["entry"]), ("default", "entry", 1))
         self.assertEqual(more["new"]["definition"], json.loads(new)["syscalls"][1])
@@ -202,9 +202,9 @@ class Program(Case):
             for old, new, side in ((text, READ_WRITE, "old"), (READ_WRITE, text, "new")):
                 status, lines = self.compared(old, new)
                 self.assertEqual((status, lines[0], lines[-1]), (1, line, f"# it is the {side} profile"))
-                self.assertTrue(all(it.startswith("# ") for it in lines[1:]), lines)
-                found = json.loads(self.compared(old, new, "--json")[1][0])
-                self.assertEqual((found["status"], found["verdict"], found["fault"]["side"]), (1, None, side))
+                self.assertTrue(all(line.startswith("# ") for line in lines[1:]), lines)
+                report = json.loads(self.compared(old, new, "--json")[1][0])
+                self.assertEqual((report["status"], report["verdict"], report["fault"]["side"]), (1, None, side))
         self.assertEqual(self.compared(READ_WRITE, READ_WRITE, "--table", self.file("t", b"read\n"))[1][0],
                          "fault table Form line 1")
         status, lines = self.compared(READ_WRITE, READ_WRITE, "--limit", "x")
@@ -217,8 +217,8 @@ class Program(Case):
         for words, status, says in (((given, "/dev/zero"), 3, "fault profile TooLong"),
                                     (("--caps=none", "/dev/zero", given), 2, "has more than 4194304 bytes"),
                                     (("--table=/dev/zero", given, given), 2, "has more than 4194304 bytes")):
-            found, out, err = self.run_tool("compare-profiles", *words)
-            self.assertEqual(found, status, words)
+            exit_status, out, err = self.run_tool("compare-profiles", *words)
+            self.assertEqual(exit_status, status, words)
             self.assertIn(says, out + err)
 
     def test_unfinished(self):
@@ -238,6 +238,7 @@ compile) printf 12345678 ;;
 *--calls*)
     printf 'differs\\n1 write differs args 0x1 0x0 0x0 0x0 0x0 0x0 filter ALLOW 0 profile ERRNO 1\\n'
     exit 1 ;;
+answers*) echo unfinished; exit 4 ;;
 ask*) echo ALLOW 0 entry 0 ;;
 decide*) echo ALLOW 0 ;;
 *) echo undecided at 3; exit 4 ;;
@@ -272,17 +273,17 @@ class Engines(Case):
                                {"names": ["reboot"], "action": ALLOW, "includes": {"caps": ["CAP_SYS_BOOT"]}}]}
 
     def compared(self, *words, old=None, new=None):
-        names = [self.file(f"{name}.json", json.dumps(it)) for name, it in (("old", old or self.OLD),
+        names = [self.file(f"{name}.json", json.dumps(value)) for name, value in (("old", old or self.OLD),
                                                                             ("new", new or self.NEW))]
         status, out, err = self.run_tool("compare-profiles", *words, *names)
         return status, [line.split()[:3] for line in out.split("\n") if line[:1].isdigit()], err
 
     def test_the_options_resolve_both(self):
         for words, expected in ((["--caps", "none"], ["write"]), (["--caps", "SYS_BOOT"], ["write", "reboot"]),
-                                (["--kernel", "4.0"], ["write"]), (["--arch", "native"], ["write"]),
+                                (["--kernel", "4.0"], ["write"]), (["--arch-map", "native"], ["write"]),
                                 (["--keep-first"], ["write"])):
-            status, found, _ = self.compared(*words)
-            self.assertEqual((status, [line[1] for line in found]), (1, expected), words)
+            status, exit_status, _ = self.compared(*words)
+            self.assertEqual((status, [line[1] for line in exit_status]), (1, expected), words)
 
     def test_without_an_option_scf_refuses_an_engines_form(self):
         status, out, err = self.run_tool("compare-profiles", *[self.file("old.json", json.dumps(self.OLD))] * 2)
@@ -306,8 +307,8 @@ class Engines(Case):
                          (0, []))
 
     def test_what_the_engines_refuse(self):
-        status, found, err = self.compared("--caps", "none", new={"defaultAction": ERRNO, "syscalls": 1})
-        self.assertEqual((status, found), (1, []))
+        status, exit_status, err = self.compared("--caps", "none", new={"defaultAction": ERRNO, "syscalls": 1})
+        self.assertEqual((status, exit_status), (1, []))
         self.assertRegex(err, r"\Acompare-profiles: [^\n]*new\.json: [^\n]+\n\Z")
 
 
@@ -315,7 +316,7 @@ class Runtimes(Case):
     """Profiles as a runtime applies them, and entries by their index in the user's files."""
 
     def lines(self, old, new, *words):
-        names = [self.file(f"{name}.json", json.dumps(it)) for name, it in (("old", old), ("new", new))]
+        names = [self.file(f"{name}.json", json.dumps(value)) for name, value in (("old", old), ("new", new))]
         status, out, err = self.run_tool("compare-profiles", *words, *names)
         self.assertNotIn("Traceback", err)
         return status, out.splitlines(), err.splitlines()
@@ -330,18 +331,18 @@ class Runtimes(Case):
             status, lines, _ = self.lines(old, new, *words)
             self.assertIn(f"1 write less {NO_ARGUMENTS} old ALLOW entry 1 new ERRNO 1 default", lines)
             self.assertIn('# old: entry 1 of syscalls: {"names": ["read", "write"], "action": "SCMP_ACT_ALLOW"}', lines)
-            found = json.loads(self.lines(old, new, "--json", *words)[1][0])
-            self.assertEqual((status, found["changes"][0]["old"]["entry"]), (1, 1))
+            report = json.loads(self.lines(old, new, "--json", *words)[1][0])
+            self.assertEqual((status, report["changes"][0]["old"]["entry"]), (1, 1))
 
     def test_entries_that_count_for_nothing(self):
-        one = {"defaultAction": ERRNO, "syscalls": [{"names": ["mkdir"], "action": ALLOW}]}
-        two = {**one, "syscalls": [{"names": ["mkdir"], "action": ERRNO, "errnoRet": 1}, *one["syscalls"]]}
+        given = {"defaultAction": ERRNO, "syscalls": [{"names": ["mkdir"], "action": ALLOW}]}
+        two = {**given, "syscalls": [{"names": ["mkdir"], "action": ERRNO, "errnoRet": 1}, *given["syscalls"]]}
         for runtime in ("runc", "crun"):
-            status, lines, err = self.lines(one, two, "--runtime", runtime)
-            self.assertEqual((status, lines[0]), (0, "same"))
-            self.assertEqual(err, ["compare-profiles: new: entry 0 (mkdir) left out: its answer is the default's"])
-        self.assertEqual(self.lines(one, two)[1][0], "fault profile Conflict number 83 first 0 second 1")
-        self.assertEqual(self.lines(one, {**one, "archMap": Engines.MAP}, "--runtime", "crun")[0], 1)
+            status, lines, err = self.lines(given, two, "--runtime", runtime)
+            self.assertEqual((status, lines[0], err), (0, "same", [
+                f"compare-profiles: new: {runtime} leaves out entry 0 (mkdir): its answer is the default's"]))
+        self.assertEqual(self.lines(given, two)[1][0], "fault profile Conflict number 83 first 0 second 1")
+        self.assertEqual(self.lines(given, {**given, "archMap": Engines.MAP}, "--runtime", "crun")[0], 1)
 
     def test_entries_that_conflict_are_called_as_in_the_file(self):
         """What libseccomp makes of two answers by conditions isn't said."""
@@ -350,9 +351,9 @@ class Runtimes(Case):
             {"names": ["mkdir"], "action": ALLOW, "args": NOT_40}, {"names": ["mkdir"], "action": ERRNO, "errnoRet": 2,
                                                                     "args": IS_41}]}
         good = {**old, "syscalls": old["syscalls"][:2]}
-        for one, other, side in ((old, good, "old"), (good, old, "new")):
-            status, lines, _ = self.lines(one, other, "--runtime", "runc")
-            self.assertEqual((status, lines[0], lines[-2:]), (1, "fault profile Conflict number 83 first 1 second 2", [
+        for old_path, new_path, side in ((old, good, "old"), (good, old, "new")):
+            status, lines, _ = self.lines(old_path, new_path, "--runtime", "runc")
+            self.assertEqual((status, lines[0], lines[-2:]), (1, "fault profile Conflict number 83 first 2 second 3", [
                 "# in the original file that is entry 2 (mkdir) and entry 3 (mkdir)",
                 f"# it is the {side} profile"]))
         if os.geteuid():
@@ -376,8 +377,8 @@ class Runtimes(Case):
             "# syscalls that get another answer, neither more permissive nor stricter: 1",
             f"132 utime otherwise {NO_ARGUMENTS} old ERRNO 38 stub new ERRNO 1 default"]))
         self.assertIn("# old: the ENOSYS that runc puts before the filter", lines)
-        found = json.loads(self.lines(old, new, "--runtime", "runc", "--table", table, "--json")[1][0])
-        self.assertEqual(found["changes"][0]["old"], {"answer": {
+        report = json.loads(self.lines(old, new, "--runtime", "runc", "--table", table, "--json")[1][0])
+        self.assertEqual(report["changes"][0]["old"], {"answer": {
             "action": "ERRNO", "data": 38, "errno": "ENOSYS", "does": "the syscall fails with ENOSYS"},
             "reason": "stub"})
         status, lines, _ = self.lines(old, new, "--runtime", "crun", "--table", table)
@@ -387,8 +388,9 @@ class Runtimes(Case):
         changed = [line.split()[1] for line in self.lines(old, trap, "--runtime", "runc", "--table", table)[1]
                    if line[:1].isdigit()]
         self.assertEqual(changed, ["mkdir", "otherwise"])
-        whole = self.file("whole", b"".join(b"n%d %d\n" % (it, it) for it in range(1, 94)) + b"read 0\nlchown 94\n")
-        names = ["read", "lchown", *(f"n{it}" for it in range(1, 94))]
+        whole = self.file("whole",
+                          b"".join(b"n%d %d\n" % (number, number) for number in range(1, 94)) + b"read 0\nlchown 94\n")
+        names = ["read", "lchown", *(f"n{number}" for number in range(1, 94))]
         every = {**x86_64, "syscalls": [{"names": names, "action": ALLOW}]}
         self.assertEqual(self.lines(every, every, "--runtime", "runc", "--table", whole)[:2][1][0], "same")
 
@@ -396,9 +398,10 @@ class Runtimes(Case):
         """What grew with the square of the names, or read both profiles for each change, takes seconds."""
         with open(TABLE, "rb") as file:
             names = list(tables.Table(file.read()).names())
-        skipped = [profile((" ".join(["read", *(f"{it}{at}" for at in range(20000))]), "ALLOW", {})) for it in "ab"]
+        skipped = [profile((" ".join(["read", *(f"{letter}{at}" for at in range(20000))]), "ALLOW", {}))
+                   for letter in "ab"]
         comment = "x" * ((4 << 20) - 60000)
-        changed = [profile(*((it, action, {}) for it in names), comment=comment) for action in ("ALLOW", "LOG")]
+        changed = [profile(*((name, action, {}) for name in names), comment=comment) for action in ("ALLOW", "LOG")]
         for (old, new), status in ((skipped, 0), (changed, 1)):
             words = [tool("compare-profiles"), self.file("a", old), self.file("b", new)]
             self.assertEqual(self.run_words(words, seconds=60)[0], status)
@@ -415,15 +418,15 @@ class RandomProfiles(unittest.TestCase):
             new = self.changed(random_of, old)
             if random_of.random() < 0.2:
                 new = kernel_profiles.random_profile(random_of)
-            found = changes.of_profiles(ProfileInput(old), ProfileInput(new), table, "same")
+            profile_changes = changes.of_profiles(ProfileInput(old), ProfileInput(new), table, "same")
             kinds = {}
-            for change in found.calls:
+            for change in profile_changes.calls:
                 kinds.setdefault(change.number, set()).add(change.kind)
                 self.is_shown(change, old, new)
                 seen.add(change.kind)
             for number in set(kernel_profiles.TABLE.values()):
                 self.is_said(random_of, number, kinds.get(number, set()), old, new)
-            self.assertEqual(found.fails, bool(kinds) or found.unnamed is not None)
+            self.assertEqual(profile_changes.fails, bool(kinds) or profile_changes.unnamed is not None)
         self.assertEqual(seen, {MORE, LESS, OTHERWISE})
 
     def changed(self, random_of, profile_text):
@@ -447,15 +450,16 @@ class RandomProfiles(unittest.TestCase):
 
     def is_said(self, random_of, number, kinds, old, new):
         """The kinds of the sampled calls of a number are among those that are said of it."""
-        constants = [kernel_profiles.constants(it) for it in (old, new)]
+        constants = [kernel_profiles.constants(given) for given in (old, new)]
         for _ in range(30):
-            values = [random_of.choice(sorted(set().union(*(it.get(at, it[-1]) for it in constants))))
+            values = [random_of.choice(sorted(set().union(*(constants_of_one.get(at, constants_of_one[-1])
+                                                            for constants_of_one in constants))))
                       for at in range(6)]
             call = Call(number, arguments=tuple(values))
-            one, other = answer_of(old, call), answer_of(new, call)
-            if degree(one) != degree(other):
-                self.assertIn(MORE if degree(one) < degree(other) else LESS, kinds, (old, new, call))
-            elif one != other:
+            before, after = answer_of(old, call), answer_of(new, call)
+            if degree(before) != degree(after):
+                self.assertIn(MORE if degree(before) < degree(after) else LESS, kinds, (old, new, call))
+            elif before != after:
                 self.assertTrue(kinds, (old, new, call))
 
 

@@ -3,8 +3,8 @@ together."""
 import functools
 import struct
 
-from support.common import I386, X86_64, part
-from support.on_parts import (CLONE, CLONE_TABLE, DEFAULT_ALLOW, ONE_CALL, READ_TABLE, READ_WRITE_TABLE, X32, OnProgram,
+from support.common import I386, X32, X86_64, part
+from support.on_parts import (CLONE, CLONE_TABLE, DEFAULT_ALLOW, ONE_CALL, READ_TABLE, READ_WRITE_TABLE, OnProgram,
                               a_profile, a_table, bundle, ran)
 from support.worked import (EXTREMES, FAILS, KILLS, MADE, MOST, SOCKET_NOT_40, SOCKET_RULES, SOCKET_TABLE, WHOLE_CONFIG,
                             allowing, effort, refusing)
@@ -53,8 +53,8 @@ class OnCompiled(OnProgram):
         for at, argument in enumerate(arguments):
             words += [f"--a{at}", str(argument)]
         out, status = ran(["run", *words], filter_)
-        found, _, steps = out.decode().rstrip("\n").partition(" steps ")
-        self.assertEqual((found, status), (answer, 0), words)
+        actual, _, steps = out.decode().rstrip("\n").partition(" steps ")
+        self.assertEqual((actual, status), (answer, 0), words)
         if most is not None:
             self.assertLessEqual(int(steps), most, words)
 
@@ -114,6 +114,6 @@ class Searches(OnCompiled):
         """An answer isn't put again where one stands within a jump's reach: every second number from 1 on."""
         for count in (1, 2, 3, 4, 5, 7, 8, 9, 100, 255, 256, 340, 681):
             program = list(struct.iter_unpack("<HBBI", compiled(*allowing(range(1, 2 * count, 2)))))
-            for place, one in enumerate(program):
-                if one[0] == 0x06:
-                    self.assertNotIn(one, program[place + 1:place + 1 + FARTHEST], (count, place))
+            for place, first in enumerate(program):
+                if first[0] == 0x06:
+                    self.assertNotIn(first, program[place + 1:place + 1 + FARTHEST], (count, place))

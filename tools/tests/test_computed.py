@@ -172,12 +172,12 @@ class Unknown(OnProgram):
 
     def test_a_difference_behind_an_unknown_answer(self):
         """It is shown: the profile refuses `read`, too."""
-        rest = [a_profile(ALL_BUT_TWO), a_table(READ_WRITE_TABLE)]
+        actual = [a_profile(ALL_BUT_TWO), a_table(READ_WRITE_TABLE)]
         for splits in SPLITS:
             words = ["compare", "--limit", str(MOST), *splits]
             for write, text, status in ((UNKNOWN_WRITE, "undecided at 18\n", 4), (KNOWN_WRITE, "same\n", 0)):
-                number, _, _, ours, _ = self.shown(words, bundle([write, *rest]))
+                number, _, _, ours, _ = self.shown(words, bundle([write, *actual]))
                 self.assertEqual((number, ours), (0, MADE))
-                both = bundle([behind_gate(WITHOUT_READ[1]), write, *rest])
+                both = bundle([behind_gate(WITHOUT_READ[1]), write, *actual])
                 self.prints(words, both, text, status)
                 self.prints(["compare", "--limit", "0", *splits], both, "unfinished\n", 4)

@@ -43,9 +43,9 @@ class Configurations(Confined):
                 self.assertIn(f"# process {child.pid} (", out)
                 self.assertIn(f"# {NOTHING}\n", out)
                 status, out = self.verify(child, given, "--json", *words)
-                found = json.loads(out)
-                self.assertEqual((status, found["status"], found["verdict"], found["stacks"][0]["verdict"],
-                                  found["remarks"]), (1, 1, BY_CONFIGURATION, BY_CONFIGURATION, [NOTHING]))
+                value = json.loads(out)
+                self.assertEqual((status, value["status"], value["verdict"], value["stacks"][0]["verdict"],
+                                  value["remarks"]), (1, 1, BY_CONFIGURATION, BY_CONFIGURATION, [NOTHING]))
         for words in (("--no-more",), ("--no-less",), ("--calls",), ("--native",)):
             self.assertEqual(self.verify(child, WITHOUT[0], *words)[0], 1, words)
 
@@ -59,8 +59,8 @@ class Configurations(Confined):
             self.assertIn("it is stricter, and never more permissive than the profile", comments(out))
             self.assertIn(NOTHING, comments(out))
             self.assertEqual(self.verify(child, WITHOUT[0], "--no-more", *words)[1].splitlines()[0], "no more")
-            found = json.loads(self.verify(child, WITHOUT[0], "--json", *words)[1])
-            self.assertEqual((found["verdict"], found["stacks"][0]["no_more"], found["remarks"]),
+            value = json.loads(self.verify(child, WITHOUT[0], "--json", *words)[1])
+            self.assertEqual((value["verdict"], value["stacks"][0]["no_more"], value["remarks"]),
                              ("differs", "no more", [NOTHING]))
 
     def test_something_is_configured_and_no_filter_is_there(self):
@@ -69,8 +69,8 @@ class Configurations(Confined):
             status, out = self.verify(child, config("mount"), *words)
             self.assertEqual((status, out.splitlines()[0]), (1, THOUGH))
             self.assertNotIn(NOTHING, out)
-            found = json.loads(self.verify(child, config("mount"), "--json", *words)[1])
-            self.assertEqual((found["status"], found["verdict"]), (1, THOUGH))
+            value = json.loads(self.verify(child, config("mount"), "--json", *words)[1])
+            self.assertEqual((value["status"], value["verdict"]), (1, THOUGH))
 
     def test_two_answers_to_a_syscall(self):
         """As the default profiles of engines have: the runtimes take them."""
@@ -87,8 +87,8 @@ class Configurations(Confined):
             status, out = self.verify(child, given)
             self.assertEqual(status, 1)
             self.assertIn(word, out.splitlines())
-            found = json.loads(self.verify(child, given, "--json")[1])
-            self.assertIn(word, [it["verdict"] for it in found["stacks"]])
+            value = json.loads(self.verify(child, given, "--json")[1])
+            self.assertIn(word, [stack["verdict"] for stack in value["stacks"]])
 
     def test_a_profile_alone_configures_nothing(self):
         """A profile isn't a container's configuration: nothing is said of one."""
@@ -96,8 +96,8 @@ class Configurations(Confined):
         path = self.file("p.json", refuses("mount"))
         status, out, _ = self.run_tool("verify-process", str(child.pid), path)
         self.assertEqual((status, len(out.splitlines())), (1, 1), out)
-        found = json.loads(self.run_tool("verify-process", "--json", str(child.pid), path)[1])
-        self.assertEqual(found["verdict"], "unconfined")
+        value = json.loads(self.run_tool("verify-process", "--json", str(child.pid), path)[1])
+        self.assertEqual(value["verdict"], "unconfined")
 
     def test_what_only_some_runtimes_read(self):
         child = self.child([])
@@ -168,10 +168,10 @@ class Owners(unittest.TestCase):
 
     def test_namespaces(self):
         """conmon, and the number of a process in the container taken for one of the machine's."""
-        own = {"namespaces": [{"type": "mount"}, {"type": "pid"}]}
-        self.assertEqual(self.why_not("/", own), "process 7 (sl\\x1beep) is in no container with this configuration, "
-                                                 "which has a PID namespace of its own")
-        for linux, spaces in ((own, [(4, 0xF0000001), (4, 0xEFFFFFFC)]), (own, [(4, 0xF0000001)]), (own, []),
+        made = {"namespaces": [{"type": "mount"}, {"type": "pid"}]}
+        self.assertEqual(self.why_not("/", made), "process 7 (sl\\x1beep) is in no container with this configuration, "
+                                                  "which has a PID namespace of its own")
+        for linux, spaces in ((made, [(4, 0xF0000001), (4, 0xEFFFFFFC)]), (made, [(4, 0xF0000001)]), (made, []),
                               ({"namespaces": [{"type": "pid", "path": "/proc/1/ns/pid"}]}, [(4, 0xEFFFFFFC)]),
                               ({"namespaces": [{"type": "mount"}]}, [(4, 0xEFFFFFFC)])):
             self.assertIsNone(self.why_not("/", linux, spaces))
@@ -180,8 +180,8 @@ class Owners(unittest.TestCase):
 class OtherRuntimes(unittest.TestCase):
     """The runtime that a container really has, by the folders that runc and crun keep for root."""
 
-    def other(self, found, runtime):
-        with mock.patch("os.path.exists", lambda path: path == found):
+    def other(self, actual, runtime):
+        with mock.patch("os.path.exists", lambda path: path == actual):
             return verify.other_runtime([TWO, ONE], runtime)
 
     def test_the_folders(self):
@@ -204,8 +204,8 @@ class Mistakes(Confined):
 
     def test_a_process(self):
         path = self.file("p.json", refuses("mount"))
-        for word, says in (("box", "'box' isn't a process ID: of a container `podman inspect -f '{{.State.Pid}}' NAME` "
-                                   "prints it, and `docker inspect` so, of a unit `systemctl show -p MainPID --value "
+        for word, says in (("box", "'box' isn't a process ID: for a container `podman inspect -f '{{.State.Pid}}' "
+                                   "NAME` prints it, as docker does, for a unit `systemctl show -p MainPID --value "
                                    "NAME`"),
                            ("", "'' isn't a process ID: the command that should print one printed nothing"),
                            ("0", "'0' isn't a process ID: it is what `podman inspect` prints of a container that "
@@ -213,20 +213,21 @@ class Mistakes(Confined):
             self.assertEqual(self.says(word, path), f"verify-process: {says}")
 
     def test_a_configuration(self):
-        own = str(os.getpid())
-        self.assertEqual(self.says(own, ""), "verify-process: the name of PROFILE is empty: the command that should "
-                                             "print it printed nothing")
+        process = str(os.getpid())
+        self.assertEqual(self.says(process, ""),
+                         "verify-process: the name of PROFILE is empty: the command that should print it printed "
+                         "nothing")
         path = os.path.join(self.folder, "none", "config.json")
-        self.assertEqual(self.says(own, path),
+        self.assertEqual(self.says(process, path),
                          f"verify-process: there is no file '{path}': the container has ended, or was removed; of one "
                          "that runs `podman inspect -f '{{.OCIConfigPath}}' NAME` prints it")
         # what isn't a folder, and so no file in it either, is another matter
         self.file("folder", b"")
-        self.assertNotIn("has ended", self.says(own, f"{self.folder}/folder/config.json"))
+        self.assertNotIn("has ended", self.says(process, f"{self.folder}/folder/config.json"))
         self.file("bundle/config.json", "{}")
-        self.assertEqual(self.says(own, f"{self.folder}/bundle"),
+        self.assertEqual(self.says(process, f"{self.folder}/bundle"),
                          f"verify-process: '{self.folder}/bundle' is a bundle's folder: take the file config.json in it")
-        self.assertEqual(self.says(own, f"{self.folder}/p.json"),
+        self.assertEqual(self.says(process, f"{self.folder}/p.json"),
                          f"verify-process: there is no file '{self.folder}/p.json'")
 
     @here

@@ -67,27 +67,27 @@ ANSWERS = (
 
 def entry(names, action, index, asked):
     """An entry for calls of one letter each, with a condition on an argument where there is one."""
-    found = {"names": list(names), "action": f"SCMP_ACT_{action}"}
+    actual = {"names": list(names), "action": f"SCMP_ACT_{action}"}
     if asked:
         operator, value, second = (*asked, 0)[:3]
-        found["args"] = [{"index": index, "op": f"SCMP_CMP_{operator}", "value": value, "valueTwo": second}]
-    return found
+        actual["args"] = [{"index": index, "op": f"SCMP_CMP_{operator}", "value": value, "valueTwo": second}]
+    return actual
 
 
 class Conflicts(OnProgram):
     def conflicts(self, entries, conflict):
         """That a profile of these entries is refused for this conflict, or loaded where there is none."""
         profile = json.dumps({"defaultAction": "SCMP_ACT_KILL", "syscalls": [entry(*each) for each in entries]})
-        found, status = ran(["ask", "--nr", "9"], bundle([a_profile(profile), a_table("a 7\nb 3")]))
+        actual, status = ran(["ask", "--nr", "9"], bundle([a_profile(profile), a_table("a 7\nb 3")]))
         text = f"fault profile Conflict {conflict}\n" if conflict else "KILL_THREAD 0 default\n"
-        self.assertEqual((found.decode(), status), (text, 1 if conflict else 0), entries)
+        self.assertEqual((actual.decode(), status), (text, 1 if conflict else 0), entries)
 
     def test_two_rules(self):
         """Of call 7, ALLOW and then ERRNO, with the one condition first and with the other."""
         for first, second, is_both in PAIRS:
             for index in (0, 5):
-                for one, other in ((first, second), (second, first)):
-                    self.conflicts([("a", "ALLOW", index, one), ("a", "ERRNO", index, other)],
+                for item, another in ((first, second), (second, first)):
+                    self.conflicts([("a", "ALLOW", index, item), ("a", "ERRNO", index, another)],
                                    is_both and "number 7 first 0 second 1")
 
     def test_other_arguments(self):

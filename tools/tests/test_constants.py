@@ -44,8 +44,8 @@ class Headers(Case):
         self.assertGreater(len(here.keys() & table.keys()), 1300)
 
     def test_what_other_architectures_headers_say_otherwise(self):
-        here, table = ({(row[0], name) for row in found for name in row[1:]}
-                       for found in (self.made("--unlike"), rows(os.path.join(TOP, "tables", "arguments.unlike"))))
+        here, table = ({(row[0], name) for row in actual for name in row[1:]}
+                       for actual in (self.made("--unlike"), rows(os.path.join(TOP, "tables", "arguments.unlike"))))
         self.assertEqual(here, table)
 
     def test_usage(self):
@@ -76,7 +76,8 @@ class Arguments(Case):
         self.any = self.file("any.bpf", ret(ALLOW))
 
     def call(self, *words):
-        status, out, err = self.run_tool("decide", "--json", *words, self.any)
+        number = () if any(word.startswith("--nr") for word in words) else ("--nr=0",)
+        status, out, err = self.run_tool("decide", "--json", *number, *words, self.any)
         self.assertEqual((status, err), (0, ""), words)
         return json.loads(out)["calls"][0]["call"]
 
@@ -84,8 +85,8 @@ class Arguments(Case):
         for text, number in self.TEXTS:
             self.assertEqual(self.call(f"--a1={text}")["arguments"][1], hex(number), text)
         listed = self.file("calls", "".join(f"read 0 {text.replace(' ', '')}\n" for text, _ in self.TEXTS))
-        found = json.loads(self.run_tool("decide", "--json", "--calls-from", listed, self.any)[1])["calls"]
-        self.assertEqual([one["call"]["arguments"][1] for one in found], [hex(number) for _, number in self.TEXTS])
+        actual = json.loads(self.run_tool("decide", "--json", "--calls-from", listed, self.any)[1])["calls"]
+        self.assertEqual([first["call"]["arguments"][1] for first in actual], [hex(number) for _, number in self.TEXTS])
 
     def test_each_tool_takes_them(self):
         asks = self.file("f.bpf", load(16) + jeq(socket.AF_NETLINK, 0, 1) + ret(EPERM) + ret(ALLOW))
@@ -108,12 +109,12 @@ class Arguments(Case):
                            ("AF_INET|1x", "neither a number nor constants"),
                            ("-0x8000000000000001", "more than 64 bits"),
                            ("A" * 5000, "no constant is known"), ("\x1b[2J|1", "'\\x1b[2J|1' is neither")):
-            status, out, err = self.run_tool("run", f"--a5={text}", self.any)
+            status, out, err = self.run_tool("run", "--nr=0", f"--a5={text}", self.any)
             self.assertEqual((status, out), (2, ""), text[:20])
             self.assertIn(says, err)
             self.assertEqual(err.count("\n"), 1)
         for text in ("1x", "0o7", "--1", ""):
-            status, out, _ = self.run_tool("run", f"--a5={text}", self.any)
+            status, out, _ = self.run_tool("run", "--nr=0", f"--a5={text}", self.any)
             self.assertEqual((status, out.split("\n")[0]), (2, "fault number a5"), text)
 
     def test_other_architectures(self):
@@ -124,7 +125,7 @@ class Arguments(Case):
         for arch, text, says in (("aarch64", "O_DIRECT", "O_DIRECT isn't the same on aarch64 as on x86-64"),
                                  ("s390x", "AF_INET", "constants are known for x86-64, i386, x32, aarch64 and arm"),
                                  ("i386", "-0x80000001", "more than 32 bits")):
-            status, out, err = self.run_tool("decide", "--arch", arch, f"--a0={text}", self.any)
+            status, out, err = self.run_tool("decide", "--nr=0", "--arch", arch, f"--a0={text}", self.any)
             self.assertEqual((status, out), (2, ""))
             self.assertIn(says, err)
 
@@ -146,13 +147,13 @@ if call((39, 0, 0, 0, 0, 0)) != -1:
 for line in open(sys.argv[1]):
     call(map(int, line.split()))
 """
-BITS = [1 << it for it in range(32)]
+BITS = [1 << number for number in range(32)]
 
 
 def some_calls():
     """Syscalls by their names, each with five arguments that constants stand for."""
-    def first(name, values, *rest):
-        return [(name, value, *rest, *[0] * (4 - len(rest))) for value in values]
+    def first(name, values, *remaining):
+        return [(name, value, *remaining, *[0] * (4 - len(remaining))) for value in values]
 
     yield from first("prctl", range(76))
     yield from first("ptrace", [*range(34), *range(0x4200, 0x4212)])
@@ -221,7 +222,7 @@ class AsC(Case):
         for name, *values in some_calls():
             shown = constants.call_text(name, (*values, 0))
             parts = shown[shown.index("(") + 1:-1].split(", ")
-            for text, value in zip((it for it in parts if it != ".." and not it.startswith("SYS_")), values):
+            for text, value in zip((part for part in parts if part != ".." and not part.startswith("SYS_")), values):
                 taken = int(constants.argument_in(text, "SCMP_ARCH_X86_64"), 0)
                 # AT_FDCWD is that of 32 bits, too
                 self.assertEqual(taken % (1 << (32 if text == "AT_FDCWD" else 64)), value, shown)
@@ -244,18 +245,18 @@ class AsC(Case):
         self.assertEqual(len(lines), len(calls))
         both, unlike = 0, []
         for (name, *values), line in zip(calls, lines):
-            found = strace.CALL.match(line)
-            self.assertEqual(found[1], name)
+            actual = strace.CALL_NAME.match(line)
+            self.assertEqual(actual[1], name)
             shown = constants.call_text(name, (*values, 0))
             ours = shown[shown.index("(") + 1:-1].split(", ")
-            printed = strace._in_registers(name, strace.arguments_in(line, found.end())[0])
+            printed = strace._in_registers(name, strace.arguments_in(line, actual.end())[0])
             for place, text in printed.items():
                 text = re.sub(r"(FUTEX_\w+)_PRIVATE", r"\1|FUTEX_PRIVATE_FLAG", re.sub(r"/\*.*?\*/", "", text))
                 mine = ours[place] if place < len(ours) else ""
-                theirs, own = (set(re.findall(r"\b_*[A-Z][A-Z0-9_]+\b", it)) for it in (text, mine))
+                theirs, our_names = (set(re.findall(r"\b_*[A-Z][A-Z0-9_]+\b", item)) for item in (text, mine))
                 # it has two names for an ioctl, and names for bits that these tables haven't
-                is_so = own <= theirs if " or " in text or "|0x" in mine else own == theirs
-                if theirs and own:
+                is_so = our_names <= theirs if " or " in text or "|0x" in mine else our_names == theirs
+                if theirs and our_names:
                     both += 1
                     unlike += [] if is_so else [(line, shown)]
         self.assertEqual([], unlike)
@@ -271,9 +272,9 @@ class OtherArchitectures(Case):
                                    ("arm", "set_tls", 0xF0005), ("arm", "sync_file_range2", 341)):
             asks = self.file("f.bpf", load(0) + jeq(number, 0, 1) + ret(EPERM) + ret(ALLOW))
             status, out, err = self.run_tool("decide", "--json", "--arch", arch, "--nr", name, asks)
-            found = json.loads(out)["calls"][0]
-            self.assertEqual((status, err, found["answer"]["action"]), (0, "", "ERRNO"), (arch, name))
-            self.assertIn(name.removeprefix("SYS_").removeprefix("__NR_"), found["call"]["names"])
+            actual = json.loads(out)["calls"][0]
+            self.assertEqual((status, err, actual["answer"]["action"]), (0, "", "ERRNO"), (arch, name))
+            self.assertIn(name.removeprefix("SYS_").removeprefix("__NR_"), actual["call"]["names"])
 
     def test_how_they_are_shown(self):
         asks = self.file("f.bpf", ret(ALLOW))

@@ -43,24 +43,27 @@ class Containerd(Audited, OwnMachine):
         stated = self.file("stated.json", json.dumps(STATED))
         self.started("open")
         paths = {name: self.started(name, "--seccomp", "--seccomp-profile", stated) for name in ("same", "more")}
-        annotations = [word for name, it in KUBERNETES.items() for word in
-                       ("--annotation", f"io.kubernetes.cri.{name}={it}")]
+        annotations = [word for name, item in KUBERNETES.items() for word in
+                       ("--annotation", f"io.kubernetes.cri.{name}={item}")]
         self.started("0" * 64, "--seccomp", *annotations)
         config = json.loads(self.on("cat", paths["more"])[1])
         config["linux"]["seccomp"] = STRICTER
         self.on("sh", "-c", f"cat >{paths['more']}", given=json.dumps(config).encode())
         rows = self.rows()
-        self.assertEqual({name: it["verdict"] for (_, name), it in rows.items()},
-                         {"open": "unconfined by configuration", "same": "as configured", "more": "weaker",
+        self.assertEqual({name: row["verdict"] for (_, name), row in rows.items()},
+                         {"open": "unconfined by configuration", "same": "as configured", "more": "as configured",
                           "web": "as configured"})
-        self.assertEqual({(it["engine"], it["runtime"]) for it in rows.values()}, {("containerd", "runc")})
+        # (runc keeps what it was started with)
+        changed = {name for (_, name), row in rows.items() if row["profile"].get("changed")}
+        self.assertEqual(changed, {"more"})
+        self.assertEqual({(row["engine"], row["runtime"]) for row in rows.values()}, {("containerd", "runc")})
         web = rows["container", "web"]
         self.assertEqual((web["id"], web["image"], web["pod"]), ("0" * 64, KUBERNETES["image-name"], "default/web-1"))
         for name, status in (("same", 0), ("more", 1)):
             pid = rows["container", name]["parts"][0]["processes"][0]["process"]
-            found = self.on(tool("verify-process"), "--runtime", "runc", "--all", str(pid), paths[name])
-            self.assertEqual((found[0], found[2]), (status, ""), found)
-            self.assertIn(f"# the container is the control group /{self.group}/{name}; ", found[1])
+            actual = self.on(tool("verify-process"), "--runtime", "runc", "--all", str(pid), paths[name])
+            self.assertEqual((actual[0], actual[2]), (status, ""), actual)
+            self.assertIn(f"# the container is the control group /{self.group}/{name}; ", actual[1])
 
     def test_a_hook(self):
         """One in the configuration lets a container run that is confined as configured, and no other."""

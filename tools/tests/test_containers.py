@@ -54,8 +54,8 @@ class Groups(Case):
         for path, expected in NAMES.items():
             path, expected = path.replace("ID", IDENTIFIER), (expected or path).replace("ID", IDENTIFIER)
             with self.subTest(path):
-                found = self.group_of(path)
-                self.assertEqual((found.path.decode(), found.is_of_container),
+                actual = self.group_of(path)
+                self.assertEqual((actual.path.decode(), actual.is_of_container),
                                  (expected, NAMES[path.replace(IDENTIFIER, "ID")] is not None))
 
     def test_mounts(self):
@@ -63,18 +63,18 @@ class Groups(Case):
         for path, roots, expected in (("/box/inner/most", ["/box"], "/box"), ("/box/inner", ["/box/inner", "/box"], "/box"),
                                       ("/box", ["/box"], "/box"), ("/box/inner", ["/bo", "/", "/../x"], None),
                                       (f"/box/docker/{IDENTIFIER}/a", ["/box"], "/box")):
-            found = self.group_of(path, [root.encode() for root in roots])
-            self.assertEqual((found.path.decode(), found.is_of_container), (expected or path, expected is not None))
+            actual = self.group_of(path, [root.encode() for root in roots])
+            self.assertEqual((actual.path.decode(), actual.is_of_container), (expected or path, expected is not None))
 
     def test_some_hierarchies(self):
         """A process that was moved out of the container's group in some hierarchies of version 1 is still in it in
         others: in any of them it is the container's."""
         names = ("name=systemd", "pids", "cpu", "memory")
         inside = {7: names, 8: ("pids",), 9: ("pids", "cpu", "memory"), 10: ("memory",), 11: ()}
-        groups = {it: {name: b"/x/box/a" if name in those else b"/x/boxer" for name in names}
-                  for it, those in inside.items()}
+        groups = {item: {name: b"/x/box/a" if name in hierarchies else b"/x/boxer" for name in names}
+                  for item, hierarchies in inside.items()}
         kernel = FakeKernel()
-        kernel.processes, kernel.groups_of = lambda: list(groups), lambda it: groups[it]
+        kernel.processes, kernel.groups_of = lambda: list(groups), lambda number: groups[number]
         kernel.mounted_groups = lambda _: [b"/x/box"]
         for process in (7, 9):
             self.assertEqual(containers.container_of(kernel, process).processes(), [7, 8, 9, 10], process)
@@ -86,9 +86,9 @@ class Groups(Case):
     def test_a_main_thread_that_has_ended(self):
         """The kernel shows it in the root group; the groups of a thread that runs count."""
         states, kernel = {7: "S", 8: "Z", 9: "S", 10: "Z", 11: "Z"}, FakeKernel()
-        kernel.processes, kernel.threads_of = lambda: [7, 8, 10], lambda it: [it, it + 1]
-        kernel.status_of = lambda it: {"State": f"{states.get(it, 'S')} (x)"}
-        kernel.groups_of = lambda it: {"pids": b"/" if states[it] == "Z" else b"/box"}
+        kernel.processes, kernel.threads_of = lambda: [7, 8, 10], lambda number: [number, number + 1]
+        kernel.status_of = lambda number: {"State": f"{states.get(number, 'S')} (x)"}
+        kernel.groups_of = lambda number: {"pids": b"/" if states[number] == "Z" else b"/box"}
         self.assertEqual(containers.container_of(kernel, 7).processes(), [7, 8])
 
     def test_mounts_of_a_process(self):
@@ -99,11 +99,11 @@ class Groups(Case):
 
     def test_other_processes_of_its_namespace(self):
         """Those of which nothing tells whose they are, but not those of another container."""
-        own, other = f"/docker/{IDENTIFIER}", f"/docker/{IDENTIFIER[::-1]}"
-        groups = {7: own, 8: f"{own}/a", 9: other, 10: "/", 11: "/user.slice/x", 12: "/user.slice/x", 13: "/../y"}
+        path, second = f"/docker/{IDENTIFIER}", f"/docker/{IDENTIFIER[::-1]}"
+        groups = {7: path, 8: f"{path}/a", 9: second, 10: "/", 11: "/user.slice/x", 12: "/user.slice/x", 13: "/../y"}
         kernel = FakeKernel()
-        kernel.processes, kernel.groups_of = lambda: list(groups), lambda it: {"": groups[it].encode()}
-        kernel.namespaces_of = lambda it: [(1, 1)] if it in (12, containers.os.getpid()) else [(1, 7), (1, 1)]
+        kernel.processes, kernel.groups_of = lambda: list(groups), lambda number: {"": groups[number].encode()}
+        kernel.namespaces_of = lambda number: [(1, 1)] if number in (12, containers.os.getpid()) else [(1, 7), (1, 1)]
         container = containers.container_of(kernel, 7)
         self.assertEqual((container.processes(), container.others()), ([7, 8], [10, 11, 13]))
         self.assertIn("10 (fake), 11 (fake), 13 (fake); whether", containers.others_note(kernel, container))

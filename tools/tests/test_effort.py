@@ -3,8 +3,8 @@ import json
 import os
 import sys
 
-from support.common import (ALLOW, EPERM, KILL_PROCESS, TABLE, TOP, X86_64, Case, filter_of, insn, jeq, jge, limited,
-                            load, part, profile_of, ret, taken)
+from support.common import (ALLOW, EPERM, GATE, TABLE, TOP, Case, filter_of, insn, jeq, jge, limited, load, part,
+                            profile_of, ret, taken)
 
 sys.path.append(os.path.join(TOP, "tools"))
 
@@ -12,7 +12,6 @@ from scftools import client, program  # noqa: E402
 
 # Seconds of a processor, and bytes of address space, that a tool and all that it runs may take.
 SECONDS, MEMORY = 30, 500 << 20
-GATE = load(4) + jeq(X86_64, 0, 2) + load(0) + jge(0x40000000, 0, 1) + ret(KILL_PROCESS)
 # Of about 4000 instructions: each bit of an argument again and again, on ways that part and don't meet soon; and orders
 # of all arguments.
 BITS = GATE + load(16) + b"".join(insn(0x45, 1 << at % 32, 0, 1) for at in range(4080)) + ret(ALLOW) * 2
@@ -26,9 +25,9 @@ class Slow(Case):
     def ends(self, *words):
         """The status, what was printed and what was said."""
         before = taken()
-        found = self.run_tool(*words, preexec_fn=limited(SECONDS + 1, MEMORY))
+        actual = self.run_tool(*words, preexec_fn=limited(SECONDS + 1, MEMORY))
         self.assertLess(taken() - before, SECONDS, words[:3])
-        return found
+        return actual
 
     def test_compare(self):
         allows, fails = self.file("a.json", b'{"defaultAction":"SCMP_ACT_ALLOW"}'), self.file("e.json", profile_of())
@@ -47,8 +46,8 @@ class Slow(Case):
         name = self.file("f.bpf", GATE + jge(100, 4, 0) + jeq(0, 0, 1) + ret(ALLOW) + ret(EPERM) + ret(EPERM)
                          + ORDERS[len(GATE):])
         status, out, err = self.ends("surface", "--json", name)
-        found = {row["number"]: row["disposition"] for row in json.loads(out)["calls"]}
-        self.assertEqual((status, set(found.values()), err), (4, {"unfinished"}, ""))
+        actual = {row["number"]: row["disposition"] for row in json.loads(out)["calls"]}
+        self.assertEqual((status, set(actual.values()), err), (4, {"unfinished"}, ""))
 
     def test_a_limit_that_is_given_is_the_only_one(self):
         status, out, err = self.run_tool("compare", "--calls", "--limit", "20000", self.file("f.bpf", BITS),
@@ -78,12 +77,12 @@ class Limits(Case):
 
     def compared(self, seconds, most, *words):
         """What a tool whose time is over is told."""
-        kept = program.is_tool, client.SECONDS, client.ALL_SECONDS, client._is_spent_reported
+        limits_before = program.is_tool, client.SECONDS, client.ALL_SECONDS, client._is_spent_reported
         program.is_tool, client.SECONDS, client.ALL_SECONDS, client._is_spent_reported = True, seconds, most, True
         try:
             return client.compare(words, self.given)
         finally:
-            program.is_tool, client.SECONDS, client.ALL_SECONDS, client._is_spent_reported = kept
+            program.is_tool, client.SECONDS, client.ALL_SECONDS, client._is_spent_reported = limits_before
 
     def test_no_time(self):
         """Few steps, and then none: each is as with a limit of so many."""

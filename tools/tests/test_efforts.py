@@ -89,13 +89,13 @@ class Efforts(OnStacks):
         for filter_ in (numbers, both):
             self.assertEqual(effort([assembled(filter_[1])], DEFAULT_ALLOW, ""), MOST)
         self.prints(["compare", "--limit", "1000000"], bundle([numbers, ALL, NO_TABLE]), "same\n")
-        found = ran(["compare", "--limit", "1000"], bundle([both, ALL, NO_TABLE]))
-        self.assertIn(found, [(b"same\n", 0), (b"unfinished\n", 4)])
+        actual = ran(["compare", "--limit", "1000"], bundle([both, ALL, NO_TABLE]))
+        self.assertIn(actual, [(b"same\n", 0), (b"unfinished\n", 4)])
 
     def test_long_pairs_that_are_not_plain(self):
         profile, table = allowing(range(150))
-        rest = [a_profile(profile), a_table(table)]
-        self.prints(["compare", "--limit", str(DEFAULT_LIMIT)], bundle([scratched(150), *rest]), "same\n")
+        actual = [a_profile(profile), a_table(table)]
+        self.prints(["compare", "--limit", str(DEFAULT_LIMIT)], bundle([scratched(150), *actual]), "same\n")
         number, arch, _, *answers = self.shown(["compare", "--limit", str(DEFAULT_LIMIT)],
-                                               bundle([scratched(149), *rest]))
+                                               bundle([scratched(149), *actual]))
         self.assertEqual((number, arch, answers), (149, X86_64, [FAILS, MADE]))

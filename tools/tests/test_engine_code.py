@@ -42,9 +42,9 @@ def spellings(name, drawn):
     """Names that Go may take for a member's: itself, with some letters in the other case or in those beyond ASCII that
     it folds, and with one letter that it doesn't."""
     yield name
-    other = {"s": "\u017f", "S": "\u017f", "k": "\u212a", "K": "\u212a"}
+    lookalikes = {"s": "\u017f", "S": "\u017f", "k": "\u212a", "K": "\u212a"}
     for _ in range(6):
-        yield "".join(drawn.choice((it, it.swapcase(), other.get(it, it))) for it in name)
+        yield "".join(drawn.choice((letter, letter.swapcase(), lookalikes.get(letter, letter))) for letter in name)
     at = drawn.randrange(len(name))
     for wrong in ("\u0130", "\u00df", "x", "", "\u0131", "\uff53"):
         yield name[:at] + wrong + name[at + 1:]
@@ -64,10 +64,10 @@ class Members(Case):
         seen = set()
         for (member, name, engine, text), answer in zip(asked, answers):
             self.assertNotEqual(right[member, engine], without[member, engine], text)
-            found = profiles.misread_members(text.encode())
-            is_read = name == member or bool(found)
+            members = profiles.misread_members(text.encode())
+            is_read = name == member or bool(members)
             self.assertEqual(answer, right[member, engine] if is_read else without[member, engine], text)
-            self.assertEqual([it.read_as for it in found], [member] * len(found))
+            self.assertEqual([member_found.read_as for member_found in members], [member] * len(members))
             seen.add(is_read)
         self.assertEqual(seen, {True, False})
 
@@ -76,7 +76,7 @@ class Members(Case):
         twice = '{"defaultAction":"A","syscalls":[{"names":["ptrace"],"action":"B"}],"syscalls":[{"action":"C"}]}'
         self.assertEqual(engine_code.resolved([("docker", (), twice)])[0][0]["syscalls"],
                          [{"names": ["ptrace"], "action": "C"}])
-        self.assertEqual([it.describe() for it in profiles.misread_members(twice.encode())],
+        self.assertEqual([member.describe() for member in profiles.misread_members(twice.encode())],
                          ["the profile has the member 'syscalls' more than once: programs in Go take the last"])
 
     def test_tools_that_speak_of_a_runtime_refuse_them(self):
@@ -109,7 +109,7 @@ class Members(Case):
                 ('{"linux":{"seccomp":{"Flags":[]}}}', "linux: seccomp has a member 'Flags', which programs in Go read "
                                                        "as 'flags'"),
                 ('{"Linux":{}}', "the profile has a member 'Linux', which programs in Go read as 'linux'")):
-            self.assertEqual([it.describe() for it in profiles.misread_members(text.encode())], [says])
+            self.assertEqual([member.describe() for member in profiles.misread_members(text.encode())], [says])
         for text in ('{"annotations":{"a":1,"A":2},"process":{"Names":1},"x":1,"X":2}', "[", "\ud800", "[1]",
                      '{"syscalls":{"Names":1}}', '{"syscalls":[[1],2,null]}', "[" * 100000):
             self.assertEqual(profiles.misread_members(text.encode("utf-8", "surrogatepass")), [], text[:50])
@@ -120,7 +120,7 @@ ODD = (None, True, -1, 1.5, "", "x", [], {}, [None], ["x"], [1], [{}], [[]], {"x
 KERNELS = ("", "4.8", "255.255", "256.1", "1.256", "0.0", "0.1", "4", "4.8.1", "4.", ".8", "+4.8", "04.008", "4_0.1",
            " 4.8", "4.8 ", "\u0664.8", "7.0", "6.18", "6.17", "6.19")
 NUMBERS = (0, 1, 38, 4095, 5000, 65536, 2**32, 2**63, 2**64 - 1)
-ERRNOS = (*sorted(engines.ERRNOS), "", "EINTR", "EHWPOISON", "EWOULDBLOCK", "eperm", "0", "07", "4294967295",
+ERRNOS = (*sorted(engines.ERRNO_NAMES), "", "EINTR", "EHWPOISON", "EWOULDBLOCK", "eperm", "0", "07", "4294967295",
           "4294967296", "-1", "+1", "1_0", " 1", "0x1", "\u0661", "1" * 40)
 CAPABILITIES = ("CAP_KILL", "CAP_SYS_ADMIN", "CAP_CHOWN")
 
@@ -131,54 +131,54 @@ class Draw:
     def __init__(self, seed):
         self.random = random.Random(seed)
 
-    def one(self, *values):
+    def pick(self, *values):
         return self.random.choice(values)
 
     def some(self, *values):
-        return [self.one(*values) for _ in range(self.random.randrange(3))]
+        return [self.pick(*values) for _ in range(self.random.randrange(3))]
 
     def members(self, **makers):
         """Some of these members, each made by itself, or an odd value in its place."""
         names = [name for name in makers if self.random.random() < 0.5]
-        return {name: self.one(*ODD) if self.random.random() < 0.01 else makers[name]() for name in names}
+        return {name: self.pick(*ODD) if self.random.random() < 0.01 else makers[name]() for name in names}
 
     def condition(self):
-        return self.members(caps=lambda: self.some(*CAPABILITIES), minKernel=lambda: self.one(*KERNELS),
+        return self.members(caps=lambda: self.some(*CAPABILITIES), minKernel=lambda: self.pick(*KERNELS),
                             arches=lambda: self.some("amd64", "arm", "x86_64", "x32"))
 
     def argument(self):
-        return self.members(index=lambda: self.one(*NUMBERS), value=lambda: self.one(*NUMBERS),
-                            valueTwo=lambda: self.one(*NUMBERS), op=lambda: self.one("SCMP_CMP_EQ", "x", ""))
+        return self.members(index=lambda: self.pick(*NUMBERS), value=lambda: self.pick(*NUMBERS),
+                            valueTwo=lambda: self.pick(*NUMBERS), op=lambda: self.pick("SCMP_CMP_EQ", "x", ""))
 
     def entry(self):
-        made = self.members(errnoRet=lambda: self.one(*NUMBERS), errno=lambda: self.one(*ERRNOS),
+        made = self.members(errnoRet=lambda: self.pick(*NUMBERS), errno=lambda: self.pick(*ERRNOS),
                             args=lambda: [self.argument() for _ in range(self.random.randrange(3))],
-                            comment=lambda: self.one("x", None), includes=self.condition, excludes=self.condition)
-        names = {self.one("names", "names", "names", "name"): None}
-        names = {it: "read" if it == "name" else self.some("read", "write") for it in names}
+                            comment=lambda: self.pick("x", None), includes=self.condition, excludes=self.condition)
+        names = {self.pick("names", "names", "names", "name"): None}
+        names = {name: "read" if name == "name" else self.some("read", "write") for name in names}
         if self.random.random() < 0.05:
-            names = {"names": ["read"], "name": self.one("", "write", None)}
-        return {**names, "action": self.one(ALLOW, ERRNO, "x"), **made}
+            names = {"names": ["read"], "name": self.pick("", "write", None)}
+        return {**names, "action": self.pick(ALLOW, ERRNO, "x"), **made}
 
     def profile(self):
-        made = self.members(defaultErrnoRet=lambda: self.one(*NUMBERS), defaultErrno=lambda: self.one(*ERRNOS),
+        made = self.members(defaultErrnoRet=lambda: self.pick(*NUMBERS), defaultErrno=lambda: self.pick(*ERRNOS),
                             flags=lambda: self.some("SECCOMP_FILTER_FLAG_LOG"), listenerPath=lambda: "/x",
                             listenerMetadata=lambda: "m")
         if self.random.random() < 0.5:
             made["architectures"] = self.some("SCMP_ARCH_X86_64", "SCMP_ARCH_ARM", "x")
         if self.random.random() < 0.5:
-            made["archMap"] = [{"architecture": self.one("SCMP_ARCH_X86_64", "SCMP_ARCH_ARM"),
+            made["archMap"] = [{"architecture": self.pick("SCMP_ARCH_X86_64", "SCMP_ARCH_ARM"),
                                 "subArchitectures": self.some("SCMP_ARCH_X86", "x")} for _ in range(2)]
         return {"defaultAction": ERRNO, **made, "syscalls": [self.entry() for _ in range(self.random.randrange(3))]}
 
 
 def as_go_prints(profile):
     """A resolved profile with all members of conditions, and without entries that name nothing."""
-    entries = [{**it, "args": [{"index": 0, "value": 0, "op": "", **one} for one in it.get("args") or []]}
-               for it in profile.get("syscalls") or [] if it["names"]]
-    for one in (arg for it in entries for arg in it["args"]):
-        one.setdefault("valueTwo", 0)
-    return {**{name: it for name, it in profile.items() if it not in ("", [])}, "syscalls": entries}
+    entries = [{**entry, "args": [{"index": 0, "value": 0, "op": "", **arg} for arg in entry.get("args") or []]}
+               for entry in profile.get("syscalls") or [] if entry["names"]]
+    for condition in (arg for entry in entries for arg in entry["args"]):
+        condition.setdefault("valueTwo", 0)
+    return {**{name: value for name, value in profile.items() if value not in ("", [])}, "syscalls": entries}
 
 
 class Drawn(Case):
@@ -187,15 +187,15 @@ class Drawn(Case):
     def beside(self, engine, given):
         """What the tools and an engine make of profiles: pairs of a resolved profile, or None where it is refused."""
         setting = engines.Setting(CAPABILITIES[:1], engines.kernel_of(os.uname().release), False, engine)
-        texts = [json.dumps(it) for it in given]
-        answers = engine_code.resolved([("podman" if engine == "podman" else "docker", CAPABILITIES[:1], it)
-                                        for it in texts])
+        texts = [json.dumps(value) for value in given]
+        answers = engine_code.resolved([("podman" if engine == "podman" else "docker", CAPABILITIES[:1], text)
+                                        for text in texts])
         for text, (made, refused) in zip(texts, answers):
             try:
-                found = as_go_prints(engines.Resolver(setting, lambda _: None).resolved(engines.read(text.encode())))
+                resolved = as_go_prints(engines.Resolver(setting, lambda _: None).resolved(engines.read(text.encode())))
             except engines.Refused as why:
-                found = str(why)
-            yield text, found, f"refused: {refused}" if refused else as_go_prints(made)
+                resolved = str(why)
+            yield text, resolved, f"refused: {refused}" if refused else as_go_prints(made)
 
     def is_ours(self, why, text):
         """Whether we refuse on purpose what the engines take: a null in a list, which is an empty text to Go, or which
@@ -206,11 +206,11 @@ class Drawn(Case):
 
     def alike(self, engine, given):
         seen = {}
-        for text, found, made in self.beside(engine, given):
+        for text, ours, made in self.beside(engine, given):
             if isinstance(made, str):
-                self.assertIsInstance(found, str, (text, made))
-            elif not isinstance(found, str) or not self.is_ours(found, text):
-                self.assertEqual(found, made, text)
+                self.assertIsInstance(ours, str, (text, made))
+            elif not isinstance(ours, str) or not self.is_ours(ours, text):
+                self.assertEqual(ours, made, text)
             seen[isinstance(made, str)] = seen.get(isinstance(made, str), 0) + 1
         self.assertGreater(min(seen.get(True, 0), seen.get(False, 0)), len(given) // 20, seen)
 
@@ -221,16 +221,17 @@ class Drawn(Case):
 
     def test_each_kernel_errno_and_odd_value(self):
         for engine in ("docker-20.10", "podman"):
-            entries = [{"includes": {"minKernel": it}} for it in (*KERNELS, *ODD)]
-            entries += [{"excludes": {"minKernel": it}} for it in (*KERNELS, *ODD)]
-            entries += [{"errno": it} for it in (*ERRNOS, *ODD)]
-            entries += [{name: it} for name in profiles.ENTRY for it in ODD]
-            entries += [{"args": [{name: it}]} for name in profiles.ARGUMENT for it in ODD]
-            entries += [{"includes": {name: it}} for name in profiles.FILTER for it in ODD]
-            given = [{"defaultAction": ERRNO, "syscalls": [{"names": ["a"], "action": ALLOW, **it}]} for it in entries]
-            given += [{"defaultAction": ERRNO, **{name: it}} for name in profiles.SECCOMP for it in ODD
+            entries = [{"includes": {"minKernel": version}} for version in (*KERNELS, *ODD)]
+            entries += [{"excludes": {"minKernel": version}} for version in (*KERNELS, *ODD)]
+            entries += [{"errno": value} for value in (*ERRNOS, *ODD)]
+            entries += [{name: value} for name in profiles.ENTRY for value in ODD]
+            entries += [{"args": [{name: value}]} for name in profiles.ARGUMENT for value in ODD]
+            entries += [{"includes": {name: value}} for name in profiles.FILTER for value in ODD]
+            given = [{"defaultAction": ERRNO, "syscalls": [{"names": ["a"], "action": ALLOW, **entry}]}
+                     for entry in entries]
+            given += [{"defaultAction": ERRNO, **{name: value}} for name in profiles.SECCOMP for value in ODD
                       if name != "defaultAction"]
-            given += [{"defaultAction": ERRNO, "defaultErrno": it} for it in ERRNOS]
+            given += [{"defaultAction": ERRNO, "defaultErrno": value} for value in ERRNOS]
             self.alike(engine, given)
 
 

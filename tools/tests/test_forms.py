@@ -61,11 +61,11 @@ class Texts(Case):
 
     def test_hexadecimal(self):
         for text in (FILTER.hex(), FILTER.hex(" ").upper() + "\n", FILTER.hex("\n", 8),
-                     '"' + "".join(f"\\x{it:02X}" for it in FILTER) + '"\n'):
-            self.is_read(text, forms.HEXADECIMAL)
+                     '"' + "".join(f"\\x{byte:02X}" for byte in FILTER) + '"\n'):
+            self.is_read(text, forms.HEXADECIMAL_TEXT)
         for words in (("xxd", "-p"), ("xxd",), ("hexdump", "-vC"), ("od", "-An", "-v", "-tx1")):
             if shutil.which(words[0]):
-                self.is_read(dumped(*words), forms.HEXADECIMAL)
+                self.is_read(dumped(*words), forms.HEXADECIMAL_TEXT)
 
     def test_lines_that_a_dump_leaves_out(self):
         """hexdump prints `*` for lines that are repeated: that isn't the whole filter."""
@@ -78,7 +78,7 @@ class Texts(Case):
     @unittest.skipUnless(shutil.which("xxd"), "there is no xxd here")
     def test_words_of_the_other_order(self):
         """`xxd -e` prints words of 32 bits, which aren't the bytes in their order, though they look like them."""
-        self.is_read(dumped("xxd", "-g", "4"), forms.HEXADECIMAL)
+        self.is_read(dumped("xxd", "-g", "4"), forms.HEXADECIMAL_TEXT)
         self.assertIsNone(forms.form_of(dumped("xxd", "-e").encode(), "it"))
 
     def test_decimals(self):
@@ -94,8 +94,8 @@ class Texts(Case):
         self.is_read(f"struct sock_filter x[{len(ROWS)}] = {{\n{ARRAY}}};\n", forms.ARRAY)
         self.is_read("#include <linux/filter.h>\nstatic struct sock_filter f[] = {" + ARRAY + "};", forms.ARRAY)
         self.is_read("{ 0x06, 0, 0, 0x7fff0000 }", forms.ARRAY, ret(ALLOW))
-        self.is_read(", ".join(f"0x{it:02x}" for it in FILTER), forms.ARRAY)
-        self.is_read("unsigned char f_bpf[] = {\n" + ",".join(f"0x{it:02x}" for it in FILTER)
+        self.is_read(", ".join(f"0x{byte:02x}" for byte in FILTER), forms.ARRAY)
+        self.is_read("unsigned char f_bpf[] = {\n" + ",".join(f"0x{byte:02x}" for byte in FILTER)
                      + "\n};\nunsigned int f_bpf_len = 96;\n", forms.ARRAY)
         if shutil.which("xxd"):
             self.is_read(dumped("xxd", "-i"), forms.ARRAY)
@@ -112,18 +112,18 @@ class Texts(Case):
         for text in (DECLARED, MACROS, "{" + MACROS + "}"):
             self.is_read(text, forms.ARRAY, made)
         expanded = subprocess.run(["cc", "-E", "-P", source], stdout=subprocess.PIPE, check=True).stdout.decode()
-        rest = expanded.split("sock_filter filter")[-1].split("int main")[0]
-        self.is_read(f"static const struct sock_filter filter{rest}", forms.ARRAY, made)
+        remaining = expanded.split("sock_filter filter")[-1].split("int main")[0]
+        self.is_read(f"static const struct sock_filter filter{remaining}", forms.ARRAY, made)
 
     def test_arrays_that_only_a_compiler_reads(self):
         for text, says in (("BPF_STMT(BPF_RET, MY_ANSWER)", "'MY_ANSWER' is no constant"),
                            ("struct sock_filter f[] = { ALLOW(read), };", "'ALLOW(read)' isn't an instruction"),
                            ("{ 6, 0, 0 }, { 6, 0, 0, 0 }", "isn't an instruction"), ("{ 6, 0, 300, 0 },", "jf 0x12c"),
-                           ("{ 6, 0, 0, 1 << 99 },", "a shift of 1 by 99"),
+                           ("{ 6, 0, 0, 1 << 99 },", "1 can't be shifted by 99"),
                            ("{ 6, 0, 0, (1 },", "isn't an instruction"),
-                           ("{ 6, 0, 0, ~0u >> 4 },", "a shift of -1 by 4"),
+                           ("{ 6, 0, 0, ~0u >> 4 },", "-1 can't be shifted by 4"),
                            ("{ 6, 0, 0, 1 } x", "isn't an instruction"), ("{ 6, 0, 0, 0x1ffffffff },", "too large"),
-                           ("struct sock_filter f[] = { { 6, 0, 0, 0 } }; int x;", "behind the array stands"),
+                           ("struct sock_filter f[] = { { 6, 0, 0, 0 } }; int x;", "text follows the array"),
                            ("{ 6, 0, 0, __NR_raed },", "'__NR_raed' is no constant"), ("0x06, 0x00,", "multiple of 8"),
                            ("{ " + "(" * 999 + "6" + ")" * 999 + ", 0, 0, 0 },", "nested too deep")):
             with self.assertRaises(program.ToolError, msg=text[:40]) as caught:

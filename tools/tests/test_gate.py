@@ -70,8 +70,8 @@ class Gate(Case):
         proved = "== scf_insn\nfn f: proved\nlogic=proved\nrt: scf_insn proved"
         refused = "== scf_insn\nfn f: not proved\nrt: scf_insn NOT PROVED"
         self.assertIn("scf_insn: proved: crate 1 of 3", "\n".join(self.gate(ci=f"{proved}\n7 passed, 0 failed")[1]))
-        kept = "rt: scf_insn is kept: an earlier run proved it\n1 passed, 0 failed"
-        self.assertIn("scf_insn: proved by an earlier run: crate 1 of 3", "\n".join(self.gate(ci=kept)[1]))
+        log = "rt: scf_insn is kept: an earlier run proved it\n1 passed, 0 failed"
+        self.assertIn("scf_insn: proved by an earlier run: crate 1 of 3", "\n".join(self.gate(ci=log)[1]))
         self.assertNotIn("fn f: proved", self.gate(ci=f"{proved}\n7 passed, 0 failed")[1])
         status, lines = self.gate(ci=f"{refused}\n0 passed, 1 failed", CI_STATUS="1")
         self.assertEqual((status, lines[-1]), (1, "0 passed, 1 failed"))
@@ -95,6 +95,17 @@ class Gate(Case):
         self.assertEqual((status, lines[-1]), (1, "19 passed, 2 failed, 1 skipped"))
         self.assertIn("AssertionError: 1 != 2", lines)
         self.assertTrue([line for line in lines if line.endswith("... skipped 'there is no such thing here'")])
+
+    def test_a_module_that_fails_runs_once_more_by_itself(self):
+        """It is shown the first time, too; its second run counts, when no other module runs any more."""
+        begun = os.path.join(self.folder, "begun")
+        second = (f"import os\nAGAIN = os.path.exists({begun!r})\nopen({begun!r}, 'w').close()\n{FIRST}"
+                  "    def test_the_second_run(self):\n        self.assertTrue(AGAIN)\n")
+        status, lines = self.gate(WELL, second)
+        self.assertEqual((status, lines[-1]), (0, "18 passed, 0 failed"))
+        self.assertIn("AssertionError: False is not true", lines)
+        self.assertEqual([line for line in lines if "test_second" in line and "by itself" in line][0].split(" (")[0],
+                         "test: test_second: 1 passed, 0 failed: by itself")
 
     def test_a_skipped_test_is_no_failure(self):
         skipped = FIRST + "    def test_it(self):\n        self.skipTest('no such thing')\n"

@@ -85,23 +85,24 @@ class Containers(Hook):
         with open(f"{self.where}/config.json", encoding="utf-8") as file:
             config = json.load(file)
         config["process"].update(terminal=False, args=list(args), rlimits=[])
-        config["linux"]["namespaces"] = [it for it in config["linux"]["namespaces"] if it["type"] not in shared]
+        config["linux"]["namespaces"] = [namespace for namespace in config["linux"]["namespaces"]
+                                         if namespace["type"] not in shared]
         config["linux"]["seccomp"] = stated
-        other = self.file("other.json", json.dumps(config))
+        second = self.file("other.json", json.dumps(config))
         config["linux"]["seccomp"] = loaded
         config["hooks"] = {**(hooks or {}), "poststart": [
-            {"path": shutil.which("cp"), "args": ["cp", other, f"{self.where}/config.json"], **PATH},
+            {"path": shutil.which("cp"), "args": ["cp", second, f"{self.where}/config.json"], **PATH},
             # a runtime may take long to load the filter
             {"path": tool("oci-hook"), "args": ["oci-hook", "--wait=30", *words], **PATH}]}
         self.file("box/config.json", json.dumps(config))
 
     def said(self, words, **settings):
         """A run of which a container may keep the output open: the status, and what was said."""
-        with open(os.path.join(self.folder, "said"), "w+b") as said:
-            done = subprocess.run(words, cwd=self.folder, check=False, stdin=subprocess.DEVNULL, stdout=said,
-                                  stderr=said, timeout=SECONDS, **settings)
-            said.seek(0)
-            return done.returncode, said.read().decode(errors="replace")
+        with open(os.path.join(self.folder, "said"), "w+b") as message:
+            done = subprocess.run(words, cwd=self.folder, check=False, stdin=subprocess.DEVNULL, stdout=message,
+                                  stderr=message, timeout=SECONDS, **settings)
+            message.seek(0)
+            return done.returncode, message.read().decode(errors="replace")
 
     @contextlib.contextmanager
     def container(self, runtime, loaded=None, stated=None, *words, **settings):
@@ -111,16 +112,16 @@ class Containers(Hook):
         self.configure(loaded, loaded if stated is None else stated, words, **settings)
         pid_file = f"{self.folder}/pid"
         try:
-            status, said = self.said([*call, "run", "--detach", "--bundle", self.where, "--pid-file", pid_file,
-                                      self.name])
-            if status and "oci-hook" not in said:
-                self.skipTest(f"{runtime} starts no container here: {said.strip()}")
+            status, message = self.said([*call, "run", "--detach", "--bundle", self.where, "--pid-file", pid_file,
+                                         self.name])
+            if status and "oci-hook" not in message:
+                self.skipTest(f"{runtime} starts no container here: {message.strip()}")
             pid = None
             if os.path.exists(pid_file):
                 with open(pid_file, encoding="ascii") as file:
                     pid = int(file.read())
                 os.remove(pid_file)
-            yield status, said, pid
+            yield status, message, pid
         finally:
             self.said([*call, "delete", "--force", self.name])
             os.remove(f"{self.where}/config.json")
@@ -143,9 +144,9 @@ class Containers(Hook):
 
     def called(self, *words):
         """The processes that were called so."""
-        wanted = b"".join(it.encode() + b"\0" for it in words)
-        return [it for it in ptrace.numbers_in("/proc") if ptrace.contents(f"/proc/{it}/cmdline") == wanted
-                and not has_ended(it)]
+        wanted = b"".join(word.encode() + b"\0" for word in words)
+        return [item for item in ptrace.numbers_in("/proc") if ptrace.contents(f"/proc/{item}/cmdline") == wanted
+                and not has_ended(item)]
 
     def runs(self, pid):
         """Whether a process runs, a moment later too."""
@@ -156,26 +157,27 @@ class Containers(Hook):
 class Runtimes(Containers):
     def test_one_that_is_confined(self):
         for runtime in ("runc", "crun"):
-            with self.subTest(runtime), self.container(runtime, LOADED, LOADED, "--kill") as (status, said, pid):
-                self.assertEqual((status, self.runs(pid)), (0, True), said)
+            with self.subTest(runtime), self.container(runtime, LOADED, LOADED, "--kill") as (status, message, pid):
+                self.assertEqual((status, self.runs(pid)), (0, True), message)
 
     def test_runc_refuses_one_that_is_not(self):
         """A container whose hook fails."""
-        other = json.loads(refuses("mount", "chroot"))
-        with self.container("runc", LOADED, other) as (status, said, pid):
-            self.assertEqual(status, 1, said)
-            self.assertIn(f"container {self.name}: not confined as configured (differs)", said)
+        value = json.loads(refuses("mount", "chroot"))
+        with self.container("runc", LOADED, value) as (status, message, pid):
+            self.assertEqual(status, 1, message)
+            self.assertIn(f"container {self.name}: not confined as configured (differs)", message)
             self.assertTrue(pid is None or comes(lambda: has_ended(pid)))
-        with self.container("runc", LOADED, json.loads(refuses("mount")), "--policy", "no-more") as (status, said, pid):
-            self.assertEqual((status, self.runs(pid)), (0, True), said)
+        with self.container("runc", LOADED, json.loads(refuses("mount")), "--policy", "no-more") as result:
+            status, message, pid = result
+            self.assertEqual((status, self.runs(pid)), (0, True), message)
 
     def test_crun_lets_one_run_that_is_not(self):
         """But for --kill."""
-        other = json.loads(refuses("mount", "chroot"))
-        with self.container("crun", LOADED, other) as (status, said, pid):
-            self.assertEqual((status, self.runs(pid)), (0, True), said)
-        with self.container("crun", LOADED, other, "--kill") as (status, said, pid):
-            self.assertTrue(comes(lambda: has_ended(pid)), said)
+        value = json.loads(refuses("mount", "chroot"))
+        with self.container("crun", LOADED, value) as (status, message, pid):
+            self.assertEqual((status, self.runs(pid)), (0, True), message)
+        with self.container("crun", LOADED, value, "--kill") as (status, message, pid):
+            self.assertTrue(comes(lambda: has_ended(pid)), message)
 
     def test_the_default_profiles(self):
         """What is loaded of them is plainly the same by --runtime, by the hook and by verify-process."""
@@ -185,20 +187,20 @@ class Runtimes(Containers):
             resolved = json.loads(self.run_tool("resolve-profile", "--engine", engine, path)[1])
             for runtime in ("runc", "crun"):
                 with self.subTest(f"{engine}'s by {runtime}"), self.container(
-                        runtime, resolved, resolved, "--kill", f"--runtime={runtime}") as (status, said, pid):
-                    self.assertEqual((status, self.runs(pid)), (0, True), said)
+                        runtime, resolved, resolved, "--kill", f"--runtime={runtime}") as (status, message, pid):
+                    self.assertEqual((status, self.runs(pid)), (0, True), message)
                     self.is_same(pid, f"{self.where}/config.json", "--runtime", runtime)
 
     def test_processes_that_were_brought_in(self):
         """All processes of a container are looked at."""
         for runtime in ("runc", "crun"):
-            with self.subTest(runtime), self.container(runtime) as (status, said, pid):
-                self.assertEqual(status, 0, said)
+            with self.subTest(runtime), self.container(runtime) as (status, message, pid):
+                self.assertEqual(status, 0, message)
                 self.said([*self.words_of(runtime), "exec", "--detach", self.name, "sleep", "999"])
                 status, lines = self.by_hand(runtime, "--kill")
                 self.assertEqual(status, 0, lines)
-                self.assertEqual(len([it for it in lines if re.fullmatch(r"# process \d+ \(sleep\) has 1 filter, .*",
-                                                                         it)]), 2, lines)
+                named = [line for line in lines if re.fullmatch(r"# process \d+ \(sleep\) has 1 filter, .*", line)]
+                self.assertEqual(len(named), 2, lines)
                 self.assertTrue(self.runs(pid))
 
     def test_a_process_begun_before_the_filter(self):
@@ -217,27 +219,28 @@ class Runtimes(Containers):
         """Its processes are those of its control group; all are looked at, and all are killed."""
         begin = ["sh", "-c", "sleep 997 & sleep 997 & exec sleep 997"]
         for runtime in ("runc", "crun"):
-            with self.subTest(runtime), self.container(runtime, shared=["pid"], args=begin) as (status, said, pid):
-                self.assertEqual(status, 0, said)
+            with self.subTest(runtime), self.container(runtime, shared=["pid"], args=begin) as (status, message, pid):
+                self.assertEqual(status, 0, message)
                 self.assertTrue(comes(lambda: len(self.called("sleep", "997")) == 3))
-                found = self.called("sleep", "997")
+                actual = self.called("sleep", "997")
                 status, lines = self.by_hand(runtime)
-                self.assertEqual((status, len([it for it in lines if it.startswith("# process ")])), (0, 3), lines)
+                named = [line for line in lines if line.startswith("# process ")]
+                self.assertEqual((status, len(named)), (0, 3), lines)
                 config = json.loads(self.text(f"{self.where}/config.json"))
                 config["linux"]["seccomp"] = json.loads(refuses("chroot"))
                 self.file("box/config.json", json.dumps(config))
                 status, lines = self.by_hand(runtime, "--kill")
                 self.assertEqual((status, lines[1]), (1, f"process {pid} was killed, and 2 more of the container"))
-                self.assertTrue(comes(lambda: all(map(has_ended, found))))
+                self.assertTrue(comes(lambda: all(map(has_ended, actual))))
 
     def test_one_that_is_paused(self):
         """Nothing hangs, and it doesn't survive being let on."""
-        with self.container("runc") as (status, said, pid):
-            self.assertEqual(status, 0, said)
+        with self.container("runc") as (status, message, pid):
+            self.assertEqual(status, 0, message)
             runc = self.words_of("runc")
-            status, said = self.said([*runc, "pause", self.name])
+            status, message = self.said([*runc, "pause", self.name])
             if status:
-                self.skipTest(f"runc pauses no container here: {said.strip()}")
+                self.skipTest(f"runc pauses no container here: {message.strip()}")
             self.addCleanup(self.said, [*runc, "resume", self.name])
             began = time.monotonic()
             status, lines = self.by_hand("runc", "--kill", "--wait=0", "--deadline=1")
@@ -251,8 +254,9 @@ class Runtimes(Containers):
 
     def test_one_that_ends_at_once(self):
         for runtime in ("runc", "crun"):
-            with self.subTest(runtime), self.container(runtime, None, None, "--kill", args=["true"]) as (_, said, pid):
-                self.assertTrue(pid is None or comes(lambda: has_ended(pid)), said)
+            with self.subTest(runtime), self.container(runtime, None, None, "--kill", args=["true"]) as result:
+                _, message, pid = result
+                self.assertTrue(pid is None or comes(lambda: has_ended(pid)), message)
 
     @contextlib.contextmanager
     def begun(self, *words, timeout=None, **settings):
@@ -265,10 +269,10 @@ class Runtimes(Containers):
             config["hooks"]["poststart"][1]["timeout"] = timeout
         self.file("box/config.json", json.dumps(config))
         try:
-            status, said = self.said([*call, "create", "--bundle", self.where, "--pid-file", f"{self.folder}/pid",
-                                      self.name])
+            status, message = self.said([*call, "create", "--bundle", self.where, "--pid-file", f"{self.folder}/pid",
+                                         self.name])
             if status:
-                self.skipTest(f"crun creates no container here: {said.strip()}")
+                self.skipTest(f"crun creates no container here: {message.strip()}")
             self.assertEqual(self.said([*call, "start", self.name])[0], 0)
             yield int(self.text(f"{self.folder}/pid"))
         finally:
@@ -289,9 +293,9 @@ class Runtimes(Containers):
                               stderr=subprocess.PIPE, check=False) if shutil.which("cc") else None
         if done is None or done.returncode:
             self.skipTest("there is no C compiler that links statically here")
-        other = json.loads(refuses("chroot"))
+        value = json.loads(refuses("chroot"))
         args = ["/bin/execute", "200", "1000"]
-        with self.begun("--kill", "--deadline=2", "--wait=0", loaded=other, args=args) as pid:
+        with self.begun("--kill", "--deadline=2", "--wait=0", loaded=value, args=args) as pid:
             self.assertTrue(comes(lambda: has_ended(pid)))
 
 
@@ -315,15 +319,15 @@ class Podman(Containers):
                                                           runtime)[1])
                 self.addCleanup(self.remove_groups)
                 self.addCleanup(self.podman, "rm", "--force", "--time", "0", self.name)
-                status, said = self.podman("--hooks-dir", f"{self.folder}/hooks", "--runtime", shutil.which(runtime),
-                                           "run", "--detach", "--name", self.name, "--cgroup-parent", f"/{self.name}",
-                                           "--rootfs", f"{self.where}/rootfs", "sleep", "1000")
-                if status and "oci-hook" not in said:
-                    self.skipTest(f"podman starts no container here: {said.strip()}")
-                self.assertEqual(status, 0, said)
+                status, message = self.podman("--hooks-dir", f"{self.folder}/hooks", "--runtime", shutil.which(runtime),
+                                              "run", "--detach", "--name", self.name, "--cgroup-parent",
+                                              f"/{self.name}", "--rootfs", f"{self.where}/rootfs", "sleep", "1000")
+                if status and "oci-hook" not in message:
+                    self.skipTest(f"podman starts no container here: {message.strip()}")
+                self.assertEqual(status, 0, message)
                 pid = int(self.podman("inspect", "--format", "{{.State.Pid}}", self.name)[1])
-                self.assertTrue(self.runs(pid), said)
-                config = self.config_of(said.strip())
+                self.assertTrue(self.runs(pid), message)
+                config = self.config_of(message.strip())
                 self.is_same(pid, config, "--runtime", runtime)
                 if runtime == "crun":
                     held = json.loads(self.text(config))["process"]["capabilities"]["bounding"]
@@ -333,10 +337,10 @@ class Podman(Containers):
     def started(self, runtime, name, *words):
         """A container of podman: its identifier, its first process and its configuration."""
         self.addCleanup(self.podman, "rm", "--force", "--time", "0", name)
-        status, said = self.podman("--runtime", shutil.which(runtime), "run", "--detach", "--name", name, *words,
-                                   "--rootfs", f"{self.where}/rootfs", "sleep", "1000")
+        status, message = self.podman("--runtime", shutil.which(runtime), "run", "--detach", "--name", name, *words,
+                                      "--rootfs", f"{self.where}/rootfs", "sleep", "1000")
         if status:
-            self.skipTest(f"podman starts no container here: {said.strip()}")
+            self.skipTest(f"podman starts no container here: {message.strip()}")
         shown = self.podman("inspect", "--format", "{{.Id}} {{.State.Pid}} {{.OCIConfigPath}}", name)[1]
         return shown.split()
 
@@ -345,34 +349,34 @@ class Podman(Containers):
         configuration, or unconfined by that."""
         status, word = (0, "same") if expected == "as configured" else (1, expected)
         for given in ((), ("--all",), ("--no-more",)):
-            found, out, err = self.run_tool("verify-process", "--runtime", runtime, *given, pid, path)
-            self.assertEqual((found, out.splitlines()[0], err), (
+            actual, out, err = self.run_tool("verify-process", "--runtime", runtime, *given, pid, path)
+            self.assertEqual((actual, out.splitlines()[0], err), (
                 status, "no more" if given == ("--no-more",) and word == "same" else word, ""))
-        found = json.loads(self.run_tool("verify-process", "--runtime", runtime, "--json", pid, path)[1])
-        self.assertEqual((found["status"], found["verdict"]), (status, word))
+        actual = json.loads(self.run_tool("verify-process", "--runtime", runtime, "--json", pid, path)[1])
+        self.assertEqual((actual["status"], actual["verdict"]), (status, word))
         rows = json.loads(self.run_tool("audit", "--json")[1])["rows"]
-        self.assertEqual([it["verdict"] for it in rows if it.get("id") == identifier], [expected])
-        found, out, err = self.run_tool("filters-of", pid, f"filters-{identifier}")
-        self.assertEqual((found, len(out.splitlines()), err), (0, 1, "") if word == "same" else
+        self.assertEqual([row["verdict"] for row in rows if row.get("id") == identifier], [expected])
+        actual, out, err = self.run_tool("filters-of", pid, f"filters-{identifier}")
+        self.assertEqual((actual, len(out.splitlines()), err), (0, 1, "") if word == "same" else
                          (3, 0, f"filters-of: process {pid} has no filter\n"))
         state = json.dumps({"ociVersion": "1.0.2", "id": identifier, "status": "running", "pid": int(pid),
                             "bundle": os.path.dirname(path)})
-        found, _, err = self.run_tool("oci-hook", "--runtime", runtime, "--wait=0", given=state.encode())
-        self.assertEqual((found, self.lines(err)[0].rpartition(" (")[2]), (
+        actual, _, err = self.run_tool("oci-hook", "--runtime", runtime, "--wait=0", given=state.encode())
+        self.assertEqual((actual, self.lines(err)[0].rpartition(" (")[2]), (
             status, "same)" if word == "same" else "unstated)"))
 
     def test_with_and_without_a_profile(self):
         """A container, one in a pod, a privileged one, and one without a profile, by both runtimes."""
-        for it in ("podman", "runc", "crun"):
-            if not shutil.which(it):
-                self.skipTest(f"there is no {it} here")
+        for item in ("podman", "runc", "crun"):
+            if not shutil.which(item):
+                self.skipTest(f"there is no {item} here")
         self.addCleanup(self.remove_groups)
         pod, parent = f"{self.name}-pod", ("--cgroup-parent", f"/{self.name}")
         self.addCleanup(self.podman, "pod", "rm", "--force", pod)
-        status, said = self.podman("pod", "create", "--infra=false", "--name", pod, *parent)
+        status, message = self.podman("pod", "create", "--infra=false", "--name", pod, *parent)
         if status:
-            self.skipTest(f"podman makes no pod here: {said.strip()}")
-        known = []
+            self.skipTest(f"podman makes no pod here: {message.strip()}")
+        actual = []
         for runtime, name, words, expected in (
                 ("crun", "plain", parent, "as configured"), ("crun", "in", ("--pod", pod), "as configured"),
                 ("crun", "all", ("--privileged", *parent), "unconfined by configuration"),
@@ -382,13 +386,13 @@ class Podman(Containers):
             with self.subTest(name):
                 identifier, pid, path = self.started(runtime, f"{self.name}-{name}", *words)
                 self.says("podman" if runtime == "crun" else runtime, identifier, pid, path, expected)
-                known.append((identifier, pid, path))
+                actual.append((identifier, pid, path))
         # the configuration of another container
-        for (one, pid, _), (other, _, path) in zip(known, known[1:]):
+        for (first, pid, _), (second, _, path) in zip(actual, actual[1:]):
             status, out, err = self.run_tool("verify-process", "--runtime", "podman", pid, path)
             self.assertEqual((status, out), (2, ""))
-            self.assertIn(f"the configuration is that of the container {other[:12]}, and process {pid} (sleep) is in the "
-                          f"container {one[:12]}: `podman inspect", err)
+            self.assertIn(f"the configuration is that of the container {second[:12]}, and process {pid} (sleep) is in "
+                          f"the container {first[:12]}: `podman inspect", err)
 
     def test_the_installed_hook(self):
         """A default container starts with what make install puts for hooks.d, which finds it confined as configured."""
@@ -398,17 +402,17 @@ class Podman(Containers):
         subprocess.run(["make", "-s", "-C", TOP, "install", f"PREFIX={prefix}"], check=True)
         self.addCleanup(self.remove_groups)
         self.addCleanup(self.podman, "rm", "--force", "--time", "0", self.name)
-        status, said = self.podman("--hooks-dir", f"{prefix}/share/scf/hooks.d", "run", "--detach", "--name", self.name,
-                                   "--cgroup-parent", f"/{self.name}", "--rootfs", f"{self.where}/rootfs", "sleep",
-                                   "1000")
-        if status and "oci-hook" not in said:
-            self.skipTest(f"podman starts no container here: {said.strip()}")
-        self.assertEqual(status, 0, said)
+        status, message = self.podman("--hooks-dir", f"{prefix}/share/scf/hooks.d", "run", "--detach", "--name",
+                                      self.name, "--cgroup-parent", f"/{self.name}", "--rootfs",
+                                      f"{self.where}/rootfs", "sleep", "1000")
+        if status and "oci-hook" not in message:
+            self.skipTest(f"podman starts no container here: {message.strip()}")
+        self.assertEqual(status, 0, message)
         pid = int(self.podman("inspect", "--format", "{{.State.Pid}}", self.name)[1])
-        bundle = os.path.dirname(self.config_of(said.strip()))
+        bundle = os.path.dirname(self.config_of(message.strip()))
         with open(f"{prefix}/share/scf/hooks.d/scf.json", encoding="utf-8") as file:
             hook = json.load(file)["hook"]
-        state = {"ociVersion": "1.0.2", "id": said.strip(), "status": "running", "pid": pid, "bundle": bundle}
+        state = {"ociVersion": "1.0.2", "id": message.strip(), "status": "running", "pid": pid, "bundle": bundle}
         status, out, err = self.run_words([hook["path"], *hook["args"][1:]], json.dumps(state).encode())
         self.assertEqual((status, out), (0, ""))
         self.assertRegex(err, "(?m)^scf-oci-hook: same$")

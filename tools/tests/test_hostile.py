@@ -11,12 +11,11 @@ import subprocess
 import sys
 import tempfile
 
-from support.common import ALLOW, CORE, KILL_PROCESS, X86_64, Case, insn, jeq, jge, limited, load, part, ret
+from support.common import ALLOW, CORE, GATE, KILL_PROCESS, X86_64, Case, insn, jeq, jge, limited, load, part, ret
 
 LIMIT_OF_FILTER, LIMIT_OF_TEXT, LIMIT_OF_INPUT = 32768, 4194304, 16777216
 # Seconds of a processor: 3 are measured of a text of many labels in no order, and 0.9 of a million steps.
 SECONDS, MEGABYTES = 30, 640
-GATE = load(4) + jeq(X86_64, 0, 2) + load(0) + jge(0x40000000, 0, 1) + ret(KILL_PROCESS)
 ALLOWS = b'{"defaultAction":"SCMP_ACT_ALLOW"}'
 ALLOWS_COMPILED = GATE + ret(ALLOW)
 
@@ -73,10 +72,10 @@ class Hostile(Case):
     def test_cut_filters(self):
         gate = load(4) + jeq(X86_64, 1, 0) + ret(KILL_PROCESS) + ret(ALLOW)
         for count in range(len(gate)):
-            whole, rest = divmod(count, 8)
+            whole, remaining = divmod(count, 8)
             fault, status = {0: ("Empty", 1), 1: ("LastNotReturn", 1)}.get(whole, ("Jump at 1", 1))
-            if rest:
-                fault, status = f"Truncated offset {count - rest}", 3
+            if remaining:
+                fault, status = f"Truncated offset {count - remaining}", 3
             with self.subTest(count):
                 self.faults(["check"], gate[:count], f"fault filter {fault}", status)
 
@@ -182,7 +181,7 @@ class Hostile(Case):
         """No more than three times the text is kept, however short its labels are, and whatever their order; four times
         where labels repeat."""
         letters = string.ascii_letters.encode()
-        names = [bytes(it) for it in itertools.islice(itertools.product(letters, repeat=4), LIMIT_OF_INPUT // 6)]
+        names = [bytes(item) for item in itertools.islice(itertools.product(letters, repeat=4), LIMIT_OF_INPUT // 6)]
         quarter = names[:len(names) // 4]
         for labels in random.Random(1).sample(names, len(names)), quarter, quarter[::-1]:
             text = b":\n".join(labels) + b":"

@@ -106,6 +106,20 @@ PROFILES = {
     "a YAML that is too long": repeated(b"a: b\n", LONGEST_PROFILE, b"apiVersion: a\nkind: SeccompProfile\n"),
     "an object of Kubernetes": repeated(b'{"":0},', LONGEST_PROFILE,
                                         b'{"apiVersion":"a","kind":"SeccompProfile","spec":{"x":[', b"0]}}"),
+    "an LXC policy of one line": repeated(b"[", MEBIBYTE, b"2\ndenylist\n"),
+    "rules of LXC": repeated(b"mknod errno 1\n", MEBIBYTE, b"2\ndenylist\n"),
+    "sections of LXC": repeated(b"[arm]\n", 90000, b"2\ndenylist\n"),
+    "conditions of LXC": repeated(b"[0,1,==]", 30000, b"2\ndenylist\nread errno 1 "),
+    "numbers of LXC": repeated(b"0\n", 1 << 15, b"1\nallowlist\n"),
+    "NULs behind a policy": repeated(b"\0", MEBIBYTE, b"2\ndenylist\n"),
+    "comments before a snap's directive": repeated(b"#\n\n", MEBIBYTE, b"", b"@complain"),
+    "blank lines": repeated(b"\n", MEBIBYTE, b"", b"#"),
+    "syscalls of a snap": repeated(b"read 1\n", MEBIBYTE, b"@complain\n"),
+    "arguments of a snap": repeated(b" -", MEBIBYTE, b"@complain\nread"),
+    "a firejail list of one line": repeated(b"a,", MEBIBYTE, b"seccomp.drop "),
+    "a firejail list": repeated(b"read,", 30000, b"seccomp.drop "),
+    "lines that firejail ignores": repeated(b"ignore a b c\nseccomp a b\n", MEBIBYTE // 4),
+    "files that firejail includes": repeated(b"include disable-common.inc\n", MEBIBYTE // 4, b"seccomp\n"),
     "what docker inspect prints": repeated(b'"Id":  ', MEBIBYTE, b'[{"HostConfig"', b"}]"),
 }
 AUDIT = b"type=SECCOMP msg=audit(1.000:1): "
@@ -199,13 +213,13 @@ class Texts(Case):
 
     def test_profiles(self):
         for what, text in PROFILES.items():
-            self.ends(what, tool("ask"), self.file("p.json", text))
+            self.ends(what, tool("ask"), "--nr=0", self.file("p.json", text))
 
     def test_every_reader_of_profiles(self):
-        allows, other = self.file("f.bpf", ret(ALLOW)), self.file("other.json", profile_of("read"))
+        allows, second = self.file("f.bpf", ret(ALLOW)), self.file("other.json", profile_of("read"))
         for what in ("objects", "members that nothing reads"):
             name = self.file("p.json", PROFILES[what])
-            for words in (("compile",), ("lint",), ("compare", allows), ("compare-profiles", other),
+            for words in (("compile",), ("lint",), ("compare", allows), ("compare-profiles", second),
                           ("resolve-profile", "--caps=none"), ("why", "type=1326 audit(1.000:1): x"),
                           ("needs", self.file("log", b"read() = 0\n"))):
                 self.ends(what, tool(words[0]), *words[1:], name)
@@ -239,15 +253,15 @@ class Texts(Case):
     def test_tables(self):
         allows = self.file("p.json", ALLOWS % b"")
         for what, text in TABLES.items():
-            self.ends(what, tool("ask"), "--table", self.file("t.table", text), allows)
+            self.ends(what, tool("ask"), "--nr=0", "--table", self.file("t.table", text), allows)
 
     def test_lists_of_syscalls(self):
         """scf is run for each: so many are answered, and one more is refused."""
         filters = self.file("f.bpf", ret(ALLOW))
         for count, expected in ((2048, 0), (2049, 2), (32000, 2)):
-            found = self.ends(f"{count} syscalls", tool("decide"), "--calls-from", self.file("list", b"1\n" * count),
-                              filters)
-            self.assertEqual(found, expected)
+            actual = self.ends(f"{count} syscalls", tool("decide"), "--calls-from", self.file("list", b"1\n" * count),
+                               filters)
+            self.assertEqual(actual, expected)
 
     def test_cores(self):
         for what, data in CORES.items():

@@ -28,12 +28,12 @@ with open(sys.argv[1], "w") as file:
 
 def run(words, **settings):
     """The status, what was printed, what was said, the seconds and the megabytes that a tool took."""
-    with tempfile.TemporaryFile() as out, tempfile.TemporaryFile() as err, tempfile.NamedTemporaryFile() as told:
+    with tempfile.TemporaryFile() as out, tempfile.TemporaryFile() as err, tempfile.NamedTemporaryFile() as text:
         before = taken()
-        subprocess.run([sys.executable, "-ISc", SMALL, told.name, tool(words[0]), *words[1:]], stdout=out, stderr=err,
+        subprocess.run([sys.executable, "-ISc", SMALL, text.name, tool(words[0]), *words[1:]], stdout=out, stderr=err,
                        check=True, timeout=PATIENCE, preexec_fn=limited(SECONDS, SPACE), **settings)
         spent = taken() - before
-        status, kilobytes = map(int, told.read().split())
+        status, kilobytes = map(int, text.read().split())
         out.seek(0)
         err.seek(0)
         return status, out.read(), err.read().decode(), spent, kilobytes / 1024
@@ -48,8 +48,8 @@ class Limits(Case):
 
     def ends(self, words, status, says):
         """It ends soon and in little memory, with this status and a text that holds this."""
-        found, out, err, seconds, megabytes = run(words)
-        self.assertEqual(found, status, (words, out[:200], err))
+        actual, out, err, seconds, megabytes = run(words)
+        self.assertEqual(actual, status, (words, out[:200], err))
         self.assertIn(says, out.decode() + err)
         self.assertNotIn("Traceback", err)
         self.assertLess(seconds, SECONDS, words)
@@ -83,8 +83,8 @@ class Limits(Case):
                               (("compile", "-"), 1), (("check",), 3), (("decide",), 3), (("asm", "-"), 3), (("dis", "-"), 3),
                               (("explain",), 2)):
             with open("/dev/zero", "rb") as zero:
-                found, _, err, seconds, megabytes = run(words, stdin=zero)
-            self.assertEqual((found, "Traceback" in err), (status, False), words)
+                actual, _, err, seconds, megabytes = run(words, stdin=zero)
+            self.assertEqual((actual, "Traceback" in err), (status, False), words)
             self.assertLess(seconds, SECONDS, words)
             self.assertLess(megabytes, MEGABYTES, words)
 
@@ -113,13 +113,13 @@ class Limits(Case):
 
 def filled(head, item_of, tail):
     """A text of just the most bytes that a profile may have: as many items as there is room for."""
-    room, found = TEXT - len(head) - len(tail), []
+    room, status = TEXT - len(head) - len(tail), []
     for at in itertools.count():
         item = item_of(at)
         room -= len(item) + 1
         if room < 0:
-            return head + b",".join(found) + tail
-        found.append(item)
+            return head + b",".join(status) + tail
+        status.append(item)
 
 
 class Profiles(Case):
@@ -235,7 +235,7 @@ class Words(Case):
         self.assertEqual((status, err), (1, ""))
         self.assertIn("/odd\\xff\\x1b[2J.bpf\n", out)
         self.assertIn("/\\xfe\\x0a.bpf\n# This jump", out)
-        status, out, err = self.run_words([tool("decide"), name, broken])
+        status, out, err = self.run_words([tool("decide"), "--nr=0", name, broken])
         self.assertEqual((status, err), (1, ""))
         self.assertTrue(out.endswith("/\\xfe\\x0a.bpf\n"), out)
         status, out, err = self.run_words([tool("check"), name + b"\n"])

@@ -14,7 +14,7 @@ TOOLS = sorted(name for name in os.listdir(os.path.join(TOP, "tools"))
 MODULES = sorted(name for name in os.listdir(os.path.join(TOP, "tools", "scftools")) if name.endswith(".py"))
 TABLES = os.listdir(os.path.join(TOP, "tables"))
 DOCUMENTS = ["LICENSE", "README.md", "scf.schema.json",
-             *(f"{it}.md" for it in ("TUTORIAL", "RECIPES", "OPERATIONS", "JSON", "LICENCES"))]
+             *(f"{name}.md" for name in ("TUTORIAL", "RECIPES", "RUNTIMES", "OPERATIONS", "JSON", "LICENCES"))]
 
 
 class Install(Case):
@@ -34,19 +34,29 @@ class Install(Case):
 
     def whole(self, zsh="site-functions"):
         return sorted(["bin/scf", *(f"bin/scf-{name}" for name in TOOLS), "lib/scf/program/scf",
-                       "share/bash-completion/completions/scf", "share/fish/vendor_completions.d/scf.fish",
+                       *(f"share/bash-completion/completions/scf{name}" for name in ["", *map("-{}".format, TOOLS)]),
+                       *(f"share/fish/vendor_completions.d/scf{name}.fish" for name in ["", *map("-{}".format, TOOLS)]),
                        f"share/zsh/{zsh}/_scf",
                        *(f"lib/scf/tools/{name}" for name in TOOLS),
                        *(f"lib/scf/tools/scftools/{name}" for name in MODULES),
                        *(f"lib/scf/tables/{name}" for name in TABLES), "lib/scf/docs/FAULTS.md",
-                       *(f"share/doc/scf/{it}" for it in DOCUMENTS), "share/man/man1/scf.1",
+                       *(f"share/doc/scf/{item}" for item in DOCUMENTS), "share/man/man1/scf.1",
                        "share/scf/hooks.d/scf.json", "share/scf/prometheus/scf.rules.yml",
-                       *(f"lib/systemd/system/scf-audit.{it}" for it in ("service", "timer")),
+                       *(f"lib/systemd/system/scf-audit.{name}" for name in ("service", "timer")),
                        *(f"share/man/man1/scf-{name}.1" for name in TOOLS)])
 
     def run_installed(self, *words, given=b""):
         env = {**os.environ, "PATH": f"{self.prefix}/bin:{os.environ['PATH']}"}
         return self.run_words(words, given, env=env)
+
+    def test_each_page_that_a_tool_names_is_installed(self):
+        """But for the page on the proofs."""
+        named = set()
+        for name in MODULES:
+            with open(os.path.join(TOP, "tools", "scftools", name), encoding="utf-8") as file:
+                named.update(re.findall(r"[A-Z]+\.md", file.read()))
+        self.assertIn("JSON.md", named)
+        self.assertEqual(named - {*DOCUMENTS, "FAULTS.md", "TRUST.md"}, set())
 
     def test_installed_twice_moved_and_used_from_any_folder(self):
         self.make("install")
@@ -125,7 +135,7 @@ class Install(Case):
     @unittest.skipUnless(shutil.which("man"), "there is no man here")
     def test_man_finds_the_pages(self):
         self.make("install")
-        for name in ("scf", *(f"scf-{it}" for it in TOOLS)):
+        for name in ("scf", *(f"scf-{item}" for item in TOOLS)):
             done = subprocess.run(["man", "-M", os.path.join(self.prefix, "share", "man"), "-w", name],
                                   stdout=subprocess.PIPE, stderr=subprocess.PIPE, check=False)
             self.assertEqual(done.returncode, 0, done.stderr)
@@ -141,12 +151,13 @@ class Install(Case):
 
     def test_python_need_not_compile_the_modules_again(self):
         self.make("install")
-        kept = os.path.join(self.prefix, "lib/scf/tools/scftools/__pycache__")
-        names = sorted(os.listdir(kept))
+        folder = os.path.join(self.prefix, "lib/scf/tools/scftools/__pycache__")
+        names = sorted(os.listdir(folder))
         self.assertEqual([f"{name.split('.')[0]}.py" for name in names], MODULES)
-        times = [os.stat(os.path.join(kept, name)).st_mtime_ns for name in names]
+        times = [os.stat(os.path.join(folder, name)).st_mtime_ns for name in names]
         self.run_installed("scf-check", self.file("f", filter_of([])))
-        self.assertEqual([os.stat(os.path.join(kept, name)).st_mtime_ns for name in sorted(os.listdir(kept))], times)
+        self.assertEqual([os.stat(os.path.join(folder, name)).st_mtime_ns for name in sorted(os.listdir(folder))],
+                         times)
 
     def test_uninstall_leaves_what_is_not_ours_and_nothing_else(self):
         self.make("install")

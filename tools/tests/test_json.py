@@ -1,11 +1,11 @@
 """docs/JSON.md and docs/scf.schema.json: each command's object."""
 import copy
+import itertools
 import json
 import os
 import re
 import shlex
 import subprocess
-import unittest
 
 from support import json_schema
 from support.common import ALLOW, EPERM, SCF, TOP, Case, jeq, load, ret, tool
@@ -13,22 +13,39 @@ from scftools import output
 
 with open(os.path.join(TOP, "docs", "JSON.md"), encoding="utf-8") as page:
     PAGE = page.read()
+# What stands in an example for any object, and for any list.
+GAPS = ({"..": None}, [".."])
 # Each command line of the page, and what it prints.
-EXAMPLES = [(line, json.loads(" ".join(printed.split("\n"))))
+EXAMPLES = [(line, json.loads(printed.replace("{..}", json.dumps(GAPS[0])).replace("[..]", json.dumps(GAPS[1]))))
             for line, printed in re.findall(r"(?m)^\$ (scf .*)\n((?:(?!```|\$ ).*\n)+)", PAGE)]
 # The commands whose output depends on the machine.
 OF_MACHINE = {"audit", "oci-hook", "unit-profile", "verify-process"}
 
 
+def filled(example, printed):
+    """An example with what was printed in place of its gaps."""
+    if example in GAPS:
+        return printed if type(printed) is type(example) else type(example)()
+    if isinstance(example, dict):
+        others = printed if isinstance(printed, dict) else {}
+        return {name: filled(value, others.get(name)) for name, value in example.items()}
+    if isinstance(example, list):
+        others = printed if isinstance(printed, list) else []
+        return [filled(value, other) for value, other in itertools.zip_longest(example, others[:len(example)])]
+    return example
+
+
 def commands_with_json():
     """The commands whose --help has --json."""
-    for name in sorted(it for it in os.listdir(tool("")) if os.path.isfile(tool(it))):
+    for name in sorted(name for name in os.listdir(tool("")) if os.path.isfile(tool(name))):
         done = subprocess.run([tool(name), "--help"], stdin=subprocess.DEVNULL, stdout=subprocess.PIPE, check=True)
         if b"--json " in done.stdout or b"--json\n" in done.stdout:
             yield name
 
 
-class Page(Case):
+class Examples(Case):
+    """A folder with the files of the page, in which its commands run."""
+
     def setUp(self):
         super().setUp()
         self.file("filter.bpf", load(0) + jeq(41, 0, 1) + ret(EPERM) + ret(ALLOW))
@@ -39,22 +56,36 @@ class Page(Case):
                                '"action": "SCMP_ACT_ALLOW"}]}')
         self.file("log", "socket(AF_INET, SOCK_STREAM, 0) = 3\nbind(3, 0x7ffd1000, 16) = 0\n")
 
+    def whole_examples(self):
+        """Each command line, and what it prints in full."""
+        for line, example in EXAMPLES:
+            words, printed = shlex.split(line), None
+            if words[1] not in OF_MACHINE:
+                status, out, err = self.run_words([SCF, *words[1:]])
+                printed = json.loads(out)
+                self.assertEqual((filled(example, printed), status, err), (printed, example["status"], ""), line)
+            yield line, filled(example, printed)
+
+
+class Page(Examples):
     def test_each_example_is_what_its_command_prints(self):
-        for line, expected in EXAMPLES:
-            with self.subTest(line):
-                words = shlex.split(line)
-                faults = json_schema.faults_of_output(words, json.dumps(expected), expected["status"])
-                self.assertEqual(list(faults), [])
-                if words[1] not in OF_MACHINE:
-                    status, out, err = self.run_words([SCF, *words[1:]])
-                    self.assertEqual((json.loads(out), status, err), (expected, expected["status"], ""))
+        for line, whole in self.whole_examples():
+            faults = json_schema.faults_of_output(shlex.split(line), json.dumps(whole), whole["status"])
+            self.assertEqual(list(faults), [], line)
+
+    def test_a_gap_stands_for_what_was_printed(self):
+        for example, printed, whole in (
+                (GAPS[0], {"a": 1}, {"a": 1}), (GAPS[1], [1, 2], [1, 2]), (GAPS[0], [1], {}), (GAPS[1], None, []),
+                ({"a": GAPS[0], "b": 1}, {"a": {"c": 2}, "b": 3}, {"a": {"c": 2}, "b": 1}),
+                ([GAPS[0], 1], [{"a": 2}, 1, 3], [{"a": 2}, 1]), ([GAPS[0], 1], [], [{}, 1])):
+            self.assertEqual(filled(example, printed), whole)
 
     def test_each_command_stands_in_the_page_and_the_schema(self):
         commands = set(commands_with_json())
         self.assertEqual({shlex.split(line)[1] for line, _ in EXAMPLES}, commands)
         self.assertLessEqual(commands, set(json_schema.SCHEMA["$defs"]))
-        self.assertIn(f"the version of this page, now {output.SCHEMA},", PAGE)
-        self.assertEqual(json_schema.SCHEMA["$defs"]["version"], {"const": output.SCHEMA})
+        self.assertIn(f"the version of this page, now {output.SCHEMA_VERSION},", PAGE)
+        self.assertEqual(json_schema.SCHEMA["$defs"]["version"], {"const": output.SCHEMA_VERSION})
 
     def test_each_page_links_to_it(self):
         for path in ("README.md", "docs/OPERATIONS.md", "docs/scf.1", "tables/commands"):
@@ -62,7 +93,7 @@ class Page(Case):
                 self.assertIn("JSON.md", file.read(), path)
 
 
-class Checker(unittest.TestCase):
+class Checker(Examples):
     """The reading of the schema by the tests."""
 
     def faults(self, value, schema):
@@ -95,10 +126,10 @@ class Checker(unittest.TestCase):
             self.faults(1, {"minimum": 0})
 
     def test_a_member_that_the_schema_lacks_or_has_otherwise(self):
-        for line, printed in EXAMPLES:
+        for line, printed in self.whole_examples():
             words = shlex.split(line)
-            for change in (lambda it: it.pop("schema"), lambda it: it.update(status="0"),
-                           lambda it: it.update(let_through=[])):
+            for change in (lambda value: value.pop("schema"), lambda value: value.update(status="0"),
+                           lambda value: value.update(other=[])):
                 value = copy.deepcopy(printed)
                 change(value)
                 self.assertTrue(list(json_schema.faults_of_output(words, json.dumps(value), printed["status"])), line)
@@ -109,7 +140,7 @@ class Checker(unittest.TestCase):
         except ImportError:
             self.skipTest("there is no jsonschema here")
         jsonschema.Draft202012Validator.check_schema(json_schema.SCHEMA)
-        for line, printed in EXAMPLES:
+        for line, printed in self.whole_examples():
             command = shlex.split(line)[1]
             schema = {"$ref": f"#/$defs/{command}", "$defs": json_schema.SCHEMA["$defs"]}
             jsonschema.Draft202012Validator(schema).validate(printed)

@@ -7,12 +7,11 @@ import re
 import struct
 import subprocess
 
-from support.common import ALLOW, CORE, EPERM, KILL_PROCESS, X86_64, Case, insn, jeq, jge, load, part, ret
+from support.common import ALLOW, CORE, EPERM, GATE, Case, insn, jge, load, part, ret
 
 MOST = 4096
 # MAX_INSNS_PER_PATH (kernel/seccomp.c), and what each older filter of a stack costs more.
 MOST_OF_STACK, MORE_OF_OLDER = 32768, 4
-GATE = load(4) + jeq(X86_64, 0, 2) + load(0) + jge(0x40000000, 0, 1) + ret(KILL_PROCESS)
 ALLOWS = b'{"defaultAction": "SCMP_ACT_ALLOW"}'
 TRAP, ERRNO = 0x00030000, 0x00050000
 
@@ -37,7 +36,7 @@ def listed(code, k, jt, jf):
     if text is None or any(unused.values()):
         return f"raw {code:#06x}, {jt}, {jf}, {k:#x}\n"
     shown = {"K": f"{k:#x}", "N": str(k), "T": str(jt), "F": str(jf)}
-    return re.sub(r"\b[KNTF]\b", lambda found: shown[found[0]], text) + "\n"
+    return re.sub(r"\b[KNTF]\b", lambda actual: shown[actual[0]], text) + "\n"
 
 
 def differs(number, filter_answer, profile_answer):
@@ -56,8 +55,8 @@ class Largest(Case):
         done = subprocess.run([*CORE, *words], input=data, stdout=subprocess.PIPE, check=False)
         if done.stdout != out:
             pairs = zip(done.stdout.split(b"\n"), out.split(b"\n"))
-            self.fail(next((f"line {at}: {found!r}, not {wanted!r}" for at, (found, wanted) in enumerate(pairs)
-                            if found != wanted), f"{len(done.stdout)} bytes, not {len(out)}"))
+            self.fail(next((f"line {at}: {actual!r}, not {wanted!r}" for at, (actual, wanted) in enumerate(pairs)
+                            if actual != wanted), f"{len(done.stdout)} bytes, not {len(out)}"))
         self.assertEqual(done.returncode, status)
 
     def test_a_listing_of_4096_instructions(self):
@@ -110,8 +109,8 @@ class Largest(Case):
 
     def test_a_stack_of_32768_instructions(self):
         long = part("filter", load(0) * (MOST - 1) + ret(ALLOW)) * 7
-        left = MOST_OF_STACK - 7 * (MOST + MORE_OF_OLDER)
-        last = load(0) * (left - 1)
+        remaining = MOST_OF_STACK - 7 * (MOST + MORE_OF_OLDER)
+        last = load(0) * (remaining - 1)
         both = part("profile", ALLOWS) + part("table", b"read 0\n")
         self.ends(["decide"], long + part("filter", last + ret(ERRNO | 7)), 0, b"ERRNO 7\n")
         self.ends(["decide"], long + part("filter", last + load(0) + ret(ALLOW)), 1,
@@ -122,11 +121,12 @@ class Largest(Case):
 
     def test_as_many_filters_beside_a_profile(self):
         both = part("profile", ALLOWS) + part("table", b"read 0\n")
-        rest = part("filter", ret(ALLOW)) * 6553
-        self.ends(["compare", "--native"], part("filter", ret(ALLOW)) + rest + both, 0, b"same\n")
-        self.ends(["compare", "--native"], part("filter", ret(ERRNO | 9)) + rest + both, 1,
+        remaining = part("filter", ret(ALLOW)) * 6553
+        self.ends(["compare", "--native"], part("filter", ret(ALLOW)) + remaining + both, 0, b"same\n")
+        self.ends(["compare", "--native"], part("filter", ret(ERRNO | 9)) + remaining + both, 1,
                   differs(0, "ERRNO 9", "ALLOW 0"))
-        self.ends(["compare"], part("filter", ret(ALLOW)) * 2 + rest + both, 1, b"fault stack TooMany total 32771\n")
+        self.ends(["compare"], part("filter", ret(ALLOW)) * 2 + remaining + both, 1,
+                  b"fault stack TooMany total 32771\n")
 
     def test_a_bundle_of_64_parts(self):
         filters = [part("filter", ret(ERRNO | at) if at % 5 else ret(ALLOW)) for at in range(64)]

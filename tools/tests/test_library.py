@@ -22,12 +22,11 @@ LIBRARY = os.path.join(TOP, "library")
 OUT = os.path.join(LIBRARY, "out")
 PROGRAM = os.path.join(TOP, "crates", "scf", "out", "scf")
 CALLS = {f"scf_{name}" for name in ("check", "run", "trace", "decide", "assemble", "list", "compile", "ask", "compare",
-                                    "compare_calls", "compile_architectures", "ask_architectures",
-                                    "compare_architectures", "version", "load", "table")}
+                                    "answers", "version", "load", "table", "fault_text", "call_text")}
 # The version of scf that brought each call, which its symbol has.
 BROUGHT = {"SCF_0.1": CALLS}
 STRICT = ["-Wall", "-Wextra", "-Wpedantic", "-Werror", "-Wno-unused-function", "-Wno-unused-variable"]
-LINES = re.compile(r"`fault (\w+) (\w+)((?: \w+ N)*)( \[entry N\])?`")
+LINES = re.compile(r"`fault ([\w|]+) (\w+)((?: \w+ N)*)( \[entry N\])?`")
 
 
 def read(*path):
@@ -56,7 +55,7 @@ def header_numbers(prefix):
             re.findall(rf"^ +SCF_{prefix}(\w+) = (\d+)", read(LIBRARY, "scf.h"), re.M)}
 
 
-ENUMS = ("source", "kind", "verdict", "relation", "reason", "architecture")
+ENUMS = ("source", "kind", "verdict", "relation", "reason", "architecture", "reading", "fact")
 
 
 def plain(numbers):
@@ -74,12 +73,14 @@ def numbers_of_header():
 
 def numbers_of_python():
     module = python_module()
-    return {name: plain((member.name, member.value) for member in getattr(module, name.title())) for name in ENUMS}
+    return {name: plain((member.name, member.value) for member in getattr(module, name.title()))
+            for name in ENUMS if name != "fact"}
 
 
 def numbers_of_go():
     blocks = re.findall(r"const \(\n\t(\w+) +(\w+) += iota( \+ 1)?(.*?)\n\)", read(LIBRARY, "go", "scf.go"), re.S)
-    return {kind.lower(): plain(zip([first, *re.findall(r"(?m)^\t(\w+)", rest)], itertools.count(1 if plus else 0)))
+    return {kind.lower().removesuffix("kind") or "kind":
+            plain(zip([first, *re.findall(r"(?m)^\t(\w+)", rest)], itertools.count(1 if plus else 0)))
             for first, kind, plus, rest in blocks}
 
 
@@ -88,7 +89,7 @@ def numbers_of_rust():
     lists = {name: zip(names.split(), itertools.count(1)) for name, names in
              re.findall(r"\n    (Source|Kind): ([\w\s]+);", text)}
     enums = {name: re.findall(r"(?m)^ +(\w+) = (\d+),", body) for name, body in
-             re.findall(r"pub enum (Relation|Architecture) {(.*?)\n}", text, re.S)}
+             re.findall(r"pub enum (Relation|Architecture|Reading) {(.*?)\n}", text, re.S)}
     return {name.lower(): plain(numbers) for name, numbers in {**lists, **enums}.items()}
 
 
@@ -103,11 +104,14 @@ def fault_lines():
     sources = {name.lower() for name in header_numbers("SOURCE_")}
     lines = " ".join(re.findall(r"^- (`fault .*)$", read(TOP, "docs", "FAULTS.md"), re.M))
     return {(source, kind): numbers.replace(" N", "").split() or (["entry"] if entry else [])
-            for source, kind, numbers, entry in LINES.findall(lines) if source in sources}
+            for alternatives, kind, numbers, entry in LINES.findall(lines)
+            for source in alternatives.split("|") if source in sources}
 
 
 class Built(Case):
-    """A test that compiles programs in its folder."""
+    """A test that compiles programs in its folder, over the archive or the shared object."""
+
+    ARCHIVE, SHARED = [os.path.join(OUT, "libscf.a")], [f"-L{OUT}", "-lscf"]
 
     def compiled(self, name, *words, compiler=("gcc", "-std=c99"), flags=STRICT, out=None):
         out = os.path.join(self.folder, out or os.path.splitext(os.path.basename(name))[0])
@@ -138,9 +142,10 @@ class Interface(Built):
         self.assertEqual(written - {".dynamic", ".got", ".data.rel.ro"}, set())
         self.assertNotIn("RWE", self.runs("readelf", "-lW", shared).replace(" ", ""))
         undefined = {line.split()[-1].split("@")[0] for line in self.runs("nm", "-D", "-u", shared).split("\n") if line}
-        # (the last three are scf_load's)
+        # (scf_load's, and those of scf_fault_text and scf_call_text)
         self.assertEqual(undefined - {"memcpy", "memmove", "memset", "memcmp", "bcmp", "strlen"},
-                         {"malloc", "realloc", "free", "prctl", "syscall", "__errno_location"})
+                         {"malloc", "realloc", "free", "prctl", "syscall", "__errno_location",
+                          "memchr", "snprintf", "strcmp", "strcspn", "strtoul"})
 
     def test_the_archive_has_the_calls_and_nothing_else(self):
         names = self.runs("nm", "-g", "--defined-only", os.path.join(OUT, "libscf.a")).split("\n")
@@ -166,7 +171,7 @@ class Interface(Built):
             self.assertEqual((ctypes.sizeof(kind), [it for field, _ in kind._fields_
                                                     for it in (field, str(getattr(kind, field).offset))]),
                              (int(size), fields), name)
-        self.assertEqual(len(lines), 9)
+        self.assertEqual(len(lines), 15)
 
     def test_faults_are_those_of_the_page(self):
         sources, kinds = header_numbers("SOURCE_"), header_numbers("KIND_")
@@ -176,9 +181,21 @@ class Interface(Built):
         self.assertEqual({source.upper() for source, _ in fault_lines()}, set(sources))
         self.assertLessEqual(max(map(len, fault_lines().values())), 3)
 
+    def test_each_fault_has_the_text_of_the_page(self):
+        page = re.findall(r"^- (`fault .*)\n  (.*)$", read(TOP, "docs", "FAULTS.md"), re.M)
+        sentences = {(source, kind): sentence.replace("`", "") for lines, sentence in page
+                     for alternatives, kind, _, _ in LINES.findall(lines) for source in alternatives.split("|")}
+        scf = python_module()
+        for (source, kind), names in fault_lines().items():
+            numbers = (7, 8, 9)[:len(names)] + (0,) * (3 - len(names))
+            fault = scf.Refused(scf.Source[source.upper()], scf.Kind[snake(kind)], numbers)
+            line = " ".join(["fault", source, kind, *(it for name, number in zip(names, numbers)
+                                                      for it in (name, str(number)))])
+            self.assertEqual(str(fault), f"{line}\n{sentences[source, kind]}")
+
     def test_the_numbers_of_the_bindings_are_those_of_the_header(self):
         header = numbers_of_header()
-        for enums_of, count in ((numbers_of_python, 6), (numbers_of_go, 6), (numbers_of_rust, 4), (numbers_of_cpp, 4)):
+        for enums_of, count in ((numbers_of_python, 7), (numbers_of_go, 8), (numbers_of_rust, 5), (numbers_of_cpp, 5)):
             enums = enums_of()
             self.assertEqual(enums, {name: header[name] for name in enums})
             self.assertEqual(len(enums), count)
@@ -251,7 +268,7 @@ class Interface(Built):
                 *(f"lib/python3/dist-packages/scf/{file}" for file in ("__init__.py", "py.typed")),
                 *(f"share/man/man3/{page}.3" for page in (*CALLS, "libscf")),
                 *(f"share/doc/libscf/{file}" for file in ("LICENSE", "LICENCES.md", "LIBRARY.md", "FAULTS.md",
-                                                      "engine.c"))})
+                                                      "runtime.c"))})
             env = {"PKG_CONFIG_PATH": f"{prefix}/lib/pkgconfig"}
             flags = shlex.split(self.runs("pkg-config", "--cflags", "--libs", "scf", **env))
             self.assertEqual(flags, [f"-I{prefix}/include", f"-L{prefix}/lib", "-lscf"])
@@ -264,34 +281,37 @@ class Interface(Built):
 
     def test_the_code_of_the_page(self):
         """Each piece is compiled as the body of a function."""
-        first, second = re.findall(r"```c\n(.*?)```", read(TOP, "docs", "LIBRARY.md"), re.S)
+        body, = re.findall(r"```c\n(.*?)```", read(TOP, "docs", "LIBRARY.md"), re.S)
         cpp, = re.findall(r"```cpp\n(.*?)```", read(TOP, "docs", "LIBRARY.md"), re.S)
-        declared = ("const struct scf_bytes stack = {filter, len};\nstruct scf_comparison comparison;\n"
-                    "struct scf_fault fault;\nsize_t needed;\nconst struct scf_bytes x86_64 = stack, i386 = stack, "
-                    "x32 = stack;\n")
         given = "const uint8_t *filter, size_t len, const uint8_t *profile, size_t profile_len"
-        self.file("page.c", "#include <scf.h>\n" + "".join(
-            f"int {name}({given});\nint {name}({given}) {{\n{body}return -1;\n}}\n"
-            for name, body in (("native", first), ("several", declared + second))))
+        self.file("page.c", f"#include <scf.h>\nint prove({given});\nint prove({given}) {{\n{body}return -1;\n}}\n")
         self.file("page.cpp", "#include <scf.hpp>\nint prove(std::span<const std::uint8_t> filter, "
                               f"std::string_view json) {{\n{cpp}return -1;\n}}\n")
         for words in (["gcc", "-std=c99", "page.c"], ["g++", "-std=c++20", "page.cpp"]):
             done = self.run_words([*words, *STRICT, f"-I{LIBRARY}", "-c", "-o", "page.o"])
             self.assertEqual(done, (0, "", ""))
 
-    @unittest.skipUnless(os.path.exists("/usr/include/seccomp.h"), "there is no libseccomp to compile with here")
     def test_the_example(self):
-        program = self.compiled("example/engine.c", f"-L{OUT}", "-lscf", "-lseccomp", compiler=["gcc", "-std=gnu99"])
-        self.assertEqual(self.runs(program), "same\n")
-        env = {**os.environ, "LD_LIBRARY_PATH": OUT}
-        status, out, _ = self.run_words([program, "wrong"], env=env)
-        self.assertEqual((status, out.split(" arch")[0]), (1, "differs\ncall nr 0"))
+        """A config.json that no reading but a runtime's takes, since two entries have one syscall; a changed filter."""
+        program = self.compiled("example/runtime.c", *self.ARCHIVE, compiler=["gcc", "-std=gnu11"])
+        allowed = {"defaultAction": "SCMP_ACT_ALLOW", "architectures": ["SCMP_ARCH_X86_64", "SCMP_ARCH_X86"],
+                   "syscalls": [{"names": ["socket"], "action": "SCMP_ACT_ERRNO"},
+                                {"names": ["socket"], "action": "SCMP_ACT_ALLOW"}]}
+        config = self.file("config.json", json.dumps({"linux": {"seccomp": allowed}}))
+        denied = "import socket\ntry: socket.socket()\nexcept OSError as error: print(error.errno)\n"
+        for reading in ("runc", "crun"):
+            self.assertEqual(self.runs(program, "--reading", reading, config, sys.executable, "-c", denied), "1\n")
+        self.assertIn("fault profile Conflict number 41 ", self.run_words([program, config, "true"])[2])
+        wrong = self.file("wrong.bpf", ret(ALLOW))
+        done = self.run_words([program, "--reading", "runc", "--filter", wrong, config, "true"])
+        self.assertEqual(done[:2], (1, ""))
+        self.assertRegex(done[2], r"^the filter answers socket\(.*\) of x86-64 by 0x7fff0000, "
+                                  r"and the profile by 0x00050001$")
+        self.assertEqual(self.runs(program, "--reading", "runc", "--stub", "449", config, "true"), "")
 
 
 class Languages(Built):
     """The same tests in each language, over the shared object or the archive."""
-
-    ARCHIVE, SHARED = [os.path.join(OUT, "libscf.a")], [f"-L{OUT}", "-lscf"]
 
     def test_c_and_cpp(self):
         for compiler in (["gcc", "-std=c99"], ["g++", "-x", "c++", "-std=c++11"], ["clang", "-std=c99"]):
@@ -468,18 +488,19 @@ class Architectures(Case):
     @NEEDED
     def test_filters_of_libseccomp(self):
         scf, library = python_module(), Library()
-        tables = {scf.Architecture[name]: read(TOP, "tables", f"{file}.table").encode()
-                  for name, file in self.TABLES.items()}
+        tables = [scf.Table(scf.Architecture[name], read(TOP, "tables", f"{file}.table").encode())
+                  for name, file in self.TABLES.items()]
         # x86-64 and x32 have no waitpid
-        profiles = scf.Profiles(json.dumps(self.profile("waitpid")).encode(), tables)
-        found = scf.compare_architectures([library.filter_of(self.profile("waitpid"))], profiles)
-        self.assertEqual((found.verdict, found.report), (scf.Verdict.HOLDS, "same\n"))
-        found = scf.compare_architectures([library.filter_of(self.profile())], profiles)
-        self.assertEqual((found.verdict, found.call.arch, found.call.nr, found.left, found.right),
+        profile = scf.Profile(json.dumps(self.profile("waitpid")).encode())
+        compared = scf.compare(scf.Filters([library.filter_of(self.profile("waitpid"))]), profile, tables,
+                               scf.EACH_ARCHITECTURE)
+        self.assertEqual(compared.finding.verdict, scf.Verdict.HOLDS)
+        without = scf.Filters([library.filter_of(self.profile())])
+        finding = scf.compare(without, profile, tables, scf.EACH_ARCHITECTURE).finding
+        self.assertEqual((finding.verdict, finding.call.arch, finding.call.nr, finding.left, finding.right),
                          (scf.Verdict.FAILS, I386, 7, EPERM, ALLOW))
-        native = scf.Profile(profiles.text, tables[scf.Architecture.X86_64])
-        found = scf.compare([library.filter_of(self.profile())], native, scf.NATIVE)
-        self.assertEqual(found.verdict, scf.Verdict.HOLDS)
+        finding = scf.compare(without, profile, tables, scf.Scope.numbers(0, 0x3FFFFFFF)).finding
+        self.assertEqual(finding.verdict, scf.Verdict.HOLDS)
 
 
 # ---- the library beside the program
@@ -508,6 +529,24 @@ def answer_text(answer):
     return f"UNNAMED 0x{answer:08x}" if action is None else f"{action} {answer & 0xFFFF}"
 
 
+def region_line(scf, region, is_of_profile):
+    """The line that `scf answers` prints of a region."""
+    reason, entry = region.place
+    place = f"at {reason}:{entry}"
+    if is_of_profile:
+        place = f"entry {entry}" if reason == scf.Reason.ENTRY else scf.Reason(reason).name.lower()
+    sets = {}
+    for fact in region.facts:
+        text = hex(fact.low) if fact.low == fact.high else f"{fact.low:#x}-{fact.high:#x}"
+        if fact.kind == 1:
+            sets.setdefault(fact.word, [[], ""])[0].append(text)
+        else:
+            sets.setdefault(fact.word, [[], ""])[1] += f"{'&' if fact.kind == 2 else '!'}{fact.low:#x}={fact.high:#x}"
+    answer = "unknown" if region.answer is None else answer_text(region.answer)
+    words = [f"w{word} {','.join(intervals)}{bits}" for word, (intervals, bits) in sets.items()]
+    return " ".join([answer, place, *([] if region.is_exact else ["open"]), *words])
+
+
 class Alike(Case):
     """What the library answers to inputs that were changed at random, and what the program prints of them."""
 
@@ -516,7 +555,6 @@ class Alike(Case):
     def setUp(self):
         super().setUp()
         self.random = random.Random(1)
-        self.names = fault_lines()
 
     def changed(self, data):
         """The bytes, most of the time with a few of them changed."""
@@ -548,8 +586,8 @@ class Alike(Case):
         the printed line and the status."""
         pick = self.random
         for kind in itertools.cycle(("check", "run", "path", "dis", "asm", "decide", "compile", "ask", "compare",
-                                     "beside", "calls", "beside calls", "compare", "beside", "compile each",
-                                     "ask each", "compare each", "compare each")):
+                                     "beside", "calls", "answers", "compare", "beside", "compile", "ask", "compare",
+                                     "answers of filters")):
             call = {"nr": pick.choice((0, 1, 41, 56, 1 << 31)), "args": (pick.choice((0, 16, 40, 0x7E020000)),)}
             words = ["--nr", str(call["nr"]), "--a0", str(call["args"][0])]
             yield getattr(self, f"case_{kind.replace(' ', '_')}")(call, words)
@@ -587,120 +625,119 @@ class Alike(Case):
         return ["decide", *words], b"".join(part("filter", it) for it in filters), \
             lambda scf: (f"{answer_text(scf.decide(filters, scf.Call(**call)))}\n", 0)
 
+    def several(self):
+        """A profile and tables of some architectures, in the program's order: the parts, and the same for the
+        module."""
+        kinds = {"X86_64": "table", "X86": "table-x86", "X32": "table-x32", "ARM": "table-arm"}
+        profile = self.changed(self.random.choice((SEVERAL, SEVERAL, CONDITIONS)))
+        names = self.random.sample(list(kinds)[:self.random.choice((3, 3, 4))], self.random.randrange(1, 4))
+        tables = {name: self.table() for name in kinds if name in names}
+        given = part("profile", profile) + b"".join(part(kinds[name], table) for name, table in tables.items())
+        return given, lambda scf: (scf.Profile(profile),
+                                   [scf.Table(scf.Architecture[name], table) for name, table in tables.items()])
+
     def case_compile(self, _call, _words):
-        profile, table = self.profile(), self.table()
-        return ["compile"], part("profile", profile) + part("table", table), \
-            lambda scf: (scf.compile(scf.Profile(profile, table)), 0)
+        given, profile = self.several()
+        return ["compile", "--architectures"], given, lambda scf: (scf.compile(*profile(scf)), 0)
 
     def case_ask(self, call, words):
-        profile, table = self.profile(), self.table()
+        (given, profile), arch = self.several(), self.random.choice((X86_64, I386))
 
         def made(scf):
-            answer, why, entry = scf.ask(scf.Profile(profile, table), scf.Call(**call))
-            return f"{answer_text(answer)} {why.name.lower()}{'' if entry is None else f' {entry}'}\n", 0
-        return ["ask", *words], part("profile", profile) + part("table", table), made
+            answer, reason, entry, _ = scf.ask(*profile(scf), scf.Call(**call, arch=arch))
+            return f"{answer_text(answer)} {reason.name.lower()}{'' if entry is None else f' {entry}'}\n", 0
+        return ["ask", "--architectures", *words, "--arch", str(arch)], given, made
 
-    def scope(self):
-        """Words of a scope, and the same for the module."""
-        first, last = sorted(self.random.sample((0, 1, 41, 56, 231, 1 << 30), 2))
-        return self.random.choice((
-            ([], lambda scf: scf.ALL), (["--native"], lambda scf: scf.NATIVE),
-            (["--nr-from", str(first), "--nr-to", str(last)], lambda scf: scf.Scope.numbers(first, last))))
-
-    def found(self, words, given, compare):
+    def compared(self, words, given, sides, scope):
         relation, limit = self.random.randrange(4), self.random.choice((1000000, 1000000, 3))
 
         def made(scf):
-            found = compare(scf, scf.Relation(relation), limit)
-            return found.report, {"HOLDS": 0, "FAILS": 1}.get(found.verdict.name, 4)
+            left, right, tables = sides(scf)
+            comparison = scf.compare(left, right, tables, scope(scf), scf.Relation(relation), limit)
+            return comparison.report, {"HOLDS": 0, "FAILS": 1}.get(comparison.finding.verdict.name, 4)
         return ["compare", *words, *RELATIONS[relation], "--limit", str(limit)], given, made
 
-    def compared(self, words, given, filters, right):
-        flags, scope = self.scope()
-        return self.found([*words, *flags], given, lambda scf, *how: scf.compare(filters, right(scf), scope(scf), *how))
+    def filters_and_profile(self):
+        filters, (given, profile) = self.filters(), self.several()
+        given = b"".join(part("filter", data) for data in filters) + given
+        return given, lambda scf: (scf.Filters(filters), *profile(scf))
 
     def case_compare(self, _call, _words):
-        filters, profile, table = self.filters(), self.profile(), self.table()
-        given = b"".join(part("filter", it) for it in filters) + part("profile", profile) + part("table", table)
-        return self.compared([], given, filters, lambda scf: scf.Profile(profile, table))
+        given, sides = self.filters_and_profile()
+        return self.compared(["--architectures"], given, sides, lambda scf: scf.EACH_ARCHITECTURE)
 
     def case_beside(self, _call, _words):
         filters, others = self.filters(), self.filters()
-        given = b"".join(part(kind, it) for kind, list in (("filter", filters), ("beside", others)) for it in list)
-        return self.compared(["--beside"], given, filters, lambda scf: scf.Filters(others))
-
-    def several(self):
-        """A profile and tables of some architectures: the parts, and the same for the module."""
-        kinds = {"X86_64": "table", "X86": "table-x86", "X32": "table-x32", "ARM": "table-arm"}
-        profile = self.changed(self.random.choice((SEVERAL, SEVERAL, CONDITIONS)))
-        tables = {name: self.table() for name in self.random.sample(list(kinds)[:self.random.choice((3, 3, 4))],
-                                                                    self.random.randrange(1, 4))}
-        given = part("profile", profile) + b"".join(part(kinds[name], table) for name, table in tables.items())
-        return given, lambda scf: scf.Profiles(profile, {scf.Architecture[name]: it for name, it in tables.items()})
-
-    def case_compile_each(self, _call, _words):
-        given, profiles = self.several()
-        return ["compile", "--architectures"], given, lambda scf: (scf.compile_architectures(profiles(scf)), 0)
-
-    def case_ask_each(self, call, words):
-        (given, profiles), arch = self.several(), self.random.choice((X86_64, I386))
-
-        def made(scf):
-            answer, why, entry = scf.ask_architectures(profiles(scf), scf.Call(**call, arch=arch))
-            return f"{answer_text(answer)} {why.name.lower()}{'' if entry is None else f' {entry}'}\n", 0
-        return ["ask", "--architectures", *words, "--arch", str(arch)], given, made
-
-    def case_compare_each(self, _call, _words):
-        filters, (given, profiles) = self.filters(), self.several()
-        given = b"".join(part("filter", it) for it in filters) + given
-        return self.found(["--architectures"], given,
-                          lambda scf, *how: scf.compare_architectures(filters, profiles(scf), *how))
-
-    def by_calls(self, words, given, filters, right):
-        relation, total = self.random.randrange(4), self.random.choice((1 << 63, 1 << 63, 40))
-
-        def made(scf):
-            found = scf.compare_calls(filters, right(scf), scf.Relation(relation), total_limit=total)
-            verdicts = [it.comparison.verdict.name for it in found.calls]
-            return found.report, 1 if "FAILS" in verdicts else 4 if set(verdicts) - {"HOLDS"} else 0
-        return ["compare", "--calls", *words, *RELATIONS[relation], "--total-limit", str(total)], given, made
+        given = b"".join(part("filter", data) for data in filters) + b"".join(part("beside", data) for data in others)
+        return self.compared(["--beside"], given, lambda scf: (scf.Filters(filters), scf.Filters(others), ()),
+                             lambda scf: scf.ALL)
 
     def case_calls(self, _call, _words):
+        """Of these the first word of the program's output, and of each line of a syscall, is what is compared."""
         filters, profile, table = self.filters(), self.profile(), self.table()
-        given = b"".join(part("filter", it) for it in filters) + part("profile", profile) + part("table", table)
-        return self.by_calls([], given, filters, lambda scf: scf.Profile(profile, table))
+        given = b"".join(part("filter", data) for data in filters) + part("profile", profile) + part("table", table)
+        relation = self.random.randrange(4)
 
-    def case_beside_calls(self, _call, _words):
-        filters, others, table = self.filters(), self.filters(), self.table()
-        given = b"".join(part(kind, it) for kind, list in (("filter", filters), ("beside", others)) for it in list)
-        given += part("table", table)
-        return self.by_calls(["--beside"], given, filters, lambda scf: scf.Filters(others, table))
+        def made(scf):
+            tables = [scf.Table(scf.Architecture.X86_64, table)]
+            comparison = scf.compare(scf.Filters(filters), scf.Profile(profile), tables, scf.EACH_CALL,
+                                     scf.Relation(relation))
+            failed = [records.nr for records in comparison.each if records.finding.verdict == scf.Verdict.FAILS]
+            verdicts = {records.finding.verdict.name for records in comparison.each}
+            return failed, 1 if failed else 4 if verdicts - {"HOLDS"} else 0
+        return ["compare", "--architectures", "--calls", *RELATIONS[relation]], given, made
+
+    def listed(self, words, given, side):
+        """All that a side answers: the program's lines but for the count of steps."""
+        def made(scf):
+            listing = scf.answers(*side(scf))
+            is_of_profile = isinstance(side(scf)[0], scf.Profile)
+            lines = [region_line(scf, region, is_of_profile) for region in listing.regions]
+            return "".join(f"{line}\n" for line in [*lines, f"regions {len(lines)} steps"]), 0
+        return ["answers", *words], given, made
+
+    def case_answers(self, _call, _words):
+        given, profile = self.several()
+        return self.listed(["--architectures"], given, lambda scf: (*profile(scf), scf.EACH_ARCHITECTURE))
+
+    def case_answers_of_filters(self, _call, _words):
+        filters = self.filters()
+        return self.listed([], b"".join(part("filter", data) for data in filters),
+                           lambda scf: (scf.Filters(filters), (), scf.ALL))
+
+    @staticmethod
+    def of_program(words, text):
+        """What of the program's output the library has, too."""
+        if words[0] == "answers":
+            return re.sub(rb"( steps) [0-9]+\n$", rb"\1\n", text)
+        if "--calls" in words and not text.startswith(b"fault "):
+            lines = [line.split() for line in text.splitlines()]
+            return [int(line[0]) for line in lines if line[0].isdigit() and {b"call", b"args"} & set(line)]
+        return text
 
     def of_library(self, scf, made):
         """What the program would print, and its status, as the library answers."""
         try:
             text, status = made(scf)
         except scf.Refused as refused:
-            source = refused.source.name.lower()
-            kind = next(kind for _, kind in self.names if snake(kind) == refused.kind.name)
-            numbers = [] if refused.numbers[0] == scf.NO_ENTRY else zip(self.names[source, kind], refused.numbers)
-            words = ["fault", source, kind, *(it for name, number in numbers for it in (name, str(number)))]
-            text = " ".join(words) + "\n"
-            is_input = kind == "Truncated" or kind == "TooLong" and source != "text"
+            text = str(refused).split("\n", maxsplit=1)[0] + "\n"
+            kind, source = refused.kind.name, refused.source.name
+            is_input = kind == "TRUNCATED" or kind == "TOO_LONG" and source != "TEXT"
             status = 3 if is_input else 1
         return text.encode("utf-8", "surrogateescape") if isinstance(text, str) else text, status
 
     def test_changed_inputs(self):
         modules = [python_module(), python_module(os.path.join(OUT, "rattle"))]
-        refused = verdicts = 0
+        refused = compared = 0
         for words, given, made in itertools.islice(self.cases(), self.COUNT):
             done = subprocess.run([PROGRAM, *words], input=given, stdout=subprocess.PIPE, timeout=PATIENCE, check=False)
+            printed = self.of_program(words, done.stdout)
             for scf in modules:
-                self.assertEqual(self.of_library(scf, made), (done.stdout, done.returncode), (words, given))
+                self.assertEqual(self.of_library(scf, made), (printed, done.returncode), (words, given))
             refused += done.stdout.startswith(b"fault ")
-            verdicts += words[0] == "compare" and not done.stdout.startswith(b"fault ")
+            compared += words[0] in ("compare", "answers") and not done.stdout.startswith(b"fault ")
         self.assertGreater(refused, self.COUNT // 8)
-        self.assertGreater(verdicts, self.COUNT // 8)
+        self.assertGreater(compared, self.COUNT // 8)
 
 
 if __name__ == "__main__":

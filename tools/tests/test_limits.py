@@ -62,8 +62,8 @@ class Longest(OnProgram):
         for of_table, of_profile, text, status in (
                 (TEXT, TEXT, "same\n", 0), (TEXT + 1, TEXT, "fault table TooLong\n", 3),
                 (TEXT, TEXT + 1, "fault profile TooLong\n", 3)):
-            rest = compiled_of(ONE_CALL.rjust(of_profile), READ_TABLE.rjust(of_table))
-            self.prints(["compare", "--native"], part("filter", allows_0) + rest, text, status)
+            remaining = compiled_of(ONE_CALL.rjust(of_profile), READ_TABLE.rjust(of_table))
+            self.prints(["compare", "--native"], part("filter", allows_0) + remaining, text, status)
         self.assertEqual(ran(["compile"], compiled_of(DEFAULT_ALLOW, " " * (TEXT + 1)))[1], 0)
         self.prints(["compile"], compiled_of(" " * (TEXT + 1), ""), "fault profile TooMany\n", 1)
 
@@ -102,8 +102,8 @@ class Hurtful(OnProgram):
         """That a profile of one call is compiled, and the call has this number, and not those beside it."""
         compiled, status = ran(["compile"], compiled_of(profile, table))
         self.assertEqual(status, 0)
-        for other, text in ((number - 1, "ERRNO 1\n"), (number, "ALLOW 0\n"), (number + 1, "ERRNO 1\n")):
-            self.prints(["decide", "--nr", str(other)], part("filter", compiled), text)
+        for second, text in ((number - 1, "ERRNO 1\n"), (number, "ALLOW 0\n"), (number + 1, "ERRNO 1\n")):
+            self.prints(["decide", "--nr", str(second)], part("filter", compiled), text)
 
     def test_cut_profiles(self):
         """Each beginning of a profile is no JSON, nor is the profile with a byte that no UTF-8 text has, at each

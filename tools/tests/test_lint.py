@@ -270,7 +270,7 @@ class Members(Linted):
         self.assertEqual([(it["kind"], it["entry"], it["member"]) for it in found], [("repeated-member", 0, "action")])
         self.assertTrue(found[0]["text"].endswith(": action is repeated, and the last one is taken"))
         # the last is taken
-        self.assertEqual(self.run_tool("ask", self.file("q.json", text))[1].split("\n")[0], "ALLOW 0 entry 0")
+        self.assertEqual(self.run_tool("ask", "--nr=0", self.file("q.json", text))[1].split("\n")[0], "ALLOW 0 entry 0")
 
 
     def test_lists_that_stand_twice(self):
@@ -291,16 +291,19 @@ class Defaults(Linted):
         x86_64, x86, x32 = (f"SCMP_ARCH_{name}" for name in ("X86_64", "X86", "X32"))
         for named, is_found in (([x86_64], True), ([x86, x86_64], True), ([x86_64, x86, x32], False),
                                 ([x86_64, x32], False), ([], False), (None, False)):
-            found = self.found(profile(architectures=named), kinds=("x32",))
+            found = self.found(profile(default=ALLOW, architectures=named), kinds=("x32",))
             self.assertEqual([it["architectures"] for it in found], [named] if is_found else [])
-        self.assertIn("the default, SCMP_ACT_ERRNO, answers them", self.run_lint(profile(architectures=[x86_64]))[1])
-        self.assertIn("the default, SCMP_ACT_ALLOW, allows them",
-                      self.run_lint(profile(default=ALLOW, architectures=[x86_64]))[1])
+        for action in ACTIONS:
+            out = self.run_lint(profile(default=f"SCMP_ACT_{action}", architectures=[x86_64]))[1]
+            # what denies answers them as filters that test for them do
+            self.assertEqual(f"the default, SCMP_ACT_{action}, allows them" in out, action in ("ALLOW", "LOG"))
+            self.assertEqual(f"the default, SCMP_ACT_{action}, answers them" in out, action in ("NOTIFY", "TRACE"))
 
 
 class Dangerous(Linted):
     def made(self, given):
-        return [(it["name"], it["is_always"], it["entry"]) for it in self.found(given, kinds=("dangerous-call",))]
+        return [(name, it["is_always"], it["entry"]) for it in self.found(given, kinds=("dangerous-call",))
+                for name in it.get("names") or [it["name"]]]
 
     def test_the_list(self):
         listed, table = watchlist.dangerous(), tables.read(TABLE)
@@ -318,6 +321,20 @@ class Dangerous(Linted):
         self.assertEqual(self.made(profile(entry(*names))), [(name, True, 0) for name in names])
         self.assertEqual(self.made(profile(default=ALLOW)), [(name, True, None) for name in names])
         self.assertEqual(self.made(profile(entry("read", "fork"))), [])
+
+    def test_the_default_is_one_of_them(self):
+        """What the default allows is one finding, with the reasons; what an entry allows stands beside it."""
+        names = sorted(watchlist.dangerous())
+        given = profile(entry(*names[3:], action=ERRNO), entry("ptrace", args=[(0, "EQ", 7)], action=ERRNO),
+                        default=ALLOW)
+        found, = self.found(given, kinds=("dangerous-call",))
+        self.assertEqual((found["names"], found["is_always"], found["entry"]), (names[:3], True, None))
+        self.assertEqual(found["reasons"], {name: watchlist.dangerous()[name].reason for name in names[:3]})
+        self.assertIn("the default allows 3 syscalls that make a sandbox useless: add_key, bpf and chroot",
+                      found["text"])
+        given["syscalls"][0]["names"] = names[1:]
+        found, = self.found(given, kinds=("dangerous-call",))
+        self.assertEqual((found["name"], found["entry"]), (names[0], None))
 
     def test_user_namespaces(self):
         """CLONE_NEWUSER in linux/sched.h; what clone3 is asked for stands in memory."""
@@ -746,13 +763,12 @@ class HighHalf(Running):
 
     def test_with_other_conditions(self):
         both = entry("socket", action=ERRNO, args=[(0, "EQ", 16), (2, "EQ", 9)])
-        self.assertEqual(self.evaded(both, default=ALLOW), [("socket", 0, "0x10", "0x100000010"),
-                                                            ("socket", 2, "0x9", "0x100000009")])
-
-        found = self.found(profile(both, default=ALLOW), kinds=("high-half",))
-        self.assertEqual([it["others"] for it in found], [{"2": "0x9"}, {"0": "0x10"}])
+        self.assertEqual(self.evaded(both, default=ALLOW), [("socket", 0, "0x10", "0x100000010")])
+        (found,) = self.found(profile(both, default=ALLOW), kinds=("high-half",))
+        self.assertEqual((found["others"], found["also"]), ({"2": "0x9"}, [2]))
         self.assertIn("socket (41) is denied with 0x10 as argument 0, beside 0x9 as argument 2 (ERRNO 1), and allowed "
-                      "with 0x100000010 by the default: ", found[0]["text"])
+                      "with 0x100000010 by the default: ", found["text"])
+        self.assertTrue(found["text"].endswith("the same syscall for both; the same of argument 2"), found["text"])
 
     def test_values_of_more_than_32_bits(self):
         found = self.found(profile(entry("openat", args=[(0, "EQ", 2**64 - 100)])), kinds=("high-half",))
@@ -989,7 +1005,7 @@ class Several(Linted):
     def test_x32_is_named_where_x86_64_is(self):
         for architectures, is_found in (([NATIVE], True), ([NATIVE, AARCH64], True), ([AARCH64], False),
                                         ([I386], False), (ENGINES, False)):
-            found = self.found(profile(architectures=architectures), kinds=("x32",))
+            found = self.found(profile(default=ALLOW, architectures=architectures), kinds=("x32",))
             self.assertEqual(len(found), is_found, architectures)
 
     def test_an_entry_that_has_an_effect_on_one_of_them(self):
@@ -1037,10 +1053,11 @@ class Several(Linted):
 
     def test_a_dangerous_call_always_or_with_some_arguments(self):
         given = profile(entry("ptrace", action=ERRNO, args=[(0, "GE", WIDE)]), default=ALLOW, architectures=ENGINES)
-        found = [it for it in self.found(given, kinds=("dangerous-call",)) if it["name"] == "ptrace"]
-        self.assertEqual([(it["number"], it["is_always"], it["architectures"]) for it in found],
-                         [(101, False, ["x86-64"]), (26, True, ["i386", "x32"])])
-        self.assertIn("\ndangerous-call: ptrace (26) of i386 is allowed by the default: it ", self.run_lint(given)[1])
+        found = [it for it in self.found(given, kinds=("dangerous-call",)) if "ptrace" in (it.get("name"), *it.get("names", ()))]
+        self.assertEqual([(it["is_always"], it["architectures"]) for it in found],
+                         [(False, ["x86-64"]), (True, ["i386", "x32"])])
+        self.assertIn("\ndangerous-call: ptrace (101) of x86-64 is allowed with some arguments, ",
+                      self.run_lint(given)[1])
 
     def test_what_could_not_be_told(self):
         """It is said once, as what is told is."""
@@ -1234,7 +1251,7 @@ class Hostile(Linted):
             lines = out.split("\n")[:-1]
             self.assertTrue(all(line.isprintable() for line in lines), out)
             self.assertEqual([line.partition(":")[0] for line in lines],
-                             ["unread-member", "unknown-name", "unknown-architecture", "x32", "# findings"])
+                             ["unread-member", "unknown-name", "unknown-architecture", "# findings"])
             self.assertIn(shown[:40], lines[1])
             self.assertIn(shown[:40], lines[2])
             report = self.report(given)

@@ -87,8 +87,8 @@ class List(Case):
         """Behind a test of the architecture whose targets are one, no more is known than before it."""
         data = load(4) + jeq(I386, 0, 0) + load(0) + jeq(1, 0, 0) + ret(0)
         self.assertEqual(self.meanings(data)[1::2], ["i386: to 2, else 2", "write: to 4, else 4"])
-        known = load(4) + jeq(I386, 0, 3) + jeq(X86_64, 0, 0) + load(0) + jeq(1, 0, 0) + ret(0)
-        self.assertEqual(self.meanings(known)[4], "exit of i386: to 5, else 5")
+        tested = load(4) + jeq(I386, 0, 3) + jeq(X86_64, 0, 0) + load(0) + jeq(1, 0, 0) + ret(0)
+        self.assertEqual(self.meanings(tested)[4], "exit of i386: to 5, else 5")
 
     def test_calls_of_another_architecture_are_not_named(self):
         data = load(4) + jeq(I386, 0, 2) + load(0) + jeq(1, 0, 0) + load(0) + jeq(1, 0, 0) + ret(0)
@@ -101,16 +101,17 @@ class List(Case):
         data = (load(4) + jeq(X86_64, 4, 0) + jeq(I386, 6, 0) + jeq(AARCH64, 8, 0) + jeq(ARM, 10, 0) + ret(0)
                 + load(0) + jeq(0x40000009, 0, 0) + ret(0) + load(0) + jeq(4, 0, 0) + ret(0)
                 + load(0) + jeq(56, 0, 0) + ret(0) + load(0) + jeq(0xF0005, 0, 0) + ret(0))
-        found = self.meanings(data)
-        self.assertEqual(found[1:5], ["x86-64: to 6, else 2", "i386: to 9, else 3", "aarch64: to 12, else 4",
+        lines = self.meanings(data)
+        self.assertEqual(lines[1:5], ["x86-64: to 6, else 2", "i386: to 9, else 3", "aarch64: to 12, else 4",
                                       "arm: to 15, else 5"])
-        self.assertEqual(found[7::3], ["x32 mmap: to 8, else 8", "write of i386: to 11, else 11",
+        self.assertEqual(lines[7::3], ["x32 mmap: to 8, else 8", "write of i386: to 11, else 11",
                                        "openat of aarch64: to 14, else 14", "set_tls of arm: to 17, else 17"])
 
     def test_several_architectures_at_one_test(self):
         """Each that comes there is named; where more come, or those that no test has told apart, none is."""
         def at_the_end(*architectures):
-            tests = b"".join(jeq(it, len(architectures) - at, 0) for at, it in enumerate(architectures))
+            tests = b"".join(jeq(architecture, len(architectures) - at, 0)
+                             for at, architecture in enumerate(architectures))
             data = load(4) + tests + ret(0) + load(0) + jeq(1, 0, 0) + ret(0)
             return self.meanings(data)[-2].removesuffix(f": to {len(data) // 8 - 1}, else {len(data) // 8 - 1}")
 
@@ -118,8 +119,8 @@ class List(Case):
         self.assertEqual(at_the_end(I386, X86_64), "write or exit of i386")
         self.assertEqual(at_the_end(ARM, I386, AARCH64), "exit of i386 or exit of arm or io_destroy of aarch64")
         self.assertEqual(at_the_end(ARM, I386, AARCH64, X86_64), "number 1 of several architectures")
-        other = load(4) + jeq(X86_64, 0, 1) + ret(0) + load(0) + jeq(1, 0, 0) + ret(0)
-        self.assertEqual(self.meanings(other)[4], "number 1 of other architectures: to 5, else 5")
+        program = load(4) + jeq(X86_64, 0, 1) + ret(0) + load(0) + jeq(1, 0, 0) + ret(0)
+        self.assertEqual(self.meanings(program)[4], "number 1 of other architectures: to 5, else 5")
         # what no record can have isn't counted: i386's is tested twice
         twice = (load(4) + jeq(X86_64, 2, 0) + jeq(I386, 1, 0) + ret(0) + jeq(ARM, 1, 0) + load(0) + jeq(1, 0, 0)
                  + ret(0))
@@ -127,10 +128,10 @@ class List(Case):
 
     def test_where_any_architecture_comes(self):
         """By a test whose targets are one, and by two paths of which each leaves one out."""
-        one = load(4) + jeq(X86_64, 0, 0) + load(0) + jeq(1, 0, 0) + ret(0)
+        program = load(4) + jeq(X86_64, 0, 0) + load(0) + jeq(1, 0, 0) + ret(0)
         two = (load(4) + insn(0x45, 1, 0, 2) + jeq(X86_64, 2, 1) + ret(0) + jeq(I386, 0, 1) + ret(0) + load(0)
                + jeq(1, 0, 0) + ret(0))
-        for data in (one, two):
+        for data in (program, two):
             self.assertEqual(self.meanings(data)[-2].split(":")[0], "write")
 
     def test_no_path_of_another_architecture(self):
@@ -141,12 +142,12 @@ class List(Case):
             tests = [load(4), load(0), *(jeq(random_of.choice((X86_64, I386, AARCH64, ARM, 1)), random_of.randrange(4),
                                              random_of.randrange(4)) for _ in range(9)), insn(0x45, 1, 0, 1)]
             data = load(4) + b"".join(random_of.choice(tests) for _ in range(14)) + ret(0) * 4
-            known = listing.known_facts(listing.instructions(data))
+            facts = listing.known_facts(listing.instructions(data))
             for architecture, number in itertools.product((X86_64, I386, AARCH64, ARM, 0x1234), (0, 1, I386)):
                 places = machine.path(data, Call(number, architecture))
-                its = [known[place].architectures for place in places]
-                self.assertEqual([it for it in its if not it.has(architecture)], [], seed)
-                come += sum(not it.are_all_but for it in its)
+                its = [facts[place].architectures for place in places]
+                self.assertEqual([fact for fact in its if not fact.has(architecture)], [], seed)
+                come += sum(not fact.are_all_but for fact in its)
         self.assertGreater(come, 1000)
 
     def test_x32_is_of_x86_64_alone(self):
@@ -225,7 +226,7 @@ class Graph(Case):
         tests = (jeq(5, 1, 0), jge(7, 0, 2), insn(0x25, 9, 1, 0), insn(0x45, 6, 0, 1), load(16), jeq(3, 0, 1),
                  ret(EPERM), insn(0x05, 1), ret(ALLOW), load(0), jge(2, 0, 1), ret(EPERM), insn(0x54, 3), jeq(1, 0, 1),
                  ret(ALLOW), ret(0x00050026))
-        chain = b"".join(jeq(it, 0, 1) + insn(0x05, 0) for it in range(9))
+        chain = b"".join(jeq(value, 0, 1) + insn(0x05, 0) for value in range(9))
         for data in (b"".join(tests), filter_of(range(0, 40, 3)), load(0) + chain + ret(ALLOW)):
             graph = flow_graph.Graph(data)
             for number, first in itertools.product(range(12), (0, 1, 3, 2**32 + 3)):

@@ -1,7 +1,7 @@
 """Call tables and profiles as `ask` reads them: what is refused and by which fault, what a profile answers to calls and
 by which entry, and the calls that a table names."""
-from support.common import I386, X86_64, part
-from support.on_parts import (ALL, ALLOW, DEFAULT_ALLOW, ONE_CALL, READ_TABLE, X32, OnProgram, a_profile, a_table,
+from support.common import I386, X32, X86_64, part
+from support.on_parts import (ALL, ALLOW, DEFAULT_ALLOW, ONE_CALL, READ_TABLE, OnProgram, a_profile, a_table,
                               behind_gate, bundle, ran)
 from support.worked import FAILS, KILLS, MADE, MOST, WHOLE_CONFIG
 
@@ -273,9 +273,9 @@ class Refusals(OnProfiles):
             self.loads(with_args(args), "a 1", f"profile {fault}")
 
     def test_counts_of_rules(self):
-        for count, rest, fault in COUNTS:
+        for count, remaining, fault in COUNTS:
             entry = '{"names":[%s],"action":"SCMP_ACT_ALLOW"}' % ",".join(['"a"'] * count)
-            self.loads(with_entries(entry + rest), "a 1", fault and f"profile {fault}")
+            self.loads(with_entries(entry + remaining), "a 1", fault and f"profile {fault}")
 
     def test_longest_text(self):
         self.loads(" " * 4194305, "", "profile TooMany")

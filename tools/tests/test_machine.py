@@ -1,7 +1,7 @@
 """The machine, the checker and paths: what each code computes and tests, with how many steps, which lists are refused,
 and which instructions run on a call."""
-from support.common import I386, X86_64, insn
-from support.on_parts import ALLOW_ALL, X32, OnProgram, assembled, behind_gate
+from support.common import I386, X32, X86_64, insn
+from support.on_parts import ALLOW_ALL, OnProgram, assembled, behind_gate
 from support.worked import FAILS, KILLS, MADE, printed
 
 # The word of the call at byte 4i is i + 1.

@@ -110,20 +110,20 @@ class Passes(OwnMachine):
         self.assertLess(value["seconds"], 20)
 
     def test_threads_beyond_the_most_that_are_looked_at(self):
-        one, two = self.crowd(("some", [filter_of([0])], 1, 250), ("many", [ret(ALLOW)], 1, 251))
+        first, two = self.crowd(("some", [filter_of([0])], 1, 250), ("many", [ret(ALLOW)], 1, 251))
         value = self.found(MOST_THREADS=250)
-        self.assertEqual((value["read"][9,], value["threads"][9,]), ([one], 250))
+        self.assertEqual((value["read"][9,], value["threads"][9,]), ([first], 250))
         self.assertEqual(value["unread"], {two: "it has more than 5000 threads"})
         self.assertEqual(value["left_out"][1:], [f"the filters of process {two}: it has more than 5000 threads"])
         value, why = self.found(MOST_FILTERS=250), "its threads have more than 20000 filters in all"
-        self.assertEqual((value["read"][9,], value["unread"]), ([one], {two: why}))
+        self.assertEqual((value["read"][9,], value["unread"]), ([first], {two: why}))
         self.assertEqual(value["left_out"][1:], [f"the filters of process {two}: {why}"])
 
     def test_a_pass_that_is_over(self):
         numbers = self.crowd(("some", [filter_of([0])], 5, 1))
-        value, why = self.found(LONGEST=-1), "the pass over all processes took longer than 30 seconds"
+        value, why = self.found(LONGEST_PASS=-1), "the pass over all processes took longer than 30 seconds"
         self.assertEqual(value["unread"], dict.fromkeys(numbers, why))
-        shown = ", ".join(f"process {it}" for it in numbers[:3])
+        shown = ", ".join(f"process {number}" for number in numbers[:3])
         self.assertEqual(value["left_out"][1:], [f"the filters of {shown} and 2 more: {why}"])
 
 
@@ -132,12 +132,12 @@ class Turns(unittest.TestCase):
         """A user whose processes take long isn't read before those of others that take less."""
         seconds, clock = {1000: 1.0, 0: 0.3, 7: 0.1}, [0.0]
         users = {**dict.fromkeys(range(10, 14), 1000), **dict.fromkeys(range(20, 24), 0), 30: 7}
-        found = []
+        actual = []
         with mock.patch.object(machine_pass.time, "monotonic", lambda: clock[0]):
             for number in machine_pass.in_turns(users, {}):
-                found.append(number)
+                actual.append(number)
                 clock[0] += seconds[users[number]]
-        self.assertEqual(found, [20, 30, 10, 21, 22, 23, 11, 12, 13])
+        self.assertEqual(actual, [20, 30, 10, 21, 22, 23, 11, 12, 13])
 
     def test_what_was_used_before(self):
         self.assertEqual([*machine_pass.in_turns({10: 1, 20: 2, 30: 3}, {1: 9.0, 2: 4.0})], [30, 20, 10])
@@ -149,8 +149,8 @@ class Ended(unittest.TestCase):
         for seconds, why in ((100, "the process that reads filters was ended again and again"),
                              (-1, "the pass over all processes took longer than 30 seconds")):
             with mock.patch.object(machine_pass.child, "run", side_effect=machine_pass.child.Died) as run:
-                found = machine_pass.read(processes.Kernel(), {7: 0, 8: 0}, False, time.monotonic() + seconds)
-            self.assertEqual((found.unread, found.stacks), ({7: why, 8: why}, {}))
+                actual = machine_pass.read(processes.Kernel(), {7: 0, 8: 0}, False, time.monotonic() + seconds)
+            self.assertEqual((actual.unread, actual.stacks), ({7: why, 8: why}, {}))
             self.assertLessEqual(run.call_count, 30)
 
 

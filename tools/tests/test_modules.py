@@ -1,6 +1,7 @@
 """How the modules of scftools import each other: without a cycle, and all of them at the top of a module."""
 import ast
 import dataclasses
+import importlib
 import os
 import pickle
 import re
@@ -20,7 +21,8 @@ FOLDER = os.path.join(TOP, "tools", "scftools")
 DEAR = {"dataclasses", "inspect", "typing"}
 LATE = {"ast", "ctypes", "difflib", "glob", "hashlib", "importlib", "json", "pickle", "resource", "shlex", "signal",
         "subprocess", "syslog", "tempfile", "threading",
-        "audit_page", "cores", "filter_loads", "pages", "processes", "ptrace", "row_conditions", "stack_comparison"}
+        "audit_page", "cores", "filter_loads", "pages", "processes", "ptrace", "row_conditions", "sandboxes",
+        "stack_comparison"}
 
 
 def modules():
@@ -58,9 +60,9 @@ def cycle_in(graph):
             return [*path[path.index(node):], node]
         if node in done:
             return []
-        found = next(filter(None, (search(it, [*path, node]) for it in sorted(graph[node]))), [])
+        actual = next(filter(None, (search(neighbour, [*path, node]) for neighbour in sorted(graph[node]))), [])
         done.add(node)
-        return found
+        return actual
 
     return next(filter(None, (search(node, []) for node in sorted(graph))), [])
 
@@ -68,7 +70,7 @@ def cycle_in(graph):
 class Modules(unittest.TestCase):
     def test_there_is_no_cycle(self):
         names = set(modules())
-        graph = {name: {it for it, _ in imports(name) if it in names} for name in names}
+        graph = {name: {imported for imported, _ in imports(name) if imported in names} for name in names}
         self.assertGreater(sum(map(len, graph.values())), 100)
         self.assertEqual(cycle_in(graph), [])
 
@@ -78,8 +80,19 @@ class Modules(unittest.TestCase):
 
     def test_only_what_is_dear_is_imported_late(self):
         for name in modules():
-            self.assertLessEqual({it for it, is_late in imports(name) if is_late}, LATE, name)
-            self.assertFalse({it for it, is_late in imports(name) if not is_late} & DEAR, name)
+            self.assertLessEqual({imported for imported, is_late in imports(name) if is_late}, LATE, name)
+            self.assertFalse({imported for imported, is_late in imports(name) if not is_late} & DEAR, name)
+
+    def test_what_modules_use_of_others_is_there(self):
+        for name in modules():
+            with open(os.path.join(FOLDER, f"{name}.py"), encoding="utf-8") as file:
+                nodes = list(ast.walk(ast.parse(file.read())))
+            imports_of_modules = (node for node in nodes if isinstance(node, ast.ImportFrom) and node.level)
+            imported = {alias.name for node in imports_of_modules if not node.module for alias in node.names}
+            for node in nodes:
+                if isinstance(node, ast.Attribute) and isinstance(node.value, ast.Name) and node.value.id in imported:
+                    module = importlib.import_module(f"scftools.{node.value.id}")
+                    self.assertTrue(hasattr(module, node.attr), f"{name}, line {node.lineno}: {ast.unparse(node)}")
 
     def test_scf_is_run_in_one_module(self):
         for name in set(modules()) - {"client", "tracing"}:
@@ -102,14 +115,14 @@ class Values(unittest.TestCase):
                 class Bag:
                     items: list = make.field(default_factory=list)
 
-                one = Point(1)
-                self.assertEqual((one, one.y, hash(one)), (Point(x=1, y=2), 2, hash(Point(1, 2))))
-                self.assertNotEqual(one, Point(1, 3))
-                self.assertNotEqual(one, (1, 2))
-                self.assertEqual(make.replace(one, y=7), Point(1, 7))
-                self.assertRegex(repr(one), r"Point\(x=1, y=2\)$")
+                point = Point(1)
+                self.assertEqual((point, point.y, hash(point)), (Point(x=1, y=2), 2, hash(Point(1, 2))))
+                self.assertNotEqual(point, Point(1, 3))
+                self.assertNotEqual(point, (1, 2))
+                self.assertEqual(make.replace(point, y=7), Point(1, 7))
+                self.assertRegex(repr(point), r"Point\(x=1, y=2\)$")
                 with self.assertRaises(AttributeError):
-                    one.x = 3
+                    point.x = 3
                 for given, named in (((), {}), ((1, 2, 3), {}), ((1,), {"x": 1}), ((1,), {"z": 1})):
                     with self.assertRaises(TypeError):
                         Point(*given, **named)
@@ -129,5 +142,5 @@ class Values(unittest.TestCase):
             wrong.match("x")
 
     def test_they_are_pickled(self):
-        found = client.Fault.read("fault profile Conflict number 41 first 0 second 1")
-        self.assertEqual(pickle.loads(pickle.dumps(found)), found)
+        fault = client.Fault.read("fault profile Conflict number 41 first 0 second 1")
+        self.assertEqual(pickle.loads(pickle.dumps(fault)), fault)

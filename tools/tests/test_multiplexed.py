@@ -7,6 +7,7 @@ import sys
 import unittest
 
 from support.common import I386, TOP, Case
+from support.oci import ALLOW, ERRNO, NATIVE, X32, X86, condition, entry, profile
 from support.seccomp_library import NEEDED, Conflict, Library, answer_of
 from support.stand_in import StandIn, unpacked, words_of
 
@@ -16,38 +17,24 @@ import kernel_profiles  # noqa: E402
 from scftools import multiplexed, tables  # noqa: E402
 from scftools.calls import Call  # noqa: E402
 
-ALLOW, ERRNO, X86 = "SCMP_ACT_ALLOW", "SCMP_ACT_ERRNO", "SCMP_ARCH_X86"
-ARCHITECTURES = ["SCMP_ARCH_X86_64", X86, "SCMP_ARCH_X32"]
 HEADERS = {"socketcall": ("/usr/include/linux/net.h", r"^#define SYS_(\w+)\s+(\d+)"),
            "ipc": ("/usr/include/linux/ipc.h", r"^#define ((?:SEM|MSG|SHM)\w+)\s+(\d+)")}
 MULTIPLEXERS = {"socketcall": 102, "ipc": 117}
 SMALL = (0, 1, 2, 3, 5, 8, 16, 21, 0x80000000, 0xFFFFFFFF)
 
 
-def condition(index, op, value, two=0):
-    return {"index": index, "op": f"SCMP_CMP_{op}", "value": value, "valueTwo": two}
-
-
-def entry(*names, action=ALLOW, args=(), **members):
-    return {"names": list(names), "action": action, **({"args": list(args)} if args else {}), **members}
-
-
-def profile(*entries, **members):
-    return {"defaultAction": ERRNO, "architectures": ARCHITECTURES, **members, "syscalls": list(entries)}
-
-
 def answer_to(resolved, call):
     """What the entries say of an i386 call, whose arguments are low halves; those that answer as the default does are
     none."""
-    low = [it % (1 << 32) for it in call.arguments]
+    low = [argument % (1 << 32) for argument in call.arguments]
     named = tables.of_architecture(X86).names_of(call.number)
     default = answer_of(resolved["defaultAction"], resolved.get("defaultErrnoRet"))
-    met = [it for it in resolved["syscalls"] if set(named) & set(it["names"])
-           and all(kernel_profiles.holds(one, low) for one in it.get("args", ()))]
-    answers = [answer_of(it["action"], it.get("errnoRet")) for it in met]
-    found = set(answers) - {default}
-    assert len(found) < 2, (call, answers)
-    return found.pop() if found else default
+    met = [entry_met for entry_met in resolved["syscalls"] if set(named) & set(entry_met["names"])
+           and all(kernel_profiles.holds(condition_met, low) for condition_met in entry_met.get("args", ()))]
+    answers = [answer_of(entry_met["action"], entry_met.get("errnoRet")) for entry_met in met]
+    answers_beside = set(answers) - {default}
+    assert len(answers_beside) < 2, (call, answers)
+    return answers_beside.pop() if answers_beside else default
 
 
 class Multiplexed(Case):
@@ -60,7 +47,8 @@ class Multiplexed(Case):
 
     def added(self, given, *words):
         """The entries that are added."""
-        return [it for it in self.resolved(given, *words)[0]["syscalls"] if it not in given["syscalls"]]
+        return [entry_added
+                for entry_added in self.resolved(given, *words)[0]["syscalls"] if entry_added not in given["syscalls"]]
 
     def test_a_rule_of_each(self):
         first, second = condition(0, "NE", 40), condition(2, "LE", 7)
@@ -75,10 +63,10 @@ class Multiplexed(Case):
 
     def test_what_covers_them(self):
         given = profile(entry("socket"), entry("semop"), entry("socketcall"))
-        found, said = self.resolved(given)
-        self.assertEqual(found["syscalls"], [*given["syscalls"][:2], entry(
+        resolved, remarks = self.resolved(given)
+        self.assertEqual(resolved["syscalls"], [*given["syscalls"][:2], entry(
             "ipc", args=[{"index": 0, "value": 1, "op": "SCMP_CMP_EQ"}]), given["syscalls"][2]])
-        self.assertEqual(said, "resolve-profile: no rule of socketcall is added: an entry without conditions covers "
+        self.assertEqual(remarks, "resolve-profile: no rule of socketcall is added: an entry without conditions covers "
                                "all of its calls\n")
         # engines pass on none that answers as the default does
         for same in ({}, {"errnoRet": 1}):
@@ -88,25 +76,26 @@ class Multiplexed(Case):
         self.assertEqual(self.added(given), [])
 
     def test_only_for_i386(self):
-        for architectures in ([], ARCHITECTURES[:1], ["SCMP_ARCH_X86_64", "SCMP_ARCH_X32"]):
+        for architectures in ([], [NATIVE], [NATIVE, X32]):
             given = profile(entry("socket"), architectures=architectures)
-            found, said = self.resolved(given)
-            self.assertEqual(found["syscalls"], given["syscalls"])
-            self.assertEqual(said, "resolve-profile: no rule of socketcall or ipc is added: architectures lacks "
+            resolved, remarks = self.resolved(given)
+            self.assertEqual(resolved["syscalls"], given["syscalls"])
+            self.assertEqual(remarks, "resolve-profile: no rule of socketcall or ipc is added: architectures lacks "
                                    "SCMP_ARCH_X86\n")
 
     def test_with_a_runtime(self):
         """Of two conditions on an argument each is an entry of its own there."""
         given = profile(entry("bind", args=[condition(0, "EQ", 1), condition(1, "EQ", 2), condition(1, "EQ", 3)]),
                         entry("shmdt", action=ERRNO))
-        found = self.resolved(given, "--runtime", "crun")[0]["syscalls"]
-        of_i386 = [it["args"] for it in found if it["names"] == ["socketcall"]]
+        entries = self.resolved(given, "--runtime", "crun")[0]["syscalls"]
+        of_i386 = [entry_met["args"] for entry_met in entries if entry_met["names"] == ["socketcall"]]
         number = {"index": 0, "value": 2, "op": "SCMP_CMP_EQ"}
         self.assertEqual(of_i386, [[number], [number, condition(1, "EQ", 2)], [number, condition(1, "EQ", 3)]])
-        self.assertEqual(len(found), 6)
+        self.assertEqual(len(entries), 5)
 
     def test_too_many(self):
-        given = profile(entry(*multiplexed.NUMBERS["socketcall"], args=[condition(1, "NE", it) for it in range(4000)]))
+        given = profile(entry(*multiplexed.CALL_NUMBERS["socketcall"],
+                              args=[condition(1, "NE", value) for value in range(4000)]))
         status, out, err = self.run_tool("resolve-profile", "--multiplexed", "-", given=json.dumps(given).encode())
         self.assertEqual((status, out), (1, ""))
         self.assertIn("the rules of socketcall and ipc have more than 65536 conditions", err)
@@ -117,8 +106,8 @@ class Numbers(unittest.TestCase):
     def test_they_are_those_of_the_headers(self):
         for name, (path, pattern) in HEADERS.items():
             with open(path, encoding="ascii") as file:
-                found = {it.lower(): int(number) for it, number in re.findall(pattern, file.read(), re.M)}
-            self.assertEqual(multiplexed.NUMBERS[name], found)
+                numbers = {name.lower(): int(number) for name, number in re.findall(pattern, file.read(), re.M)}
+            self.assertEqual(multiplexed.CALL_NUMBERS[name], numbers)
 
 
 class RandomProfile:
@@ -133,7 +122,7 @@ class RandomProfile:
                           self.random.choice(SMALL[1:]), self.random.choice(SMALL)) for index in sorted(indices)]
 
     def profile(self):
-        names = [name for numbers in multiplexed.NUMBERS.values() for name in numbers]
+        names = [name for numbers in multiplexed.CALL_NUMBERS.values() for name in numbers]
         chosen = self.random.sample(names, self.random.randint(1, 12)) + ["getpid", "personality"]
         entries = [self.entry([name], self.conditions()) for name in chosen]
         for name in MULTIPLEXERS:
@@ -150,12 +139,12 @@ class RandomProfile:
     def calls(self, resolved):
         """i386 calls of its names, about the values of its conditions, some with an upper half."""
         table = tables.of_architecture(X86)
-        for it in resolved["syscalls"]:
-            numbers = filter(None, map(table.number_of, it["names"]))
+        for entry_read in resolved["syscalls"]:
+            numbers = filter(None, map(table.number_of, entry_read["names"]))
             for number in numbers:
                 arguments = [self.random.choice(SMALL) for _ in range(6)]
-                for one in it.get("args", ()):
-                    arguments[one["index"]] = (one["value"] + self.random.choice((0, 0, 0, 1, -1))) % (1 << 32)
+                for arg in entry_read.get("args", ()):
+                    arguments[arg["index"]] = (arg["value"] + self.random.choice((0, 0, 0, 1, -1))) % (1 << 32)
                 if number in MULTIPLEXERS.values() and self.random.random() < 0.5:
                     arguments[0] = self.random.randint(0, 25)
                 arguments[self.random.randrange(6)] |= self.random.choice((0, 0, 1 << 32, 1 << 63))
@@ -182,26 +171,27 @@ class BesideLibseccomp(unittest.TestCase):
             # read is without conditions, so that the number is loaded (see test_lost_load)
             given["syscalls"].append(entry("read"))
             resolved = with_rules(given)
-            calls = [it for _ in range(3) for it in source.calls(resolved)]
+            calls = [call for _ in range(3) for call in source.calls(resolved)]
             self.assertEqual(differences(resolved, library.filter_of(given), calls), [], json.dumps(given))
             count += len(calls)
-            of_multiplexers += sum(it.number in MULTIPLEXERS.values() for it in calls)
+            of_multiplexers += sum(call.number in MULTIPLEXERS.values() for call in calls)
         self.assertGreater(count, 5000)
         self.assertGreater(of_multiplexers, 2000)
 
     def test_each_name_has_its_number_there(self):
         """i386's filter answers socketcall or ipc with one number alone, and nothing else does."""
         library, machine, table = Library(), StandIn(), tables.of_architecture(X86)
-        every = [name for numbers in multiplexed.NUMBERS.values() for name in numbers]
+        every = [name for numbers in multiplexed.CALL_NUMBERS.values() for name in numbers]
         others = [name for name in table.names() if name not in (*every, *MULTIPLEXERS)]
         for name in (*every, *others):
             if library.number_of(name) == -1:
                 continue
             given = profile(entry(name), *([] if name == "read" else [entry("read", action="SCMP_ACT_LOG")]))
             program, allowed = unpacked(library.filter_of(given)), answer_of(ALLOW, None)
-            found = [(it, number) for it, at in MULTIPLEXERS.items() for number in range(30)
+            multiplexed_calls = [(name, number) for name, at in MULTIPLEXERS.items() for number in range(30)
                      if machine.answer(program, words_of(Call(at, I386, arguments=(number, *[0] * 5)))) == allowed]
-            self.assertEqual(found, [(it, numbers[name]) for it, numbers in multiplexed.NUMBERS.items()
+            self.assertEqual(multiplexed_calls,
+                             [(syscall, numbers[name]) for syscall, numbers in multiplexed.CALL_NUMBERS.items()
                                      if name in numbers], name)
 
     def test_what_it_refuses_is_a_conflict(self):
@@ -210,7 +200,8 @@ class BesideLibseccomp(unittest.TestCase):
                         entry("socket", action=ERRNO, errnoRet=5, args=[condition(0, "EQ", 16)]))
         with self.assertRaises(Conflict):
             Library().filter_of(given)
-        first, second = [it for it in with_rules(given)["syscalls"] if it["names"] == ["socketcall"]]
+        first, second = [entry_added
+                         for entry_added in with_rules(given)["syscalls"] if entry_added["names"] == ["socketcall"]]
         self.assertEqual((first["names"], first["args"]), (second["names"], second["args"]))
         self.assertNotEqual(first["action"], second["action"])
 

@@ -30,14 +30,14 @@ BEGUN = re.compile(r"(?m)^(?:\[pid +\d+\] |\d+ +)? *(?:[\d:.]+ +)?(?:\[[0-9a-f]+
 
 def log_of(text, looked_at=()):
     """The calls of a log: for each name and values how often; and the counts of what wasn't read, or is foreign."""
-    found = strace.Log(lambda *_: tuple(looked_at))
+    log = strace.Log(lambda *_: tuple(looked_at))
     for number, line in enumerate(text.split("\n"), 1):
-        found.add(number, line)
-    found.end()
+        log.add(number, line)
+    log.end()
     calls = {}
-    for (_, name, values), seen in found.calls.items():
+    for (_, name, values), seen in log.calls.items():
         calls[(name, *values) if looked_at else name] = seen.count
-    return calls, found.unread.count, found.foreign.count
+    return calls, log.unread.count, log.foreign.count
 
 
 class Values(unittest.TestCase):
@@ -97,8 +97,8 @@ class Arguments(unittest.TestCase):
                                ("(0</dev/null<char 1:3>>, 5)", ["0</dev/null<char 1:3>>", " 5"]),
                                ('(3</q\\"[x]\\76, 7\\74>(deleted), 5)', ['3</q\\"[x]\\76, 7\\74>(deleted)', " 5"]),
                                ("(6<TCPv6:[[::1]:1->[::1]:2]>, 5)", ["6<TCPv6:[[::1]:1->[::1]:2]>", " 5"])):
-            found, end = strace.arguments_in(text, 1)
-            self.assertEqual((found, end), (expected, len(text)), text)
+            arguments, end = strace.arguments_in(text, 1)
+            self.assertEqual((arguments, end), (expected, len(text)), text)
 
     def test_what_is_cut(self):
         for text, expected in (("(1, 2", ["1"]), ('(1, "ab', ["1"]), ("(1, [2, 3", ["1"]), ("(1, 3</a", ["1"]),
@@ -184,13 +184,13 @@ class Forms(unittest.TestCase):
             self.assertEqual(log_of(text), (calls, 0, foreign), text)
 
 
-def made_in(text, looked_at=(), own=NATIVE):
+def made_in(text, looked_at=(), log_architecture=NATIVE):
     """The calls of a log, each with its architecture, as a set; the values of some arguments come last."""
-    found = strace.Log(lambda *_: tuple(looked_at), TABLES, own)
+    log = strace.Log(lambda *_: tuple(looked_at), TABLES, log_architecture)
     for number, line in enumerate(text.split("\n"), 1):
-        found.add(number, line)
-    found.end()
-    return {(architecture, name, *values) for architecture, name, values in found.calls}, found
+        log.add(number, line)
+    log.end()
+    return {(architecture, name, *values) for architecture, name, values in log.calls}, log
 
 
 class Architectures(unittest.TestCase):
@@ -202,24 +202,24 @@ class Architectures(unittest.TestCase):
         narrow, native, x32, odd = map(self.MODE.format, ("32 bit", "64 bit", "x32", "odd"))
         text = (f"7  read(3) = 1\n{narrow}7  mmap2(1) = 1\n{native}7  getpid() = 7\n"
                 f"{x32}7  fork() = 8\n8  read(3) = 1\n{odd}7  read(3) = 1\n")
-        found, log = made_in(text)
-        self.assertEqual(found, {(NATIVE, "read"), (I386, "mmap2"), (NATIVE, "getpid"), (X32, "fork"), (X32, "read")})
+        calls, log = made_in(text)
+        self.assertEqual(calls, {(NATIVE, "read"), (I386, "mmap2"), (NATIVE, "getpid"), (X32, "fork"), (X32, "read")})
         self.assertEqual((log.foreign.count, log.unread.count), (1, 0))
-        found, _ = made_in(f"7  read(3) = 1\n{narrow}7  read(3) = 1", own=AARCH64)
-        self.assertEqual(found, {(AARCH64, "read"), (ARM, "read")})
+        calls, _ = made_in(f"7  read(3) = 1\n{narrow}7  read(3) = 1", log_architecture=AARCH64)
+        self.assertEqual(calls, {(AARCH64, "read"), (ARM, "read")})
         # a line that doesn't end counts by the table of its process's architecture
-        found, log = made_in(f"{narrow}7  mmap2(1\n7  uretprobe(1")
-        self.assertEqual((found, log.cut.count, log.unread.count), (set(), 1, 1))
+        calls, log = made_in(f"{narrow}7  mmap2(1\n7  uretprobe(1")
+        self.assertEqual((calls, log.cut.count, log.unread.count), (set(), 1, 1))
 
     def test_numbers(self):
         """By -n; getpid, mmap2 and openat2 are 20, 192 and 437 on i386, and getpid and openat2 39 and 437 on x86-64."""
-        found, log = made_in("7 [437] openat2(1) = 3\n7 [ 20] getpid() = 7\n7 [437] openat2(1) = 3\n"
+        calls, log = made_in("7 [437] openat2(1) = 3\n7 [ 20] getpid() = 7\n7 [437] openat2(1) = 3\n"
                              "7 [192] mmap2(1) = 1\n7 [ 39] getpid() = 7\n7 [999] getuid() = 0\n7 [999] what() = 1\n")
-        self.assertEqual(found, {(NATIVE, "openat2"), (I386, "getpid"), (I386, "openat2"), (I386, "mmap2"),
+        self.assertEqual(calls, {(NATIVE, "openat2"), (I386, "getpid"), (I386, "openat2"), (I386, "mmap2"),
                                  (NATIVE, "getpid"), (NATIVE, "what")})
         self.assertEqual(log.foreign.count, 1)
-        found, _ = made_in("7 [ 20] getpid( <unfinished ...>\n8 [  0] read(1) = 1\n7 [ 20] <... getpid resumed>) = 7")
-        self.assertEqual(found, {(I386, "getpid"), (NATIVE, "read")})
+        calls, _ = made_in("7 [ 20] getpid( <unfinished ...>\n8 [  0] read(1) = 1\n7 [ 20] <... getpid resumed>) = 7")
+        self.assertEqual(calls, {(I386, "getpid"), (NATIVE, "read")})
 
     def test_what_socketcall_and_ipc_do(self):
         """By linux/net.h and linux/ipc.h SYS_SOCKET is 1, SYS_SEND 9 and SHMAT 21; i386 has no other call for send."""
@@ -239,14 +239,14 @@ class Architectures(unittest.TestCase):
         """By the manual pages clone(2), syscall(2) and mmap2(2): a number of 64 bits takes two registers of 32."""
         mode = self.MODE.format("32 bit")
         clone = "7 clone(child_stack=NULL, flags=CLONE_VM, tls=5, child_tidptr=6) = 8"
-        for own, before, expected in ((NATIVE, "", (NATIVE, (6,), (5,))), (NATIVE, mode, (I386, (5,), (6,))),
+        for architecture, before, expected in ((NATIVE, "", (NATIVE, (6,), (5,))), (NATIVE, mode, (I386, (5,), (6,))),
                                       (AARCH64, "", (AARCH64, (5,), (6,))), (AARCH64, mode, (ARM, (5,), (6,)))):
-            self.assertEqual(made_in(before + clone, [3, 4], own)[0], {(expected[0], "clone", *expected[1:])})
-        for call, known in (("mmap2(1, 2, 3, 4, 5, 6)", 5), ("pread64(1, 2, 3, 4)", 3), ("_llseek(1, 2, 3, 4)", 1),
+            self.assertEqual(made_in(before + clone, [3, 4], architecture)[0], {(expected[0], "clone", *expected[1:])})
+        for call, count in (("mmap2(1, 2, 3, 4, 5, 6)", 5), ("pread64(1, 2, 3, 4)", 3), ("_llseek(1, 2, 3, 4)", 1),
                             ("mmap(1, 2, 3, 4, 5, 6)", 0), ("select(1, 2, 3, 4, 5)", 0), ("fallocate(1, 2, 3, 4)", 2)):
-            found, _ = made_in(f"{mode}7 {call} = 1", range(6))
-            expected = [(it + 1,) if it < known else None for it in range(6)]
-            self.assertEqual(found, {(I386, call.split("(")[0], *expected)})
+            calls, _ = made_in(f"{mode}7 {call} = 1", range(6))
+            expected = [(index + 1,) if index < count else None for index in range(6)]
+            self.assertEqual(calls, {(I386, call.split("(")[0], *expected)})
         self.assertEqual(made_in("7 pread64(1, 2, 3, 4) = 1", [3])[0], {(NATIVE, "pread64", (4,))})
 
     def test_only_the_low_half_counts(self):
@@ -254,8 +254,8 @@ class Architectures(unittest.TestCase):
         both = {(NATIVE, "close", (0xFFFFFFFF, HIGH - 1)), (NATIVE, "close", (0x100000007,))}
         self.assertEqual(made_in(calls, [0])[0], both)
         for mode, name in (("32 bit", I386), ("x32", X32)):
-            found, _ = made_in(self.MODE.format(mode) + calls, [0])
-            self.assertEqual(found, {(name, "close", (0xFFFFFFFF,)), (name, "close", (7,))})
+            made, _ = made_in(self.MODE.format(mode) + calls, [0])
+            self.assertEqual(made, {(name, "close", (0xFFFFFFFF,)), (name, "close", (7,))})
 
     def test_constants_of_other_architectures(self):
         """O_DIRECTORY is 0200000 on x86, and 040000 on arm and aarch64 (asm/fcntl.h), where it isn't known."""
@@ -281,16 +281,16 @@ class Judgement(Case):
 
     def judged(self, log, status, profile=None):
         """The disposition of each call, by name, as --json and the lines tell it."""
-        found, out, err = self.needs(log, "--json", profile=profile)
-        self.assertEqual((found, err, out.count("\n")), (status, "", 1), out)
+        exit_status, out, err = self.needs(log, "--json", profile=profile)
+        self.assertEqual((exit_status, err, out.count("\n")), (status, "", 1), out)
         report = json.loads(out)
         self.assertEqual(report["status"], status)
-        found, out, err = self.needs(log, profile=profile)
-        self.assertEqual((found, err), (status, ""))
-        dispositions = [(" ".join([*([it["architecture"]] if "architecture" in it else []), it["name"]]),
-                         it["disposition"]) for it in report["calls"]]
+        exit_status, out, err = self.needs(log, profile=profile)
+        self.assertEqual((exit_status, err), (status, ""))
+        dispositions = [(" ".join([*([call["architecture"]] if "architecture" in call else []), call["name"]]),
+                         call["disposition"]) for call in report["calls"]]
         lines = [line for line in out.split("\n")[:-1] if line[0] != "#"]
-        self.assertEqual([re.sub(r"^(\S+ |)\d+ (\S+) .*", r"\1\2", it) for it in lines],
+        self.assertEqual([re.sub(r"^(\S+ |)\d+ (\S+) .*", r"\1\2", line) for line in lines],
                          [name for word in ("not allowed", "depends", "undecided") for name, its in dispositions
                           if its == word])
         return dict(dispositions), report, out
@@ -321,7 +321,7 @@ class Needs(Judgement):
         _, report, out = self.judged("socket(40, 1, 0) = 3\nsocket(0x28, 2, 0) = 3\nsocket(1, 1, 0) = 3\n", 1)
         self.assertEqual(out.split("\n")[:2], ["41 socket arg 0 0x28 ERRNO 22 entry 3",
                                                "# 2 times, first in line 1 of the log"])
-        self.assertEqual([(it["disposition"], it["arguments"]) for it in report["calls"]],
+        self.assertEqual([(call["disposition"], call["arguments"]) for call in report["calls"]],
                          [("not allowed", {"0": ["0x28"]}), ("allowed", {"0": ["0x1"]})])
 
     def test_arguments_that_are_not_known(self):
@@ -330,11 +330,11 @@ class Needs(Judgement):
             dispositions, report, out = self.judged(f"{log} = 3" if log == "socket(40" else log, 4)
             self.assertEqual(dispositions, {"socket": "depends"}, log)
             self.assertEqual(out.split("\n")[0], "41 socket depends on arg 0")
-            one = report["calls"][0]
-            self.assertEqual(one["depends_on"], [0])
-            self.assertEqual((one["not_allowed"]["call"]["arguments"][0], one["not_allowed"]["answer"]),
+            call = report["calls"][0]
+            self.assertEqual(call["depends_on"], [0])
+            self.assertEqual((call["not_allowed"]["call"]["arguments"][0], call["not_allowed"]["answer"]),
                              ("0x28", {"action": "ERRNO", "data": 22, "errno": "EINVAL"}))
-            self.assertNotEqual(one["allowed"]["arguments"][0], "0x28")
+            self.assertNotEqual(call["allowed"]["arguments"][0], "0x28")
             self.assertRegex(out.split("\n")[1],
                              r"^# allowed with args 0x[0-9a-f]+( 0x0){5}; with args 0x28( 0x0){5} it is ERRNO 22$")
 
@@ -371,7 +371,7 @@ class Needs(Judgement):
                      "# lines not judged, since they can't be parsed: 1"):
             self.assertIn(f"{line}\n", out)
         self.assertEqual(self.judged("read(1) = 1\nwhat\n", 4)[0], {"read": "allowed"})
-        out = self.judged("read(1) = 1\nmmap2(1) = 1\n" + "".join(f"no{it}(1) = 1\n" for it in range(30)), 4)[2]
+        out = self.judged("read(1) = 1\nmmap2(1) = 1\n" + "".join(f"no{number}(1) = 1\n" for number in range(30)), 4)[2]
         self.assertIn("doesn't have it: mmap2, times: 1; it is a syscall of other architectures alone\n", out)
         self.assertEqual(out.count("# not judged, since the table doesn't have it: "), 20)
         self.assertIn("# more such names: 11\n", out)
@@ -453,8 +453,8 @@ class Needs(Judgement):
         self.assertEqual(self.run_tool("needs", self.file("log", "open(1) = 1"), "-",
                                        given=json.dumps(self.PROFILE).encode()), expected)
         self.assertEqual(self.run_tool("needs", "-", "-")[0], 2)
-        own = self.file("t", b"look 7\n")
-        self.assertEqual(self.run_tool("needs", "--table", own, self.file("log", "look(1) = 1\n"),
+        own_table = self.file("t", b"look 7\n")
+        self.assertEqual(self.run_tool("needs", "--table", own_table, self.file("log", "look(1) = 1\n"),
                                        self.file("q.json", profile_of("look")))[0], 0)
 
 
@@ -485,12 +485,13 @@ class InArchitectures(Judgement):
             "i386 359 socket arg 0 0x28 ERRNO 1 default", "# once in line 6 of the log"])
         self.assertTrue(out.endswith(f"{COUNTED}: allowed 6, not allowed 3, depends 1\n"), out)
         self.assertNotIn("list", out)
-        self.assertEqual([(it.get("architecture"), it["number"], it["arguments"]) for it in report["calls"]],
+        self.assertEqual([(call.get("architecture"), call["number"], call["arguments"]) for call in report["calls"]],
                          [(None, 0, {}), (None, 3, {"0": ["0xffffffff", "0xffffffffffffffff"]}), ("i386", 3, {}),
                           ("i386", 5, {}), ("i386", 6, {"0": ["0xffffffff"]}), ("i386", 41, {"0": ["0x8"]}),
                           ("i386", 102, {}), ("i386", 192, {}), ("i386", 359, {"0": ["0x28"]}),
                           ("i386", 359, {"0": ["0x2"]})])
-        calls = {it["name"]: it["not_allowed"]["call"] for it in report["calls"] if it["disposition"] == "not allowed"}
+        calls = {call["name"]: call["not_allowed"]["call"]
+                 for call in report["calls"] if call["disposition"] == "not allowed"}
         self.assertEqual((calls["open"]["number"], calls["open"]["architecture"], calls["open"]["names"]),
                          (5, "0x40000003", ["open"]))
 
@@ -498,10 +499,11 @@ class InArchitectures(Judgement):
         dispositions, report, out = self.judged(f"{self.MODE}socket(AF_NONE, 1) = 3\n", 4)
         self.assertEqual(dispositions, {"i386 socketcall": "allowed", "i386 socket": "depends"})
         self.assertEqual(out.split("\n")[0], "i386 359 socket depends on arg 0")
-        one = report["calls"][1]
-        self.assertEqual([it["architecture"] for it in (one["allowed"], one["not_allowed"]["call"])], ["0x40000003"] * 2)
-        self.assertEqual(int(one["not_allowed"]["call"]["arguments"][0], 16) % (1 << 32), 40)
-        self.assertNotEqual(int(one["allowed"]["arguments"][0], 16) % (1 << 32), 40)
+        call = report["calls"][1]
+        self.assertEqual([example["architecture"] for example in (call["allowed"], call["not_allowed"]["call"])],
+                         ["0x40000003"] * 2)
+        self.assertEqual(int(call["not_allowed"]["call"]["arguments"][0], 16) % (1 << 32), 40)
+        self.assertNotEqual(int(call["allowed"]["arguments"][0], 16) % (1 << 32), 40)
 
     def test_x32(self):
         """Numbers in a record have 0x40000000 added (asm/unistd.h); x32's execve is 520, and x86-64's 59."""
@@ -510,7 +512,7 @@ class InArchitectures(Judgement):
         dispositions, report, out = self.judged(log, 1, three)
         self.assertEqual(dispositions, {"x32 execve": "allowed", "x32 open": "not allowed"})
         self.assertEqual(out.split("\n")[0], "x32 2 open ERRNO 1 default")
-        self.assertEqual([it["number"] for it in report["calls"]], [2, 520])
+        self.assertEqual([call["number"] for call in report["calls"]], [2, 520])
         self.assertEqual(report["calls"][0]["not_allowed"]["call"]["number"], 0x40000002)
 
     def test_an_architecture_that_the_profile_does_not_list(self):
@@ -519,7 +521,7 @@ class InArchitectures(Judgement):
                 "for them\n")
         for profile in (alone, {**alone, "architectures": []}):
             dispositions, _, out = self.judged(f"read(3) = 1\n{self.MODE}{self.CALLS}", 1, profile)
-            self.assertEqual(dispositions, {"read": "allowed", **{f"i386 {it}": "not allowed" for it in (
+            self.assertEqual(dispositions, {"read": "allowed", **{f"i386 {name}": "not allowed" for name in (
                 "read", "open", "close", "dup", "socketcall", "mmap2", "socket")}})
             self.assertEqual(out.split("\n")[0], "i386 3 read KILL_PROCESS 0 foreign")
             # no condition tests an argument there
@@ -547,23 +549,23 @@ class InArchitectures(Judgement):
         log = "read(3) = 1\nopenat(1) = 3\nsocket(40, 1) = 3\nsocket(2, 1) = 3\nopen(1) = 3\n"
         lines = ("aarch64 56 openat ERRNO 1 default\n# once in line 2 of the log\n"
                  "aarch64 198 socket arg 0 0x28 ERRNO 1 default\n# once in line 3 of the log\n")
-        rest = ("# not judged, since the table doesn't have it: aarch64 open, times: 1\n"
+        remarks = ("# not judged, since the table doesn't have it: aarch64 open, times: 1\n"
                 f"{COUNTED}: allowed 2, not allowed 2, depends 0\n")
-        self.assertEqual(self.needs(log, "--arch", "aarch64", profile=arm), (1, lines + rest, ""))
+        self.assertEqual(self.needs(log, "--arch", "aarch64", profile=arm), (1, lines + remarks, ""))
         unlisted = {**arm, "architectures": []}
-        self.assertEqual(self.needs(log, "--arch", "aarch64", profile=unlisted), (1, lines + rest, ""))
+        self.assertEqual(self.needs(log, "--arch", "aarch64", profile=unlisted), (1, lines + remarks, ""))
         if os.uname().machine == "x86_64":
             taken = ("# a log that doesn't say its architecture is taken as aarch64's, since the profile doesn't list "
                      "x86-64: --arch names another\n")
-            self.assertEqual(self.needs(log, profile=arm), (1, lines + taken + rest, ""))
+            self.assertEqual(self.needs(log, profile=arm), (1, lines + taken + remarks, ""))
         status, out, _ = self.needs(log, "--arch", "x86-64", profile=arm)
         self.assertEqual((status, out.split("\n")[0]), (1, "0 read KILL_PROCESS 0 foreign"))
         self.assertIn("# x86-64 syscalls aren't allowed, since the profile doesn't list SCMP_ARCH_X86_64: ", out)
         status, out, _ = self.needs("read(3) = 1\n[ Process PID=7 runs in 32 bit mode. ]\nmmap2(3) = 1\nopen(1) = 1",
                                     profile={**arm, "architectures": ["SCMP_ARCH_AARCH64", "SCMP_ARCH_ARM"]})
         self.assertEqual((status, out.split("\n")[0]), (1, "arm 5 open ERRNO 1 default"))
-        own = self.file("t", b"look 7\n")
-        self.assertEqual(self.needs("look(1) = 1", "--arch", "aarch64", "--table", own, profile={
+        own_table = self.file("t", b"look 7\n")
+        self.assertEqual(self.needs("look(1) = 1", "--arch", "aarch64", "--table", own_table, profile={
             **arm, "syscalls": [{"names": ["look"], "action": ALLOW}]})[0], 0)
 
     def test_what_is_refused(self):
@@ -584,8 +586,8 @@ class Least(Judgement):
            "wait4(-1, NULL, 0, NULL) = 3\nread(4, 0x7f, 1) = 1\n")
 
     def least(self, log, profile=None, status=0):
-        found, out, err = self.needs(log, "--profile", profile=profile)
-        self.assertEqual(found, status, err)
+        exit_status, out, err = self.needs(log, "--profile", profile=profile)
+        self.assertEqual(exit_status, status, err)
         return json.loads(out), err
 
     def test_it_lets_the_calls_through_and_nothing_else(self):
@@ -600,9 +602,9 @@ class Least(Judgement):
         # without any of it a call of the log isn't made
         for place, entry in enumerate(made["syscalls"]):
             for name in set(entry["names"]) - set(ALWAYS):
-                left = [{**it, "names": [other for other in it["names"] if (at, other) != (place, name)]}
-                        for at, it in enumerate(made["syscalls"])]
-                less = {**made, "syscalls": [it for it in left if it["names"]]}
+                entries = [{**whole, "names": [named for named in whole["names"] if (at, named) != (place, name)]}
+                           for at, whole in enumerate(made["syscalls"])]
+                less = {**made, "syscalls": [entry for entry in entries if entry["names"]]}
                 self.assertIn(self.needs(self.LOG, profile=less)[0], (1, 4))
 
     def test_its_default(self):
@@ -633,7 +635,7 @@ class Least(Judgement):
         self.assertEqual(err, "needs: socket: the log doesn't show arguments 0 as numbers: they may be any\n")
 
     def test_many_values(self):
-        made, _ = self.least("".join(f"socket({it}, 1, 0) = 3\n" for it in range(200)))
+        made, _ = self.least("".join(f"socket({number}, 1, 0) = 3\n" for number in range(200)))
         self.assertEqual(made["syscalls"], [{"names": ["socket", *ALWAYS], "action": ALLOW}])
 
     def test_what_is_not_in_it(self):
@@ -670,9 +672,9 @@ class Hostile(Judgement):
         for log in ("socket(" + "1<" * 40000, "socket(" + "[" * 1000000, 'socket("' + "\\" * 1000000,
                     "socket(" + "," * 1000000 + ") = 3", "socket(" + "3</a" * 300000, "socket(" + "/*" * 500000,
                     "1|" * 500000, "socket(" + "1|" * 30000 + "1) = 3", "9" * 1000000, "[" * 1000000,
-                    "".join(f"{it} read(1 <unfinished ...>\n" for it in range(50000)),
-                    "".join(f"{it} read(1) = 1\n" for it in range(50000)),
-                    "".join(f"no_such_{it}(1) = 1\n" for it in range(2000))):
+                    "".join(f"{number} read(1 <unfinished ...>\n" for number in range(50000)),
+                    "".join(f"{number} read(1) = 1\n" for number in range(50000)),
+                    "".join(f"no_such_{number}(1) = 1\n" for number in range(2000))):
             status, _, err = self.needs(log, seconds=30)
             self.assertIn(status, (0, 1, 4), log[:30])
             self.assertEqual(err, "", log[:30])
@@ -682,16 +684,17 @@ class Hostile(Judgement):
         many = "syscalls with other names or arguments"
         for log, status, says in ((b"xstrace: Process 1 attached\n" * 300000, 4, ""),
                                   (b"strace: Process 1 attached\n" * 300000 + b"read(1) = 1\n", 0, ""),
-                                  (b"".join(b"wait4(%d) = 1\n" % it for it in range(110000)), 2, many),
-                                  (b"".join(b"no_%d(1) = 1\n" % it for it in range(110000)), 2, many)):
+                                  (b"".join(b"wait4(%d) = 1\n" % number for number in range(110000)), 2, many),
+                                  (b"".join(b"no_%d(1) = 1\n" % number for number in range(110000)), 2, many)):
             before = taken()
-            found, _, err = self.run_tool("needs", self.file("log", log), self.file("p.json", json.dumps(self.PROFILE)),
+            exit_status, _, err = self.run_tool("needs", self.file("log", log),
+                                                self.file("p.json", json.dumps(self.PROFILE)),
                                           preexec_fn=limited(90, 500 << 20))
-            self.assertEqual((found, says in err), (status, True), log[:30])
+            self.assertEqual((exit_status, says in err), (status, True), log[:30])
             self.assertLess(taken() - before, 80)
 
     def test_many_values(self):
-        log = "".join(f"wait4({it}) = 1\n" for it in range(2, 6002))
+        log = "".join(f"wait4({number}) = 1\n" for number in range(2, 6002))
         # each of the thousand is judged by two runs of scf, which takes four seconds in all
         status, out, _ = self.needs(log, seconds=120)
         self.assertEqual(status, 1)
@@ -699,7 +702,7 @@ class Hostile(Judgement):
         # six registers of two values each are 64 ways
         every = {"defaultAction": ERRNO, "syscalls": [{"names": ["wait4"], "action": ALLOW, "args": [
             {"index": index, "op": "SCMP_CMP_EQ", "value": 1} for index in range(6)]}]}
-        log = "".join(f"wait4({', '.join([str(-it)] * 6)}) = 1\n" for it in range(1, 201))
+        log = "".join(f"wait4({', '.join([str(-number)] * 6)}) = 1\n" for number in range(1, 201))
         status, out, _ = self.needs(log, profile=every, seconds=120)
         self.assertEqual(status, 1)
         self.assertIn("# syscalls not judged, since there are too many with other arguments: 169\n", out)
@@ -781,19 +784,19 @@ class Registers(Case):
     def test_each_call(self):
         calls = list(self.calls())
         for words in ((), ("-X", "raw"), ("-X", "verbose"), ("-e", "raw=all"), ("-yy",)):
-            known = shown = 0
+            allowed = shown = 0
             for (number, *registers), line in zip(calls, self.traced(calls, *words)):
                 leader = strace.LEADER.match(line)
                 self.assertEqual(int(leader[3]), number)
-                name = strace.CALL.match(line, leader.end())
+                name = strace.CALL_NAME.match(line, leader.end())
                 printed = strace.arguments_in(line, name.end())[0]
                 for place, text in strace._in_registers(name[1], printed).items():
                     values = strace.values_of(text)
-                    shown, known = shown + 1, known + (values is not None)
+                    shown, allowed = shown + 1, allowed + (values is not None)
                     # what stands above the 16 bits of a mode is neither zero nor the sign
                     if values is not None and not (text.strip()[:3] == "001" and registers[place] == 0x80000001):
                         self.assertIn(registers[place] % HIGH, values, line)
-            self.assertGreater(known, shown * 9 // 10, words)
+            self.assertGreater(allowed, shown * 9 // 10, words)
 
 
 @unittest.skipUnless(shutil.which("strace"), "there is no strace here")
@@ -822,14 +825,14 @@ class Real(Judgement):
                 status, out, err = self.run_tool("needs", "--json", log, profile)
                 self.assertEqual((status, err), (1, ""), words)
                 report = json.loads(out)
-                self.assertEqual({key: it for key, it in report["not_judged"].items() if key != "lines"},
+                self.assertEqual({key: count for key, count in report["not_judged"].items() if key != "lines"},
                                  {"names": {}, "foreign": 0, "cut": 0, "more": 0, "lost": 0}, words)
                 self.assertEqual(report["not_judged"]["lines"], 0, words)
-                found = {it["name"] for it in report["calls"]}
+                names = {call["name"] for call in report["calls"]}
                 with open(log, encoding="utf-8", errors="replace") as file:
                     text = file.read()
-                self.assertEqual(found, set(BEGUN.findall(text)), words)
-                self.assertLessEqual({"execve", "wait4", "exit_group", "openat"}, found)
+                self.assertEqual(names, set(BEGUN.findall(text)), words)
+                self.assertLessEqual({"execve", "wait4", "exit_group", "openat"}, names)
 
     def test_the_least_profile_lets_it_through(self):
         log = self.traced("-X", "raw")
@@ -954,14 +957,14 @@ void _start(void)
                  ("alarm", 27, -1): True, ("alarm", 27, 0): False, ("socketcall", 102, 1): True,
                  ("socketcall", 102, 99): False}
         made = self.narrow(calls)
-        expected = "".join(str(int(it)) for it in calls.values())
+        expected = "".join(str(int(call)) for call in calls.values())
         self.assertEqual(self.ended(profile, made), (0, expected.encode()))
         for options in (("--quiet=none",), ("-n",), ("-n", "-X", "raw", "--quiet=none"), ("-e", "raw=all", "-n")):
             log, _ = self.log_of(made, options=options)
             judged = json.loads(self.run_tool("needs", "--json", log, profile)[1])
-            self.assertEqual([it for it in judged["not_judged"].values() if it], [])
-            dispositions = {(it.get("architecture"), it["number"], *it["arguments"].get("0", ["0x0"])):
-                            it["disposition"] for it in judged["calls"]}
+            self.assertEqual([count for count in judged["not_judged"].values() if count], [])
+            dispositions = {(call.get("architecture"), call["number"], *call["arguments"].get("0", ["0x0"])):
+                            call["disposition"] for call in judged["calls"]}
             for (name, number, value), is_denied in calls.items():
                 shown = "0x0" if name == "getpid" else hex(value % (1 << 32))
                 self.assertEqual(dispositions.get(("i386", number, shown)), "not allowed" if is_denied else "allowed",
@@ -986,8 +989,8 @@ void _start(void)
                  ("ioctl", 0, 0x5401, 0), ("umask", -1), ("umask", 0xFFFF), ("umask", 0o22), ("dup3", 0, -5, 0),
                  ("dup3", 0, 0xFFFFFFFB, 0), ("mprotect", 0, 0, 5), ("mprotect", 0, 0, 1)]
         numbered = repr([(TABLE.number_of(name), *arguments) for name, *arguments in calls])
-        profile, looked = self.file("p.json", json.dumps(denied)), {it["names"][0]: it["args"][0]["index"]
-                                                                    for it in denied["syscalls"]}
+        profile, looked = self.file("p.json", json.dumps(denied)), {entry["names"][0]: entry["args"][0]["index"]
+                                                                    for entry in denied["syscalls"]}
         with open(os.path.join(self.folder, "f.bpf"), "wb") as out:
             subprocess.run([tool("compile"), profile], stdout=out, check=True)
         done = self.run_words([sys.executable, "-IS", "-c", self.CALLS, numbered, out.name])
@@ -1000,8 +1003,8 @@ void _start(void)
             judged = json.loads(self.run_tool("needs", "--json", log, profile)[1])["calls"]
             for (name, *arguments), is_denied in zip(calls, failed):
                 value = hex(arguments[looked[name]] % HIGH)
-                dispositions = {it["disposition"] for it in judged if it["name"] == name and value in
-                         it["arguments"][str(looked[name])]}
+                dispositions = {call["disposition"] for call in judged if call["name"] == name and value in
+                         call["arguments"][str(looked[name])]}
                 self.assertTrue(dispositions, (options, name, value))
                 self.assertLessEqual(dispositions, {"depends", "not allowed" if is_denied else "allowed"},
                                      (options, name, value))

@@ -56,20 +56,20 @@ class Newer(Case):
         lax = stub(450) + filter_of([*self.rules, 41])
         _, added = self.added(lax)
         self.assertFalse(any(line.startswith("only ") for line in added), added)
-        told = added.index(f"{SAID} set_mempolicy_home_node (450){BOTH}")
-        other = added.index("syscalls in the table that differ: 1")
-        self.assertLess(other, told)
-        self.assertTrue(added[other + 1].startswith("41 socket differs "))
-        self.assertEqual(added[told + 1], f"syscalls in the table among these: {COUNT_FROM_450}")
+        place = added.index(f"{SAID} set_mempolicy_home_node (450){BOTH}")
+        other_place = added.index("syscalls in the table that differ: 1")
+        self.assertLess(other_place, place)
+        self.assertTrue(added[other_place + 1].startswith("41 socket differs "))
+        self.assertEqual(added[place + 1], f"syscalls in the table among these: {COUNT_FROM_450}")
 
     def test_another_call_without_a_name(self):
         """400 has no name: it is told by the call and both answers."""
         _, added = self.added(stub(450) + filter_of([*self.rules, 400]))
         self.assertFalse(any(line.startswith("only ") for line in added), added)
-        told = added.index(f"{SAID} set_mempolicy_home_node (450){BOTH}")
-        self.assertLess(added.index("the syscall is number 400, which the table doesn't name"), told)
+        place = added.index(f"{SAID} set_mempolicy_home_node (450){BOTH}")
+        self.assertLess(added.index("the syscall is number 400, which the table doesn't name"), place)
 
-    def test_newer_calls_that_are_let_through(self):
+    def test_newer_calls_that_are_allowed(self):
         """A filter that lets newer calls through isn't said to deny them, nor one that lets one of them through."""
         for code in (stub(450, ALLOW) + filter_of(self.rules),
                      load(0) + jeq(500, 0, 1) + ret(ALLOW) + stub(450) + filter_of(self.rules),
@@ -96,29 +96,28 @@ class Newer(Case):
 
     def test_calls_by_name(self):
         _, added = self.added(stub(450) + filter_of(self.rules), scope="--calls")
-        said = SAID.replace("syscalls", "syscalls in the table", 1)
+        heading = SAID.replace("syscalls", "syscalls in the table", 1)
         self.assertEqual(added, [
             f"over the syscalls in the table: {ONLY_ANSWERS}",
-            f"only {said} set_mempolicy_home_node (450); both sides deny them: {COUNT_FROM_450}"])
+            f"only {heading} set_mempolicy_home_node (450); both sides deny them: {COUNT_FROM_450}"])
         _, added = self.added(stub(450) + filter_of([*self.rules, 41, 42]), scope="--calls")
         self.assertEqual(added, ["other syscalls that differ: 2",
-                                 f"{said} set_mempolicy_home_node (450); both sides deny them: {COUNT_FROM_450}"])
+                                 f"{heading} set_mempolicy_home_node (450); both sides deny them: {COUNT_FROM_450}"])
 
     def test_a_long_filter(self):
-        """They are told apart by a few instructions before a filter, for which the longest have no room."""
+        """They are told apart by their numbers alone, also of the longest filter that a kernel takes."""
         code = stub(450) + filter_of(self.rules)
-        for length, is_told in ((4088, True), (4089, False), (4096, False)):
-            _, added = self.added(load(0) * (length - len(code) // 8) + code)
-            self.assertEqual(any(SAID in line for line in added), is_told, added)
-            self.assertEqual(f"syscalls in the table among these: {COUNT_FROM_450}" in added, is_told)
-            self.assertEqual(f"syscalls in the table that differ: {COUNT_FROM_450}" in added, not is_told)
+        _, added = self.added(load(0) * (4096 - len(code) // 8) + code)
+        self.assertTrue(any(SAID in line for line in added), added)
+        self.assertIn(f"syscalls in the table among these: {COUNT_FROM_450}", added)
 
     def test_json(self):
         name = self.file("f.bpf", stub(CACHESTAT) + filter_of(self.rules))
-        found = json.loads(self.run_tool("compare", "--native", "--json", name, self.profile)[1])
-        self.assertEqual(found["newer"], {"first": CACHESTAT, "firsts": {"SCMP_ARCH_X86_64": CACHESTAT}, "are_all": True,
-                                          "filter": {"action": "ERRNO", "data": 38, "errno": "ENOSYS"},
-                                          "profile": {"action": "ERRNO", "data": 1, "errno": "EPERM"}})
+        report = json.loads(self.run_tool("compare", "--native", "--json", name, self.profile)[1])
+        self.assertEqual(report["newer"], {
+            "first": CACHESTAT, "firsts": {"SCMP_ARCH_X86_64": CACHESTAT}, "are_all": True,
+            "filter": {"action": "ERRNO", "data": 38, "errno": "ENOSYS"},
+            "profile": {"action": "ERRNO", "data": 1, "errno": "EPERM"}})
         name = self.file("g.bpf", stub(CACHESTAT) + filter_of([*self.rules, 41]))
-        found = json.loads(self.run_tool("compare", "--native", "--json", name, self.profile)[1])
-        self.assertFalse(found["newer"]["are_all"])
+        report = json.loads(self.run_tool("compare", "--native", "--json", name, self.profile)[1])
+        self.assertFalse(report["newer"]["are_all"])

@@ -32,7 +32,7 @@ class Hook(Confined):
 
     def state(self, process, where, **members):
         state = {"ociVersion": "1.0.2", "id": "box", "status": "running", "pid": process, "bundle": where, **members}
-        return json.dumps({name: it for name, it in state.items() if it is not NO_MEMBER}).encode()
+        return json.dumps({name: value for name, value in state.items() if value is not NO_MEMBER}).encode()
 
     def hook(self, child, profile, *words, **members):
         """The status, and the lines on standard error without the name of the tool before them."""
@@ -99,9 +99,9 @@ class OfStates(Hook):
             self.assertEqual((status, child.wait()), (3, -signal.SIGKILL), err)
             self.assertIn("container a\\xed\\xbf\\xbf", err)
             self.assertIn(says, err)
-        found = hooks.run_safely(lambda: {}["none"])
-        self.assertEqual((found.status, found.verdict), (70, None))
-        self.assertRegex(found.lines()[0], "^internal error: .* itself failed: KeyError; please report it$")
+        actual = hooks.run_safely(lambda: {}["none"])
+        self.assertEqual((actual.status, actual.verdict), (70, None))
+        self.assertRegex(actual.lines()[0], "^internal error: .* itself failed: KeyError; please report it$")
 
     def test_a_process_that_is_gone(self):
         child = subprocess.Popen(["true"])
@@ -124,22 +124,22 @@ class OfStates(Hook):
             lines = self.fails(self.state(os.getpid(), "/none", **members), "")
             self.assertEqual(len(lines), 2)
             self.assertIn(shown, lines[at])
-        found = json.loads(self.run_tool("oci-hook", "--json", given=self.state(os.getpid(), "/none", id=name))[1])
-        self.assertEqual((found["id"], found["status"]), (shown, 3))
+        value = json.loads(self.run_tool("oci-hook", "--json", given=self.state(os.getpid(), "/none", id=name))[1])
+        self.assertEqual((value["id"], value["status"]), (shown, 3))
 
     def test_the_file_for_hooks(self):
         """As oci-hooks(5) has it; the words are those that the hook is called with."""
         words = ["--policy", "no-more", "--keep-first", "--kill"]
         status, out, err = self.run_tool("oci-hook", "--print-hook", *words)
         self.assertEqual((status, err), (0, ""))
-        found = json.loads(out)
-        self.assertEqual((found["version"], found["when"], found["stages"]), ("1.0.0", {"always": True},
+        value = json.loads(out)
+        self.assertEqual((value["version"], value["when"], value["stages"]), ("1.0.0", {"always": True},
                                                                               ["poststart"]))
-        self.assertEqual((found["hook"]["path"], found["hook"]["args"]), (tool("oci-hook"), ["oci-hook", *words]))
-        self.assertRegex(found["hook"]["env"][0], "^PATH=/")
-        self.assertEqual(set(found), {"version", "when", "stages", "hook"})
-        done = subprocess.run([found["hook"]["path"], *found["hook"]["args"][1:]], input=b"{}", check=False,
-                              stderr=subprocess.PIPE, env=dict(it.split("=", 1) for it in found["hook"]["env"]))
+        self.assertEqual((value["hook"]["path"], value["hook"]["args"]), (tool("oci-hook"), ["oci-hook", *words]))
+        self.assertRegex(value["hook"]["env"][0], "^PATH=/")
+        self.assertEqual(set(value), {"version", "when", "stages", "hook"})
+        done = subprocess.run([value["hook"]["path"], *value["hook"]["args"][1:]], input=b"{}", check=False,
+                              stderr=subprocess.PIPE, env=dict(item.split("=", 1) for item in value["hook"]["env"]))
         self.assertEqual(done.returncode, 3, done.stderr)
         read, write = os.pipe()
         for file in (read, write):
@@ -182,8 +182,8 @@ class OfProcesses(Hook):
                 ((MOUNT,), "no-more", 0, "no more"), ((MOUNT, UMOUNT2), "no-more", 0, "no more"),
                 ((UMOUNT2,), "no-more", 1, "more")):
             child = self.child([refusing(*numbers)])
-            found, lines = self.hook(child, refuses("mount"), "--policy", policy)
-            self.assertEqual(found, status, lines)
+            actual, lines = self.hook(child, refuses("mount"), "--policy", policy)
+            self.assertEqual(actual, status, lines)
             word = "not confined" if status else "confined"
             self.assertEqual(lines[:2], [f"container box: {word} as configured ({verdict})", verdict])
             self.assertIn(f"# process {child.pid} (", lines[-2])
@@ -278,10 +278,10 @@ class OfProcesses(Hook):
         """A misspelt option lets nothing run that isn't known to be confined."""
         for words, status in ((["--polcy=same"], 0), (["--kill", "--polcy=same"], -signal.SIGKILL)):
             child = self.child([refusing(MOUNT)])
-            found, _, err = self.run_tool("oci-hook", *words, given=self.state(child.pid, self.bundle(
+            actual, _, err = self.run_tool("oci-hook", *words, given=self.state(child.pid, self.bundle(
                 refuses("mount"))))
-            self.assertEqual(found, 2)
-            self.assertIn("unrecognized arguments: --polcy=same", err)
+            self.assertEqual(actual, 2)
+            self.assertIn("unrecognized arguments: --polcy; the nearest is --policy", err)
             if not status:
                 self.assertNotIn("container box", err)
                 self.runs_on(child)
@@ -300,34 +300,35 @@ class OfProcesses(Hook):
         """Of a process it can't be known whether it is the container's, too."""
         child = self.child([refusing(MOUNT)])
         process = hooks.ContainerProcess(hooks.container_of(self.state(child.pid, self.bundle(refuses("mount")))))
-        asked = verify.request_of(hooks.configured(process.container), None, False, tables.read(None), "same")
+        asked = verify.request_of(hooks.configuration_of(process.container), None, False, tables.read(None), "same")
         for others, expected in (([], (0, "same")), ([os.getpid()], (4, None))):
-            process.members = processes.Container(None, list, lambda it=others: it)
+            process.members = processes.Container(None, list, lambda item=others: item)
             finding = hooks.finding_of(process.look(), asked, process)
             self.assertEqual((finding.status, finding.verdict), expected)
             self.assertEqual("weren't checked" in "".join(finding.lines()), bool(others))
 
     def test_members_that_are_one_in_go(self):
         """What runc reads as the profile, and crun doesn't, is refused."""
-        own = json.loads(refuses("mount"))
-        for config in ({"linux": {"seccomp": own}, "Linux": {}}, {"linux": {"seccomp": own, "\u017feccomp": own}},
-                       {"LINUX": {"seccomp": own}}):
+        value = json.loads(refuses("mount"))
+        for config in ({"linux": {"seccomp": value}, "Linux": {}}, {"linux": {"seccomp": value, "\u017feccomp": value}},
+                       {"LINUX": {"seccomp": value}}):
             status, lines = self.hook(self.child([refusing(MOUNT)]), json.dumps(config).encode())
             self.assertEqual(status, 3)
             self.assertIn("which runc reads as", lines[1])
 
     def test_a_profile_beside_the_one_that_runtimes_read(self):
         """They read `linux.seccomp` alone."""
-        other, own = json.loads(refuses("umount2")), json.loads(refuses("mount"))
-        for config, status in (({**other, "linux": {"seccomp": own}}, 0), ({**own, "linux": {"seccomp": other}}, 1),
-                               (own, 1), ({"linux": {**own, "seccomp": {"linux": {"seccomp": own}}}}, 1)):
+        other_profile, profile = json.loads(refuses("umount2")), json.loads(refuses("mount"))
+        for config, status in (({**other_profile, "linux": {"seccomp": profile}}, 0),
+                               ({**profile, "linux": {"seccomp": other_profile}}, 1),
+                               (profile, 1), ({"linux": {**profile, "seccomp": {"linux": {"seccomp": profile}}}}, 1)):
             for words in ((), ("--keep-first",)):
-                found, lines = self.hook(self.child([refusing(MOUNT)]), json.dumps(config).encode(), *words)
+                actual, lines = self.hook(self.child([refusing(MOUNT)]), json.dumps(config).encode(), *words)
                 if status == 0:
-                    self.assertEqual(found, 0, lines)
+                    self.assertEqual(actual, 0, lines)
                 else:
-                    self.assertNotEqual(found, 0, lines)
-        self.assertEqual(self.hook(self.child([refusing(MOUNT)]), json.dumps(own).encode())[1][0],
+                    self.assertNotEqual(actual, 0, lines)
+        self.assertEqual(self.hook(self.child([refusing(MOUNT)]), json.dumps(profile).encode())[1][0],
                          "container box: not confined as configured (unstated)")
 
     def test_a_configuration_that_is_no_file(self):
@@ -335,7 +336,7 @@ class OfProcesses(Hook):
         os.mkdir(bundle)
         path = f"{bundle}/config.json"
         for make, says in ((os.mkfifo, "isn't a regular file"), (os.mkdir, "is a folder"),
-                           (lambda it: os.symlink("/dev/zero", it), "isn't a regular file")):
+                           (lambda path: os.symlink("/dev/zero", path), "isn't a regular file")):
             make(path)
             child = self.child([refusing(MOUNT)])
             self.fails(self.state(child.pid, bundle), says, "--kill", at=2)
@@ -347,16 +348,17 @@ class OfProcesses(Hook):
         child, late = self.child([]), self.file("late", refusing(MOUNT))
         self.do(child, f"import subprocess; print(subprocess.Popen(['sleep', '1000']).pid, flush=True); "
                        f"confine([{late!r}]); print('confined', flush=True)")
-        other = int(child.stdout.readline())
-        self.addCleanup(comes, lambda: not os.path.exists(f"/proc/{other}"))
+        second = int(child.stdout.readline())
+        self.addCleanup(comes, lambda: not os.path.exists(f"/proc/{second}"))
         self.assertEqual(child.stdout.readline(), "confined\n")
         status, lines = self.hook(child, refuses("mount"), "--wait=0", "--kill")
         self.assertEqual((status, lines[:2]), (1, [
             "container box: not confined as configured (unconfined)",
             f"process {child.pid} was killed, and 1 more of the container"]))
-        self.assertIn(f"# process {other} (sleep) has no filter: it isn't confined, and every syscall is allowed", lines)
+        self.assertIn(f"# process {second} (sleep) has no filter: it isn't confined, and every syscall is allowed",
+                      lines)
         self.assertEqual(child.wait(PATIENCE), -signal.SIGKILL)
-        self.assertTrue(comes(lambda: not os.path.exists(f"/proc/{other}")))
+        self.assertTrue(comes(lambda: not os.path.exists(f"/proc/{second}")))
 
     def test_a_configuration_that_states_no_profile(self):
         lines = self.hook(self.child([]), None)[1]
@@ -378,10 +380,10 @@ class OfProcesses(Hook):
         child = self.child([refusing(UMOUNT2)])
         for profile, words, verdict, status in ((refuses("umount2"), (), "same", 0), (refuses("mount"), (), "differs",
                                                 1), (None, (), "unstated", 1), (b"{", ("--kill",), None, 3)):
-            found, out, err = self.run_tool("oci-hook", "--json", *words,
-                                            given=self.state(child.pid, self.bundle(profile)))
+            actual, out, err = self.run_tool("oci-hook", "--json", *words,
+                                             given=self.state(child.pid, self.bundle(profile)))
             value = json.loads(out)
-            self.assertEqual((found, err, value["status"], value["verdict"], value["id"], value["killed"]),
+            self.assertEqual((actual, err, value["status"], value["verdict"], value["id"], value["killed"]),
                              (status, "", status, verdict, "box", bool(words)))
         self.assertEqual(child.wait(PATIENCE), -signal.SIGKILL)
 
@@ -418,12 +420,12 @@ class OfTime(Hook):
 
     def is_watched(self, hook):
         """Waits until a hook has begun its watchdog and its worker, in process groups of their own."""
-        self.assertTrue(comes(lambda: [os.getpgid(it) for it in self.children(hook)] == self.children(hook) != []
+        self.assertTrue(comes(lambda: [os.getpgid(child) for child in self.children(hook)] == self.children(hook) != []
                               and len(self.children(hook)) == 2))
 
     def children(self, hook):
         with open(f"/proc/{hook.pid}/task/{hook.pid}/children", encoding="ascii") as file:
-            return [int(it) for it in file.read().split()]
+            return [int(word) for word in file.read().split()]
 
     def is_killed(self, child, seconds):
         began = time.monotonic()
@@ -462,9 +464,9 @@ class OfTime(Hook):
         self.is_watched(hook)
         hook.kill()
         self.is_killed(child, 20)
-        said = self.lines(hook.stderr.read().decode())
+        message = self.lines(hook.stderr.read().decode())
         # (and nothing of the worker's)
-        self.assertEqual(said, [f"container box: the hook was ended or stopped: process {child.pid} was killed"])
+        self.assertEqual(message, [f"container box: the hook was ended or stopped: process {child.pid} was killed"])
 
     def test_the_worker_ends_with_the_hook(self):
         child = self.child([])
@@ -514,10 +516,10 @@ class OfTime(Hook):
         process = hooks.ContainerProcess(hooks.container_of(self.state(child.pid, "/none")))
         examination = hooks.Examination(process, 60, True)
         with mock.patch.object(hooks, "EXPLANATION_SECONDS", 0.1):
-            found = examination.result(lambda: hooks.HookResult(1, "differs", lambda: time.sleep(5), dict), True)
-        self.assertEqual((found.status, found.verdict, found.value()), (1, "differs", {
+            actual = examination.result(lambda: hooks.HookResult(1, "differs", lambda: time.sleep(5), dict), True)
+        self.assertEqual((actual.status, actual.verdict, actual.value()), (1, "differs", {
             "status": 1, "scope": "native", "verdict": "differs"}))
-        self.assertEqual(found.lines(), ["no explanation: it takes longer than 0.1 seconds"])
+        self.assertEqual(actual.lines(), ["no explanation: it takes longer than 0.1 seconds"])
         self.assertEqual(examination.killed, [hooks.Kill(True, f"process {child.pid} was killed")])
         self.is_killed(child, 20)
 
@@ -588,8 +590,8 @@ class Inside(Hook):
         for status, level in ((0, 6), (1, 3), (3, 3)):
             with mock.patch("syslog.syslog") as log, mock.patch("syslog.openlog") as opened:
                 hooks.write_log("oci-hook", status, ["differs", "# \x1b[2J\n%s"])
-            self.assertEqual([it.args for it in log.call_args_list], [(level, "differs"),
-                                                                      (level, "# \\x1b[2J\\x0a%s")])
+            self.assertEqual([call.args for call in log.call_args_list], [(level, "differs"),
+                                                                          (level, "# \\x1b[2J\\x0a%s")])
             self.assertEqual(opened.call_args.args[0], "oci-hook")
 
 

@@ -67,10 +67,10 @@ class Hostile(Case):
             for filters, status, verdict in ((self.same, 0, "same"), (self.wrong, 1, "differs")):
                 for scope in ("--all", "--native", "--calls"):
                     with self.subTest(name=name, scope=scope):
-                        found, out, err = self.run_tool("compare", "--verbose", scope, filters,
-                                                        self.profile(name))
+                        actual, out, err = self.run_tool("compare", "--verbose", scope, filters,
+                                                         self.profile(name))
                         lines = out.split("\n")
-                        self.assertEqual((found, err, lines[0]), (status, "", verdict))
+                        self.assertEqual((actual, err, lines[0]), (status, "", verdict))
                         self.assertEqual([line for line in lines if line.startswith("skipped ")], [f"skipped {shown}"])
                         self.assertEqual([line for line in lines if line.startswith("other ")], [])
                         self.assertTrue(all(line.isprintable() for line in lines), out)
@@ -88,9 +88,9 @@ class Hostile(Case):
             out = self.run_tool("compare", "--verbose", *words, self.wrong, self.profile(name))[1]
             self.assertNotIn("\n41 ", out)
             self.assertNotIn("# 41 ", out)
-            found = json.loads(self.run_tool("compare", "--json", *words, self.wrong, self.profile(name))[1])
-            self.assertEqual([call["number"] for call in found["calls"]], [231])
-            self.assertEqual(found["skipped"], [name])
+            value = json.loads(self.run_tool("compare", "--json", *words, self.wrong, self.profile(name))[1])
+            self.assertEqual([call["number"] for call in value["calls"]], [231])
+            self.assertEqual(value["skipped"], [name])
         out = self.run_tool("compare", "--native", self.wrong, self.profile(name))[1]
         self.assertIn("# syscalls in the table that differ: 1\n# 231 ", out)
 
@@ -103,8 +103,8 @@ class Hostile(Case):
     def test_where_a_skipped_name_stands_for_several(self):
         """Two names and one name with a line end in it are printed alike by scf, and told apart by the profile."""
         for names in (["x", "y"], ["x\nskipped y"], ["x\nskipped y", "x", "y\nskipped "]):
-            found = json.loads(self.run_tool("compare", "--json", self.same, self.profile(*names))[1])
-            self.assertEqual(found["skipped"], names)
+            value = json.loads(self.run_tool("compare", "--json", self.same, self.profile(*names))[1])
+            self.assertEqual(value["skipped"], names)
 
     def test_explain_and_compile(self):
         for name, shown in HOSTILE.items():
@@ -174,8 +174,8 @@ class Failing(Case):
             with os.fdopen(writer, "wb") as gone:
                 done = subprocess.run([tool(words[0]), *words[1:]], stdout=gone, stderr=subprocess.PIPE,
                                       stdin=subprocess.DEVNULL, check=False)
-            said = [line for line in done.stderr.decode().split("\n") if not line.startswith("compile: ")]
-            self.assertEqual((done.returncode, said), (-13, [""]), words)
+            actual = [line for line in done.stderr.decode().split("\n") if not line.startswith("compile: ")]
+            self.assertEqual((done.returncode, actual), (-13, [""]), words)
 
     def test_head(self):
         done = subprocess.run(["sh", "-c", '{ "$0" "$1" "$2"; echo $? >status; } | head -n1', tool("compare"),
@@ -198,10 +198,10 @@ class Failing(Case):
                 continue
             done = subprocess.run(["sh", "-c", '"$@" >&-', "sh", tool(words[0]), *words[1:]], stdin=subprocess.DEVNULL,
                                   stderr=subprocess.PIPE, check=False)
-            said = done.stderr.decode()
-            self.assertEqual(done.returncode, 3, (words, said))
-            self.assertIn(f"{words[0]}: the output failed: ", said)
-            self.assertNotIn("Traceback", said)
+            message = done.stderr.decode()
+            self.assertEqual(done.returncode, 3, (words, message))
+            self.assertIn(f"{words[0]}: the output failed: ", message)
+            self.assertNotIn("Traceback", message)
 
     def test_the_other_descriptors_closed(self):
         for closing in ("<&-", "2>&-", "<&- 2>&-"):
@@ -246,12 +246,12 @@ class Reports(unittest.TestCase):
     def test_lines_by_their_order(self):
         differs = ("differs\ncall nr 1 arch 0xc000003e ip 0x0 args 0x1 0x2 0x3 0x4 0x5 0xffffffffffffffff\n"
                    "filter ERRNO 22\nprofile UNNAMED 0x12340000\n")
-        found = verdicts.report(differs + "skipped a\nother b\n")
-        self.assertEqual(found.verdict.word, "differs")
-        self.assertEqual(found.verdict.call.arguments, (1, 2, 3, 4, 5, 2**64 - 1))
-        self.assertEqual((found.verdict.call.number, found.verdict.call.architecture), (1, X86_64))
-        self.assertEqual((str(found.verdict.filters), str(found.verdict.profile)), ("ERRNO 22", "UNNAMED 0x12340000"))
-        self.assertEqual((found.skipped, found.architectures), (("a",), ("b",)))
+        actual = verdicts.report(differs + "skipped a\nother b\n")
+        self.assertEqual(actual.verdict.word, "differs")
+        self.assertEqual(actual.verdict.call.arguments, (1, 2, 3, 4, 5, 2**64 - 1))
+        self.assertEqual((actual.verdict.call.number, actual.verdict.call.architecture), (1, X86_64))
+        self.assertEqual((str(actual.verdict.filters), str(actual.verdict.profile)), ("ERRNO 22", "UNNAMED 0x12340000"))
+        self.assertEqual((actual.skipped, actual.architectures), (("a",), ("b",)))
         self.assertEqual(verdicts.report("undecided at 7\n").verdict.at, 7)
         self.assertEqual(verdicts.report("unfinished\n").verdict.word, "unfinished")
         fault = verdicts.report("fault profile Conflict number 41 first 0 second 1\n").fault
@@ -260,14 +260,14 @@ class Reports(unittest.TestCase):
 
     def test_nothing_behind_a_skipped_name_counts(self):
         for forged in ("differs", "same", FORGED_CALL, "fault filter Empty", "undecided at 1"):
-            found = verdicts.report(f"same\nskipped x\n{forged}\nother y\n{forged}\n")
-            self.assertEqual((found.verdict.word, found.fault, found.calls), ("same", None, ()))
-            self.assertEqual((found.skipped, found.architectures), ((f"x\n{forged}",), (f"y\n{forged}",)))
+            actual = verdicts.report(f"same\nskipped x\n{forged}\nother y\n{forged}\n")
+            self.assertEqual((actual.verdict.word, actual.fault, actual.calls), ("same", None, ()))
+            self.assertEqual((actual.skipped, actual.architectures), ((f"x\n{forged}",), (f"y\n{forged}",)))
         calls = verdicts.report(f"differs\n{FORGED_CALL}\nskipped x\n{FORGED_CALL}\n").calls
         self.assertEqual([call.number for call in calls], [41])
 
     def test_texts_that_scf_never_prints(self):
         for text in ("", "\n", "sam", "differs\n", "differs\ncall\nfilter\nprofile\n", "fault\n", "skipped a", "x\0y"):
-            found = verdicts.report(text)
-            self.assertIsNone(found.fault)
-            self.assertTrue(found.verdict is None or found.verdict.call is None)
+            actual = verdicts.report(text)
+            self.assertIsNone(actual.fault)
+            self.assertTrue(actual.verdict is None or actual.verdict.call is None)

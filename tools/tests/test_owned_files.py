@@ -69,7 +69,7 @@ class Files(Case):
         """A user whom an access list lets write, as a mask among the bits of the group tells (acl(5))."""
         # linux/posix_acl_xattr.h: the version, and for each entry its kind, what it permits, and a user or group
         entries = [(1, 7, -1), (2, 7, USER), (4, 5, -1), (16, 7, -1), (32, 5, -1)]
-        access_list = struct.pack("<I", 2) + b"".join(struct.pack("<HHi", *it) for it in entries)
+        access_list = struct.pack("<I", 2) + b"".join(struct.pack("<HHi", *entry) for entry in entries)
         for name in ("a", "a/b/c"):
             path = os.path.join(self.folder, name)
             try:
@@ -121,7 +121,7 @@ class Files(Case):
                     self.skipTest("no file system in user space can be mounted here")
                 with mock.patch.object(os, "open", wraps=os.open) as opens:
                     self.refused(f"{name}/x", f"leads into a file system of user {USER}")
-                self.assertNotIn("x", [it.args[0] for it in opens.call_args_list])
+                self.assertNotIn("x", [call.args[0] for call in opens.call_args_list])
             finally:
                 # (whoever waits for an answer gets an error)
                 os.close(device)

@@ -28,13 +28,14 @@ class Package(Case):
     def copy_of_tree(self):
         """The tree as it is built, in another folder."""
         folder = os.path.join(self.folder, "another", "folder")
-        outs = [os.path.join(*it) for it in (("crates", "scf", "out"), ("library", "out"))]
+        outs = [os.path.join(*item) for item in (("crates", "scf", "out"), ("library", "out"))]
 
         def left_out(at, names):
             inside = os.path.relpath(at, TOP)
-            return {it for it in names if it in (".git", "__pycache__", "dist", "rattle") or it.endswith(".lock")
-                    or it == "out" and os.path.join(inside, it) not in outs
-                    or inside == outs[0] and it not in ("scf", "scf.o")}
+            return {name for name in names
+                    if name in (".git", "__pycache__", "dist", "rattle") or name.endswith(".lock")
+                    or name == "out" and os.path.join(inside, name) not in outs
+                    or inside == outs[0] and name not in ("scf", "scf.o")}
         shutil.copytree(TOP, folder, symlinks=True, ignore=left_out)
         return folder
 
@@ -58,7 +59,7 @@ class Package(Case):
     def test_the_debian_package(self):
         made, *library = self.made("deb")
         again = self.made("deb", "again", self.copy_of_tree())
-        names = [os.path.basename(it) for it in again]
+        names = [os.path.basename(item) for item in again]
         self.assertEqual(filecmp.cmpfiles(os.path.dirname(made), os.path.dirname(again[0]), names, shallow=False),
                          (names, [], []))
         self.packages_of_the_library(library)
@@ -105,13 +106,13 @@ class Package(Case):
         made = {os.path.basename(path): self.run_words(["rpm", "-qlp", path])[1].split() for path in (
             os.path.join(at, name) for at, _, names in os.walk(os.path.join(top, "RPMS")) for name in names)}
         end = f"-{VERSION}-1.x86_64.rpm"
-        self.assertEqual(set(made), {f"{it}{end}" for it in ("scf", "libscf", "libscf-devel")}
+        self.assertEqual(set(made), {f"{name}{end}" for name in ("scf", "libscf", "libscf-devel")}
                          | {f"python3-scf-{VERSION}-1.noarch.rpm"})
         self.assertIn("/usr/bin/scf-compare", made[f"scf{end}"])
-        self.assertEqual({os.path.basename(it) for it in made[f"libscf{end}"]} - {"libscf", f"libscf-{VERSION}"},
+        self.assertEqual({os.path.basename(item) for item in made[f"libscf{end}"]} - {"libscf", f"libscf-{VERSION}"},
                          {"libscf.so.0", "LICENSE", "LICENCES.md"})
         self.assertLessEqual({"/usr/include/scf.h", "/usr/share/man/man3/scf_check.3.gz"}, {
-            f"{it}.gz" if it.endswith(".3") else it for it in made[f"libscf-devel{end}"]})
+            f"{item}.gz" if item.endswith(".3") else item for item in made[f"libscf-devel{end}"]})
 
     @unittest.skipUnless(shutil.which("podman") and os.geteuid() == 0, "there is no podman here, or no root")
     def test_an_image_of_the_program(self):
@@ -144,21 +145,22 @@ class Package(Case):
     def packages_of_the_library(self, made):
         """The packages of libscf have these files, and a program is compiled and run with what they unpack."""
         lib, root = "usr/lib/x86_64-linux-gnu", os.path.join(self.folder, "library")
-        pages = {f"usr/share/man/man3/{it}.gz" for it in PAGES}
-        documents = {f"usr/share/doc/libscf-dev/{it}" for it in ("LICENCES.md", "LIBRARY.md", "FAULTS.md", "engine.c")}
+        pages = {f"usr/share/man/man3/{item}.gz" for item in PAGES}
+        documents = {f"usr/share/doc/libscf-dev/{name}"
+                     for name in ("LICENCES.md", "LIBRARY.md", "FAULTS.md", "runtime.c")}
         for package, needs, wanted in (
                 ("libscf0", "libc6 ", {f"{lib}/libscf.so.0"}),
                 ("libscf-dev", "libscf0 (= ", {
                     f"{lib}/libscf.a", f"{lib}/libscf.so", f"{lib}/pkgconfig/scf.pc", "usr/include/scf.h",
                     "usr/include/scf.hpp", *pages, *documents}),
                 ("python3-scf", f"libscf0 (>= {VERSION}), python3 ",
-                 {f"usr/lib/python3/dist-packages/scf/{it}" for it in ("__init__.py", "py.typed")})):
-            path, = (it for it in made if os.path.basename(it).startswith(f"{package}_"))
+                 {f"usr/lib/python3/dist-packages/scf/{name}" for name in ("__init__.py", "py.typed")})):
+            path, = (item for item in made if os.path.basename(item).startswith(f"{package}_"))
             self.assertTrue(self.run_words(["dpkg-deb", "-f", path, "Depends"])[1].startswith(needs), package)
             listed = self.run_words(["dpkg-deb", "-c", path])[1].splitlines()
             names = {line.split()[5].removeprefix("./") for line in listed if not line.startswith("d")}
-            own = {f"usr/share/doc/{package}/{it}" for it in ("copyright", "changelog.Debian.gz")}
-            self.assertEqual(names, wanted | own)
+            notices = {f"usr/share/doc/{package}/{name}" for name in ("copyright", "changelog.Debian.gz")}
+            self.assertEqual(names, wanted | notices)
             self.assertEqual(self.run_words(["dpkg-deb", "-x", path, root])[0], 0)
             self.licences(f"{root}/usr/share/doc/{package}", {"json", "core"} if package != "python3-scf" else set())
         self.file("version.c", "#include <scf.h>\nint main(void) { return scf_version() != SCF_VERSION; }\n")
@@ -174,7 +176,7 @@ class Package(Case):
     def test_the_archive(self):
         made, = self.made("dist")
         with tarfile.open(made) as archive:
-            self.assertEqual({(it.uid, it.gid, it.mtime) for it in archive}, {(0, 0, 1700000000)})
+            self.assertEqual({(item.uid, item.gid, item.mtime) for item in archive}, {(0, 0, 1700000000)})
             archive.extractall(self.folder)
         folder = os.path.join(self.folder, f"scf-{VERSION}-x86_64")
         self.assertEqual(self.run_words(["sha256sum", "--quiet", "-c", "SHA256SUMS"], cwd=folder), (0, "", ""))

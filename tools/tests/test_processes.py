@@ -29,19 +29,19 @@ class Verdicts(Case):
 
     def test_the_unconfined_first(self):
         """A thread without a filter stands before filters that differ, in text and in JSON."""
-        found = processes.Inspection([processes.Stack((OLDEST,), False, {7: [7]}), processes.Stack((), True, {8: [8]}),
-                                      processes.Stack((), False, {9: [9]})], {7: b"a", 8: b"b", 9: b"c"}, {})
+        actual = processes.Inspection([processes.Stack((OLDEST,), False, {7: [7]}), processes.Stack((), True, {8: [8]}),
+                                       processes.Stack((), False, {9: [9]})], {7: b"a", 8: b"b", 9: b"c"}, {})
         request = verify.Request(b"{}", None)
         report = verdicts.Report(("differs",), verdicts.Verdict("differs"))
-        with mock.patch.object(verify.Request, "judge", lambda _, it: verify.Block(it, 1, None, report)), \
+        with mock.patch.object(verify.Request, "judge", lambda _, item: verify.Block(item, 1, None, report)), \
                 mock.patch.object(verify.Request, "notes", lambda *_: iter(())), \
                 mock.patch.object(verify.Request, "as_json", lambda *_: {"verdict": "differs"}):
-            made = verify.blocks(found, request)
-            self.assertEqual([it.verdict for it in made], ["unconfined", "differs", "strict"])
-            self.assertEqual(next(verify.lines(made, found, request)),
+            made = verify.blocks(actual, request)
+            self.assertEqual([item.verdict for item in made], ["unconfined", "differs", "strict"])
+            self.assertEqual(next(verify.lines(made, actual, request)),
                              "# process 9 (c) has no filter: it isn't confined, and every syscall is allowed")
-            value = verify.as_json(made, found, request, None)
-        self.assertEqual((value["verdict"], value["status"], [it["verdict"] for it in value["stacks"]]),
+            value = verify.as_json(made, actual, request, None)
+        self.assertEqual((value["verdict"], value["status"], [stack["verdict"] for stack in value["stacks"]]),
                          ("unconfined", 1, ["unconfined", "differs", "strict"]))
 
 
@@ -67,10 +67,10 @@ class Asked(Case):
 
     def test_filters_oldest_first(self):
         kernel = FakeKernel([OLDEST, NEWEST, b""], states=[None, None, STOPPED])
-        found = self.look(kernel)
-        self.assertEqual([(stack.filters, stack.is_strict, stack.threads) for stack in found.stacks],
+        inspection = self.look(kernel)
+        self.assertEqual([(stack.filters, stack.is_strict, stack.threads) for stack in inspection.stacks],
                          [((OLDEST, NEWEST, b""), False, {7: [7]})])
-        self.assertEqual((found.names, found.passed_over), ({7: b"fake"}, {}))
+        self.assertEqual((inspection.names, inspection.passed_over), ({7: b"fake"}, {}))
         self.assertEqual([request for request, _, _ in kernel.asked[:2]], [SEIZE, INTERRUPT])
         self.assertEqual(kernel.let_go(), [0])
 
@@ -174,11 +174,11 @@ class Asked(Case):
             kernel = FakeKernel([OLDEST], {SEIZE: errno.EPERM}, status=status)
             ptrace_of, asked = kernel.ptrace, []
 
-            def seizing(request, *rest, kernel=kernel, ptrace_of=ptrace_of, asked=asked, count=count):
+            def seizing(request, *remaining, kernel=kernel, ptrace_of=ptrace_of, asked=asked, count=count):
                 asked.append(request)
                 if request == SEIZE and asked.count(SEIZE) == count:
                     kernel.fails = {}
-                return ptrace_of(request, *rest)
+                return ptrace_of(request, *remaining)
 
             kernel.ptrace = seizing
             self.assertEqual([stack.threads for stack in self.look(kernel).stacks], [{7: [7]}])
@@ -223,9 +223,10 @@ class Asked(Case):
             return ptrace(request, thread, place, data)
 
         kernel.ptrace = refusing
-        kernel.status_of = lambda it: {**status_of_thread(it), **({"State": "Z (zombie)"} if it == 7 else {})}
-        found = self.look(kernel)
-        self.assertEqual(([stack.threads for stack in found.stacks], found.passed_over), ([{7: [8]}], {}))
+        kernel.status_of = lambda number: {**status_of_thread(number),
+                                           **({"State": "Z (zombie)"} if number == 7 else {})}
+        inspection = self.look(kernel)
+        self.assertEqual(([stack.threads for stack in inspection.stacks], inspection.passed_over), ([{7: [8]}], {}))
 
     def test_this_tool_itself_is_not_stopped(self):
         kernel = FakeKernel([OLDEST], listings=[(os.getpid(),)])
@@ -236,10 +237,10 @@ class Asked(Case):
 
     def test_the_tool_has_no_right_to_see_filters(self):
         """It is said before any process is stopped."""
-        for own, says in (({"CapEff": "0"}, "CAP_SYS_ADMIN: run this as root"),
-                          ({"Seccomp": "2"}, "this tool runs under a filter itself")):
+        for members, says in (({"CapEff": "0"}, "CAP_SYS_ADMIN: run this as root"),
+                              ({"Seccomp": "2"}, "this tool runs under a filter itself")):
             kernel = FakeKernel([OLDEST])
-            kernel.own_status.update(own)
+            kernel.own_status.update(members)
             self.refused(kernel, says)
             self.assertEqual(kernel.asked, [])
         kernel = FakeKernel([OLDEST])
@@ -261,8 +262,8 @@ class Asked(Case):
     def test_no_filter_at_all(self):
         for fails, status, is_strict in (({}, {}, False), ({GET: errno.EINVAL}, {"Seccomp": "0"}, False),
                                          ({GET: errno.EINVAL}, {"Seccomp": "1"}, True)):
-            found = self.look(FakeKernel([], fails, status=status))
-            self.assertEqual([(stack.filters, stack.is_strict) for stack in found.stacks], [((), is_strict)])
+            inspection = self.look(FakeKernel([], fails, status=status))
+            self.assertEqual([(stack.filters, stack.is_strict) for stack in inspection.stacks], [((), is_strict)])
 
     def test_the_process_ends_or_never_stops(self):
         for fails, states in (({}, [0]), ({}, [signal.SIGKILL]), ({}, [ChildProcessError(errno.ECHILD, "none")]),
@@ -282,8 +283,8 @@ class Asked(Case):
         states = {7: iter([STOPPED] * 9), 8: iter([None] * 2 + [STOPPED] * 9)}
         kernel.wait = lambda thread: next(states[thread])
         with mock.patch.object(hold, "HELD_FOR_ONE", 0):
-            found = self.look(kernel)
-        self.assertEqual(found.stacks[0].threads, {7: [7, 8]})
+            inspection = self.look(kernel)
+        self.assertEqual(inspection.stacks[0].threads, {7: [7, 8]})
         asked = [(request, thread) for request, thread, _ in kernel.asked if request in (SEIZE, DETACH)]
         self.assertEqual(asked[:4], [(SEIZE, 7), (SEIZE, 8), (DETACH, 7), (SEIZE, 7)])
         self.assertEqual(kernel.held, set())
@@ -325,10 +326,10 @@ class Asked(Case):
         kernel = FakeKernel([OLDEST])
         kernel.is_root_the_first = lambda: False
         kernel.processes, kernel.namespaces_of = lambda: list(groups), lambda _: [(1, 1)]
-        kernel.groups_of = lambda it: {"": b"/", "name=systemd": groups.get(it, b"/")}
+        kernel.groups_of = lambda number: {"": b"/", "name=systemd": groups.get(number, b"/")}
         for process in (7, 8, 11, 13):
             for space in ([(1, 1)], [(1, 7), (1, 1)]):
-                kernel.namespaces_of = lambda it, space=space: [(1, 1)] if it == os.getpid() else space
+                kernel.namespaces_of = lambda number, space=space: [(1, 1)] if number == os.getpid() else space
                 with self.assertRaises(processes.Unreadable) as caught:
                     processes.container_of(kernel, process)
                 self.assertIn(f"the container of process {process} is unknown: ", str(caught.exception))
@@ -337,13 +338,14 @@ class Asked(Case):
             container = processes.container_of(kernel, process)
             self.assertEqual((container.group, container.processes()), (groups[process], members))
         # where the kernel lists no control group, the PID namespace is asked
-        kernel.groups_of, kernel.namespaces_of = lambda _: {}, lambda it: [(1, 1)] if it == os.getpid() else [(1, 7)]
+        kernel.groups_of = lambda _: {}
+        kernel.namespaces_of = lambda number: [(1, 1)] if number == os.getpid() else [(1, 7)]
         self.assertIsNone(processes.container_of(kernel, 7).group)
 
     def test_whether_the_root_group_is_the_first(self):
-        for found, is_first in ((mock.Mock(st_ino=0xEFFFFFFB), True), (mock.Mock(st_ino=0xF0000001), False),
-                                (OSError(errno.ENOENT, "none"), True), (OSError(errno.EACCES, "no"), False)):
-            with mock.patch("os.stat", side_effect=[found]):
+        for actual, is_first in ((mock.Mock(st_ino=0xEFFFFFFB), True), (mock.Mock(st_ino=0xF0000001), False),
+                                 (OSError(errno.ENOENT, "none"), True), (OSError(errno.EACCES, "no"), False)):
+            with mock.patch("os.stat", side_effect=[actual]):
                 self.assertEqual(processes.Kernel().is_root_the_first(), is_first)
 
     def test_the_name_of_a_group_is_a_stranger_s(self):
@@ -353,9 +355,9 @@ class Asked(Case):
             self.assertEqual(processes.Kernel().groups_of(7), {"": b"/a:b", "cpu": group, "cpuacct": group})
 
     def test_numbers_told(self):
-        for threads, told in (([7], "thread 7"), ([7, 8], "threads 7, 8"), ([7, 8, 9, 11], "threads 7 to 9, 11"),
+        for threads, text in (([7], "thread 7"), ([7, 8], "threads 7, 8"), ([7, 8, 9, 11], "threads 7 to 9, 11"),
                               ([1, 3, 4, 5, 6], "threads 1, 3 to 6")):
-            self.assertEqual(processes.threads_text(threads), told)
+            self.assertEqual(processes.threads_text(threads), text)
 
 
 @here
@@ -369,16 +371,16 @@ class Real(Confined):
     def test_threads_with_filters_of_their_own(self):
         """Filters of one length, in threads of one count of filters, are told apart; a thread has none."""
         child = self.child([OLDEST, NEWEST], [OLDEST, OTHER], [], [OLDEST, NEWEST])
-        found = {stack.filters: stack.threads for stack in self.look(child).stacks}
-        main, other, free, alike = child.threads
-        self.assertEqual(found, {(OLDEST, NEWEST): {child.pid: sorted([main, alike])},
-                                 (OLDEST, OTHER): {child.pid: [other]}, (): {child.pid: [free]}})
+        actual = {stack.filters: stack.threads for stack in self.look(child).stacks}
+        main, second, free, alike = child.threads
+        self.assertEqual(actual, {(OLDEST, NEWEST): {child.pid: sorted([main, alike])},
+                                  (OLDEST, OTHER): {child.pid: [second]}, (): {child.pid: [free]}})
         self.runs_on(child)
 
     def test_one_thread(self):
         child = self.child([OLDEST], [NEWEST])
-        found = self.look(child, thread=child.threads[1])
-        self.assertEqual([(stack.filters, stack.threads) for stack in found.stacks],
+        inspection = self.look(child, thread=child.threads[1])
+        self.assertEqual([(stack.filters, stack.threads) for stack in inspection.stacks],
                          [((NEWEST,), {child.pid: [child.threads[1]]})])
         with self.assertRaises(processes.Unreadable) as caught:
             self.look(child, thread=os.getpid())
@@ -394,14 +396,14 @@ class Real(Confined):
                        "threading.Thread(target=more, daemon=True).start()')")
         kernel, held = processes.Kernel(), []
         name_of = kernel.name_of
-        kernel.name_of = lambda it: held.append(kernel.threads_of(it)) or name_of(it)
+        kernel.name_of = lambda number: held.append(kernel.threads_of(number)) or name_of(number)
         until = time.monotonic() + PATIENCE
         # five times, and until some are begun
         while (len(held) < 5 or len(held[-1]) == 1) and time.monotonic() < until:
             time.sleep(0.005)
             with here_and_now:
-                found = processes.look_at_process(kernel, child.pid, patience=PATIENCE)
-            self.assertEqual([stack.threads for stack in found.stacks], [{child.pid: held[-1]}])
+                inspection = processes.look_at_process(kernel, child.pid, patience=PATIENCE)
+            self.assertEqual([stack.threads for stack in inspection.stacks], [{child.pid: held[-1]}])
         self.assertGreater(len(held[-1]), 1)
 
     def test_a_zombie(self):
@@ -422,7 +424,8 @@ class Real(Confined):
 
     def test_a_thread_of_the_kernel(self):
         kernel = processes.Kernel()
-        number = next((it for it in kernel.processes() if kernel.flags_of(it) & hold.PF_KTHREAD), None)
+        is_of_kernel = (process for process in kernel.processes() if kernel.flags_of(process) & hold.PF_KTHREAD)
+        number = next(is_of_kernel, None)
         if number is None:
             self.skipTest("no kernel thread is seen here")
         with self.assertRaises(processes.Unreadable) as caught:
@@ -434,9 +437,9 @@ class Real(Confined):
         child = self.child([OLDEST])
         kernel = processes.Kernel()
         kernel.ptrace(SEIZE, child.pid, None, None)
-        said = subprocess.run([sys.executable, "-c", TRY, os.path.dirname(os.path.dirname(processes.__file__)),
-                               str(child.pid)], stdout=subprocess.PIPE, text=True, check=True).stdout
-        self.assertIn(f"process {child.pid} is already traced by process {os.getpid()}", said)
+        message = subprocess.run([sys.executable, "-c", TRY, os.path.dirname(os.path.dirname(processes.__file__)),
+                                  str(child.pid)], stdout=subprocess.PIPE, text=True, check=True).stdout
+        self.assertIn(f"process {child.pid} is already traced by process {os.getpid()}", message)
         kernel.ptrace(INTERRUPT, child.pid, None, None)
         os.waitpid(child.pid, ptrace.WALL)
         kernel.ptrace(DETACH, child.pid, None, None)
@@ -491,9 +494,9 @@ class Real(Confined):
     def test_one_that_waits_for_its_child_in_vfork(self):
         """It stops no sooner than the child runs on: that is said, and both run on."""
         child, fifo = self.stuck([OLDEST])
-        said = subprocess.run([sys.executable, "-c", TRY, os.path.dirname(os.path.dirname(processes.__file__)),
-                               str(child.pid), "2"], stdout=subprocess.PIPE, text=True, check=True).stdout
-        self.assertRegex(said, rf"\Aprocess {child.pid} didn't stop within 1\.[0-9]+ seconds: its state is D "
+        message = subprocess.run([sys.executable, "-c", TRY, os.path.dirname(os.path.dirname(processes.__file__)),
+                                  str(child.pid), "2"], stdout=subprocess.PIPE, text=True, check=True).stdout
+        self.assertRegex(message, rf"\Aprocess {child.pid} didn't stop within 1\.[0-9]+ seconds: its state is D "
                                r"\(disk sleep\)\n\Z")
         with open(fifo, "wb"):
             self.wait_for(child.pid, "S")
@@ -510,24 +513,24 @@ class Real(Confined):
             self.addCleanup(child.wait)
             self.addCleanup(child.kill)
             for _ in range(15):
-                found = processes.look_at_process(processes.Kernel(), child.pid, patience=PATIENCE)
-                self.assertEqual([stack.filters for stack in found.stacks], [()])
+                inspection = processes.look_at_process(processes.Kernel(), child.pid, patience=PATIENCE)
+                self.assertEqual([stack.filters for stack in inspection.stacks], [()])
             self.assertIsNone(child.poll())
 
     def test_a_program_that_is_executed_for_ever(self):
         """PTRACE_SEIZE doesn't return before it is: the look ends in time, and the process runs on."""
         child = self.child([OLDEST], [OLDEST])
-        other, kernel = child.threads[1], processes.Kernel()
-        kernel.ptrace(SEIZE, other, None, None)
+        second, kernel = child.threads[1], processes.Kernel()
+        kernel.ptrace(SEIZE, second, None, None)
         self.do(child, "threading.Thread(target=os.execv, args=('/bin/sleep', ['sleep', '1000'])).start()")
         # the thread has ended, and isn't waited for
-        self.wait_for(other, "Z")
+        self.wait_for(second, "Z")
         begun = time.monotonic()
         with self.assertRaises(processes.Unreadable) as caught:
             processes.look_at_process(kernel, child.pid, patience=0.5)
         self.assertLess(time.monotonic() - begun, PATIENCE)
         self.assertIn("couldn't be read within 0.5 seconds", str(caught.exception))
-        os.waitpid(other, ptrace.WALL)
+        os.waitpid(second, ptrace.WALL)
         self.assertTrue(comes(lambda: kernel.name_of(child.pid) == b"sleep"))
         self.assertEqual(status_of(child.pid)["TracerPid"], "0")
 
@@ -543,7 +546,7 @@ class Real(Confined):
         return child, looks
 
     def let_go(self, child):
-        self.assertTrue(comes(lambda: {status_of(it)["TracerPid"] for it in child.threads} == {"0"}))
+        self.assertTrue(comes(lambda: {status_of(thread)["TracerPid"] for thread in child.threads} == {"0"}))
         self.wait_for(child.threads[1], "S")
 
     def test_a_tool_that_is_stopped(self):

@@ -120,9 +120,9 @@ class Paths(unittest.TestCase):
             self.assertEqual(json_places.place_of(text, path), place, path)
 
     def test_how_they_are_told(self):
-        for path, told in ((["syscalls", 3, "args", 0, "op"], "syscalls[3].args[0].op"), ([], ""), (["a b"], '["a b"]'),
+        for path, text in ((["syscalls", 3, "args", 0, "op"], "syscalls[3].args[0].op"), ([], ""), (["a b"], '["a b"]'),
                            (["a", "\x1b"], 'a["\\u001b"]'), (["x" * 99], f'["{"x" * 40}.."]'), ([0, 1], "[0][1]")):
-            self.assertEqual(json_places.path_text(path), told)
+            self.assertEqual(json_places.path_text(path), text)
 
 
 if __name__ == "__main__":

@@ -38,7 +38,7 @@ SPEC = {"defaultAction": ERRNO, "architectures": ["SCMP_ARCH_X86_64"], "syscalls
     {"action": ALLOW, "names": ["read", "write", "exit_group"]},
     {"action": ALLOW, "names": ["socket"], "args": [{"index": 0, "value": 40, "op": "SCMP_CMP_NE"}]}]}
 OBJECT = {"apiVersion": "security-profiles-operator.x-k8s.io/v1beta1", "kind": "SeccompProfile", "spec": SPEC}
-HAS_YAML = any(os.path.exists(os.path.join(it, "yaml")) for it in profile_inputs.FOLDERS)
+HAS_YAML = any(os.path.exists(os.path.join(folder, "yaml")) for folder in profile_inputs.FOLDERS)
 
 
 class Unread(Case):
@@ -47,7 +47,7 @@ class Unread(Case):
     def test_misspelt_members(self):
         entry = {"names": ["socket"], "action": ALLOW, "args": [{"index": 0, "value": 40, "op": "SCMP_CMP_NE"}]}
         misspelt = {"arg": ({"defaultAction": ERRNO, "syscalls": [SPEC["syscalls"][0], {
-                        **{name: it for name, it in entry.items() if name != "args"}, "arg": entry["args"]}]},
+                        **{name: value for name, value in entry.items() if name != "args"}, "arg": entry["args"]}]},
                             "'arg' of entry 1; the nearest is 'args'"),
                     "sycalls": ({"defaultAction": ALLOW, "sycalls": []},
                                 "'sycalls' of the profile; the nearest is 'syscalls'"),
@@ -56,19 +56,19 @@ class Unread(Case):
                                  "'x' of the profile, and of 1 more")}
         allows = self.file("f.bpf", filter_of([0]))
         for profile, says in misspelt.values():
-            said = f": 'p.json': nothing reads the member {says}\n"
+            remark = f": 'p.json': nothing reads the member {says}\n"
             self.file("p.json", json.dumps(profile))
-            for words in (("ask",), ("compare", allows), ("needs", self.file("log", "read() = 0\n"))):
+            for words in (("ask", "--nr=0"), ("compare", allows), ("needs", self.file("log", "read() = 0\n"))):
                 status, out, err = self.run_tool(*words, "p.json")
                 self.assertIn(status, (0, 1), words)
-                self.assertIn(said, err, words)
+                self.assertIn(remark, err, words)
                 self.assertNotEqual(out, "", words)
             status, _, err = self.run_tool("compile", "p.json", stdout=subprocess.DEVNULL)
-            self.assertEqual((status, err.count(said)), (0, 1))
+            self.assertEqual((status, err.count(remark)), (0, 1))
             for words in (("ask",), ("compare", allows), ("compile",), ("verify-process", "1"),
                           ("verify-process", "--runtime=runc", "1")):
                 status, out, err = self.run_tool(words[0], "--strict", *words[1:], "p.json")
-                self.assertEqual((status, out, err), (1, "", words[0] + said), words)
+                self.assertEqual((status, out, err), (1, "", words[0] + remark), words)
 
     def test_what_is_read_is_not_told(self):
         """Nor a comment, nor what engines and a container's other settings have."""
@@ -111,9 +111,10 @@ class Kubernetes(Case):
     def is_plain(self, path):
         """Each tool takes an object as it takes its spec."""
         for words in (("ask", "--nr=socket", "--a0=AF_VSOCK"), ("compile",), ("lint",), ("resolve-profile",)):
-            done = [subprocess.run([tool(words[0]), *words[1:], one], stdout=subprocess.PIPE, stderr=subprocess.PIPE,
-                                   check=False) for one in (self.plain, path)]
-            self.assertEqual([it.returncode for it in done], [0, 0], words)
+            done = [subprocess.run([tool(words[0]), *words[1:], path_given], stdout=subprocess.PIPE,
+                                   stderr=subprocess.PIPE,
+                                   check=False) for path_given in (self.plain, path)]
+            self.assertEqual([completed.returncode for completed in done], [0, 0], words)
             self.assertEqual(done[0].stdout, done[1].stdout, words)
             self.assertIn(f"{words[0]}: '{path}' is a SeccompProfile of Kubernetes: its spec is the profile\n",
                           done[1].stderr.decode())
@@ -129,8 +130,8 @@ class Kubernetes(Case):
     def test_without_pyyaml(self):
         os.chmod(self.folder, 0o777)
         self.file("yaml.py", "")
-        kept, profile_inputs.FOLDERS = profile_inputs.FOLDERS, ("/nonexistent", self.folder)
-        self.addCleanup(setattr, profile_inputs, "FOLDERS", kept)
+        folders, profile_inputs.FOLDERS = profile_inputs.FOLDERS, ("/nonexistent", self.folder)
+        self.addCleanup(setattr, profile_inputs, "FOLDERS", folders)
         with self.assertRaises(engines.Refused) as caught:
             profile_inputs.spec_of(YAML.encode())
         self.assertIn("PyYAML isn't installed (Debian's python3-yaml)", str(caught.exception))
@@ -200,7 +201,7 @@ class Caps(Case):
                     self.assertEqual(by_caps.stdout, plain.stdout, words)
                 self.assertEqual(by_caps.stderr.decode().split("\n")[0],
                                  f"{words[0]}: '{self.engine}' is resolved as by resolve-profile --keep-first --caps "
-                                 f"{caps}, which says what is left out; entries that are left: "
+                                 f"{caps}, which says what is left out; entries that remain: "
                                  f"{2 if caps == 'SYS_ADMIN' else 1}")
                 compiled[caps] = by_caps.stdout if words[0] == "compile" else compiled.get(caps)
         path = self.file("f.bpf", compiled["SYS_ADMIN"])
@@ -208,16 +209,45 @@ class Caps(Case):
         status, out, _ = self.run_tool("compare", "--caps=none", path, self.engine)
         self.assertEqual((status, out.split("\n")[0]), (1, "differs"))
 
+    def test_another_machine(self):
+        """What an engine passes on there: the architectures and the entries of arm64 (moby's `arches`)."""
+        engine = self.file("m.json", json.dumps({
+            "defaultAction": ERRNO, "defaultErrnoRet": 1,
+            "archMap": [{"architecture": "SCMP_ARCH_X86_64", "subArchitectures": []},
+                        {"architecture": "SCMP_ARCH_AARCH64", "subArchitectures": ["SCMP_ARCH_ARM"]}],
+            "syscalls": [{"names": ["read"], "action": ALLOW, "includes": {"arches": ["arm64"]}},
+                         {"names": ["write"], "action": ALLOW, "excludes": {"arches": ["arm64"]}}]}))
+        words = ("--caps=none", "--machine=arm64")
+        # numbers of asm/unistd_64.h of arm64
+        for name, answer in (("read", "ALLOW 0 entry 0"), ("write", "ERRNO 1 default")):
+            out = self.run_tool("ask", *words, "--arch=aarch64", "--nr", name, engine)[1]
+            self.assertEqual(out.split("\n")[0], answer)
+        self.assertEqual(self.run_tool("ask", *words, "--nr=write", engine)[1].split("\n")[0], "KILL_PROCESS 0 foreign")
+        done = subprocess.run([tool("compile"), *words, engine], stdout=subprocess.PIPE, stderr=subprocess.PIPE,
+                              check=True)
+        self.assertIn(b"--caps none --machine arm64, which says", done.stderr)
+        path = self.file("f.bpf", done.stdout)
+        self.assertEqual(self.run_tool("compare", *words, path, engine)[1].split("\n")[0], "same")
+        self.assertEqual(self.run_tool("compare", "--caps=none", path, engine)[1].split("\n")[0], "differs")
+        plain = self.file("p.json", self.run_tool("resolve-profile", *words, engine)[1])
+        self.assertEqual(self.run_tool("lint", *words, engine)[1], self.run_tool("lint", plain)[1])
+        self.assertEqual(self.run_tool("compare-profiles", *words, engine, engine)[0], 0)
+        for command in ("ask", "compile", "lint", "compare"):
+            files = [path, engine] if command == "compare" else [engine]
+            status, out, err = self.run_tool(command, "--machine=arm64", *files)
+            self.assertEqual((status, out), (2, ""), command)
+            self.assertIn("--machine is for an engine's profile", err)
+
     def test_entries_have_their_places_in_the_file(self):
         out = self.run_tool("ask", "--caps=SYS_ADMIN", "--nr=mount", self.engine)[1]
         self.assertIn("# by entry 3 of syscalls: ", out)
-        found = json.loads(self.run_tool("ask", "--caps=SYS_ADMIN", "--nr=mount", "--json", self.engine)[1])
-        self.assertEqual(found["calls"][0]["entry"], 3)
+        report = json.loads(self.run_tool("ask", "--caps=SYS_ADMIN", "--nr=mount", "--json", self.engine)[1])
+        self.assertEqual(report["calls"][0]["entry"], 3)
 
     def test_what_is_refused(self):
         for words, status, says in ((("--caps=SYS_ADMINN",), 2, "'SYS_ADMINN' isn't a capability"),
                                     (("--caps=",), 0, ""), ((), 1, "fault profile EngineForm\n")):
-            done = self.run_tool("ask", *words, self.engine)
+            done = self.run_tool("ask", "--nr=0", *words, self.engine)
             self.assertEqual(done[0], status)
             self.assertIn(says, done[1] + done[2])
         self.assertIn("isn't JSON", self.run_tool("ask", "--caps=none", self.file("x", "{"))[2])
@@ -230,10 +260,10 @@ class Made(Case):
         """A line of what a tool made of a file would be none of that file."""
         wrong = {**OBJECT, "spec": {**SPEC, "defaultAction": "ALLOW"}}
         self.assertIn('# spec.defaultAction is "ALLOW", which is none\n',
-                      self.run_tool("ask", self.file("o.json", json.dumps(wrong)))[1])
+                      self.run_tool("ask", "--nr=0", self.file("o.json", json.dumps(wrong)))[1])
         first = {"names": ["bpf"], "action": ALLOW, "includes": {"caps": ["CAP_BPF"]}}
         engine = json.dumps({"defaultAction": ERRNO, "syscalls": [first, {"names": ["read"], "action": "X"}]})
-        out = self.run_tool("ask", "--caps=none", self.file("e.json", engine))[1]
+        out = self.run_tool("ask", "--nr=0", "--caps=none", self.file("e.json", engine))[1]
         self.assertNotIn("line 1", out)
         self.assertIn("in the original file that is entry 1 (read)", out)
 

@@ -7,7 +7,8 @@ import sys
 from unittest import mock
 
 from support import several
-from support.common import ALLOW, EPERM, KILL_PROCESS, KILL_THREAD, TOP, X86_64, Case, insn, jeq, jge, load, ret, tool
+from support.common import (ALLOW, EPERM, KILL_PROCESS, KILL_THREAD, TOP, X32, X86_64, Case, gate, insn, jeq, jge, load,
+                            ret, tool)
 from support.seccomp_library import NEEDED, Library
 from support.stand_in import StandIn, unpacked
 
@@ -16,19 +17,11 @@ sys.path.append(os.path.join(TOP, "tools"))
 from scftools import answers  # noqa: E402
 from scftools.calls import Call  # noqa: E402
 
-MOST, X32 = (1 << 64) - 1, 0x40000000
+MOST = (1 << 64) - 1
 TRAP, USER_NOTIF, TRACE, LOG = 0x00030000, 0x7FC00000, 0x7FF00000, 0x7FFC0000
 NAMES = {"read": 0, "write": 1, "ioctl": 16, "socket": 41, "personality": 135}
 OWN = "".join(f"{name} {number}\n" for name, number in NAMES.items())
-# What a profile says of a number, by the OCI runtime specification (config-linux.md: Seccomp).
-HOLDS = {
-    "SCMP_CMP_NE": lambda it, value, _: it != value, "SCMP_CMP_LT": lambda it, value, _: it < value,
-    "SCMP_CMP_LE": lambda it, value, _: it <= value, "SCMP_CMP_EQ": lambda it, value, _: it == value,
-    "SCMP_CMP_GE": lambda it, value, _: it >= value, "SCMP_CMP_GT": lambda it, value, _: it > value,
-    "SCMP_CMP_MASKED_EQ": lambda it, value, two: it & value == two & value,
-}
-WORDS = {"KILL_PROCESS": KILL_PROCESS, "KILL_THREAD": KILL_THREAD, "TRAP": TRAP, "ERRNO": 0x00050000,
-         "NOTIFY": USER_NOTIF, "TRACE": TRACE, "LOG": LOG, "ALLOW": ALLOW}
+HOLDS = {f"SCMP_CMP_{name}": holds for name, holds in several.OPERATORS.items()}
 
 
 def jgt(k, jt, jf):
@@ -39,26 +32,23 @@ def jset(k, jt, jf):
     return insn(0x45, k, jt, jf)
 
 
-def gate(native):
-    return load(4) + jeq(X86_64, 1, 0) + ret(KILL_PROCESS) + load(0) + jge(X32, 0, 1) + ret(KILL_PROCESS) + native
-
-
-def of_numbers(codes, other):
+def of_numbers(codes, default):
     """Answers each of these numbers by a piece of code, and all others so."""
-    return gate(b"".join(jeq(number, 0, len(code) // 8) + code for number, code in codes.items()) + ret(other))
+    return gate(b"".join(jeq(number, 0, len(code) // 8) + code for number, code in codes.items()) + ret(default))
 
 
 def answer_of_profile(profile, name, arguments):
     """The word that a profile answers to a syscall; an answer of two entries is one, since they don't conflict."""
     def word(action, errno):
         action = action.removeprefix("SCMP_ACT_")
-        return WORDS[action] | (0 if action not in ("ERRNO", "TRACE") else 1 if errno is None else errno)
+        return several.ACTIONS[action] | (0 if action not in ("ERRNO", "TRACE") else 1 if errno is None else errno)
 
-    found = {word(entry["action"], entry.get("errnoRet")) for entry in profile["syscalls"] if name in entry["names"]
-             and all(HOLDS[it["op"]](arguments[it["index"]], it["value"], it.get("valueTwo", 0))
-                     for it in entry.get("args", ()))}
-    assert len(found) < 2, found
-    return found.pop() if found else word(profile["defaultAction"], profile.get("defaultErrnoRet"))
+    answers = {word(entry["action"], entry.get("errnoRet")) for entry in profile["syscalls"] if name in entry["names"]
+             and all(HOLDS[condition["op"]](arguments[condition["index"]], condition["value"],
+                                            condition.get("valueTwo", 0))
+                     for condition in entry.get("args", ()))}
+    assert len(answers) < 2, answers
+    return answers.pop() if answers else word(profile["defaultAction"], profile.get("defaultErrnoRet"))
 
 
 def rank_of(word):
@@ -69,23 +59,23 @@ def rank_of(word):
 
 def corners(filters):
     """Words at which a test of the filters may change."""
-    found = {0, 1, 0xFFFFFFFF}
+    values = {0, 1, 0xFFFFFFFF}
     for data in filters:
         for code, _, _, k in unpacked(data):
             if code & 7 in (4, 5) and code != 5 and k not in (X86_64, X32):
-                found.update(it & 0xFFFFFFFF for it in (k - 1, k, k + 1, ~k))
-    return sorted(found)
+                values.update(value & 0xFFFFFFFF for value in (k - 1, k, k + 1, ~k))
+    return sorted(values)
 
 
 def profiles_in(text):
     """The profiles in a tool's output, among lines that it adds."""
     lines = [line for line in text.splitlines(keepends=True) if not line.startswith("#")]
-    found, rest = [], "".join(lines)
-    while rest.strip():
-        value, end = json.JSONDecoder().raw_decode(rest.lstrip())
-        found.append(value)
-        rest = rest.lstrip()[end:]
-    return found
+    profiles, pending = [], "".join(lines)
+    while pending.strip():
+        value, end = json.JSONDecoder().raw_decode(pending.lstrip())
+        profiles.append(value)
+        pending = pending.lstrip()[end:]
+    return profiles
 
 
 def where(index, op, value, two, left, right):
@@ -112,8 +102,8 @@ class Drawn:
         self.random = random.Random(seed)
 
     def answer(self):
-        said = (ALLOW, EPERM, 0x00050000 | 38, KILL_PROCESS, LOG, TRACE | 7)
-        return ret(self.random.choice((TRAP | 9, 0x12340000, ALLOW | 1) if self.random.random() < 0.03 else said))
+        answers = (ALLOW, EPERM, 0x00050000 | 38, KILL_PROCESS, LOG, TRACE | 7)
+        return ret(self.random.choice((TRAP | 9, 0x12340000, ALLOW | 1) if self.random.random() < 0.03 else answers))
 
     def value(self):
         return self.random.choice((0, 1, 2, 3, 9, 16, 0x20000, 0xFFFFFFFF, self.random.getrandbits(32)))
@@ -164,8 +154,8 @@ class Drawn:
 def entry(answer, *names, **condition):
     """An entry of a profile as the tool prints it."""
     action, _, errno = answer.partition(" ")
-    found = {"names": list(names), "action": f"SCMP_ACT_{action}", **({"errnoRet": int(errno)} if errno else {})}
-    return {**found, "args": [condition]} if condition else found
+    members = {"names": list(names), "action": f"SCMP_ACT_{action}", **({"errnoRet": int(errno)} if errno else {})}
+    return {**members, "args": [condition]} if condition else members
 
 
 def members_of_default(answer):
@@ -210,14 +200,14 @@ class Profiles(Case):
             filters = drawn.filters()
             status, out, err = self.run_on(filters, "--limit", "1000000")
             counts[status] += 1
-            found, records = profiles_in(out), list(drawn.records(filters))
+            profiles, records = profiles_in(out), list(drawn.records(filters))
             self.assertEqual(err, "")
             if status == 0:
-                self.is_judged(filters, found[0], lambda ours, theirs: ours == theirs, records)
+                self.is_judged(filters, profiles[0], lambda ours, theirs: ours == theirs, records)
             else:
-                self.assertIn(len(found), (1, 2))
-                self.is_judged(filters, found[0], lambda ours, theirs: rank_of(ours) <= rank_of(theirs), records)
-                self.is_judged(filters, found[-1], lambda ours, theirs: rank_of(ours) >= rank_of(theirs), records)
+                self.assertIn(len(profiles), (1, 2))
+                self.is_judged(filters, profiles[0], lambda ours, theirs: rank_of(ours) <= rank_of(theirs), records)
+                self.is_judged(filters, profiles[-1], lambda ours, theirs: rank_of(ours) >= rank_of(theirs), records)
         self.assertGreater(counts[0], 5)
         self.assertGreater(counts[4], 2)
 
@@ -264,7 +254,7 @@ class Profiles(Case):
 
         values = (0, 8, 0x20000, 0x20008, 0xFFFFFFFF)
         self.is_read([of_numbers({135: any_of(values)}, EPERM)], "ERRNO 1",
-                     *(entry("ALLOW", "personality", index=0, value=it, op="SCMP_CMP_EQ") for it in values))
+                     *(entry("ALLOW", "personality", index=0, value=value, op="SCMP_CMP_EQ") for value in values))
         self.is_read([of_numbers({135: any_of(range(3, 67, 4))}, EPERM)], "ERRNO 1",
                      entry("ALLOW", "personality", index=0, value=MOST - 60, valueTwo=3, op="SCMP_CMP_MASKED_EQ"))
         # none of some bits, and not 0
@@ -295,31 +285,32 @@ class Profiles(Case):
         self.assertEqual((status, err), (4, ""))
         for text in ("# no profile was found that scf proves to answer as the filters do\n", *says):
             self.assertIn(text, out)
-        found = profiles_in(out)
+        profiles = profiles_in(out)
         names = [self.file(f"{at}.bpf", data) for at, data in enumerate(filters)]
-        for relation, profile in (("--no-more", found[0]), ("--no-less", found[-1])):
+        for relation, profile in (("--no-more", profiles[0]), ("--no-less", profiles[-1])):
             path = self.file("bound.json", json.dumps(profile))
             self.assertEqual(self.run_tool("compare", "--table", self.table, relation, *names, path)[0], 0)
-        return found
+        return profiles
 
     def test_data_that_no_profile_says(self):
         """One profile is on both sides, since only the answer's data differs."""
-        found = self.is_bounded([of_numbers({41: ret(TRAP | 9)}, ALLOW)],
+        profiles = self.is_bounded([of_numbers({41: ret(TRAP | 9)}, ALLOW)],
                                 "# proved: nowhere stricter and nowhere more permissive than the filters\n"
                                 "# only other answers, since no profile gives TRAP 9: socket\n")
-        self.assertEqual([it["syscalls"] for it in found], [[entry("TRAP", "socket")]])
+        self.assertEqual([given["syscalls"] for given in profiles], [[entry("TRAP", "socket")]])
 
     def test_the_instruction_pointer_and_two_arguments(self):
         """Between what a call always gets and what it may get."""
         pointer = load(8) + jeq(7, 0, 1) + ret(ALLOW) + ret(EPERM)
-        found = self.is_bounded([of_numbers({41: pointer}, KILL_PROCESS)],
+        profiles = self.is_bounded([of_numbers({41: pointer}, KILL_PROCESS)],
                                 "# socket: its answer depends on the instruction pointer\n")
-        self.assertEqual([it["syscalls"] for it in found], [[entry("ALLOW", "socket")], [entry("ERRNO 1", "socket")]])
+        self.assertEqual([given["syscalls"] for given in profiles],
+                         [[entry("ALLOW", "socket")], [entry("ERRNO 1", "socket")]])
         pair = load(24) + insn(0x07, 0) + load(16) + insn(0x1D, 0, 0, 1) + ret(ALLOW) + ret(EPERM)
         both = where(1, "SCMP_CMP_EQ", 3, 0, pair, ret(EPERM))
-        found = self.is_bounded([of_numbers({41: both}, EPERM)], "# socket: its answer depends on a comparison or "
+        profiles = self.is_bounded([of_numbers({41: both}, EPERM)], "# socket: its answer depends on a comparison or "
                                 "computation that no operator makes\n")
-        self.assertEqual([it["syscalls"] for it in found],
+        self.assertEqual([given["syscalls"] for given in profiles],
                          [[entry("ALLOW", "socket", index=1, value=3, op="SCMP_CMP_EQ")], []])
 
     def test_one_side(self):
@@ -333,10 +324,11 @@ class Profiles(Case):
 
     def test_numbers_without_a_name(self):
         """A profile gives them its default; if they differ, that is said."""
-        other = of_numbers({7: ret(ALLOW), 0: ret(ALLOW)}, EPERM)
-        found = self.is_bounded([other], "# numbers that the table doesn't name differ, such as 2: filter ERRNO 1 "
+        filter_data = of_numbers({7: ret(ALLOW), 0: ret(ALLOW)}, EPERM)
+        profiles = self.is_bounded([filter_data],
+                                   "# numbers that the table doesn't name differ, such as 2: filter ERRNO 1 "
                                 "profile ALLOW\n")
-        self.assertEqual([it["defaultAction"] for it in found], ["SCMP_ACT_ALLOW", "SCMP_ACT_ERRNO"])
+        self.assertEqual([given["defaultAction"] for given in profiles], ["SCMP_ACT_ALLOW", "SCMP_ACT_ERRNO"])
 
     def test_the_stub_of_runc(self):
         """Numbers above all that the profile names get ENOSYS from runc, whatever the profile says."""
@@ -354,8 +346,8 @@ class Profiles(Case):
                 ([b"\6\0"], OWN, 3, "profile-of: fault filter Truncated"),
                 ([ret(ALLOW)], "read\n", 1, "profile-of: fault table Form line 1\n")):
             self.table = self.file("own.table", table)
-            found, out, err = self.run_on(filters)
-            self.assertEqual((found, out), (status, ""))
+            exit_status, out, err = self.run_on(filters)
+            self.assertEqual((exit_status, out), (status, ""))
             self.assertTrue(err.startswith(says), err)
         self.table = self.file("own.table", OWN)
         self.assertEqual(self.run_on([ret(ALLOW)], "--limit", "x")[0], 2)
@@ -378,13 +370,13 @@ class Profiles(Case):
         """It is unfinished, and says how it gets more."""
         code = b"".join(load(16) + jeq(7 * at, 0, 1) + ret(0x00050000 | at + 1) for at in range(1300)) + ret(ALLOW)
         name = self.file("f.bpf", code)
-        said = "unfinished: it takes too many steps to follow the filters: --limit N gives more than 524288\n"
+        unfinished = "unfinished: it takes too many steps to follow the filters: --limit N gives more than 524288\n"
         status, out, err = self.run_tool("profile-of", name, seconds=20)
         self.assertEqual(status, 4)
-        self.assertIn(said, out + err)
+        self.assertIn(unfinished, out + err)
         status, out, err = self.run_tool("surface", "--conditions", name, seconds=20)
         self.assertEqual(status, 4)
-        self.assertIn(f"surface: conditions: {said}", err)
+        self.assertIn(f"surface: conditions: {unfinished}", err)
 
     def test_what_computes_too_much(self):
         """It ends soon, and says what is proved."""
@@ -406,7 +398,7 @@ def table_of(name):
 
 
 # The second reading of profiles, with these tables.
-WITH_TABLES = {name: (*it[:5], table_of(name)) for name, it in several.ARCHITECTURES.items()}
+WITH_TABLES = {name: (*row[:5], table_of(name)) for name, row in several.ARCHITECTURES.items()}
 
 
 def of_records(codes):
@@ -422,9 +414,9 @@ def of_records(codes):
     return pieces + ret(KILL_PROCESS)
 
 
-def tests_of(codes, other):
+def tests_of(codes, default):
     """Answers each of these numbers by a piece of code, and all others so."""
-    return b"".join(jeq(number, 0, len(code) // 8) + code for number, code in codes.items()) + ret(other)
+    return b"".join(jeq(number, 0, len(code) // 8) + code for number, code in codes.items()) + ret(default)
 
 
 class OtherArchitectures(Case):
@@ -437,20 +429,21 @@ class OtherArchitectures(Case):
 
     def is_read(self, data, name, default, *entries, said=""):
         """The whole profile of one architecture, which scf compares again."""
-        status, found, err = self.printed(data, "--arch", FILES[name])
+        status, exit_status, err = self.printed(data, "--arch", FILES[name])
         self.assertEqual((status, err), (0, said))
-        self.assertEqual(found, {**members_of_default(default), "architectures": [name], "syscalls": list(entries)})
-        done = self.run_tool("compare", self.file("f.bpf", data), self.file("p.json", json.dumps(found)))
+        self.assertEqual(exit_status,
+                         {**members_of_default(default), "architectures": [name], "syscalls": list(entries)})
+        done = self.run_tool("compare", self.file("f.bpf", data), self.file("p.json", json.dumps(exit_status)))
         self.assertEqual((done[0], done[1].splitlines()[0]), (0, "same"))
 
     def covers(self, data, names, *entries, default="ERRNO 1", said=(), words=()):
         """The architectures that the profile covers, its entries, and what is said of others."""
-        status, found, err = self.printed(data, *words)
-        self.assertEqual((status, found), (0, {**members_of_default(default), "architectures": list(names),
+        status, exit_status, err = self.printed(data, *words)
+        self.assertEqual((status, exit_status), (0, {**members_of_default(default), "architectures": list(names),
                                                "syscalls": list(entries)}))
         self.assertEqual(err.splitlines(), [f"profile-of: {line}" for line in said])
         if not words:
-            done = self.run_tool("compare", self.file("f.bpf", data), self.file("p.json", json.dumps(found)))
+            done = self.run_tool("compare", self.file("f.bpf", data), self.file("p.json", json.dumps(exit_status)))
             self.assertEqual((done[0], done[1].splitlines()[0]), (0, "same"))
 
     def test_one_architecture(self):
@@ -500,8 +493,8 @@ class OtherArchitectures(Case):
         status, out, err = self.printed(of_records({X86: tests_of({359: high}, EPERM)}), "--arch", "i386")
         self.assertEqual((status, err), (4, ""))
         self.assertIn("# socket: its answer depends on the upper half of an argument\n", out)
-        found = profiles_in(out)
-        self.assertEqual([(it["architectures"], it["syscalls"]) for it in found],
+        profiles = profiles_in(out)
+        self.assertEqual([(given["architectures"], given["syscalls"]) for given in profiles],
                          [([X86], [entry("ALLOW", "socket")]), ([X86], [])])
         self.is_read(of_records({AARCH64: tests_of({198: high}, EPERM)}), AARCH64, "ERRNO 1",
                      entry("ALLOW", "socket", index=0, value=0xFFFFFFFF, op="SCMP_CMP_LE"))
@@ -517,9 +510,9 @@ class OtherArchitectures(Case):
                 continue
             data, _ = several.compile_filter(reading)
             for name in reading.rules:
-                status, found, _ = self.printed(data, "--arch", FILES[name], "--table", tables[name])
+                status, exit_status, _ = self.printed(data, "--arch", FILES[name], "--table", tables[name])
                 self.assertEqual(status, 0, (seed, name))
-                self.is_judged(data, found, [name], reading.records(name, source, 20))
+                self.is_judged(data, exit_status, [name], reading.records(name, source, 20))
                 seen += 1
         self.assertGreater(seen, 12)
 
@@ -533,9 +526,9 @@ class OtherArchitectures(Case):
 
     def test_several(self):
         """Names that x86-64 lacks have entries of their own; an engine's filter is for three architectures at once."""
-        one = jeq(1, 0, 1) + ret(ALLOW) + ret(EPERM)
+        allows_one = jeq(1, 0, 1) + ret(ALLOW) + ret(EPERM)
         data = of_records({NATIVE: tests_of({0: ret(ALLOW)}, EPERM),
-                           X86: tests_of({3: ret(ALLOW), 102: load(16) + one}, EPERM),
+                           X86: tests_of({3: ret(ALLOW), 102: load(16) + allows_one}, EPERM),
                            X32_NAME: tests_of({X32: ret(ALLOW)}, EPERM)})
         self.covers(data, [NATIVE, X86, X32_NAME], entry("ALLOW", "read"),
                     entry("ALLOW", "socketcall", index=0, value=1, op="SCMP_CMP_EQ"),
@@ -583,8 +576,8 @@ class OtherArchitectures(Case):
         status, out, err = self.printed(data)
         self.assertEqual((status, err), (4, ""))
         self.assertIn("# the profile covers x86-64 syscalls\n# i386: some syscalls are allowed, such as ", out)
-        status, found, err = self.printed(data, "--no-more")
-        self.assertEqual((status, found["architectures"]), (0, [NATIVE]))
+        status, exit_status, err = self.printed(data, "--no-more")
+        self.assertEqual((status, exit_status["architectures"]), (0, [NATIVE]))
         self.assertIn("profile-of: i386: some syscalls are allowed, such as ", err)
 
     def test_the_stub_of_runc(self):
@@ -611,7 +604,7 @@ class OtherArchitectures(Case):
                     said=["the profile covers x86-64, i386, x32, aarch64 and arm syscalls"])
 
     @mock.patch.dict(several.ARCHITECTURES, WITH_TABLES)
-    @mock.patch.object(several, "NAMES", sorted({name for it in WITH_TABLES.values() for name in it[5]}))
+    @mock.patch.object(several, "NAMES", sorted({name for row in WITH_TABLES.values() for name in row[5]}))
     def test_drawn_for_several(self):
         """A filter that one profile answers as is read back in each architecture of that, beside the second reading."""
         seen = 0
@@ -622,10 +615,10 @@ class OtherArchitectures(Case):
             if NATIVE not in judged or reading.default in (several.KILLS, several.ACTIONS["KILL"]) or reading.fault():
                 continue
             data, _ = several.compile_filter(reading)
-            status, found, _ = self.printed(data)
-            self.assertEqual((status, found["architectures"]), (0, judged), seed)
+            status, exit_status, _ = self.printed(data)
+            self.assertEqual((status, exit_status["architectures"]), (0, judged), seed)
             for name in judged:
-                self.is_judged(data, found, judged, reading.records(name, source, 10))
+                self.is_judged(data, exit_status, judged, reading.records(name, source, 10))
             seen += 1
         self.assertGreater(seen, 5)
 
@@ -645,14 +638,14 @@ class OtherArchitectures(Case):
                     said=["the profile covers x86-64, i386 and x32 syscalls"])
 
     def test_usage(self):
-        one = self.file("f.bpf", ret(ALLOW))
+        path = self.file("f.bpf", ret(ALLOW))
         for words, says in ((["--arch", "i386", "--runtime", "runc"], "give either --arch or --runtime"),
                             (["--arch", "mips"], "no table of the architecture 'mips'")):
-            status, out, err = self.run_tool("profile-of", *words, one)
+            status, out, err = self.run_tool("profile-of", *words, path)
             self.assertEqual((status, out), (2, ""))
             self.assertIn(says, err)
         # a table is the architecture's
-        own = self.file("own.table", "mine 7\n")
+        own_table = self.file("own.table", "mine 7\n")
         data = of_records({X86: tests_of({7: ret(ALLOW)}, EPERM)})
-        status, found, _ = self.printed(data, "--arch", "i386", "--table", own)
-        self.assertEqual((status, found["syscalls"]), (0, [entry("ALLOW", "mine")]))
+        status, exit_status, _ = self.printed(data, "--arch", "i386", "--table", own_table)
+        self.assertEqual((status, exit_status["syscalls"]), (0, [entry("ALLOW", "mine")]))

@@ -68,8 +68,8 @@ class Compile(Case):
         profile = self.file("p.json", profile_of("read", "openat"))
         self.assertEqual(self.compiled(profile), (0, expected, ""))
         self.assertEqual(self.compiled("-", given=profile_of("read", "openat")), (0, expected, ""))
-        own = self.file("own.table", b"look 0\n")
-        status, out, err = self.compiled("--table", own, self.file("q.json", profile_of("look")))
+        table = self.file("own.table", b"look 0\n")
+        status, out, err = self.compiled("--table", table, self.file("q.json", profile_of("look")))
         self.assertEqual((status, err), (0, ""))
         self.assertEqual(self.run_tool("run", "--nr", "0", self.file("look.bpf", out))[1].split("\n")[0][:5], "ALLOW")
 
@@ -93,17 +93,17 @@ class Compile(Case):
         for names, says in ((("X86_64",), ""), (("X86_64", "ARM"), ""), (("X32", "X86_64", "X86"), ""),
                             (("X86_64", "MIPS"), "compile: the profile's other architectures aren't judged, since scf "
                              f"has no table of them: {kills}")):
-            given = {"defaultAction": "SCMP_ACT_ALLOW", "architectures": [f"SCMP_ARCH_{it}" for it in names]}
+            given = {"defaultAction": "SCMP_ACT_ALLOW", "architectures": [f"SCMP_ARCH_{name}" for name in names]}
             self.assertEqual(self.compiled(self.file("p.json", json.dumps(given)))[2], says)
 
     def test_refusals_go_to_standard_error(self):
         for profile, status, says in ((b"{", 1, "fault profile Json\ncompile: the JSON is malformed at line 1"),
                                       (b'{"defaultAction":"ALLOW"}', 1, "fault profile Action\ncompile: An action")):
-            found, out, err = self.compiled(self.file("p.json", profile))
-            self.assertEqual((found, out), (status, b""))
+            actual, out, err = self.compiled(self.file("p.json", profile))
+            self.assertEqual((actual, out), (status, b""))
             self.assertTrue(err.startswith(f"compile: {says}"), err)
-        found, out, err = self.compiled("--table", self.file("t", b"read\n"), self.file("q.json", profile_of("read")))
-        self.assertEqual((found, out), (1, b""))
+        actual, out, err = self.compiled("--table", self.file("t", b"read\n"), self.file("q.json", profile_of("read")))
+        self.assertEqual((actual, out), (1, b""))
         self.assertTrue(err.startswith("compile: fault table Form line 1\n"), err)
 
     def test_a_terminal_is_no_place_for_a_filter(self):
@@ -130,7 +130,7 @@ class Run(Case):
         self.assertEqual(self.run_tool("run", "--nr", "write", self.filter),
                          (0, "ERRNO 1 steps 6\n# the syscall is write (1)\n# ERRNO 1: the syscall fails with "
                              "EPERM\n", ""))
-        status, out, _ = self.run_tool("run", "--arch", hex(I386), self.filter)
+        status, out, _ = self.run_tool("run", "--nr=0", "--arch", hex(I386), self.filter)
         self.assertEqual((status, out), (0, "KILL_PROCESS 0 steps 3\n# the syscall is restart_syscall (0) of the "
                                             "architecture i386\n# KILL_PROCESS: the process is killed\n"))
         status, out, err = self.run_tool("run", "--nr", "raed", self.filter)
@@ -172,8 +172,8 @@ class Several(Case):
                                    ("9" * 300, 2, "isn't a syscall and up to six numbers"),
                                    ("read 1x\n", 2, "fault number a0"), ("read x\n", 2, "no constant is known"),
                                    ("99999999999\nread\n", 2, "fault number nr")):
-            found, out, err = self.run_tool("decide", "--calls-from", self.file("calls", text), self.filter)
-            self.assertEqual(found, status, text)
+            actual, out, err = self.run_tool("decide", "--calls-from", self.file("calls", text), self.filter)
+            self.assertEqual(actual, status, text)
             self.assertIn(says, out + err)
 
     def test_the_worst_status(self):
@@ -186,12 +186,12 @@ class Several(Case):
     def test_many_calls_take_one_tool(self):
         """scf is started for each call, and for the path of its answer, and nothing else."""
         tree = self.made_tree("#!/bin/sh\necho \"$@\" >>\"$KEPT\"\necho ALLOW 0\n")
-        kept = os.path.join(self.folder, "kept")
+        path = os.path.join(self.folder, "kept")
         words = [word for number in range(29) for word in ("--nr", str(number))]
         done = self.run_words([os.path.join(tree, "tools", "decide"), *words, self.filter],
-                              env={**os.environ, "KEPT": kept})
+                              env={**os.environ, "KEPT": path})
         self.assertEqual(done[0], 0)
-        with open(kept, encoding="ascii") as file:
+        with open(path, encoding="ascii") as file:
             self.assertEqual(file.read(), "".join(f"decide --nr={number}\nrun --path --nr={number}\n"
                                                   for number in range(29)))
 
@@ -206,16 +206,16 @@ class WhichFilter(Case):
         self.profile = self.file("p.json", b'{"defaultAction":"SCMP_ACT_ALLOW"}')
 
     def test_the_answer(self):
-        status, out, _ = self.run_tool("decide", self.allow, self.one, self.two)
+        status, out, _ = self.run_tool("decide", "--nr=0", self.allow, self.one, self.two)
         self.assertEqual((status, out.split("\n")[0]), (0, "ERRNO 2"))
         self.assertTrue(out.endswith(f"# the filter that answers so is {self.two}\n"
                                      f"# the path in {self.two}: 0\n"), out)
-        out = self.run_tool("decide", self.one, self.allow, self.one)[1]
+        out = self.run_tool("decide", "--nr=0", self.one, self.allow, self.one)[1]
         self.assertTrue(out.endswith(f"# the filters that answer so are {self.one} and {self.one}\n"
                                      f"# the path in {self.one}: 0\n"), out)
-        self.assertIn("\n# both filters answer so\n", self.run_tool("decide", self.one, self.one)[1])
-        self.assertIn("\n# all 3 filters answer so\n", self.run_tool("decide", *[self.allow] * 3)[1])
-        self.assertTrue(self.run_tool("decide", self.one)[1].endswith("\n# the path in the filter: 0\n"))
+        self.assertIn("\n# both filters answer so\n", self.run_tool("decide", "--nr=0", self.one, self.one)[1])
+        self.assertIn("\n# all 3 filters answer so\n", self.run_tool("decide", "--nr=0", *[self.allow] * 3)[1])
+        self.assertTrue(self.run_tool("decide", "--nr=0", self.one)[1].endswith("\n# the path in the filter: 0\n"))
 
     def test_a_fault(self):
         bad = self.file("bad.bpf", jeq(0, 9, 0) + ret(ALLOW))
@@ -245,8 +245,8 @@ class WhichFilter(Case):
         out = self.run_tool("compare", "--limit=100000", unknown, twice, self.profile)[1]
         self.assertTrue(out.endswith(f"# alone, {unknown} is undecided at {place}\n"
                                      f"# alone, {twice} is undecided at {place}\n"), out)
-        found = json.loads(self.run_tool("compare", "--json", "--limit=100000", self.allow, unknown, self.profile)[1])
-        self.assertEqual(found["files"], [unknown])
+        value = json.loads(self.run_tool("compare", "--json", "--limit=100000", self.allow, unknown, self.profile)[1])
+        self.assertEqual(value["files"], [unknown])
         status, out, _ = self.run_tool("compare", self.allow, square, self.allow, self.profile)
         self.assertEqual((status, out.split(" arch ")[0]), (1, "differs\ncall nr 7"))
         self.assertNotIn("# alone, ", out)
@@ -290,10 +290,10 @@ class Names(Case):
             self.assertNotIn(LOST.rstrip(), self.added(["read", "waitpid"], default=default))
 
     def test_names_that_a_table_of_ones_own_leaves_out(self):
-        own = self.file("own.table", b"read 0\n")
+        table = self.file("own.table", b"read 0\n")
         self.assertIn("# write is an x86-64 syscall that this table leaves out",
-                      self.added(["read", "write"], "--table", own))
-        self.assertIn(LOST.rstrip(), self.added(["read", "write"], "--table", own, default="SCMP_ACT_ALLOW"))
+                      self.added(["read", "write"], "--table", table))
+        self.assertIn(LOST.rstrip(), self.added(["read", "write"], "--table", table, default="SCMP_ACT_ALLOW"))
 
     def test_hostile_names_take_no_time(self):
         names = [f"{at:0900}" for at in range(4000)]
@@ -377,7 +377,7 @@ class Objects(Case):
         of_both = found("--calls", wrong, profile)
         self.assertEqual((of_both["calls"][0], of_both["other_architectures"], of_both["foreign"]),
                          (line, [], foreign["foreign"][1:]))
-        self.assertEqual({it.get("architecture") for it in of_both["calls"]}, {None, "i386"})
+        self.assertEqual({call.get("architecture") for call in of_both["calls"]}, {None, "i386"})
         jump = found(same, self.file("bad.bpf", jeq(0, 9, 0) + ret(ALLOW)), profile)
         self.assertEqual((jump["verdict"], jump["files"]), (None, [os.path.join(self.folder, "bad.bpf")]))
         self.assertEqual({key: jump["fault"][key] for key in ("source", "kind", "numbers")},
@@ -389,11 +389,11 @@ class Objects(Case):
         self.assertIsInstance(undecided["at"], int)
 
     def test_decide_and_run(self):
-        one, two = self.file("one.bpf", ret(0x00050001)), self.file("two.bpf", ret(0x00050002))
+        item, two = self.file("one.bpf", ret(0x00050001)), self.file("two.bpf", ret(0x00050002))
         call = {"number": 0, "names": ["read"], "c": "read(7, NULL, 0)", "architecture": "0xc000003e", "pointer": "0x0",
                 "arguments": ["0x7", *["0x0"] * 5]}
         answer = {"action": "ERRNO", "data": 2, "errno": "ENOENT", "does": "the syscall fails with ENOENT"}
-        status, out, _ = self.run_tool("decide", "--json", "--a0=7", one, two)
+        status, out, _ = self.run_tool("decide", "--nr=0", "--json", "--a0=7", item, two)
         self.assertEqual((status, json.loads(out)), (0, {"schema": 2, "status": 0, "calls": [
             {"status": 0, "call": call, "answer": answer, "filters": [two],
              "path": {"filter": two, "indexes": [0]}}]}))
@@ -475,7 +475,7 @@ class Python(Case):
         starts = self.file("lacking.py", LACKING)
         with open(os.path.join(TOP, "tables", "commands"), encoding="utf-8") as file:
             words = re.findall(r"(?m)^  ([a-z-]+) ", file.read())
-        names = [it for it in words if os.path.exists(tool(it))]
+        names = [word for word in words if os.path.exists(tool(word))]
         self.assertIn("verify-process", names)
         for name in names:
             self.assertEqual(self.run_words([sys.executable, "-IS", starts, tool(name), "x", "y"]), (

@@ -3,14 +3,16 @@ what the program prints."""
 import json
 import random
 import re
+import shutil
+import subprocess
 import unittest
 
 from support.common import (ALLOW, EPERM, I386, TABLE, UNKNOWN_ZERO, X86_64, Case, filter_of, insn, jeq, jge, load,
                             part, ret)
-from support.stand_in import StandIn, unpacked
-from test_surface import by_argument, gate, of_number
+from support.stand_in import StandIn
+from test_surface import gate, of_number
 
-from scftools import architectures, client, regions, tables
+from scftools import architectures, client, flow_graph, regions, tables
 from scftools.calls import Call
 from scftools.program import ToolError
 from scftools.regions import TooManyRanges, Word
@@ -44,12 +46,12 @@ TERM = re.compile(r"(\(u32\))?(\w+)( >> 32)?(?: & (0x[0-9a-f]+|[0-9]+))? (==|!=|
 
 def holds(text, call):
     """Whether a call meets conditions whose arguments and values have no names."""
-    def one(found):
-        is_low, name, is_high, mask, op, value = found.groups()
+    def text_of(term):
+        is_low, name, is_high, mask, op, value = term.groups()
         whole = call.pointer if name == "ip" else call.arguments[int(name[1:])]
         part = whole & WORD if is_low else whole >> 32 if is_high else whole
         return str(TESTS[op](part & int(mask, 0) if mask else part, int(value, 0)))
-    return eval(TERM.sub(one, text), {})
+    return eval(TERM.sub(text_of, text), {})
 
 
 class Lines(Case):
@@ -78,11 +80,11 @@ class Lines(Case):
         table = self.file("t", b"read 0\nwrite 1\nopen 2\nsocket 41\nclone 56\n")
         for filters, expected in LINES:
             status, out, err = self.said(filters, "--table", table)
-            found = [re.sub(r", (?:socket|clone|[0-9]+ numbers without a name)\b", "", line)
+            lines = [re.sub(r", (?:socket|clone|[0-9]+ numbers without a name)\b", "", line)
                      for line in out.split("\n")]
             self.assertEqual((status, err), (0, ""))
             for line in expected:
-                self.assertIn(line, found)
+                self.assertIn(line, lines)
 
     def test_each_line_is_true(self):
         """Of drawn records of drawn filters: the syscall stands in a line whose conditions it meets and whose answer it
@@ -90,22 +92,24 @@ class Lines(Case):
         dice, table = random.Random(7), self.file("t", b"a 0\nb 1\nc 2\n")
         for _ in range(12):
             code = b"".join(dice.choice((
-                load(4 * dice.choice((0, 4, 5, 6, 7))), jge(dice.choice((1, 2, 9, 1 << 31)), *dice.choices(range(4), k=2)),
+                load(4 * dice.choice((0, 4, 5, 6, 7))),
+                jge(dice.choice((1, 2, 9, 1 << 31)), *dice.choices(range(4), k=2)),
                 jeq(dice.choice((0, 1, 9)), *dice.choices(range(4), k=2)), insn(0x45, dice.choice((2, 12)), 1, 2)))
                 for _ in range(dice.randrange(4, 14)))
             data = code + b"".join(ret(dice.choice((ALLOW, EPERM, TRACE))) for _ in range(5))
             status, out, _ = self.said([data], "--table", table, "--arch", "x86-64")
             self.assertEqual(status, 0)
-            lines = [re.fullmatch(r"(.+?) at 0:([0-9]+): (.*?)(?: where (.*))?", it).groups() for it in
+            lines = [re.fullmatch(r"(.+?) at 0:([0-9]+): (.*?)(?: where (.*))?", line).groups() for line in
                      out.split("\n")[:-1]]
             for _ in range(60):
                 number = dice.randrange(3)
                 call = Call(number, X86_64, 0, tuple(
-                    dice.choice((0, 1, 2, 9, 10, 12, 1 << 31, dice.getrandbits(32))) | dice.choice((0, 9, 1 << 31)) << 32
+                    dice.choice((0, 1, 2, 9, 10, 12, 1 << 31, dice.getrandbits(32))) | dice.choice((0, 9,
+                                                                                                    1 << 31)) << 32
                     for _ in range(6)))
                 answer = StandIn().decide([data], call)
                 path = StandIn().path(data, call)
-                met = [(said, int(index)) for said, index, names, where in lines
+                met = [(answer, int(index)) for answer, index, names, where in lines
                        if "abc"[number] in names.split(", ") and (where is None or holds(where, call))]
                 self.assertEqual(len(met), 1, (call, out))
                 self.assertEqual(met[0][1], path[-1])
@@ -120,17 +124,17 @@ class Lines(Case):
 
     def test_json(self):
         status, out, _ = self.said([filter_of([0])], "--json")
-        found = json.loads(out)
-        self.assertEqual((status, found["status"], found["architecture"]), (0, 0, "x86-64"))
-        one = next(it for it in found["regions"] if it["answer"]["action"] == "ALLOW")
-        self.assertEqual({name: one[name] for name in one if name != "example"}, {
+        report = json.loads(out)
+        self.assertEqual((status, report["status"], report["architecture"]), (0, 0, "x86-64"))
+        entry = next(region for region in report["regions"] if region["answer"]["action"] == "ALLOW")
+        self.assertEqual({name: entry[name] for name in entry if name != "example"}, {
             "answer": {"action": "ALLOW", "data": 0}, "filter": 0, "index": 8, "is_exact": True,
             "syscalls": [{"number": 0, "names": ["read"]}], "unnamed": 0, "where": []})
-        self.assertEqual(one["example"]["number"], 0)
-        named = sum(len(it["syscalls"]) for it in found["regions"])
+        self.assertEqual(entry["example"]["number"], 0)
+        named = sum(len(region["syscalls"]) for region in report["regions"])
         with open(TABLE, "rb") as file:
             self.assertEqual(named, len(tables.Table(file.read()).numbers()))
-        self.assertEqual(sum(it["unnamed"] for it in found["regions"]), 0x40000000 - named)
+        self.assertEqual(sum(region["unnamed"] for region in report["regions"]), 0x40000000 - named)
 
     def test_statuses(self):
         unknown = self.said([gate(UNKNOWN_ZERO + jeq(0, 0, 1) + ret(EPERM) + ret(ALLOW))])
@@ -149,14 +153,68 @@ class Lines(Case):
         self.assertEqual((status, out.split("\n")[0]), (1, "fault table Form line 1"))
 
 
+class Picture(Case):
+    """`--dot`: the tests and answers as a graph."""
+
+    def drawn(self, data, *words):
+        """The labels of the nodes, and the edges, each with its label, where graphviz draws the graph."""
+        status, out, err = self.run_tool("answers", "--dot", *words, self.file("f.bpf", data))
+        self.assertEqual(err, "")
+        done = subprocess.run(["dot", "-Tjson"], input=out.encode(), stdout=subprocess.PIPE, check=True)
+        graph = json.loads(done.stdout)
+        nodes = {node["_gvid"]: node for node in graph["objects"]}
+        edges = {(nodes[edge["tail"]]["label"], edge.get("label", ""), nodes[edge["head"]]["label"])
+                 for edge in graph["edges"]}
+        return status, nodes.values(), edges
+
+    @unittest.skipUnless(shutil.which("dot"), "there is no graphviz here")
+    def test_tests_and_answers(self):
+        table = self.file("t", b"read 0\nwrite 1\nsocket 41\n")
+        data = of_number(41, load(16) + jeq(16, 0, 4) + load(32) + jeq(9, 0, 2) + ret(EPERM) + ret(ALLOW) * 2, ALLOW)
+        status, nodes, edges = self.drawn(data, "--table", table)
+        colours = {node["label"]: node.get("fillcolor") for node in nodes}
+        self.assertEqual(status, 0)
+        self.assertEqual((colours["ALLOW\\l"], colours["ERRNO 1 (EPERM)\\l"]), ("palegreen", "lightpink"))
+        self.assertLess({
+            ("domain?\\l", "(u32)domain == AF_NETLINK\\l", "protocol?\\l"),
+            ("domain?\\l", "(u32)domain != AF_NETLINK\\l", "ALLOW\\l"),
+            ("protocol?\\l", "(u32)protocol == 9\\l", "ERRNO 1 (EPERM)\\l"),
+            ("protocol?\\l", "(u32)protocol != 9\\l", "ALLOW\\l")}, edges)
+        self.assertIn("socket\\l", colours)
+        self.assertTrue(any(label.startswith("read, write, 1073741821 numbers") for label in colours), colours)
+
+    @unittest.skipUnless(shutil.which("dot"), "there is no graphviz here")
+    def test_what_is_not_decided(self):
+        status, nodes, edges = self.drawn(gate(UNKNOWN_ZERO + jeq(0, 0, 1) + ret(EPERM) + load(16) + insn(0x16, 0)))
+        self.assertEqual(status, 4)
+        self.assertIn("unknown\\l", {node["label"] for node in nodes})
+        self.assertIn(("tests that aren't decided\\l", "", "unknown\\l"),
+                      {(tail, label.strip("\\l"), head) for tail, label, head in edges})
+
+    @unittest.skipUnless(shutil.which("dot"), "there is no graphviz here")
+    def test_texts_of_strangers(self):
+        """What would end a text, or mean something in it, is text."""
+        for text, shown in (('a"];evil[label="b', 'a"];evil[label="b\\l'), ("a\\N\\", "a\\\\N\\\\\\l"),
+                            ("<b>", "<b>\\l"),
+                            ("\x1b[2J\udcff//", "\\\\x1b[2J\\\\xff//\\l"), ("a\nb", "a\\lb\\l")):
+            given = flow_graph.digraph([f"n [label={flow_graph.quoted(text)}];"])
+            done = subprocess.run(["dot", "-Tjson"], input=given.encode(), stdout=subprocess.PIPE, check=True)
+            self.assertEqual([(node["name"], node["label"]) for node in json.loads(done.stdout)["objects"]],
+                             [("n", shown)])
+
+    def test_usage(self):
+        self.assertEqual(self.run_tool("answers", "--dot", "--json", self.file("f.bpf", filter_of([0])))[:2], (2, ""))
+
+
 class Reader(unittest.TestCase):
     """The sets of values that the program prints."""
 
     def test_words(self):
-        one = Word.read("0x4-0x9,0x20&0x1=0x0!0x6=0x6")
-        self.assertEqual([it for it in range(64) if one.has(it)], [4, 8, 32])
-        self.assertEqual(one.within(0, 63), [(4, 4), (8, 8), (32, 32)])
-        self.assertEqual([it for it in range(16) if Word.read("!0x6=0x0").has(it)], [it for it in range(16) if it & 6])
+        word = Word.read("0x4-0x9,0x20&0x1=0x0!0x6=0x6")
+        self.assertEqual([value for value in range(64) if word.has(value)], [4, 8, 32])
+        self.assertEqual(word.within(0, 63), [(4, 4), (8, 8), (32, 32)])
+        self.assertEqual([value for value in range(16) if Word.read("!0x6=0x0").has(value)],
+                         [value for value in range(16) if value & 6])
 
     def test_ranges(self):
         """The numbers of a drawn word, as ranges."""
@@ -164,12 +222,12 @@ class Reader(unittest.TestCase):
         for _ in range(300):
             mask = dice.getrandbits(8) & dice.getrandbits(8)
             low = dice.randrange(200)
-            one = Word([(low, low + dice.randrange(80)), (300, 310)], mask, dice.getrandbits(8) & mask,
-                       [(it, dice.getrandbits(8) & it) for it in dice.sample(range(1, 256), 2)])
+            word = Word([(low, low + dice.randrange(80)), (300, 310)], mask, dice.getrandbits(8) & mask,
+                       [(mask_drawn, dice.getrandbits(8) & mask_drawn) for mask_drawn in dice.sample(range(1, 256), 2)])
             first, last = sorted(dice.sample(range(400), 2))
-            found = one.within(first, last)
-            self.assertEqual([it for low, high in found for it in range(low, high + 1)],
-                             [it for it in range(first, last + 1) if one.has(it)])
+            intervals = word.within(first, last)
+            self.assertEqual([value for low, high in intervals for value in range(low, high + 1)],
+                             [value for value in range(first, last + 1) if word.has(value)])
         with self.assertRaises(TooManyRanges):
             Word([], 1, 1).within(0, WORD)
 

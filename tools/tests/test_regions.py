@@ -25,18 +25,19 @@ STEPS = 2000
 def values_of(text):
     """The intervals, the known bits and the refuted ones of a word."""
     intervals, mask, bits, refuted = SET.fullmatch(text).groups()
-    ranges = [[int(it, 16) for it in part.split("-")] for part in filter(None, intervals.split(","))]
-    pairs = [[int(it, 16) for it in part.split("=")] for part in refuted.split("!")[1:]]
-    return [(it[0], it[-1]) for it in ranges] or [(0, WORD)], int(mask or "0", 16), int(bits or "0", 16), pairs
+    ranges = [[int(text, 16) for text in part.split("-")] for part in filter(None, intervals.split(","))]
+    pairs = [[int(text, 16) for text in part.split("=")] for part in refuted.split("!")[1:]]
+    return [(interval[0], interval[-1])
+            for interval in ranges] or [(0, WORD)], int(mask or "0", 16), int(bits or "0", 16), pairs
 
 
 class Region:
     """A line of `scf answers`."""
 
     def __init__(self, line):
-        found = LINE.fullmatch(line)
-        assert found, line
-        self.answer, filter_at, index, self.reason, is_open, words = found.groups()
+        match = LINE.fullmatch(line)
+        assert match, line
+        self.answer, filter_at, index, self.reason, is_open, words = match.groups()
         self.place = None if index is None else (int(filter_at), int(index))
         self.is_open = bool(is_open)
         named = iter(words.split())
@@ -45,32 +46,33 @@ class Region:
     def has(self, record):
         """Whether a record, as its sixteen words, lies in it."""
         return all(any(low <= record[at] <= high for low, high in intervals) and record[at] & mask == bits
-                   and all(record[at] & one != other for one, other in refuted)
+                   and all(record[at] & mask != bits for mask, bits in refuted)
                    for at, (intervals, mask, bits, refuted) in self.words.items())
 
 
 def record_of(line):
     """The sixteen words of a record that is printed."""
     number, arch, pointer, arguments = CALL.fullmatch(line).groups()
-    whole = [int(it, 16) for it in (pointer, *arguments.split())]
-    return [int(number), int(arch, 16), *(half for it in whole for half in (it & WORD, it >> 32))]
+    whole = [int(text, 16) for text in (pointer, *arguments.split())]
+    return [int(number), int(arch, 16), *(half for argument in whole for half in (argument & WORD, argument >> 32))]
 
 
 def regions_of(text):
     """The regions of an output with examples, each with its record."""
     *lines, last = text.splitlines()
-    found = [(Region(line), record_of(example)) for line, example in zip(lines[::2], lines[1::2])]
-    assert re.fullmatch(f"regions {len(found)} steps [0-9]+", last), last
-    return found
+    regions = [(Region(line), record_of(example)) for line, example in zip(lines[::2], lines[1::2])]
+    assert re.fullmatch(f"regions {len(regions)} steps [0-9]+", last), last
+    return regions
 
 
 def drawn_records(dice, programs, count):
     """Records whose words are constants of the filters, or beside them, or drawn."""
-    known = kernel_programs.constants([[kernel_programs.Insn(code, k) for code, _, _, k in it] for it in programs])
+    constants = kernel_programs.constants([[kernel_programs.Insn(code, k) for code, _, _, k in program]
+                                           for program in programs])
     for _ in range(count):
         record = []
         for at in range(16):
-            near = sorted(known.get(at, known[-1]))
+            near = sorted(constants.get(at, constants[-1]))
             record.append(dice.choice((dice.choice(near) + dice.choice((0, 0, 1, -1)), dice.getrandbits(32), 0)) & WORD)
         yield record
 
@@ -79,7 +81,7 @@ class Regions(unittest.TestCase):
     """Those of the second implementation."""
 
     # what is known of an answer of two low bits
-    OF_LOW_BITS = {f"ERRNO {it}" for it in range(4)}
+    OF_LOW_BITS = {f"ERRNO {number}" for number in range(4)}
 
     def printed(self, bundle, **words):
         """What is printed of a bundle with examples; None if it is unfinished."""
@@ -90,50 +92,50 @@ class Regions(unittest.TestCase):
 
     def lies(self, regions, record, answer):
         """The region of a record with this answer."""
-        having = [one for one, _ in regions if one.has(record)]
-        exact = [one for one in having if not one.is_open]
+        having = [region for region, _ in regions if region.has(record)]
+        exact = [region for region in having if not region.is_open]
         self.assertTrue(len(exact) == 1 or not exact and having, record)
-        for one in exact or having:
-            if not one.is_open and one.answer != "unknown":
-                self.assertEqual(one.answer, answer, record)
-        self.assertTrue(any(one.answer in (answer, "unknown") for one in having), record)
+        for having_record in exact or having:
+            if not having_record.is_open and having_record.answer != "unknown":
+                self.assertEqual(having_record.answer, answer, record)
+        self.assertTrue(any(region.answer in (answer, "unknown") for region in having), record)
         return exact[0] if exact else None
 
     def of_stack(self, filters, records):
         """Judges the regions of a stack by records, and by those that are printed."""
-        text = self.printed(b"".join(part("filter", it) for it in filters))
+        text = self.printed(b"".join(part("filter", data) for data in filters))
         if text is None:
             return 0
-        regions, programs, machine = regions_of(text), [unpacked(it) for it in filters], StandIn()
+        regions, programs, machine = regions_of(text), [unpacked(data) for data in filters], StandIn()
         for record in (*records, *(shown for _, shown in regions)):
-            answers = [machine.answer(it, record) for it in reversed(programs)]
+            answers = [machine.answer(program, record) for program in reversed(programs)]
             answer = min(answers, key=symbolic.rank)
-            one = self.lies(regions, record, machine.printed(answer))
-            if one is not None and one.answer != "unknown":
-                at, index = one.place
+            region = self.lies(regions, record, machine.printed(answer))
+            if region is not None and region.answer != "unknown":
+                at, index = region.place
                 path = []
                 self.assertEqual(machine.answer(programs[at], record, path), answer, record)
                 self.assertEqual(path[-1], index, record)
-        for one, shown in regions:
-            self.assertTrue(one.has(shown), shown)
+        for region, shown in regions:
+            self.assertTrue(region.has(shown), shown)
         return len(records)
 
     def of_profile(self, reading, records):
         """Judges the regions of a profile."""
-        bundle = b"".join(part(*it) for it in [("profile", several.text(reading.profile)),
+        bundle = b"".join(part(*kind_and_data) for kind_and_data in [("profile", several.text(reading.profile)),
                                                *several.tables_of(reading.given)])
         is_native = reading.given == ["SCMP_ARCH_X86_64"]
         regions = regions_of(self.printed(bundle, **({} if is_native else {"architectures": True})))
-        for one, record in regions:
-            self.assertTrue(one.has(record) and not one.is_open, record)
+        for region, record in regions:
+            self.assertTrue(region.has(record) and not region.is_open, record)
         for record in (*records, *(shown for _, shown in regions)):
             arguments = [record[at] | record[at + 1] << 32 for at in range(4, 16, 2)]
             answer, reason = reading.answer(record[1], record[0], arguments)
             if reason == "foreign" and not is_native:
-                self.assertFalse(any(one.has(record) for one, _ in regions))
+                self.assertFalse(any(region.has(record) for region, _ in regions))
                 continue
-            one = self.lies(regions, record, StandIn().printed(answer))
-            self.assertEqual(one.reason, reason, record)
+            region = self.lies(regions, record, StandIn().printed(answer))
+            self.assertEqual(region.reason, reason, record)
         return len(records)
 
     def test_stacks(self):
@@ -141,7 +143,7 @@ class Regions(unittest.TestCase):
         dice, count = random.Random(71), 0
         while count < 5000:
             stack = kernel_programs.random_stack(dice)
-            filters = [kernel_programs.packed(it) for it in stack]
+            filters = [kernel_programs.packed(program) for program in stack]
             count += self.of_stack(filters, list(drawn_records(dice, stack, 20)))
 
     def test_profiles(self):
@@ -151,7 +153,8 @@ class Regions(unittest.TestCase):
             reading = several.draw(dice)
             if reading.fault() is not None:
                 continue
-            records = [[number, arch, 0, 0, *(half for it in arguments for half in (it & WORD, it >> 32))]
+            records = [[number, arch, 0, 0,
+                        *(half for argument in arguments for half in (argument & WORD, argument >> 32))]
                        for name in reading.rules for arch, number, arguments in reading.records(name, dice, 2)]
             records = dice.sample(records, min(len(records), 40)) + [[0, 0x28] + [0] * 14]
             count += self.of_profile(reading, records)
@@ -162,8 +165,10 @@ class Regions(unittest.TestCase):
         self.of_stack([UNKNOWN_ZERO + jeq(0, 0, 1) + ret(ALLOW) + ret(EPERM)],
                       list(drawn_records(random.Random(1), [], 9)))
         low_bits = load(16) + insn(0x54, 0x3) + insn(0x44, 0x50000) + insn(0x16, 0)
-        self.assertEqual({one.answer for one, _ in regions_of(self.printed(part("filter", low_bits)))}, self.OF_LOW_BITS)
-        self.assertEqual({one.answer for one, _ in regions_of(self.printed(part("filter", load(16) + insn(0x16, 0))))},
+        self.assertEqual({region.answer for region, _ in regions_of(self.printed(part("filter", low_bits)))},
+                         self.OF_LOW_BITS)
+        self.assertEqual({region.answer
+                          for region, _ in regions_of(self.printed(part("filter", load(16) + insn(0x16, 0))))},
                          {"unknown"})
 
     def test_scopes(self):
@@ -171,11 +176,11 @@ class Regions(unittest.TestCase):
         data = part("filter", filter_of([3, 5]))
         for words, numbers in (({"native": True}, (0, 0x3FFFFFFF)), ({"nr-from": 4, "nr-to": 5}, (4, 5))):
             regions = regions_of(self.printed(data, **words))
-            for arch, number in ((X86_64, it) for it in {*numbers, 5}):
+            for arch, number in ((X86_64, drawn_number) for drawn_number in {*numbers, 5}):
                 record = [number, arch] + [0] * 14
                 self.lies(regions, record, "ALLOW 0" if number == 5 else "ERRNO 1")
             for record in ([numbers[1] + 1, X86_64] + [0] * 14, [5, 0x40000003] + [0] * 14):
-                self.assertFalse(any(one.has(record) for one, _ in regions))
+                self.assertFalse(any(region.has(record) for region, _ in regions))
 
     def test_by_hand(self):
         """Flags of clone, a bit and an order, a sum and a product, and which filter answers."""
@@ -194,7 +199,7 @@ class Regions(unittest.TestCase):
                              "USER_NOTIF 0 at 0:4 w4 &0x10=0x10 w5 0x0-0x5"]),
                 ([total], {}, ["ALLOW 0 at 0:5 open", "ERRNO 1 at 0:6 open"]), ([product], {}, ["unknown at 0:4"]),
                 ([ret(ALLOW), ret(EPERM)], {}, ["ERRNO 1 at 1:0"]), ([ret(EPERM), ret(ALLOW)], {}, ["ERRNO 1 at 0:0"])):
-            text = self.printed(b"".join(part("filter", it) for it in filters), **words)
+            text = self.printed(b"".join(part("filter", data) for data in filters), **words)
             self.assertEqual(sorted(text.splitlines()[:-1:2]), expected)
 
     def test_intervals(self):

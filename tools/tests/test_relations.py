@@ -7,8 +7,8 @@ import re
 import sys
 from unittest import mock
 
-from support.common import (ALLOW, CORE, EPERM, I386, KILL_PROCESS, KILL_THREAD, TABLE, TOP, X86_64, Case, filter_of,
-                            insn, jeq, jge, load, needs, part, ret)
+from support.common import (ALLOW, CORE, EPERM, I386, KILL_PROCESS, KILL_THREAD, TOP, X32, X86_64, Case, filter_of,
+                            gate, insn, jeq, jge, load, needs, part, ret)
 from support.confined import Confined, here
 from support.stand_in import StandIn
 
@@ -19,7 +19,6 @@ from scftools import answers, calls, client, other_abis, tables  # noqa: E402
 
 READ, WRITE, SOCKET, GETPID, EXIT_GROUP = 0, 1, 41, 39, 231
 ENOSYS, TRAP, USER_NOTIF, TRACE, LOG = 0x00050026, 0x00030000, 0x7FC00000, 0x7FF00000, 0x7FFC0000
-X32 = 0x40000000
 # Numbers on both sides of all that the filters and profiles here test, of x86-64 and of other architectures.
 NUMBERS = (0, 1, 2, 39, 40, 41, 42, 43, 231, 449, 450, X32 - 1, X32, X32 + 1, 0xFFFFFFFF)
 ARCHITECTURES = (X86_64, I386, 0xC00000B7, 0)
@@ -41,9 +40,9 @@ def degree(answer):
     return DEGREES.get(answer & 0xFFFF0000, 0)
 
 
-def related(relation, one, other):
-    return {"same": one == other, "no more": degree(one) <= degree(other),
-            "no less": degree(one) >= degree(other)}[relation]
+def related(relation, first, second):
+    return {"same": first == second, "no more": degree(first) <= degree(second),
+            "no less": degree(first) >= degree(second)}[relation]
 
 
 # Calls on both sides of each test of a filter or a profile here.
@@ -59,14 +58,8 @@ def word(printed):
     return answers.Answer.read(printed).word
 
 
-def gate(native, foreign_answer=KILL_PROCESS):
-    """The filter that answers foreign calls so, and native ones as another one."""
-    return (load(4) + jeq(X86_64, 1, 0) + ret(foreign_answer) + load(0) + jge(X32, 0, 1) + ret(foreign_answer)
-            + native)
-
-
-def one_number(number, answer, other):
-    return gate(jeq(number, 0, 1) + ret(answer) + ret(other))
+def one_number(number, answer, default):
+    return gate(jeq(number, 0, 1) + ret(answer) + ret(default))
 
 
 def profile(*entries, default="SCMP_ACT_ERRNO"):
@@ -129,7 +122,7 @@ class Relations(Case):
 
     def says(self, filters, given, *options):
         """The status and the lines of scf."""
-        bundle = b"".join(part("filter", it) for it in filters) + part("profile", given) + part("table", self.table)
+        bundle = b"".join(part("filter", data) for data in filters) + part("profile", given) + part("table", self.table)
         status, out, err = self.run_words([*CORE, "compare", *options], bundle)
         self.assertEqual(err, "")
         return status, out.split("\n")[:-1]
@@ -176,9 +169,9 @@ class Relations(Case):
         for name, (filters, given, row) in PAIRS.items():
             for scope in SCOPES:
                 with self.subTest(name=name, scope=scope):
-                    found = tuple(self.judged(filters, given, relation, scope) for relation in RELATIONS)
+                    verdicts = tuple(self.judged(filters, given, relation, scope) for relation in RELATIONS)
                     if scope == "all":
-                        self.assertEqual(found, row)
+                        self.assertEqual(verdicts, row)
 
     def test_each_answer(self):
         """Every kind of answer, unnamed ones beside each named one, against each action of a profile."""
@@ -191,8 +184,8 @@ class Relations(Case):
 
     def test_one_alone_lets_more_through(self):
         """Of the stack that holds only together, neither filter does by itself."""
-        for one in PAIRS["only both together"][0]:
-            self.assertEqual(self.judged([one], ALLOWS_READ, "no more", "all"), "more")
+        for number in PAIRS["only both together"][0]:
+            self.assertEqual(self.judged([number], ALLOWS_READ, "no more", "all"), "more")
 
     def test_both_flags(self):
         for options in (["--no-more", "--no-less"], ["--no-less", "--no-more", "--native"]):
@@ -212,8 +205,8 @@ class Dispositions(Case):
             self.assertEqual(printed.disposition,
                              ("denied", "delegated", "allowed")[degree(answer)],
                              hex(answer))
-        self.assertEqual([answers.Answer.read(it).disposition
-                          for it in ("ERRNO 65535", "USER_NOTIF 0", "TRACE 9", "LOG 0")],
+        self.assertEqual([answers.Answer.read(answer).disposition
+                          for answer in ("ERRNO 65535", "USER_NOTIF 0", "TRACE 9", "LOG 0")],
                          ["denied", *["delegated"] * 2, "allowed"])
 
 
@@ -261,7 +254,7 @@ class Compare(Case):
         """Over each scope; not where more is let through, and not where it isn't told."""
         refuses = "is stricter, and never more permissive than the profile"
         lets = "is neither more permissive nor stricter than the profile: only the answers differ"
-        for name, said in (("a rule is dropped", f"it {refuses}"),
+        for name, message in (("a rule is dropped", f"it {refuses}"),
                            ("both together too little", "they are stricter, and never more permissive than the "
                                                         "profile"),
                            ("a thread is ended for foreign calls", f"it {lets}"), ("an ENOSYS stub", f"it {lets}"),
@@ -273,7 +266,7 @@ class Compare(Case):
                     continue
                 first = next(line for line in lines if line.startswith("# "))
                 prefix = "over the syscalls in the table: " if scope == ["--calls"] else ""
-                self.assertEqual(first, f"# {prefix}{said}", (name, scope))
+                self.assertEqual(first, f"# {prefix}{message}", (name, scope))
         for name in ("one more and one less", "one lets more through", "foreign calls are made"):
             filters, given, _ = PAIRS[name]
             lines = self.compare(filters, given)[1]
@@ -286,19 +279,19 @@ class Compare(Case):
         filters, given, _ = PAIRS["a rule is dropped"]
         names = [self.file(f"{at}.bpf", data) for at, data in enumerate(filters)]
 
-        def found(*words):
+        def report_of(*words):
             return json.loads(self.run_tool("compare", "--json", *words, *names, self.file("p.json", given))[1])
 
-        plain = found()
-        self.assertEqual([plain[it] for it in ("status", "verdict", "no_more", "no_less")],
+        plain = report_of()
+        self.assertEqual([plain[member] for member in ("status", "verdict", "no_more", "no_less")],
                          [1, "differs", "no more", "less"])
         self.assertNotIn("relation", plain)
         for words, status, relation, verdict in ((["--no-more"], 0, "no more", "no more"),
                                                  (["--no-less", "--native"], 1, "no less", "less")):
-            told = found(*words)
-            self.assertEqual((told["status"], told["relation"], told["verdict"]), (status, relation, verdict))
-            self.assertNotIn("no_more", told)
-        self.assertEqual([(one["number"], one["verdict"]) for one in told["calls"]], [(SOCKET, "less")])
+            report = report_of(*words)
+            self.assertEqual((report["status"], report["relation"], report["verdict"]), (status, relation, verdict))
+            self.assertNotIn("no_more", report)
+        self.assertEqual([(call["number"], call["verdict"]) for call in report["calls"]], [(SOCKET, "less")])
 
     def test_both_flags(self):
         for name, words in (("compare", ["f", "p"]), ("verify-process", ["1", "p"])):
@@ -319,14 +312,14 @@ class Foreign(Case):
             given.append([load(0) + jeq(43, 0, 1) + ret(LOG) + ret(EPERM), alone])
         given += [[filter_of([READ], foreign=answer)] for answer in EACH]
         for filters in given:
-            for kind, found in zip(other_abis.ABIS, other_abis.known_of(filters)):
-                self.assertTrue(found.is_decided)
+            for kind, access in zip(other_abis.ABIS, other_abis.known_of(filters)):
+                self.assertTrue(access.is_decided)
                 through = [call for call in CORNERS if self.is_of(kind, call)
                            and degree(word(StandIn().decide(filters, call)))]
-                self.assertEqual(found.are_denied, not through, (kind.name, filters))
+                self.assertEqual(access.are_denied, not through, (kind.name, filters))
                 if through:
-                    call, answer = found.not_denied
-                    self.assertTrue(self.is_of(kind, call), found)
+                    call, answer = access.not_denied
+                    self.assertTrue(self.is_of(kind, call), access)
                     self.assertEqual(answer, answers.Answer.read(StandIn().decide(filters, call)))
 
     def is_of(self, kind, call):
@@ -335,9 +328,17 @@ class Foreign(Case):
         return kind.name == "i386" and call.architecture == I386 and call.number < 2 * X32
 
     def test_told(self):
-        told = [one.describe() for one in other_abis.known_of([ret(TRACE)])]
-        self.assertEqual(told, ["i386: not every syscall is denied, such as restart_syscall (0): TRACE 0",
+        lines = [access.describe() for access in other_abis.known_of([ret(TRACE)])]
+        self.assertEqual(lines, ["i386: not every syscall is denied, such as restart_syscall (0): TRACE 0",
                                 "x32: not every syscall is denied, such as read (0x40000000 + 0): TRACE 0"])
+
+    def test_which_are_denied(self):
+        """i386, all of which this filter allows, isn't among them where it is judged otherwise."""
+        i386, _ = other_abis.ABIS
+        for filters, judged, names in (([other_abis.filter_of(i386)], [i386.oci], "x32"),
+                                       ([ret(EPERM)], [], "i386 and x32")):
+            self.assertEqual(other_abis.describe(other_abis.known_of(filters, judged)),
+                             [f"other ABIs: every {names} syscall is denied; the kernel has no others"])
 
     def test_undecided_and_unfinished(self):
         """It is said so."""
@@ -349,25 +350,25 @@ class Foreign(Case):
             insn(0xAC, 0) + jeq(product ^ product >> 16, 0, 1) + ret(LOG) + ret(EPERM)
         self.assertEqual({number for number in range(1000) if StandIn().decide([mixed], calls.Call(number, I386))
                           != "ERRNO 1"}, {3})
-        found = other_abis.known_of([mixed])
-        self.assertEqual(found[0].describe(), "i386: undecided whether any syscall is allowed")
-        self.assertEqual(found[0].as_json(), {"kind": "i386", "is_decided": False, "not_denied": []})
+        accesses = other_abis.known_of([mixed])
+        self.assertEqual(accesses[0].describe(), "i386: undecided whether any syscall is allowed")
+        self.assertEqual(accesses[0].as_json(), {"kind": "i386", "is_decided": False, "not_denied": []})
         with mock.patch.dict(client.limits, {"limit": "0"}):
-            self.assertEqual([one.describe() for one in other_abis.known_of([filter_of([READ])])], [
+            self.assertEqual([access.describe() for access in other_abis.known_of([filter_of([READ])])], [
                 f"{kind}: undecided whether any syscall is allowed" for kind in ("i386", "x32")])
 
     def test_a_computation_that_is_decided(self):
         """The number times the number is known from its lowest bit on."""
         squares = load(4) + jeq(X86_64, 1, 0) + load(0) + insn(0x07, 0) + insn(0x2C, 0) + jeq(9, 0, 1) + ret(LOG) + \
             ret(EPERM)
-        found = other_abis.known_of([squares])
-        self.assertEqual([it.is_decided for it in found], [True, True])
-        call, answer = found[0].not_denied
-        self.assertTrue(self.is_of(found[0].abi, call), found)
+        accesses = other_abis.known_of([squares])
+        self.assertEqual([access.is_decided for access in accesses], [True, True])
+        call, answer = accesses[0].not_denied
+        self.assertTrue(self.is_of(accesses[0].abi, call), accesses)
         self.assertEqual((call.number ** 2 & 0xFFFFFFFF, str(answer)), (9, "LOG"))
         # x86-64 and x32 share an architecture, whose own number is squared there
         self.assertNotEqual(X86_64 ** 2 & 0xFFFFFFFF, 9)
-        self.assertTrue(found[1].are_denied, found)
+        self.assertTrue(accesses[1].are_denied, accesses)
 
     def test_refused_filters(self):
         self.assertEqual(other_abis.known_of([b""]), [])
@@ -385,13 +386,13 @@ class VerifyProcess(Confined):
         status, out, _ = self.run_tool("verify-process", "--no-more", str(child.pid), given)
         self.assertEqual((status, out.split("\n")[:3]), (0, [
             "no more", "# compared: x86-64 syscalls; other ABIs are only checked for any allowed syscall:",
-            f"# {other_abis.NONE}"]))
+            f"# {other_abis.EVERY_SYSCALL_DENIED.format('i386 and x32')}"]))
         status, out, _ = self.run_tool("verify-process", "--no-less", str(child.pid), given)
         self.assertEqual((status, out.split("\n")[0]), (1, "less"))
         self.assertIn("\n# the syscall is denied by the filter, and allowed by the profile\n", out)
-        found = json.loads(self.run_tool("verify-process", "--no-more", "--json", str(child.pid), given)[1])
-        stack = found["stacks"][0]
-        self.assertEqual((found["verdict"], stack["relation"]), ("no more", "no more"))
+        report = json.loads(self.run_tool("verify-process", "--no-more", "--json", str(child.pid), given)[1])
+        stack = report["stacks"][0]
+        self.assertEqual((report["verdict"], stack["relation"]), ("no more", "no more"))
         self.assertEqual(stack["foreign"], [{"kind": kind.name, "is_decided": True, "not_denied": []}
                                             for kind in other_abis.ABIS])
 

@@ -120,8 +120,8 @@ class ResolveProfile(Case):
         given = engine(archMap=MAP)
         self.assertEqual(self.resolved(given)[0]["architectures"],
                          ["SCMP_ARCH_X86_64", "SCMP_ARCH_X86", "SCMP_ARCH_X32"])
-        self.assertEqual(self.resolved(given, "--arch", "all"), self.resolved(given))
-        plain, said = self.resolved(given, "--arch", "native")
+        self.assertEqual(self.resolved(given, "--arch-map", "all"), self.resolved(given))
+        plain, said = self.resolved(given, "--arch-map", "native")
         self.assertEqual((plain["architectures"], said), (["SCMP_ARCH_X86_64"],
             "resolve-profile: architectures left out: SCMP_ARCH_X86, SCMP_ARCH_X32\n"))
         self.assertNotIn("architectures", self.resolved(engine(archMap=MAP[:1]))[0])
@@ -129,7 +129,7 @@ class ResolveProfile(Case):
         self.assertEqual(self.resolved(engine(archMap=twice))[0]["architectures"],
                          ["SCMP_ARCH_X86_64", "SCMP_ARCH_X86", "SCMP_ARCH_X32"])
         self.refused(engine(archMap=MAP, architectures=["SCMP_ARCH_X86_64"]), "both architectures and archMap")
-        self.refused(engine(architectures=["SCMP_ARCH_ARM"]), "isn't for SCMP_ARCH_X86_64", "--arch", "native")
+        self.refused(engine(architectures=["SCMP_ARCH_ARM"]), "isn't for SCMP_ARCH_X86_64", "--arch-map", "native")
         self.assertEqual(self.resolved(engine(architectures=["SCMP_ARCH_ARM"]))[0]["architectures"], ["SCMP_ARCH_ARM"])
 
     def test_another_machine(self):
@@ -141,7 +141,7 @@ class ResolveProfile(Case):
         self.assertEqual([it["names"] for it in found["syscalls"]], [["a"], ["c"]])
         self.assertIn("entry 1 (b) left out: not on arm64\n", said)
         self.assertEqual(self.names(given, "--machine", "amd64"), ["b"])
-        self.assertEqual(self.resolved(given, "--machine", "arm64", "--arch", "native")[0]["architectures"],
+        self.assertEqual(self.resolved(given, "--machine", "arm64", "--arch-map", "native")[0]["architectures"],
                          ["SCMP_ARCH_AARCH64"])
         applied, said = self.resolved(given, "--machine", "arm64", "--runtime", "docker")
         self.assertEqual(applied["architectures"], ["SCMP_ARCH_AARCH64", "SCMP_ARCH_ARM"])
@@ -187,11 +187,15 @@ class ResolveProfile(Case):
                        entry("c", action=ERRNO, errnoRet=2), entry("a", action=ERRNO, args=condition))
         self.assertEqual(self.resolved(given)[0], given)
         plain, said = self.resolved(given, "--keep-first")
-        self.assertEqual(plain, engine(entry("a", "b"), entry("c", action=ERRNO, errnoRet=1), entry("b"),
+        # (the answer of entry 1 is the default's, and runtimes leave such an entry out)
+        self.assertEqual(plain, engine(entry("a", "b"), entry("b"), entry("c", action=ERRNO, errnoRet=2),
                                        entry("a", action=ERRNO, args=condition)))
         self.assertEqual(said.count("left out of an entry"), 2)
-        self.assertIn("resolve-profile: a left out of an entry with SCMP_ACT_ERRNO: an earlier entry has it with "
+        self.assertIn("resolve-profile: a left out of an entry with SCMP_ACT_ERRNO: another entry has it with "
                       "SCMP_ACT_ALLOW\n", said)
+        given = engine(entry("b", action=ERRNO, errnoRet=65537), entry("a", action=ERRNO, errnoRet=2), entry("a", "b"))
+        self.assertEqual(self.resolved(given, "--keep-first")[0],
+                         engine(entry("a", action=ERRNO, errnoRet=2), entry("b")))
 
     def test_what_the_engines_refuse(self):
         for given, says in ((b"", "isn't JSON"), (b"{", "isn't JSON"), (b"\xff", "isn't UTF-8"),
@@ -266,21 +270,24 @@ class ResolveProfile(Case):
         self.refused({"defaultAction": "A", "\u017fyscalls": []},
                      "a member '\\u017fyscalls', which programs in Go read as 'syscalls'")
 
-    def test_a_profile_as_a_runtime_applies_it(self):
+    def test_a_profile_as_a_runtime_is_given_it(self):
         given = engine(entry("mkdir", action=ERRNO, errnoRet=1), entry("mkdir", "read"),
                        entry("rmdir", includes={"caps": ["CAP_SYS_ADMIN"]}), archMap=MAP)
         found, said = self.resolved(given, "--runtime", "docker")
-        self.assertEqual(found, {"defaultAction": ERRNO, "defaultErrnoRet": 1,
+        handed_on = [entry("mkdir", action=ERRNO, errnoRet=1), entry("mkdir", "read")]
+        self.assertEqual(found, {"defaultAction": ERRNO,
                                  "architectures": ["SCMP_ARCH_X86_64", "SCMP_ARCH_X86", "SCMP_ARCH_X32"],
-                                 "syscalls": [entry("mkdir", "read")]})
+                                 "syscalls": handed_on})
         self.assertEqual(said.splitlines(), [
             "resolve-profile: entry 2 (rmdir) left out: only with CAP_SYS_ADMIN",
-            "resolve-profile: entry 0 (mkdir) left out: its answer is the default's",
+            "resolve-profile: runc leaves out entry 0 (mkdir): its answer is the default's",
             "resolve-profile: not in the profile: runc answers the numbers from 84 on, of i386 from 40 "
             "on and of x32 from 84 on, above all that the profile names, "
             "with ENOSYS"])
         self.assertEqual(self.resolved(given, "--runtime", "podman", "--caps", "SYS_ADMIN")[0]["syscalls"],
-                         [entry("mkdir", "read"), entry("rmdir")])
+                         [*handed_on, entry("rmdir")])
+        self.assertEqual(self.resolved(given, "--runtime", "docker", "--keep-first")[0]["syscalls"],
+                         [entry("mkdir", "read")])
         self.refused(given, "runc doesn't read archMap", "--runtime", "runc")
         self.assertEqual(self.resolved(given, "--runtime", "runc", "--engine", "docker")[0], found)
         self.refused(engine(entry("mkdir", errnoRet=1)), "crun refuses the profile: entry 0 has an errno beside",

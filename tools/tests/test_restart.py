@@ -88,8 +88,8 @@ int main(int argc, char **argv)
 
 def denying(answer, *numbers, numbers_32=(RESTART_32,)):
     """Answers these system calls so, and those of i386; others are allowed."""
-    def tests(those):
-        return (load(0) + b"".join(jeq(number, len(those) - at, 0) for at, number in enumerate(those)) + ret(ALLOW)
+    def tests(numbers):
+        return (load(0) + b"".join(jeq(number, len(numbers) - at, 0) for at, number in enumerate(numbers)) + ret(ALLOW)
                 + ret(answer))
     native = tests(numbers or (RESTART,))
     return load(4) + jeq(X86_64, 0, len(native) // 8) + native + tests(numbers_32)
@@ -123,10 +123,10 @@ class Restarts(Confined):
     def ends(self, child, name):
         """The call returns as it should, and no sooner; the process is as it was."""
         _, _, result, error = CALLS[name]
-        said = child.stdout.readline().split()
-        self.assertEqual(said[:2], [str(result), str(error)])
+        message = child.stdout.readline().split()
+        self.assertEqual(message[:2], [str(result), str(error)])
         if error != errno.EINTR:
-            self.assertGreaterEqual(float(said[2]), WAIT)
+            self.assertGreaterEqual(float(message[2]), WAIT)
         self.runs_on(child)
 
     def go_on(self, cases, goes_on_as):
@@ -134,8 +134,8 @@ class Restarts(Confined):
         children, numbers = [self.child([denying(answer)]) for answer, _ in cases], []
         for child, (_, name) in zip(children, cases):
             self.waits(child, *CALLS[name][1::-1])
-            found = processes.look_at_process(processes.Kernel(), child.pid)
-            self.assertEqual([stack.threads for stack in found.stacks], [{child.pid: [child.pid]}])
+            inspection = processes.look_at_process(processes.Kernel(), child.pid)
+            self.assertEqual([stack.threads for stack in inspection.stacks], [{child.pid: [child.pid]}])
             numbers.append(self.next_call_of(child))
         for child, number, (answer, name) in zip(children, numbers, cases):
             with self.subTest(f"{name} {answer:#x}"):
@@ -171,8 +171,8 @@ class Restarts(Confined):
         profile = self.file("p", profile_of())
         words = (("filters-of", "{}", "out"), ("verify-process", "{}", profile), ("surface", "--pid", "{}"))
         children = [self.waiting() for _ in words]
-        for child, (name, *rest) in zip(children, words):
-            status, out, err = self.run_tool(name, *(it.format(child.pid) for it in rest))
+        for child, (name, *remaining) in zip(children, words):
+            status, out, err = self.run_tool(name, *(item.format(child.pid) for item in remaining))
             self.assertEqual((status, err), (1 if name == "verify-process" else 0, ""), out)
             self.ends(child, "nanosleep")
 
@@ -182,10 +182,10 @@ class Restarts(Confined):
             self.do(child, "threading.Thread(target=lambda: print(threading.get_native_id(), "
                            f"library.usleep({WAIT * 1000000}), flush=True)).start()")
             self.assertTrue(comes(lambda child=child: len(os.listdir(f"/proc/{child.pid}/task")) == 2))
-            other = next(int(it) for it in os.listdir(f"/proc/{child.pid}/task") if int(it) != child.pid)
-            self.assertTrue(comes(lambda other=other: self.call_of(other) in (NANOSLEEP, 230)))
+            second = next(int(name) for name in os.listdir(f"/proc/{child.pid}/task") if int(name) != child.pid)
+            self.assertTrue(comes(lambda second=second: self.call_of(second) in (NANOSLEEP, 230)))
             processes.look_at_process(processes.Kernel(), child.pid)
-            self.assertEqual(child.stdout.readline(), f"{other} 0\n")
+            self.assertEqual(child.stdout.readline(), f"{second} 0\n")
             self.runs_on(child)
 
     def test_a_filter_that_looks_at_arguments(self):
@@ -193,14 +193,15 @@ class Restarts(Confined):
         # (the third argument's low half: linux/seccomp.h)
         child = self.child([load(0) + jeq(RESTART, 1, 0) + ret(ALLOW) + load(32) + jeq(WAIT * 1000, 0, 1) + ret(ALLOW)
                             + ret(KILL_PROCESS)])
-        self.do(child, f"threading.Thread(target=lambda: print(library.syscall({POLL}, None, 0, {WAIT * 1000 + 1}), "
+        # (the second waits twice as long, so that what the two print can't mix)
+        self.do(child, f"threading.Thread(target=lambda: print(library.syscall({POLL}, None, 0, {WAIT * 2000}), "
                        f"flush=True)).start()")
         self.assertTrue(comes(lambda child=child: len(os.listdir(f"/proc/{child.pid}/task")) == 2))
-        other = next(int(it) for it in os.listdir(f"/proc/{child.pid}/task") if int(it) != child.pid)
+        second = next(int(name) for name in os.listdir(f"/proc/{child.pid}/task") if int(name) != child.pid)
         self.waits(child, *CALLS["poll"][1::-1])
-        self.assertEqual(self.call_of(other), POLL)
+        self.assertEqual(self.call_of(second), POLL)
         processes.look_at_process(processes.Kernel(), child.pid)
-        self.assertEqual((self.next_call_of(child), self.call_of(other)), (RESTART, POLL))
+        self.assertEqual((self.next_call_of(child), self.call_of(second)), (RESTART, POLL))
         self.assertEqual(sorted(child.stdout.readline().split()[0] for _ in range(2)), ["0", "0"])
         self.runs_on(child)
 
@@ -214,8 +215,8 @@ class Restarts(Confined):
         with subprocess.Popen([program, given], stdout=subprocess.PIPE, text=True) as child:
             self.assertEqual(child.stdout.readline(), "begins\n")
             self.assertTrue(comes(lambda: self.call_of(child.pid) in (NANOSLEEP_32, CLOCK_NANOSLEEP_32, 407)))
-            found = processes.look_at_process(processes.Kernel(), child.pid)
-            self.assertEqual(found.stacks[0].filters, (denying(KILL_PROCESS),))
+            inspection = processes.look_at_process(processes.Kernel(), child.pid)
+            self.assertEqual(inspection.stacks[0].filters, (denying(KILL_PROCESS),))
             self.assertEqual((child.stdout.readline(), child.wait()), ("0 0\n", 0))
 
     def test_a_filter_that_denies_the_call_itself(self):
@@ -226,13 +227,13 @@ class Restarts(Confined):
             self.do(child, f"threading.Thread(target=lambda: print(library.syscall({call}), ctypes.get_errno(), "
                            f"flush=True)).start()")
             self.assertTrue(comes(lambda child=child: len(os.listdir(f"/proc/{child.pid}/task")) == 2))
-            other = next(int(it) for it in os.listdir(f"/proc/{child.pid}/task") if int(it) != child.pid)
-            self.assertTrue(comes(lambda other=other, numbers=numbers: self.call_of(other) == numbers[-1]))
+            second = next(int(name) for name in os.listdir(f"/proc/{child.pid}/task") if int(name) != child.pid)
+            self.assertTrue(comes(lambda second=second, numbers=numbers: self.call_of(second) == numbers[-1]))
             self.do(child, f"data = open({given!r}, 'rb').read(); "
                            f"print(library.syscall(317, 1, 1, ctypes.byref(Program(len(data) // 8, data))), flush=True)")
             self.assertEqual(child.stdout.readline(), "0\n")
-            found = processes.look_at_process(processes.Kernel(), child.pid)
-            self.assertEqual(len(found.stacks[0].threads[child.pid]), 2)
+            inspection = processes.look_at_process(processes.Kernel(), child.pid)
+            self.assertEqual(len(inspection.stacks[0].threads[child.pid]), 2)
             self.assertEqual(child.stdout.readline(), f"-1 {errno.EINTR}\n")
             self.runs_on(child)
 
@@ -317,12 +318,12 @@ class Supervised(Confined):
         answered = []
         answer = threading.Timer(0.3, lambda: answered.append(supervisor.answers(call, 77)))
         answer.start()
-        found = processes.look_at_process(processes.Kernel(), child.pid, patience=PATIENCE)
+        inspection = processes.look_at_process(processes.Kernel(), child.pid, patience=PATIENCE)
         answer.join()
         self.assertEqual(answered, [True])
-        self.assertEqual([len(stack.filters) for stack in found.stacks], [1])
+        self.assertEqual([len(stack.filters) for stack in inspection.stacks], [1])
         self.assertEqual(child.stdout.readline(), "77\n")
-        self.assertEqual((found.asked_again, supervisor.names, supervisor.receives(0)), ([], [MKDIR], None))
+        self.assertEqual((inspection.asked_again, supervisor.names, supervisor.receives(0)), ([], [MKDIR], None))
         self.runs_on(child)
 
     def test_the_tools(self):
@@ -353,8 +354,8 @@ class Supervised(Confined):
     def test_a_filter_that_notifies_of_other_calls(self):
         """Nothing is made anew that a supervisor answers."""
         child, supervisor = self.supervised(MKDIR)
-        found = processes.look_at_process(processes.Kernel(), child.pid)
-        self.assertEqual((found.asked_again, supervisor.receives(0)), ([], None))
+        inspection = processes.look_at_process(processes.Kernel(), child.pid)
+        self.assertEqual((inspection.asked_again, supervisor.receives(0)), ([], None))
         self.runs_on(child)
 
 
@@ -369,10 +370,10 @@ class Asked(unittest.TestCase):
                 for begin in range(0, 15 * 300, 300):
                     run.reset_mock()
                     restarts.begin()
-                    known = [restarts.becomes(stack, Call(35, X86_64, 0, (begin + it, 0, 0, 0, 0, 0)))
-                             for it in range(300)]
+                    actual = [restarts.becomes(stack, Call(35, X86_64, 0, (begin + number, 0, 0, 0, 0, 0)))
+                              for number in range(300)]
                     self.assertEqual(run.call_count, 200)
-                    self.assertEqual((None in known, "allowed" in known), (True, stack is filters))
+                    self.assertEqual((None in actual, "allowed" in actual), (True, stack is filters))
             self.assertLess(len(restarts.answers), 3000)
 
 

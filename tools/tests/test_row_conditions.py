@@ -19,7 +19,7 @@ from scftools.calls import Call  # noqa: E402
 
 EINVAL = 0x00050000 | 22
 AUDIT = where(0, "SCMP_CMP_EQ", 16, 0, where(2, "SCMP_CMP_EQ", 9, 0, ret(EINVAL), ret(ALLOW)), ret(ALLOW))
-NAMESPACES = 0x7E020000
+NAMESPACES, WORD = 0x7E020000, (1 << 64) - 1
 # The dispositions in the JSON of surface, the strictest first.
 RANKS = ("denied", "delegated", "allowed")
 
@@ -32,9 +32,9 @@ class Lines(Case):
         self.assertEqual(err, "")
         return status, out
 
-    def is_said(self, code, text, number=41, other=ALLOW):
+    def is_said(self, code, text, number=41, default=ALLOW):
         """What is said of a number that this code answers."""
-        status, out = self.shown([of_numbers({number: code}, other)])
+        status, out = self.shown([of_numbers({number: code}, default)])
         self.assertEqual(status, 0)
         self.assertIn(f" {number} {text}\n", out)
 
@@ -55,9 +55,9 @@ class Lines(Case):
         code = where(0, "SCMP_CMP_MASKED_EQ", NAMESPACES, 0, ret(ALLOW), ret(EPERM))
         status, out = self.shown([of_numbers({272: code}, ALLOW)], table="unshare 272\n")
         self.assertEqual(status, 0)
-        found = re.search(r"unshare allowed where flags & \(([A-Z_|]+)\) == 0, else denied \(EPERM\)\n", out)
+        match = re.search(r"unshare allowed where flags & \(([A-Z_|]+)\) == 0, else denied \(EPERM\)\n", out)
         # linux/sched.h: the flags of all namespaces but that of time, which is a bit of CSIGNAL
-        self.assertEqual(set(found[1].split("|")), {f"CLONE_NEW{it}" for it in
+        self.assertEqual(set(match[1].split("|")), {f"CLONE_NEW{flag}" for flag in
                                                     ("NS", "CGROUP", "UTS", "IPC", "USER", "PID", "NET")})
         # O_RDONLY is no bit (asm-generic/fcntl.h)
         code = where(1, "SCMP_CMP_MASKED_EQ", 0x40, 0x40, ret(EPERM), ret(ALLOW))
@@ -65,6 +65,38 @@ class Lines(Case):
         self.assertIn(" open denied (EPERM) where flags & O_CREAT == O_CREAT, else allowed\n", out)
         self.is_said(load(16) + jeq(2, 0, 1) + ret(ALLOW) + ret(EPERM),
                      "socket allowed where domain & 0xffffffff == AF_INET, else denied (EPERM)")
+
+    def said_of(self, name, number, code):
+        """What is said of a syscall that this code answers, behind its name."""
+        status, out = self.shown([of_numbers({number: code}, ALLOW)], table=f"{name} {number}\n")
+        self.assertEqual(status, 0)
+        return re.search(f" {number} {name} (.*)\n", out)[1]
+
+    def test_masks_as_people_write_them(self):
+        """By the bits that they lack, where these are fewer; bits that have no name take no other's name away."""
+        # SOCK_CLOEXEC and SOCK_NONBLOCK of socket(2)
+        free = os.O_CLOEXEC | os.O_NONBLOCK
+        for name, number, index, op, value, two, text in (
+                ("socket", 41, 1, "SCMP_CMP_MASKED_EQ", WORD ^ free, 1,
+                 "type & ~(SOCK_NONBLOCK|SOCK_CLOEXEC) == SOCK_STREAM"),
+                ("socket", 41, 1, "SCMP_CMP_MASKED_EQ", WORD ^ free, 0,
+                 "type & ~(SOCK_NONBLOCK|SOCK_CLOEXEC) == 0"),
+                ("unshare", 272, 0, "SCMP_CMP_MASKED_EQ", 0x10000001, 0, "flags & (CLONE_NEWUSER|0x1) == 0"),
+                ("unshare", 272, 0, "SCMP_CMP_MASKED_EQ", WORD ^ 0x10000001, 0, "flags & ~(CLONE_NEWUSER|0x1) == 0"),
+                ("mprotect", 10, 2, "SCMP_CMP_LE", 3, 0, "prot & ~(PROT_READ|PROT_WRITE) == 0"),
+                ("mprotect", 10, 1, "SCMP_CMP_LE", 3, 0, "a1 <= 3"),
+                ("mprotect", 10, 2, "SCMP_CMP_LE", 4, 0, "prot <= 4")):
+            code = where(index, op, value, two, ret(ALLOW), ret(EPERM))
+            self.assertEqual(self.said_of(name, number, code), f"allowed where {text}, else denied (EPERM)")
+
+    def test_sets_of_values(self):
+        """Several alternatives on one argument are its values, where these are few."""
+        for values, text in (((1, 2, 9), "sig == SIGHUP or sig == SIGINT or sig == SIGKILL"),
+                             ((1, 17, 2, 10, 4, 12, 15), "sig in {SIGHUP, SIGINT, SIGILL, SIGUSR1, SIGUSR2, SIGTERM, "
+                                                         "SIGCHLD}")):
+            tests = b"".join(jeq(value, 0, 1) + ret(ALLOW) for value in values)
+            code = load(28) + jeq(0, 1, 0) + ret(EPERM) + load(24) + tests + ret(EPERM)
+            self.assertEqual(self.said_of("kill", 62, code), f"allowed where {text}, else denied (EPERM)")
 
     def test_answers_of_one_disposition(self):
         """They are told apart, too."""
@@ -150,25 +182,27 @@ class Lines(Case):
             data, _ = several.compile_filter(reading)
             for name in reading.rules:
                 arch, first, _, bits, _, table = several.ARCHITECTURES[name]
-                own = "".join(f"{syscall} {number}\n" for syscall, number in table.items())
-                out = json.loads(self.shown([data], "--arch", FILES[name], "--json", table=own)[1])
+                own_table = "".join(f"{syscall} {number}\n" for syscall, number in table.items())
+                out = json.loads(self.shown([data], "--arch", FILES[name], "--json", table=own_table)[1])
                 rows = {first + row["number"]: row["conditions"] for row in out["calls"] if "conditions" in row}
                 seen += len(rows)
                 for _, number, values in reading.records(name, source, 20):
                     if number in rows:
                         ours = answers.Answer.read(StandIn().decide([data], Call(number, arch, 0, tuple(values))))
-                        theirs = self.answer_of(rows[number], [it % (1 << bits) for it in values])
+                        theirs = self.answer_of(rows[number], [value % (1 << bits) for value in values])
                         self.assertEqual(theirs["answer"], ours.as_json(), (seed, name, number))
         self.assertGreater(seen, 8)
 
     def answer_of(self, conditions, arguments):
         """The answer that conditions say of some arguments; no two that hold say another one."""
-        def holds(one):
-            return HOLDS[one["op"]](arguments[one["index"]], one["value"], one.get("valueTwo", 0))
+        def holds(condition):
+            return HOLDS[condition["op"]](arguments[condition["index"]], condition["value"],
+                                          condition.get("valueTwo", 0))
 
-        found = [it for it in conditions["where"] if any(all(map(holds, those)) for those in it["any_of"])]
-        self.assertLess(len(found), 2)
-        return found[0] if found else conditions["else"]
+        met = [part
+               for part in conditions["where"] if any(all(map(holds, alternative)) for alternative in part["any_of"])]
+        self.assertLess(len(met), 2)
+        return met[0] if met else conditions["else"]
 
 
 class Names(Case):

@@ -2,7 +2,6 @@
 import contextlib
 import json
 import os
-import random
 import shutil
 import subprocess
 import sys
@@ -10,42 +9,38 @@ import tempfile
 import unittest
 from unittest import mock
 
+from support import oci
 from support.common import ALLOW as ALLOWED
 from support.common import TABLE, TOP, Case, insn, jeq, load, part, ret, stub
 from support.confined import ended, started
+from support.drawn_profiles import drawn_profile
+from support.oci import ALLOW, ERRNO, X32, X86, condition, entry
+from support.oci import NATIVE as X86_64
+from support.second_reading import by_words
 
 sys.path.append(os.path.join(TOP, "tools"))
 
 # pylint: disable=wrong-import-position
 from scftools import client, engines, inputs, libseccomp, processes, runtimes, tables, verdicts  # noqa: E402
-from scftools.compare import NATIVE, Comparison  # noqa: E402
+from scftools.architectures import JUDGED  # noqa: E402
+from scftools.compare import Comparison  # noqa: E402
 from scftools.filters import Filter  # noqa: E402
 from scftools.values import replace  # noqa: E402
 
-ALLOW, ERRNO, LOG, TRAP = "SCMP_ACT_ALLOW", "SCMP_ACT_ERRNO", "SCMP_ACT_LOG", "SCMP_ACT_TRAP"
-X86_64, X86, X32 = "SCMP_ARCH_X86_64", "SCMP_ARCH_X86", "SCMP_ARCH_X32"
+LOG, TRAP, TRACE, KILL = "SCMP_ACT_LOG", "SCMP_ACT_TRAP", "SCMP_ACT_TRACE", "SCMP_ACT_KILL_PROCESS"
 NAMES = sorted(tables.read(None).names())
 BUSYBOX = shutil.which("busybox")
 MOBY = "/usr/share/gocode/src/github.com/docker/docker/profiles/seccomp/default.json"
 PODMAN = "/usr/share/containers/seccomp.json"
-CAPABILITIES = [f"CAP_{it}" for it in engines.DOCKER.split()]
-
-
-def condition(index, op, value, two=0):
-    return {"index": index, "op": f"SCMP_CMP_{op}", "value": value, "valueTwo": two}
-
-
-def entry(*names, action=ALLOW, errno=None, args=()):
-    return {"names": list(names), "action": action, **({} if errno is None else {"errnoRet": errno}),
-            **({"args": list(args)} if args else {})}
+CAPABILITIES = [f"CAP_{name}" for name in engines.DOCKER.split()]
 
 
 # What a container's program does, whatever else a profile says.
-OTHERS = entry(*(it for it in NAMES if it not in ("mkdir", "rmdir", "chroot")))
+OTHERS = entry(*(name for name in NAMES if name not in ("mkdir", "rmdir", "chroot")))
 
 
-def profile(*entries, default=ERRNO, **members):
-    return {"defaultAction": default, "architectures": [X86_64], "syscalls": [OTHERS, *entries], **members}
+def profile(*entries, **members):
+    return oci.profile(OTHERS, *entries, **{"architectures": [X86_64], **members})
 
 
 def config(seccomp, capabilities=CAPABILITIES):
@@ -54,9 +49,9 @@ def config(seccomp, capabilities=CAPABILITIES):
     return {"ociVersion": "1.0.2",
             "process": {"user": {"uid": 0, "gid": 0}, "args": ["/busybox", "sleep", "300"], "env": ["PATH=/"],
                         "cwd": "/",
-                        "capabilities": {it: capabilities for it in ("bounding", "effective", "permitted")}},
+                        "capabilities": {kind: capabilities for kind in ("bounding", "effective", "permitted")}},
             "root": {"path": "rootfs", "readonly": True}, "mounts": mounts,
-            "linux": {"namespaces": [{"type": it} for it in ("pid", "ipc", "uts", "mount")], "seccomp": seccomp}}
+            "linux": {"namespaces": [{"type": kind} for kind in ("pid", "ipc", "uts", "mount")], "seccomp": seccomp}}
 
 
 # crun takes no mix of both versions of control groups; in a mount namespace of its own it sees the second alone.
@@ -106,7 +101,7 @@ def filters_of(runtime, seccomp):
 def of_ipc(*more):
     """A profile with i386 calls above all of the others' numbers, which ipc makes, too."""
     i386, native = tables.of_architecture(X86), tables.read(None)
-    names = [it for it in NAMES if native.number_of(it) <= 334 and (i386.number_of(it) or 0) <= 386]
+    names = [name for name in NAMES if native.number_of(name) <= 334 and (i386.number_of(name) or 0) <= 386]
     return {"defaultAction": ERRNO, "architectures": [X86_64, X86, X32],
             "syscalls": [entry(*names, "semget", "shmat", "msgrcv", *more)]}
 
@@ -115,26 +110,25 @@ class Runtimes(Case):
     def compared(self, runtime, seccomp, applied=None, filters=None):
         """The verdict of a container's own filter beside what the tools say that the runtime makes of the profile, and
         what they say."""
-        found = applied or runtimes.applied(seccomp, runtime)
+        applied_profile = applied or runtimes.applied(seccomp, runtime)
         if filters is None:
-            filters, why = filters_of(found.runtime.program, seccomp)
+            filters, why = filters_of(applied_profile.runtime.program, seccomp)
             self.assertIsNotNone(filters, why)
-        comparison = Comparison([Filter("it", it) for it in filters], found.data, tables.read(None))
-        _, report, has_stub = comparison.run_with_stub(comparison.scope, found.stub)
-        return report.printed[0], has_stub, found
+        comparison = Comparison([Filter("it", data) for data in filters], applied_profile.data, tables.read(None),
+                                stub=applied_profile.stub)
+        _, report, has_stub = comparison.run_with_stub()
+        return report.printed[0], has_stub, applied_profile
 
     def same(self, runtime, *entries, **members):
         given = profile(*entries, **members)
-        verdict, _, found = self.compared(runtime, given)
+        verdict, _, applied = self.compared(runtime, given)
         self.assertEqual(verdict, "same", (runtime, given["syscalls"][1:]))
-        return found
+        return applied
 
     def test_an_entry_with_the_answer_of_the_default(self):
         for runtime in ("runc", "crun"):
             for errno, members in ((1, {}), (None, {}), (65537, {}), (None, {"defaultErrnoRet": 1})):
-                found = self.same(runtime, entry("mkdir", action=ERRNO, errno=errno), entry("mkdir"), **members)
-                self.assertEqual([it.index for it in found.origins], [0, 2])
-                self.assertIn("entry 1 (mkdir) left out: its answer is the default's", found.notes)
+                self.same(runtime, entry("mkdir", action=ERRNO, errnoRet=errno), entry("mkdir"), **members)
             self.same(runtime, entry("mkdir", action=ERRNO), entry("mkdir"), default=LOG)
             self.same(runtime, entry("mkdir", action="SCMP_ACT_KILL_THREAD"), entry("mkdir"), default="SCMP_ACT_KILL")
             self.same(runtime, entry("mkdir", action=ERRNO), defaultErrnoRet=2)
@@ -142,44 +136,93 @@ class Runtimes(Case):
     def test_which_of_two_entries_counts(self):
         only = [condition(0, "EQ", 7)]
         for runtime in ("runc", "crun"):
-            found = self.same(runtime, entry("mkdir", action=ERRNO, errno=2), entry("rmdir", "mkdir"))
-            self.assertIn("mkdir left out of entry 2: entry 1, which has no conditions, covers all such syscalls",
-                          found.notes)
-            self.same(runtime, entry("mkdir"), entry("mkdir", action=ERRNO, errno=2))
+            self.same(runtime, entry("mkdir", action=ERRNO, errnoRet=2), entry("rmdir", "mkdir"))
+            self.same(runtime, entry("mkdir"), entry("mkdir", action=ERRNO, errnoRet=2))
             # an entry without conditions has all calls, wherever it stands
-            self.same(runtime, entry("mkdir", args=only), entry("mkdir", action=ERRNO, errno=2))
-            self.same(runtime, entry("mkdir", action=ERRNO, errno=2), entry("mkdir", args=only))
-            self.same(runtime, entry("mkdir", args=only), entry("mkdir", action=ERRNO, errno=2, args=[
-                condition(0, "EQ", 8)]), entry("mkdir", action=ERRNO, errno=1))
+            self.same(runtime, entry("mkdir", args=only), entry("mkdir", action=ERRNO, errnoRet=2))
+            self.same(runtime, entry("mkdir", action=ERRNO, errnoRet=2), entry("mkdir", args=only))
+            self.same(runtime, entry("mkdir", args=only), entry("mkdir", action=ERRNO, errnoRet=2, args=[
+                condition(0, "EQ", 8)]), entry("mkdir", action=ERRNO, errnoRet=1))
             self.same(runtime, entry("mkdir", args=only), entry("mkdir", action=ERRNO, args=only))
 
     def test_two_conditions_on_one_argument(self):
-        two, many = [condition(0, "EQ", 1), condition(0, "EQ", 2)], [condition(0, "EQ", it) for it in range(9)]
+        two, many = [condition(0, "EQ", 1), condition(0, "EQ", 2)], [condition(0, "EQ", value) for value in range(9)]
         for runtime in ("runc", "crun"):
-            found = self.same(runtime, entry("mkdir", args=two))
-            self.assertEqual([it.index for it in found.origins], [0, 1, 1])
+            self.same(runtime, entry("mkdir", args=two))
             self.same(runtime, entry("mkdir", args=[*two, condition(1, "EQ", 3)]))
-            found = self.same(runtime, entry("mkdir", args=many))
-            self.assertEqual(len(found.origins), 7 if runtime == "crun" else 10)
-            self.same(runtime, entry("mkdir", args=[*(condition(it, "EQ", it) for it in range(6)), many[5]]))
+            applied = self.same(runtime, entry("mkdir", args=many))
+            self.assertEqual(applied.remarks[:-1], ["entry 1 has 9 conditions, of which crun takes the first 6"]
+                             if runtime == "crun" else [])
+            self.same(runtime, entry("mkdir", args=[*(condition(index, "EQ", index) for index in range(6)), many[5]]))
+
+    def test_which_entries_are_read_otherwise(self):
+        """A note on each: of entries with the default's answer, of what an entry without conditions covers, which may
+        be one by its masks, and of conditions on one argument."""
+        two, nothing = [condition(0, "EQ", 1), condition(0, "EQ", 2)], [condition(0, "MASKED_EQ", 0)]
+        given = [entry("mkdir", action=ERRNO, errnoRet=65537), entry("mkdir", args=two), entry("rmdir", args=two[:1]),
+                 entry("mkdir", "rmdir", action=TRAP, args=nothing), entry("chroot", args=[*two, *nothing]),
+                 entry("rmdir"), entry("chroot", action=TRAP)]
+        for runtime in ("runc", "crun"):
+            covered = "which has no conditions, covers all such syscalls"
+            self.assertEqual(list(self.same(runtime, *given).notes), [
+                f"{runtime} leaves out entry 1 (mkdir): its answer is the default's",
+                f"{runtime} reads the conditions of entry 2 (mkdir) as alternatives: two are on one argument",
+                f"{runtime} reads the conditions of entry 5 (chroot) as alternatives: two are on one argument",
+                f"{runtime} leaves mkdir out of entry 2: entry 4, {covered}",
+                f"{runtime} leaves rmdir out of entry 3: entry 4, {covered}",
+                f"{runtime} leaves rmdir out of entry 6: entry 4, {covered}",
+                f"{runtime} leaves chroot out of entry 7: entry 5, {covered}"])
+        six = [condition(index, "EQ", index) for index in range(6)]
+        self.assertEqual(self.same("crun", entry("mkdir", args=[*six, six[0]])).notes, [])
+        self.assertEqual(len(self.same("runc", entry("mkdir", args=[*six, six[0]])).notes), 1)
+
+    def test_the_first_that_is_not_the_defaults(self):
+        """What --keep-first makes of a profile is by its words what runtimes load."""
+        for given in (profile(entry("mkdir", action=ERRNO), entry("mkdir"), entry("mkdir", action=TRAP)),
+                      profile(entry("mkdir", action=ERRNO, errnoRet=2), entry("mkdir"), entry("mkdir", action=ERRNO))):
+            first_profile, _ = engines.resolve(given, engines.Setting((), (0, 0), False), lambda _: None, True)
+            self.assertEqual(len(first_profile["syscalls"]), 2)
+            for runtime in ("runc", "crun"):
+                filters, why = filters_of(runtime, given)
+                self.assertIsNotNone(filters, why)
+                comparison = Comparison([Filter("it", data) for data in filters], engines.to_bytes(first_profile),
+                                        tables.read(None))
+                last = comparison.table.number_of("mkdir")
+                self.assertTrue(comparison.of_numbers(X86_64, last, last).holds, (runtime, given))
+
+    def test_capabilities_need_an_engine(self):
+        name = self.file("p.json", json.dumps(profile()))
+        for runtime, status in (("runc", 2), ("crun", 2), ("docker", 0), ("podman", 0)):
+            done = self.run_tool("ask", "--nr=0", "--runtime", runtime, "--caps", "none", name)
+            self.assertEqual((done[0], "takes a resolved one" in done[2]), (status, status == 2), done)
+
+    def test_what_is_said_of_a_conflict(self):
+        """Where it was given, --runtime isn't what is advised."""
+        name = self.file("p.json", json.dumps(profile(
+            entry("mkdir", args=[condition(0, "EQ", 1)]), entry("mkdir", action=TRAP, args=[condition(1, "EQ", 2)]))))
+        for words in ((), ("--runtime", "runc"), ("--runtime", "crun")):
+            status, out, _ = self.run_tool("ask", *words, "--nr=mkdir", name)
+            self.assertEqual((status, out.split("\n")[0]), (1, "fault profile Conflict number 83 first 1 second 2"))
+            self.assertEqual("with `--runtime`" in out, not words)
+            self.assertEqual("".join(words[1:]) + " hands them to libseccomp, which refuses some" in out, bool(words))
 
     def test_an_errno_beside_an_action_without_one(self):
-        for given in (profile(entry("mkdir", errno=5)), profile(default=LOG, defaultErrnoRet=5)):
-            verdict, _, found = self.compared("runc", given)
+        for given in (profile(entry("mkdir", errnoRet=5)), profile(default=LOG, defaultErrnoRet=5)):
+            verdict, _, applied = self.compared("runc", given)
             self.assertEqual(verdict, "same")
-            self.assertIn("an errno beside an action that takes none is ignored", found.remarks[0])
+            self.assertIn("an errno beside an action that takes none is ignored", applied.remarks[0])
             self.assertIn("errno value specified", filters_of("crun", given)[1])
             with self.assertRaisesRegex(engines.Refused, "crun refuses the profile: .* has an errno beside"):
                 runtimes.applied(given, "crun")
 
     def test_the_architectures(self):
         for runtime in ("runc", "crun"):
-            found = self.same(runtime, entry("mkdir"), architectures=[X86])
-            self.assertEqual((found.profile["architectures"], list(found.stub)),
-                             ([X86_64, X86], [X86] if runtime == "runc" else []))
-            self.assertIn(f"lacks {X86_64}", found.remarks[0])
-            found = self.same(runtime, entry("mkdir"), architectures=[])
-            self.assertNotIn("architectures", " ".join(found.remarks))
+            applied = self.same(runtime, entry("mkdir"), architectures=[X86])
+            self.assertEqual((applied.profile["architectures"], list(applied.stub)),
+                             ([X86], [X86] if runtime == "runc" else []))
+            self.assertIn(f"lacks {X86_64}", applied.remarks[0])
+            applied = self.same(runtime, entry("mkdir"), architectures=[])
+            self.assertNotIn("architectures", " ".join(applied.remarks))
         self.assertEqual(self.same("crun", architectures=["x86_64"]).profile["architectures"], [X86_64])
 
     def test_the_stub_of_runc(self):
@@ -188,10 +231,11 @@ class Runtimes(Case):
         for names, first in ((["read"], 1), (["write", "lchown", "no_such"], 95), (["pread64", "mkdir"], 84)):
             given = {"defaultAction": TRAP, "architectures": [X86_64], "syscalls": [entry(*names)]}
             self.assertEqual(runtimes.applied(given, "runc").stub, {X86_64: first} if names != ["read"] else {})
-        numbers = {tables.read(None).number_of(it): it for it in NAMES}
-        greatest, library = max(it for it in numbers if it <= 440), libseccomp.Library()
+        numbers = {tables.read(None).number_of(name): name for name in NAMES}
+        greatest, library = max(number for number in numbers if number <= 440), libseccomp.Library()
         below = [name for number, name in numbers.items() if number <= greatest]
-        firsts = {it: 1 + max(library.number_of(name, it) or 0 for name in below) for it in (X86_64, X86, X32)}
+        firsts = {architecture: 1 + max(library.number_of(name, architecture) or 0 for name in below)
+                  for architecture in (X86_64, X86, X32)}
         self.assertEqual((firsts[X86_64], firsts[X32] >> 30), (greatest + 1, 1))
         for default, architectures, with_stub in (
                 (ERRNO, [X86_64], [X86_64]), (ERRNO, [X86_64, X86, X32], [X86_64, X86, X32]),
@@ -199,21 +243,21 @@ class Runtimes(Case):
                 ("SCMP_ACT_KILL", [X86_64], [X86_64]), (TRAP, [X86], [X86]), (ERRNO, [], []), (LOG, [X86_64], []),
                 (ALLOW, [X86_64], [])):
             given = {"defaultAction": default, "architectures": architectures,
-                     "syscalls": [entry(*below), entry("mkdir", action=ERRNO, errno=7)]}
-            first = {it: firsts[it] for it in with_stub}
-            verdict, has_stub, found = self.compared("runc", given)
-            self.assertEqual((verdict, has_stub, found.stub), ("same", bool(first), first), given)
-            verdict, has_stub, found = self.compared("crun", given)
-            self.assertEqual((verdict, has_stub, found.stub), ("same", False, {}), given)
+                     "syscalls": [entry(*below), entry("mkdir", action=ERRNO, errnoRet=7)]}
+            first = {architecture: firsts[architecture] for architecture in with_stub}
+            verdict, has_stub, applied = self.compared("runc", given)
+            self.assertEqual((verdict, has_stub, applied.stub), ("same", bool(first), first), given)
+            verdict, has_stub, applied = self.compared("crun", given)
+            self.assertEqual((verdict, has_stub, applied.stub), ("same", False, {}), given)
 
     def test_a_stub_at_another_number_is_none(self):
         given = {"defaultAction": ERRNO, "architectures": [X86_64], "syscalls": [entry("read", "lchown")]}
         for first in (94, 96):
-            found = runtimes.applied(given, "runc")
-            self.assertEqual(found.stub, {X86_64: 95})
-            data = stub(first) + insn(0, 0) + compiled(found.data)
-            comparison = Comparison([Filter("it", data)], found.data, tables.read(None))
-            status, report, has_stub = comparison.run_with_stub(NATIVE, found.stub)
+            applied = runtimes.applied(given, "runc")
+            self.assertEqual(applied.stub, {X86_64: 95})
+            data = stub(first) + insn(0, 0) + compiled(applied)
+            comparison = Comparison([Filter("it", data)], applied.data, tables.read(None), stub=applied.stub)
+            status, report, has_stub = comparison.run_with_stub(verdicts.NATIVE_SCOPE)
             self.assertEqual((status, report.printed[0], has_stub, report.verdict.call.number),
                              (1, "differs", False, min(first, 95)))
 
@@ -221,10 +265,10 @@ class Runtimes(Case):
         """libseccomp tells runc no number of theirs, so its ENOSYS may stand before what the profile says of those that
         are made directly. Where another name makes the bound greater, or another runtime has none, they are allowed."""
         given = of_ipc()
-        found = runtimes.applied(given, "runc")
-        self.assertEqual((found.stub[X86], tables.of_architecture(X86).number_of("semget")), (387, 393))
-        self.assertIn("so it answers i386's msgrcv, semget, shmat, though the profile names them, unless socketcall or ipc "
-                      "makes them: libseccomp tells runc no number of theirs", found.describe())
+        applied = runtimes.applied(given, "runc")
+        self.assertEqual((applied.stub[X86], tables.of_architecture(X86).number_of("semget")), (387, 393))
+        self.assertIn("so it answers i386's msgrcv, semget, shmat, though the profile names them, unless socketcall or "
+                      "ipc makes them: libseccomp tells runc no number of theirs", applied.describe())
         self.assertNotIn("so it answers", " ".join(runtimes.applied(of_ipc("futex_waitv"), "runc").describe()))
         for more in ((), ("futex_waitv",)):
             for runtime in ("runc", "crun"):
@@ -232,85 +276,65 @@ class Runtimes(Case):
                 self.assertEqual((verdict, has_stub), ("same", runtime == "runc"), more)
         filters, why = filters_of("runc", given)
         self.assertIsNotNone(filters, why)
-        comparison = Comparison([Filter("it", it) for it in filters], found.data, tables.read(None), stub=found.stub)
+        comparison = Comparison([Filter("it", data) for data in filters], applied.data, tables.read(None),
+                                stub=applied.stub)
         for relation in verdicts.SAME, verdicts.NO_MORE, verdicts.NO_LESS:
             for scope in (verdicts.LISTED, verdicts.CALLS):
                 status, report = comparison.run(scope, relation)
                 self.assertEqual((status, report.printed[0]), (0, relation), scope)
         self.assertEqual(comparison.of_calls(), [])
         # what differs elsewhere is only that
-        other = load(0) + jeq(83, 0, 1) + ret(0x00050016) + insn(0, 0) + filters[0]
-        comparison = replace(comparison, filters=[Filter("it", other)])
-        self.assertEqual([comparison.run(None, it)[1].printed[0] for it in (verdicts.SAME, verdicts.NO_MORE,
+        stubbed = load(0) + jeq(83, 0, 1) + ret(0x00050016) + insn(0, 0) + filters[0]
+        comparison = replace(comparison, filters=[Filter("it", stubbed)])
+        self.assertEqual([comparison.run(None, relation)[1].printed[0] for relation in (verdicts.SAME, verdicts.NO_MORE,
                                                                           verdicts.NO_LESS)],
                          ["differs", "no more", "less"])
-        self.assertEqual({(it.architecture.oci, it.number) for it in comparison.of_calls()},
+        self.assertEqual({(call.architecture.oci, call.number) for call in comparison.of_calls()},
                          {(X86_64, 83), (X86, 83)})
 
     def test_what_the_runtimes_refuse(self):
         for runtime, given, says in (
-                ("runc", profile(entry("mkdir", action=ERRNO, errno=5000)), "above 4095, and entry 1 has 5000"),
-                ("crun", profile(entry("mkdir", action=ERRNO, errno=70000)), "above 4095, and entry 1 has 4464"),
+                ("runc", profile(entry("mkdir", action=ERRNO, errnoRet=5000)), "above 4095, and entry 1 has 5000"),
+                ("crun", profile(entry("mkdir", action=ERRNO, errnoRet=70000)), "above 4095, and entry 1 has 4464"),
                 ("runc", profile(defaultErrnoRet=5000), "and the default has 5000"),
                 ("crun", profile(defaultErrnoRet=5000), "and the default has 5000"),
-                ("crun", profile(entry("mkdir", action=ERRNO, errno=2**32 + 1)), "the errno 4294967297 of entry 1"),
+                ("crun", profile(entry("mkdir", action=ERRNO, errnoRet=2**32 + 1)), "the errno 4294967297 of entry 1"),
                 ("runc", profile(entry("mkdir", action="SCMP_ACT_X")), "entry 1 has an unknown action"),
                 ("crun", profile(entry("mkdir", action="SCMP_ACT_X")), "entry 1 has an unknown action"),
                 ("runc", profile(entry("")), "a name of entry 1 is empty"),
+                ("runc", profile(architectures=["x86_64"]), "no architecture 'x86_64'"),
+                ("runc", profile(architectures=[X86_64, "X86"]), "no architecture 'X86'"),
+                ("runc", profile(architectures=[X86_64, "SCMP_ARCH_FOO"]), "no architecture 'SCMP_ARCH_FOO'"),
+                ("crun", profile(architectures=[X86_64, "foo"]), "no architecture 'SCMP_ARCH_FOO'"),
                 ("runc", profile(entry("write", action="SCMP_ACT_NOTIFY"), listenerPath="/x"), "entry 1 has write"),
                 ("runc", profile(entry("mkdir", action="SCMP_ACT_NOTIFY")), "no listenerPath"),
                 ("runc", profile(default="SCMP_ACT_NOTIFY", listenerPath="/x"), "can't be the default action")):
             with self.assertRaisesRegex(engines.Refused, f"{runtime} refuses the profile: .*{says}"):
                 runtimes.applied(given, runtime)
             self.assertIsNone(filters_of(runtime, given)[0], given)
-        self.same("runc", entry("mkdir", action=ERRNO, errno=2**32 + 1), entry("mkdir"))
+        self.same("runc", entry("mkdir", action=ERRNO, errnoRet=2**32 + 1), entry("mkdir"))
 
     def test_the_engines_default_profiles(self):
         for name, path in (("docker", MOBY), ("podman", PODMAN)):
             if not os.path.exists(path):
                 continue
-            found = runtimes.applied(engines.read(inputs.read(path, "engine's profile")), name)
+            applied = runtimes.applied(engines.read(inputs.read(path, "engine's profile")), name)
             # as the engine itself hands it on, its entries without effect among them
             with open(path, encoding="utf-8") as file:
-                resolver = engines.Resolver(runtimes.setting_of(found.runtime), lambda _: None)
+                resolver = engines.Resolver(runtimes.setting_of(applied.runtime), lambda _: None)
                 handed_on = resolver.resolved(json.load(file))
-            verdict, has_stub, _ = self.compared(name, handed_on, found)
+            verdict, has_stub, _ = self.compared(name, handed_on, applied)
             self.assertEqual((verdict, has_stub), ("same", name == "docker"), name)
-
-    def test_drawn_profiles(self):
-        """Entries drawn at random: the runtime refuses them, or its filter is what the tools say; where entries with
-        conditions answer one call otherwise, scf says so."""
-        drawn = random.Random(int.from_bytes(b"scf", "big"))
-        actions = [(ALLOW, None), (ERRNO, None), (ERRNO, 1), (ERRNO, 2), (TRAP, None), (LOG, None)]
-        verdicts = []
-        for _ in range(12):
-            made = []
-            for _ in range(drawn.randrange(1, 6)):
-                action, errno = drawn.choice(actions)
-                args = [condition(drawn.randrange(2), "EQ", drawn.randrange(3))
-                        for _ in range(drawn.choice((0, 0, 1, 2)))]
-                made.append(entry(*drawn.sample(["mkdir", "rmdir", "chroot", "no_such"], 2), action=action, errno=errno,
-                                  args=args))
-            given = profile(*made, default=drawn.choice((ERRNO, ERRNO, TRAP)))
-            for runtime in ("runc", "crun"):
-                filters, why = filters_of(runtime, given)
-                if filters is None:
-                    self.assertRegex(why, "(?i)file exists")
-                    continue
-                verdict = self.compared(runtime, given, filters=filters)[0]
-                self.assertRegex(verdict, "^(same|fault profile Conflict .*)$", (runtime, made))
-                verdicts.append(verdict)
-        self.assertGreater(verdicts.count("same"), 8)
 
     def test_a_call_above_the_stub_that_is_allowed(self):
         """It is the call that is shown, and not one of those that runc answers by ENOSYS."""
-        found = runtimes.applied({"defaultAction": ERRNO, "architectures": [X86_64],
+        applied = runtimes.applied({"defaultAction": ERRNO, "architectures": [X86_64],
                                   "syscalls": [entry("read", "lchown")]}, "runc")
-        stubbed = stub(found.stub[X86_64]) + insn(0, 0) + compiled(found.data)
+        stubbed = stub(applied.stub[X86_64]) + insn(0, 0) + compiled(applied)
         for number in (95, 460, 0x3FFFFFFF):
             hole = load(0) + jeq(number, 0, 1) + ret(ALLOWED) + insn(0, 0) + stubbed
-            comparison = Comparison([Filter("it", hole)], found.data, tables.read(None))
-            status, report, has_stub = comparison.run_with_stub(NATIVE, found.stub)
+            comparison = Comparison([Filter("it", hole)], applied.data, tables.read(None), stub=applied.stub)
+            status, report, has_stub = comparison.run_with_stub(verdicts.NATIVE_SCOPE)
             self.assertEqual((status, report.printed[0], has_stub, report.verdict.call.number),
                              (1, "differs", False, number))
             self.assertEqual((report.printed[2:4]), ["filter ALLOW 0", "profile ERRNO 38"])
@@ -322,14 +346,15 @@ class Runtimes(Case):
                              (83, None, None))
             self.assertLess(library.number_of("socketcall"), 0)
         with mock.patch("ctypes.CDLL", side_effect=OSError("none")):
-            found = runtimes.applied(profile(entry("mkdir", "no_such")), "runc")
-        self.assertEqual((found.stub, found.remarks), ({X86_64: max(tables.read(None).numbers()) + 1}, [
-            "there is no libseccomp.so.2 here, so it is unknown which names the runtime's doesn't know"]))
-        self.assertEqual(found.profile["syscalls"][1]["names"], ["mkdir"])
+            applied = runtimes.applied(profile(entry("mkdir", "no_such")), "runc")
+        self.assertEqual((applied.stub, applied.remarks), ({X86_64: max(tables.read(None).numbers()) + 1}, [
+            "libseccomp.so.2 isn't installed: names that the runtime's own doesn't know may be left in"]))
+        self.assertEqual(applied.profile["syscalls"][1]["names"], ["mkdir"])
 
     def test_what_only_engines_read(self):
         for member, value in (("archMap", [{"architecture": X86_64}]), ("defaultErrno", "EPERM")):
-            with self.assertRaisesRegex(engines.Refused, f"runc doesn't read {member}: .* --runtime docker"):
+            with self.assertRaisesRegex(engines.Refused, f"runc doesn't read {member}: .* --runtime docker .*"
+                                        "scf resolve-profile --engine podman --runtime runc"):
                 runtimes.applied({"defaultAction": ERRNO, member: value}, "runc")
         for member, value in (("includes", {"caps": ["CAP_X"]}), ("name", "mkdir"), ("errno", "EPERM")):
             with self.assertRaisesRegex(engines.Refused, f"crun doesn't read {member}: .* --runtime docker"):
@@ -342,6 +367,187 @@ class Runtimes(Case):
         given = config(profile(entry("mkdir"), defaultErrnoRet=38))
         for runtime in ("runc", "docker"):
             self.assertEqual(runtimes.applied(given, runtime).profile["defaultErrnoRet"], 38)
+
+
+def named(address):
+    """The architecture of a record, as a profile names it."""
+    return next(architecture.oci for architecture in JUDGED.values() if architecture.number == address.architecture
+                and architecture.first <= address.number <= architecture.last)
+
+
+class Drawn(Case):
+    """Profiles drawn at random, as the runtimes load them: refused by both sides, or `same` over all records of each
+    architecture, with the stub. scf refuses more, as conflicts."""
+
+    COUNT = 400
+    # those that libseccomp refuses (EEXIST), and scf takes
+    REFUSED = {280, 335}
+
+    def outcome(self, runtime, given):
+        """What the runtime and scf say of a profile."""
+        filters, why = filters_of(runtime, given)
+        try:
+            applied = runtimes.applied(given, runtime)
+        except engines.Refused:
+            return "both refuse" if filters is None else "the tools refuse"
+        data = filters or [ret(ALLOWED)]
+        comparison = Comparison([Filter("it", code) for code in data], applied.data, tables.read(None),
+                                stub=applied.stub)
+        _, report, has_stub = comparison.run_with_stub()
+        if report.fault is not None:
+            return f"{'both refuse' if filters is None else 'only scf refuses'}: {report.fault.kind}"
+        if filters is None:
+            self.assertRegex(why, "(?i)file exists")
+            return "only the runtime refuses"
+        return f"{report.verdict.word}{', without its stub' * (bool(applied.stub) and not has_stub)}"
+
+    def test_drawn_profiles(self):
+        for runtime in ("runc", "crun"):
+            outcomes = {}
+            for index in range(self.COUNT):
+                outcomes.setdefault(self.outcome(runtime, drawn_profile(index)), []).append(index)
+            self.assertEqual(set(outcomes.pop("only the runtime refuses")), self.REFUSED)
+            alike = [outcomes.pop(outcome, []) for outcome in ("same", "both refuse", "both refuse: Conflict")]
+            conflicts = outcomes.pop("only scf refuses: Conflict")
+            self.assertEqual(outcomes, {}, runtime)
+            self.assertGreaterEqual(sum(map(len, alike)), 300)
+            self.assertGreater(len(alike[0]), self.COUNT // 2)
+            print(f"\n{runtime}: {sum(map(len, alike))} profiles alike, of these {len(alike[0])} loaded; libseccomp "
+                  f"takes {len(conflicts)} that scf refuses as conflicts", file=sys.stderr)
+
+    def test_a_second_reading(self):
+        """What scf makes of a profile as a runtime reads it is what it makes of one that says so by its words."""
+        counts = {"same": 0, "refused": 0}
+        for index in range(0, self.COUNT, 2):
+            for runtime in ("runc", "crun"):
+                try:
+                    applied = runtimes.applied(drawn_profile(index), runtime)
+                except engines.Refused:
+                    continue
+                judged = tables.of_profile(applied.data, tables.read(None))
+                for name in judged.of:
+                    words = by_words(json.loads(applied.data), runtime, name, JUDGED[name].bits)
+                    counts[self.compared_readings(applied, judged.only(name), json.dumps(words).encode())] += 1
+        self.assertGreater(min(counts.values()), 50)
+
+    def compared_readings(self, applied, judged, words):
+        by_its_words = replace(judged, reading="strict")
+        scope = ["--architectures"]
+        try:
+            filter_ = client.compile_profile(applied.data, judged)
+        except client.Refusal as why:
+            with self.assertRaises(client.Refusal) as also:
+                client.compile_profile(words, by_its_words)
+            self.assertEqual((why.fault.kind, also.exception.fault.kind), ("Conflict", "Conflict"))
+            return "refused"
+        report = verdicts.compared([filter_], words, by_its_words, scope)
+        self.assertEqual(report.printed[0], "same", (words, judged.of.keys()))
+        return "same"
+
+    def test_what_libseccomp_does_otherwise(self):
+        """Where the filter of a runtime isn't what a profile says, however one reads it: that is said, with a call. Of
+        each the architecture, the first argument of a call, and the answers of the filter and of the profile."""
+        wide = (1 << 32) + 2
+        for entries, members, architecture, first, of_filter, of_profile in (
+                # an order of one argument and another one beside it are joined: a call that no entry names is allowed
+                ((entry("mkdir", args=[condition(0, "GE", 3)]),
+                  entry("mkdir", action=TRACE, args=[condition(0, "LE", 1), condition(1, "LE", 1 << 31)])),
+                 {}, X86_64, 0, "ALLOW", "ERRNO 1"),
+                # and so are two orders, if one is with a value of more than 32 bits
+                ((entry("mkdir", action=ERRNO, errnoRet=2, args=[condition(0, "LT", wide)]),
+                  entry("mkdir", action=ERRNO, errnoRet=2, args=[condition(0, "LT", 1 << 31)])),
+                 {}, X86_64, 1 << 31, "ERRNO 1", "ERRNO 2"),
+                ((entry("mkdir", args=[condition(0, "LE", 3)]), entry("mkdir", args=[condition(0, "GT", 1 << 32)])),
+                 {}, X86_64, 4, "ALLOW", "ERRNO 1"),
+                # runc leaves numbers with bit 31 alone out of x32's, where x86-64 isn't listed
+                ((), {"architectures": [X32]}, X32, 0, "ERRNO 1", "ERRNO 38"),
+                # a value is cut to 32 bits
+                ((entry("mkdir", args=[condition(0, "EQ", wide)]),), {"architectures": [X86_64, X86]}, X86, 2, "ALLOW",
+                 "ERRNO 1")):
+            for runtime in ("runc", "crun") if entries else ("runc",):
+                given = profile(*entries, **members)
+                filters, why = filters_of(runtime, given)
+                self.assertIsNotNone(filters, why)
+                applied = runtimes.applied(given, runtime)
+                comparison = Comparison([Filter("it", data) for data in filters], applied.data, tables.read(None),
+                                        stub=applied.stub)
+                verdict = comparison.run_with_stub()[1].verdict
+                self.assertEqual((named(verdict.call), verdict.call.arguments[0], str(verdict.filters),
+                                  str(verdict.profile)), (architecture, first, of_filter, of_profile))
+
+    def test_what_libseccomp_alone_refuses(self):
+        """An entry without conditions behind another one, of a syscall that x86-64 lacks."""
+        given = profile(entry("ipc", action=ERRNO, errnoRet=38, args=[condition(0, "EQ", 3)]),
+                        entry("ipc", action=ERRNO, errnoRet=5), architectures=[X86_64, X86])
+        for runtime in ("runc", "crun"):
+            self.assertEqual(self.outcome(runtime, given), "only the runtime refuses")
+
+    def test_a_name_without_a_number_on_an_architecture(self):
+        """libseccomp makes no rule of it there, though the architecture has it."""
+        library = libseccomp.installed()
+        if library is None or (library.number_of("map_shadow_stack", X32) or 0) >= 0:
+            raise unittest.SkipTest("needs a libseccomp without x32's map_shadow_stack")
+        given = profile(entry("mkdir"), architectures=[X86_64, X32])
+        self.assertIn("map_shadow_stack", given["syscalls"][0]["names"])
+        for runtime in ("runc", "crun"):
+            self.assertEqual(self.outcome(runtime, given), "same")
+
+
+class Tools(Case):
+    """compare, ask and compile with --runtime, and the program alone with --reading, on entries that conflict by their
+    words."""
+
+    def setUp(self):
+        super().setUp()
+        self.given = {"defaultAction": ERRNO, "architectures": [X86_64], "syscalls": [
+            entry("mkdir", action=ERRNO, errnoRet=1), entry("mkdir", "read", "lchown"),
+            entry("read", action=ERRNO, errnoRet=13),
+            entry("rmdir", args=[condition(0, "EQ", value) for value in (1, 2)])]}
+        self.path = self.file("p.json", json.dumps(self.given))
+
+    def test_ask(self):
+        for runtime, newer in (("runc", "ERRNO 38 stub"), ("crun", "ERRNO 1 default")):
+            for call, line in ((("mkdir",), "ALLOW 0 entry 1"), (("read",), "ALLOW 0 entry 1"), (("95",), newer),
+                               (("rmdir", "--a0=2"), "ALLOW 0 entry 3"), (("rmdir", "--a0=3"), "ERRNO 1 default")):
+                status, out, _ = self.run_tool("ask", "--runtime", runtime, "--nr", *call, self.path)
+                self.assertEqual((status, out.splitlines()[0]), (0, line), (runtime, call))
+        self.assertEqual(self.run_tool("ask", "--nr", "mkdir", self.path)[1].split("\n")[0],
+                         "fault profile RepeatedIndex entry 3")
+        out = self.run_tool("ask", "--runtime", "runc", "--nr", "95", self.path)[1]
+        self.assertIn("\n# by the ENOSYS that runc puts before the filter\n", out)
+
+    def test_compile_and_compare(self):
+        for runtime, other_runtime, word in (("runc", "crun", "differs"), ("crun", "runc", "same")):
+            with open(self.file("f.bpf", b""), "wb") as file:
+                status, _, err = self.run_tool("compile", "--runtime", runtime, self.path, stdout=file)
+            self.assertEqual((status, "ENOSYS" in err), (0, runtime == "runc"), err)
+            # (a filter without a stub may be runc's)
+            for name, verdict in ((runtime, "same"), (other_runtime, word)):
+                out = self.run_tool("compare", "--runtime", name, "f.bpf", self.path)[1]
+                self.assertEqual(out.split("\n")[0], verdict)
+        status, _, err = self.run_tool("compare", "f.bpf", "--beside", "f.bpf", "--runtime", "runc")
+        self.assertEqual((status, "--runtime speaks of a profile" in err), (2, True))
+
+    def test_an_engines_profile(self):
+        given = {**self.given, "architectures": None, "archMap": [{"architecture": X86_64}], "syscalls": [
+            {**entry("mount"), "includes": {"caps": ["CAP_SYS_ADMIN"]}}, *self.given["syscalls"]]}
+        path = self.file("e.json", json.dumps(given))
+        for words, line in (((), "ERRNO 1 default"), (("--caps", "docker,SYS_ADMIN"), "ALLOW 0 entry 0")):
+            out = self.run_tool("ask", "--runtime", "podman", *words, "--nr", "mount", path)[1]
+            self.assertEqual(out.split("\n")[0], line)
+        self.assertEqual(self.run_tool("ask", "--runtime", "podman", "--caps", "X", path)[0], 2)
+        status, _, err = self.run_tool("ask", "--runtime", "runc", path)
+        self.assertEqual((status, "runc doesn't read archMap" in err), (1, True))
+
+    def test_a_bundle(self):
+        with open(TABLE, "rb") as file:
+            parts = part("profile", json.dumps(self.given).encode()) + part("table", file.read())
+        for words, more, line in ((("--reading", "crun"), b"", "ERRNO 1 default"),
+                                  (("--reading", "runc"), part("stub-table", b"95"), "ERRNO 38 stub")):
+            status, out, err = self.run_tool("ask", "--nr", "95", *words, given=parts + more)
+            self.assertEqual((status, out, err), (0, f"{line}\n", ""))
+        status, _, err = self.run_tool("ask", "--reading", "crun", self.path)
+        self.assertEqual((status, "--reading goes with a bundle on standard input" in err), (2, True))
 
 
 class VerifyProcess(Case):
@@ -368,10 +574,10 @@ class VerifyProcess(Case):
                 stub = ("# runc answers the numbers from 450 on, of i386 from 450 on and of x32 from 548 on, above all "
                         "that the profile names, with ENOSYS\n")
                 self.assertEqual(out.count(stub), 1 if first == "same" else 0, out)
-            found = json.loads(self.verify(process, MOBY, "--runtime", "docker", "--json")[1])
+            report = json.loads(self.verify(process, MOBY, "--runtime", "docker", "--json")[1])
             # as records have the numbers, so those of x32 with the bit of that ABI
             stubs = {"SCMP_ARCH_X86_64": 450, "SCMP_ARCH_X86": 450, "SCMP_ARCH_X32": 0x40000000 + 548}
-            self.assertEqual((found["status"], found["verdict"], found["stacks"][0]["stub"], found["remarks"]),
+            self.assertEqual((report["status"], report["verdict"], report["stacks"][0]["stub"], report["remarks"]),
                              (0, "same", stubs, [f"resolved for the capabilities of the process's bounding set: "
                                                  f"{', '.join(sorted(engines.DOCKER.split()))}"]))
             # a whole config.json is resolved already; of another runtime there is no stub
@@ -383,9 +589,9 @@ class VerifyProcess(Case):
             self.assertEqual((status, out.splitlines()[0]), (1, "differs"))
             # what an entry is called is what it is called in the file: 13, which is the first with CAP_SYS_ADMIN
             self.assertRegex(out, "\n# by entry 13 of syscalls: ")
-            found = json.loads(self.verify(process, MOBY, "--runtime", "docker", "--caps", "docker,SYS_ADMIN",
+            report = json.loads(self.verify(process, MOBY, "--runtime", "docker", "--caps", "docker,SYS_ADMIN",
                                            "--json")[1])
-            self.assertEqual(found["stacks"][0]["entry"], 13)
+            self.assertEqual(report["stacks"][0]["entry"], 13)
 
     def test_the_capabilities_of_the_container(self):
         """Without --caps an engine's profile is resolved for what the container has, and not for a default."""
@@ -399,7 +605,7 @@ class VerifyProcess(Case):
                     self.assertIsNotNone(process, why)
                     status, out, _ = self.verify(process, given, "--runtime", engine)
                     self.assertEqual((status, out.splitlines()[0]), (0, "same"), capabilities)
-                    names = ", ".join(it[4:] for it in capabilities) or "none"
+                    names = ", ".join(capability[4:] for capability in capabilities) or "none"
                     self.assertIn(f"\n# resolved for the capabilities of the process's bounding set: {names}\n", out)
                     has_default = capabilities == []
                     status, out, _ = self.verify(process, given, "--runtime", engine, "--caps", engine)
@@ -412,9 +618,9 @@ class VerifyProcess(Case):
         if os.geteuid():
             raise unittest.SkipTest("needs root")
         table, given = tables.read(None), {"defaultAction": ERRNO, "architectures": [X86_64]}
-        given["syscalls"] = [entry(*(it for it in NAMES if table.number_of(it) <= 449))]
-        found = runtimes.applied(given, "runc")
-        stubbed = stub(450) + insn(0, 0) + compiled(found.data)
+        given["syscalls"] = [entry(*(name for name in NAMES if table.number_of(name) <= 449))]
+        applied = runtimes.applied(given, "runc")
+        stubbed = stub(450) + insn(0, 0) + compiled(applied)
         for number, name in ((460, "lsm_set_self_attr"), (0x3FFFFFFF, None)):
             hole = load(0) + jeq(number, 0, 1) + ret(ALLOWED) + insn(0, 0) + stubbed
             child, _ = started([[self.file("f.bpf", hole)]])
@@ -422,9 +628,11 @@ class VerifyProcess(Case):
             status, out, _ = self.verify(child.pid, given, "--runtime", "runc")
             self.assertEqual((status, out.splitlines()[0]), (1, "differs"))
             self.assertIn("# by the ENOSYS that runc puts before the filter\n", out)
-            self.assertEqual([line.split()[2] for line in out.splitlines() if " differs " in line], [name] if name else [])
-            found = json.loads(self.verify(child.pid, given, "--runtime", "runc", "--json")[1])["stacks"][0]
-            self.assertEqual((found["reason"], len(found["calls"]), "newer" in found), ("stub", 1 if name else 0, False))
+            named = [name] if name else []
+            self.assertEqual([line.split()[2] for line in out.splitlines() if " differs " in line], named)
+            applied = json.loads(self.verify(child.pid, given, "--runtime", "runc", "--json")[1])["stacks"][0]
+            self.assertEqual((applied["reason"], len(applied["calls"]), "newer" in applied),
+                             ("stub", len(named), False))
             child, _ = started([[self.file("f.bpf", stubbed)]])
             self.addCleanup(ended, child)
             self.assertEqual(self.verify(child.pid, given, "--runtime", "runc")[0], 0)
@@ -439,15 +647,15 @@ class VerifyProcess(Case):
             self.assertIn("\n# so it answers i386's msgrcv, semget, shmat, though",
                           self.verify(process, given, "--runtime", "runc")[1])
         # a process that has what runc's filter hasn't: each answer that is shown is its own
-        found = runtimes.applied(given, "runc")
+        applied = runtimes.applied(given, "runc")
         child, _ = started([[self.file("f.bpf", load(0) + jeq(397, 0, 1) + ret(0x00050016) + insn(0, 0)
-                                       + stub(335) + insn(0, 0) + compiled(found.data))]])
+                                       + stub(335) + insn(0, 0) + compiled(applied))]])
         self.addCleanup(ended, child)
         status, out, _ = self.verify(child.pid, given, "--runtime", "runc")
         self.assertEqual((status, out.splitlines()[0]), (1, "differs"))
 
     def test_an_entry_that_is_never_handed_over(self):
-        given = profile(entry("mkdir", action=ERRNO, errno=1), entry("mkdir"))
+        given = profile(entry("mkdir", action=ERRNO, errnoRet=1), entry("mkdir"))
         for runtime in ("runc", "crun"):
             with container(runtime, given) as (process, why):
                 self.assertIsNotNone(process, why)
@@ -456,25 +664,25 @@ class VerifyProcess(Case):
                 self.assertEqual(self.verify(process, given)[0], 1)
 
     def test_usage(self):
-        own = str(os.getpid())
-        for words in (("--caps", "none", own, "p"), ("--engine", "podman", own, "p"), ("--runtime", "lxc", own, "p"),
-                      ("--runtime", "runc", "--caps", "X", own, "p"), ("--runtime", "runc", own, "no_such_file")):
+        own_pid = str(os.getpid())
+        for words in (("--caps", "none", own_pid, "p"), ("--engine", "podman", own_pid, "p"),
+                      ("--runtime", "lxc", own_pid, "p"),
+                      ("--runtime", "runc", "--caps", "X", own_pid, "p"),
+                      ("--runtime", "runc", own_pid, "no_such_file")):
             status, out, err = self.run_tool("verify-process", *words)
             self.assertEqual((status, out), (2, ""))
             self.assertIn("verify-process: ", err)
         for given, says in ((b'{"defaultAction":"SCMP_ACT_ERRNO","archMap":[{}]}', "runc doesn't read archMap"),
                             (b'{"defaultAction":"A"}', "has an unknown action"), (b"{", "isn't JSON"),
                             (b'{"DefaultAction":"SCMP_ACT_ALLOW"}', "which programs in Go read as 'defaultAction'")):
-            status, out, err = self.run_tool("verify-process", "--runtime", "runc", own, self.file("p.json", given))
+            status, out, err = self.run_tool("verify-process", "--runtime", "runc", own_pid, self.file("p.json", given))
             self.assertEqual((status, out), (1, ""))
             self.assertIn(says, err)
 
 
-def compiled(data):
-    with open(TABLE, "rb") as file:
-        done = client.run(["compile"], part("profile", data) + part("table", file.read()))
-    assert done.status == 0, done.text
-    return done.out
+def compiled(given):
+    """The filter of a profile on x86-64 as its runtime reads it, without a stub."""
+    return client.compile_profile(given.data, tables.of_profile(given.data, tables.read(None), is_native=True))
 
 
 if __name__ == "__main__":

@@ -1,7 +1,8 @@
 """Stacks of filters against profiles: over all calls, the native ones and those of one number, and by each of the three
 relations. No comparison has more steps than its effort, and a call that is shown is asked again."""
+from support.common import X32
 from support.on_parts import (ALLOW, ALLOW_ALL, ARCH_GATE, CLONE, CLONE_BY_AND, CLONE_TABLE, DEFAULT_ALLOW, NATIVE,
-                              ONE_CALL, READ_TABLE, READ_WRITE_TABLE, WITHOUT_WRITE, X32, a_filter, a_profile, a_table,
+                              ONE_CALL, READ_TABLE, READ_WRITE_TABLE, WITHOUT_WRITE, a_filter, a_profile, a_table,
                               assembled, behind_gate, bundle, ran)
 from support.on_stacks import DIFFERS, RELATIONS, SAME, OnStacks, naming
 from support.worked import (ALL_BUT_TWO, EXTREMES, FAILS, KILLS, MADE, SOCKET_NOT_40, SOCKET_TABLE, WITHOUT_READ,
@@ -124,8 +125,8 @@ class Numbers(OnStacks):
         limit = str(effort(data, profile, table))
         out, status = self.compared(data, profile, naming(table, wanted), "--calls", "--limit", limit, *words)
         first, *lines = out.splitlines()
-        found = [self.says_of_number(lines, number, of, "differs")[0] for number, of in wanted.items()]
-        apart = [verdict for verdict in found if verdict != SAME]
+        actual = [self.says_of_number(lines, number, of, "differs")[0] for number, of in wanted.items()]
+        apart = [verdict for verdict in actual if verdict != SAME]
         self.assertEqual(len(lines), len(apart))
         joint = "differs" if "differs" in apart else (apart or [SAME])[0]
         self.assertEqual((first, status), (joint, {SAME: 0, "differs": 1}.get(joint, 4)))
@@ -162,9 +163,9 @@ class Stacks(OnStacks):
     def test_own_filters_beside_one_that_allows(self):
         allow = assembled(ALLOW_ALL)
         for table, profile in PROFILES:
-            own, status = ran(["compile"], bundle([a_profile(profile), a_table(table)]))
+            compiled, status = ran(["compile"], bundle([a_profile(profile), a_table(table)]))
             self.assertEqual(status, 0)
-            for stack in ([own, allow], [allow, own]):
+            for stack in ([compiled, allow], [allow, compiled]):
                 limit = ["--limit", str(effort(stack, profile, table))]
                 for words, names in (([], table), (["--native"], table), (["--calls"], naming(table, [0, 56]))):
                     self.assertEqual(self.compared(stack, profile, names, *words, *limit), ("same\n", 0))
@@ -196,10 +197,10 @@ class Relations(OnStacks):
                 for relation, (flag, _) in RELATIONS.items():
                     with self.subTest(answer=hex(answer), action=action, relation=relation):
                         wanted = SAME if holds[relation] else (printed(answer), printed(stated))
-                        found = self.compared(data, profile, "", "--native", "--limit", "8", *flag)
-                        self.says(found, wanted, "native", relation)
+                        actual = self.compared(data, profile, "", "--native", "--limit", "8", *flag)
+                        self.says(actual, wanted, "native", relation)
 
     def test_no_steps(self):
         for flag, _ in RELATIONS.values():
-            found = self.compared([assembled(NATIVE[1])], DEFAULT_ALLOW, "", "--limit", "0", *flag)
-            self.assertEqual(found, ("unfinished\n", 4))
+            actual = self.compared([assembled(NATIVE[1])], DEFAULT_ALLOW, "", "--limit", "0", *flag)
+            self.assertEqual(actual, ("unfinished\n", 4))

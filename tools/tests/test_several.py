@@ -15,7 +15,7 @@ import unittest
 from unittest import mock
 
 from support import several
-from support.common import TOP, Case, insn, jeq, jge, load, ret
+from support.common import PROGRAM, TOP, Case, insn, jeq, jge, load, ret
 from support.seccomp_library import NEEDED, Conflict, Library
 from support.stand_in import StandIn, unpacked
 from test_library import OUT, RELATIONS, python_module
@@ -27,7 +27,6 @@ from scftools.architectures import JUDGED  # noqa: E402
 from scftools.calls import Call  # noqa: E402
 from scftools.filters import Filter  # noqa: E402
 
-PROGRAM = os.path.join(TOP, "crates", "scf", "out", "scf")
 # How many profiles are drawn to be held against libscf, against the program, and to be counted by kinds; and how many
 # records are tried of a syscall that has conditions.
 PROFILES, BY_PROGRAM, DRAWS, RECORDS = int(os.environ.get("SCF_SEVERAL_PROFILES", "4000")), 60, 4000, 12
@@ -51,7 +50,7 @@ def scf(words, parts):
 def numbers_of(line):
     """The architecture, the number and the arguments of a printed record."""
     words = line.split()
-    return int(words[4], 16), int(words[2]), [int(it, 16) for it in words[8:]]
+    return int(words[4], 16), int(words[2]), [int(word, 16) for word in words[8:]]
 
 
 def answer_of(program, arch, number, arguments):
@@ -105,15 +104,16 @@ class ByLibrary:
         return self.printed(bytes, self.scf.compile_architectures, self.profiles)
 
     def ask(self, arch, number, arguments):
-        def text_of(found):
-            answer, why, entry = found
+        def text_of(comparison):
+            answer, why, entry = comparison
             return f"{MACHINE.printed(answer)} {why.name.lower()}{'' if entry is None else f' {entry}'}\n".encode()
 
         call = self.scf.Call(number, tuple(arguments), arch)
         return self.printed(text_of, self.scf.ask_architectures, self.profiles, call)
 
     def compare(self, data, relation=0):
-        return self.printed(lambda found: found.report.encode(), self.scf.compare_architectures, [data], self.profiles,
+        return self.printed(lambda comparison: comparison.report.encode(), self.scf.compare_architectures, [data],
+                            self.profiles,
                             self.scf.Relation(relation))
 
 
@@ -137,14 +137,15 @@ def kinds_of(reading):
     named = {name for entry in reading.profile["syscalls"] for name in entry["names"]}
     for name, rules in reading.rules.items():
         _, _, _, bits, _, table = several.ARCHITECTURES[name]
-        yield from (("lacks", name) for it in named if it not in table and any(
-            it in several.ARCHITECTURES[other][5] for other in reading.rules))
+        yield from (("lacks", name) for name_listed in named if name_listed not in table and any(
+            name_listed in several.ARCHITECTURES[architecture][5] for architecture in reading.rules))
         if bits == 32 and reading.conflicts(name, 64):
             yield "a conflict by 64 bits alone", name
-        for it in (it for own in rules.values() for _, conditions, _ in own for it in conditions):
-            yield bits, it["op"][9:], "wide" if it.get("valueTwo", it["value"]) >> 32 else "narrow"
-            if it["op"] == "SCMP_CMP_MASKED_EQ":
-                yield "mask", it["value"]
+        for condition in (condition for rule_list in rules.values() for _, conditions, _ in rule_list
+                          for condition in conditions):
+            yield bits, condition["op"][9:], "wide" if condition.get("valueTwo", condition["value"]) >> 32 else "narrow"
+            if condition["op"] == "SCMP_CMP_MASKED_EQ":
+                yield "mask", condition["value"]
 
 
 class Draws(unittest.TestCase):
@@ -154,20 +155,21 @@ class Draws(unittest.TestCase):
         counts = collections.Counter(kind for seed in range(DRAWS) for kind in set(kinds_of(draw(seed)[0])))
         names, narrow = list(several.ARCHITECTURES), ["SCMP_ARCH_X86", "SCMP_ARCH_X32", "SCMP_ARCH_ARM"]
         wanted = {"Conflict", "skipped", "other", *(f"NotListed table {at}" for at in range(3)),
-                  *(("tables", it) for count in range(1, 6) for it in itertools.combinations(names, count)),
+                  *(("tables", combination) for count in range(1, 6)
+                    for combination in itertools.combinations(names, count)),
                   *(("conflict in", name) for name in names),
                   *(("lacks", name) for name in names), *(("a conflict by 64 bits alone", name) for name in narrow),
                   *(("architectures", how, names[at]) for how in ("ab", "[]") for at in (0, 3)),
                   *((bits, op, how) for bits in (32, 64) for op in several.OPERATORS for how in ("wide", "narrow")),
-                  *(("mask", it) for it in several.MASKS)}
+                  *(("mask", mask) for mask in several.MASKS)}
         self.assertEqual({kind: counts[kind] for kind in wanted if counts[kind] < DRAWS // 200}, {})
 
     def test_is_possible(self):
         """By all numbers of few bits."""
         for conditions in itertools.product(((op, value, two) for op in several.OPERATORS for value in (0, 1, 5, 9)
                                              for two in ((0, 1, 4, 8) if op == "MASKED_EQ" else (0,))), repeat=2):
-            by_trial = any(all(several.OPERATORS[op](it, value, two) for op, value, two in conditions)
-                           for it in range(8))
+            by_trial = any(all(several.OPERATORS[op](index, value, two) for op, value, two in conditions)
+                           for index in range(8))
             self.assertEqual(several.is_possible(conditions, 3), by_trial, conditions)
 
 
@@ -213,21 +215,23 @@ WRONG = {
     "allowed is delegated": (several, "disposition", lambda right, answer: min(right(answer), 1)),
     "the last conflict": (several.Reading, "conflicts", lambda right, *given: sorted(right(*given))[-1:]),
     "the next table": (several.Reading, "fault",
-                       lambda right, it: (right(it) or "").replace("table 0", "table 1") or None),
-    "a note is missing": (several.Reading, "notes", lambda right, it: right(it)[:-1]),
+                       lambda right, reading_again: (right(reading_again) or "").replace("table 0", "table 1") or None),
+    "a note is missing": (several.Reading, "notes", lambda right, reading_again: right(reading_again)[:-1]),
     "each answer is by default": (several.Reading, "answer", lambda right, *given: (right(*given)[0], "default")),
     "another filter is compiled": (ByLibrary, "compile", compile_wrong),
     "each record is of x86-64": (ByLibrary, "ask", lambda right, scf, _, *given: right(scf, X86_64, *given)),
     "what fails holds": (ByLibrary, "compare", compare_to_hold),
     "the next number": (ByLibrary, "compare", lambda right, *given: re.sub(
-        rb"call nr (\d+)", lambda it: b"call nr %d" % (int(it[1]) + 1), right(*given))),
+        rb"call nr (\d+)", lambda match: b"call nr %d" % (int(match[1]) + 1), right(*given))),
     "the last architecture": (ByLibrary, "compare", compare_from_last),
 }
 WRONG_OPERATORS = {
-    "NE": lambda it, value, two: it % 2 ** 32 != value % 2 ** 32, "LT": lambda it, value, two: it <= value,
-    "EQ": lambda it, value, two: it % 2 ** 32 == value % 2 ** 32, "LE": lambda it, value, two: it < value,
-    "GE": lambda it, value, two: it > value, "GT": lambda it, value, two: it >= value,
-    "MASKED_EQ": lambda it, value, two: it & value == two,
+    "NE": lambda argument, value, two: argument % 2 ** 32 != value % 2 ** 32, "LT": lambda argument, value,
+    two: argument <= value,
+    "EQ": lambda argument, value, two: argument % 2 ** 32 == value % 2 ** 32, "LE": lambda argument, value,
+    two: argument < value,
+    "GE": lambda argument, value, two: argument > value, "GT": lambda argument, value, two: argument >= value,
+    "MASKED_EQ": lambda argument, value, two: argument & value == two,
 }
 
 
@@ -272,7 +276,8 @@ class SecondReading(unittest.TestCase):
     def hold_answers(self, scf, data):
         """The answers of the profile, of the filter that scf compiles and of the second reading's; also to records of
         architectures without a table."""
-        records = [it for name in scf.reading.rules for it in scf.reading.records(name, self.random_of, RECORDS)]
+        records = [record for name in scf.reading.rules
+                   for record in scf.reading.records(name, self.random_of, RECORDS)]
         records += [*FOREIGN, *((arch, number, [0] * 6) for arch, first, last, *_ in several.ARCHITECTURES.values()
                                 for number in (first, last))]
         compiled = scf.compile()
@@ -298,7 +303,7 @@ class SecondReading(unittest.TestCase):
             wrong, relation = several.change_filter(random_of, data, places), random_of.choice((0, 0, 1, 2, 3))
             holds = self.holds(scf, wrong, relation, (name,))
             self.counts.update([(name, holds), (VERDICTS[relation][0], holds)])
-            others = [it for it in reading.given if it != name]
+            others = [given_name for given_name in reading.given if given_name != name]
             if others and reading.profile.get("architectures"):
                 self.assertTrue(self.holds(way(several.Reading(reading.profile, others)), wrong, relation, ()))
                 self.counts[name, holds, "alone"] += 1
@@ -310,12 +315,12 @@ class SecondReading(unittest.TestCase):
         reading, program = scf.reading, unpacked(data)
         verdict, *lines = scf.compare(data, relation).decode().split("\n")
         about = self.about, data.hex(), relation, verdict, *lines
-        words = sorted({it[3] for it in program if it[0] & 7 == 5 and it[0] != 5})
-        found = next((name for name in names if not all(
-            has(answer_of(program, *it), reading.answer(*it)[0])
-            for it in reading.records(name, self.random_of, RECORDS, words))), None)
+        words = sorted({insn[3] for insn in program if insn[0] & 7 == 5 and insn[0] != 5})
+        failing = next((name for name in names if not all(
+            has(answer_of(program, *record), reading.answer(*record)[0])
+            for record in reading.records(name, self.random_of, RECORDS, words))), None)
         if verdict.startswith("undecided"):
-            self.assertFalse({it[0] for it in program} <= PLAIN, about)
+            self.assertFalse({insn[0] for insn in program} <= PLAIN, about)
             return None
         if verdict == fails_word:
             record = numbers_of(lines[0])
@@ -325,11 +330,12 @@ class SecondReading(unittest.TestCase):
             self.assertFalse(has(ours, theirs), about)
             # the verdict is that of the first architecture in which it fails, so of none after one that is found
             order = list(names)
-            self.assertIn(reading.architecture(*record[:2]), order[:order.index(found) + 1 if found else None], about)
-            self.counts["fails", found is not None] += 1
+            self.assertIn(reading.architecture(*record[:2]), order[:order.index(failing) + 1 if failing else None],
+                          about)
+            self.counts["fails", failing is not None] += 1
             del lines[:3]
         else:
-            self.assertEqual((verdict, found), (holds_word, None), about)
+            self.assertEqual((verdict, failing), (holds_word, None), about)
         self.assertEqual(lines, [*reading.notes(), ""], about)
         return verdict == holds_word
 
@@ -344,10 +350,10 @@ class SecondReading(unittest.TestCase):
         self.assertGreater(counts["accepted"], PROFILES // 2)
         self.assertGreater(min(counts["Conflict"], counts["NotListed"]), PROFILES // 40)
         for name in several.ARCHITECTURES:
-            self.assertGreater(min(counts[name, it, "alone"] for it in (True, False)), PROFILES // 50, name)
+            self.assertGreater(min(counts[name, is_alone, "alone"] for is_alone in (True, False)), PROFILES // 50, name)
         for words in VERDICTS:
-            self.assertGreater(min(counts[words[0], it] for it in (True, False)), PROFILES // 50, words)
-        self.assertGreater(min(counts["any", it] for it in (True, False)), PROFILES // 10)
+            self.assertGreater(min(counts[words[0], is_met] for is_met in (True, False)), PROFILES // 50, words)
+        self.assertGreater(min(counts["any", is_met] for is_met in (True, False)), PROFILES // 10)
         # what scf finds, the second reading mostly finds by itself
         self.assertGreater(counts["fails", True], 4 * counts["fails", False])
 
@@ -383,11 +389,11 @@ class Worked(Case):
         self.profile = self.file("p.json", json.dumps(self.top))
 
     def filter(self, at=None, text=""):
-        lines = [it.strip() for it in WORKED.split(";")]
+        lines = [line.strip() for line in WORKED.split(";")]
         if at is not None:
             lines[at] = text
-        words = [[CODES[line.split()[0]], *(int(it, 0) for it in line.split()[1:])] for line in lines]
-        return self.file("f.bpf", b"".join(insn(*it) for it in words))
+        words = [[CODES[line.split()[0]], *(int(word, 0) for word in line.split()[1:])] for line in lines]
+        return self.file("f.bpf", b"".join(insn(*fields) for fields in words))
 
     def said(self, *words, at=None, text="", profile=None):
         status, out, err = self.run_tool("compare", *words, self.filter(at, text), profile or self.profile)
@@ -406,9 +412,9 @@ class Worked(Case):
                 (9, "jeq 0x0 0 0", X86_64, (135,), "personality (135)")):
             status, lines = self.said(at=at, text=text)
             self.assertEqual((status, lines[0]), (1, "differs"), text)
-            found, number, _ = numbers_of(lines[1])
+            fields, number, _ = numbers_of(lines[1])
             self.assertIn(number, numbers)
-            self.assertEqual(arch in (None, found), True, lines)
+            self.assertEqual(arch in (None, fields), True, lines)
             self.assertTrue(name is None or name in "\n".join(lines), lines)
         self.assertEqual(self.said("--no-more", at=16, text="jeq 0x88 2 3")[1][0], "more")
         self.assertEqual(self.said("--no-less", at=16, text="jeq 0x88 2 3")[1][0], "no less")
@@ -421,8 +427,8 @@ class Worked(Case):
         # x32's syscalls aren't judged there, and it is said that some are allowed
         status, lines = self.said(at=5, text="jge 0x40000000 14 0", profile=two)
         self.assertEqual((status, lines[0]), (0, "same"))
-        one = self.file("one.json", json.dumps({**self.top, "architectures": ["SCMP_ARCH_X86"]}))
-        self.assertEqual(self.said(at=9, text="jeq 0x0 0 0", profile=one)[1][0], "same")
+        path = self.file("one.json", json.dumps({**self.top, "architectures": ["SCMP_ARCH_X86"]}))
+        self.assertEqual(self.said(at=9, text="jeq 0x0 0 0", profile=path)[1][0], "same")
 
     def test_a_wide_value(self):
         self.top["syscalls"][1]["args"][0]["value"] = 4294967304
@@ -477,9 +483,9 @@ class Stub(unittest.TestCase):
         profile = {"defaultAction": "SCMP_ACT_ERRNO", "architectures": names, "syscalls": [
             {"names": ["read", "personality"], "action": "SCMP_ACT_ALLOW"}]}
         applied = runtimes.applied(profile, "runc")
-        self.assertEqual(applied.stub, {it: self.BOUNDS[it] for it in JUDGED if it in names})
+        self.assertEqual(applied.stub, {name: self.BOUNDS[name] for name in JUDGED if name in names})
         data = client.compile_profile(applied.data, tables.of_profile(applied.data, tables.read(None)))
-        rows = [(JUDGED[it].number, it == "SCMP_ARCH_X32", first) for it, first in bounds.items()]
+        rows = [(JUDGED[name].number, name == "SCMP_ARCH_X32", first) for name, first in bounds.items()]
         request = verify.Request(applied.data, tables.read(None), None, verdicts.SAME, applied)
 
         class Stack:
@@ -489,11 +495,11 @@ class Stub(unittest.TestCase):
 
     def test_at_its_numbers(self):
         for names in (NAMED, NAMED[:1], NAMED[:2], [NAMED[0], NAMED[2]]):
-            bounds = {it: self.BOUNDS[it] for it in JUDGED if it in names}
+            bounds = {name: self.BOUNDS[name] for name in JUDGED if name in names}
             block, request = self.judged(bounds, names)
             self.assertEqual((block.verdict, block.stub), ("same", bounds), names)
         self.assertIn("runc answers the numbers from 136 on, above all that the profile names, with ENOSYS",
-                      list(request.notes(self.judged({it: self.BOUNDS[it] for it in NAMED[:1]}, NAMED[:1])[0])))
+                      list(request.notes(self.judged({name: self.BOUNDS[name] for name in NAMED[:1]}, NAMED[:1])[0])))
 
     def test_at_other_numbers(self):
         for name in NAMED:
@@ -502,22 +508,23 @@ class Stub(unittest.TestCase):
                 self.assertEqual(block.verdict, "differs", (name, step))
                 call = block.report.verdict.call
                 self.assertEqual((call.abi, call.number), (name, self.BOUNDS[name] + min(step, 0)))
-            lacking = {it: first for it, first in self.BOUNDS.items() if it != name}
+            lacking = {architecture: first for architecture, first in self.BOUNDS.items() if architecture != name}
             block, _ = self.judged(lacking)
             self.assertEqual((block.verdict, block.report.verdict.call.abi), ("differs", name))
 
     def test_split(self):
         """What is put before a filter answers alike on one side of the bounds, and runs it on the other."""
         data = load(0) + jeq(3, 0, 1) + ret(0x7FFC0000) + ret(0x30000)
-        bounds = [(JUDGED[it].number, first, JUDGED[it].last) for it, first in self.BOUNDS.items()]
+        bounds = [(JUDGED[name].number, first, JUDGED[name].last) for name, first in self.BOUNDS.items()]
         for arch in (X86_64, I386, 0xC00000B7):
             for number in (0, 3, 135, 136, 137, X32 - 1, X32, X32 + 135, X32 + 136, 0xFFFFFFFF):
                 words = words_of(arch, number, [0] * 6)
-                is_beyond = any(arch == own and first <= number <= last for own, first, last in bounds)
-                own = MACHINE.answer(unpacked(data), words)
+                is_beyond = any(arch == own_arch and first <= number <= last for own_arch, first, last in bounds)
+                answer = MACHINE.answer(unpacked(data), words)
                 for runs_beyond in (True, False):
-                    found = MACHINE.answer(unpacked(filters.split(data, bounds, EPERM, runs_beyond)), words)
-                    self.assertEqual(found, own if is_beyond == runs_beyond else EPERM, (arch, number, runs_beyond))
+                    split_answer = MACHINE.answer(unpacked(filters.split(data, bounds, EPERM, runs_beyond)), words)
+                    self.assertEqual(split_answer, answer if is_beyond == runs_beyond else EPERM,
+                                     (arch, number, runs_beyond))
 
 
 @NEEDED
@@ -532,9 +539,9 @@ class BesideLibseccomp(unittest.TestCase):
             random_of = random.Random(f"libseccomp {seed}")
             syscalls = []
             for name in random_of.sample(names, 5):
-                args = [{"index": it, "op": f"SCMP_CMP_{random_of.choice(('EQ', 'NE', 'LE', 'GT'))}",
+                args = [{"index": index, "op": f"SCMP_CMP_{random_of.choice(('EQ', 'NE', 'LE', 'GT'))}",
                          "value": random_of.choice((0, 1, 8, 40, 0x7FFFFFFF, 0xFFFFFFFF)), "valueTwo": 0}
-                        for it in random_of.sample(range(1, 4), random_of.choice((0, 1, 2)))]
+                        for index in random_of.sample(range(1, 4), random_of.choice((0, 1, 2)))]
                 syscalls.append({"names": [name], "action": "SCMP_ACT_ALLOW", **({"args": args} if args else {})})
             # (a syscall that each has and that stands without conditions keeps the load of the number)
             syscalls.append({"names": ["exit_group", "close"], "action": "SCMP_ACT_ALLOW"})

@@ -6,16 +6,15 @@ import stat
 import unittest
 from unittest import mock
 
-from support.common import KILL_PROCESS, TOP, Case, filter_of, profile_of, stub
+from support.common import PROGRAM, Case, filter_of, profile_of
 from support.confined import Confined, here
 from test_filters_of import MOUNT, refuses, refusing
-from scftools import audit, client, compare, program, stack_comparison, tables, verdicts
+from scftools import audit, client, program, stack_comparison, tables
 from scftools.client import Run
 from scftools.filters import Filter
 from scftools.processes import Stack
 from scftools.verify import Request
 
-PROGRAM = os.path.join(TOP, "crates", "scf", "out", "scf")
 # Stands in for scf: a comparison says that mount is answered otherwise than any filter here does.
 LIES = f"""#!/bin/sh
 [ "$1" = compare ] || exec {PROGRAM} "$@"
@@ -74,26 +73,15 @@ class Tools(Confined):
 class Modules(Case):
     """The one place in which comparisons are checked, and what becomes of them in an audit."""
 
-    def test_a_split_that_answers_what_the_filter_does_not(self):
-        """The tools compare other filters than were given: of numbers below runc's stub, and of those from there on."""
-        given = [Filter("f", stub(450) + filter_of([0, 1]))]
-        behind_stub = compare.Comparison(given, profile_of("read", "futex_waitv"), tables.read(None), is_native=True,
-                                         stub={"SCMP_ARCH_X86_64": 450})
-        self.assertEqual(behind_stub.run(compare.NATIVE)[1].verdict.call.number, 1)
-        for wrong in (filter_of([], 0x00030007), filter_of([0, 449], KILL_PROCESS)):
-            with mock.patch.object(compare, "_split", lambda *_, data=wrong: data):
-                with self.assertRaisesRegex(program.InternalError, "^internal error: the filters answer "):
-                    behind_stub.run(compare.NATIVE)
-
     def test_both_sides_of_a_difference(self):
-        left, right = ([Filter("f", filter_of(it))] for it in ([0], [0, 1]))
+        left, right = ([Filter("f", filter_of(numbers))] for numbers in ([0], [0, 1]))
         table, lines = tables.read(None), "differs\ncall nr 1 arch 0xc000003e ip 0x0 args 0x0 0x0 0x0 0x0 0x0 0x0\n"
         run = client.run
         for filters, beside, is_true in (("ERRNO 1", "ALLOW 0", True), ("ERRNO 1", "ALLOW 1", False),
                                          ("ERRNO 2", "ALLOW 0", False)):
             text = f"{lines}filter {filters}\nbeside {beside}\n".encode()
-            with mock.patch.object(client, "run", lambda words, *rest, text=text, **more: Run(1, text)
-                                   if words[0] == "compare" else run(words, *rest, **more)):
+            with mock.patch.object(client, "run", lambda words, *more_words, text=text, **more: Run(1, text)
+                                   if words[0] == "compare" else run(words, *more_words, **more)):
                 comparison = stack_comparison.StackComparison(left, right, table)
                 if is_true:
                     self.assertEqual(comparison.run()[1].verdict.word, "differs")
@@ -105,11 +93,12 @@ class Modules(Case):
         stack = Stack((filter_of([0]),), False)
         text = (b"differs\ncall nr 1 arch 0xc000003e ip 0x0 args 0x0 0x0 0x0 0x0 0x0 0x0\nfilter ALLOW 0\n"
                 b"profile ALLOW 0\n")
-        run, judge = client.run, audit.Judge(tables.read(None))
-        with mock.patch.object(client, "run", lambda words, *rest, **more: Run(1, text) if words[0] == "compare"
-                               else run(words, *rest, **more)):
-            found = judge.judge(stack, Request(profile_of("read"), judge.table))
-        self.assertEqual((found.verdict, found.why[:42]), (audit.NOT_KNOWN, "internal error: the filters answer ERRNO 1"))
+        run, judge = client.run, audit.StackJudge(tables.read(None))
+        with mock.patch.object(client, "run", lambda words, *more_words, **more: Run(1, text) if words[0] == "compare"
+                               else run(words, *more_words, **more)):
+            block = judge.judge(stack, Request(profile_of("read"), judge.table))
+        self.assertEqual((block.verdict, block.why[:42]),
+                         (audit.NOT_KNOWN, "internal error: the filters answer ERRNO 1"))
 
 
 if __name__ == "__main__":

@@ -1,7 +1,7 @@
 """Stacks of filters, compared with a profile, and the flag that leaves all but the native calls out."""
-from support.common import X86_64, part
-from support.on_parts import (ALL, ALLOW, CLONE, CLONE_BY_AND, CLONE_TABLE, NATIVE, NO_TABLE, WITHOUT_WRITE, X32,
-                              OnProgram, a_filter, a_profile, a_table, assembled, behind_gate, bundle, long_filter)
+from support.common import X32, X86_64, part
+from support.on_parts import (ALL, ALLOW, CLONE, CLONE_BY_AND, CLONE_TABLE, NATIVE, NO_TABLE, WITHOUT_WRITE, OnProgram,
+                              a_filter, a_profile, a_table, assembled, behind_gate, bundle, long_filter)
 
 # Parts by their names.
 NAMED = {

@@ -4,14 +4,14 @@ import os
 import shutil
 import sys
 
-from support.common import ALLOW, EPERM, I386, TABLE, TOP, Case, filter_of, insn, jeq, load, profile_of, ret, stub
+from support.common import (ALLOW, EPERM, I386, PROGRAM, TABLE, TOP, Case, filter_of, insn, jeq, jge, load, profile_of,
+                            ret, stub)
 from support.confined import Confined, here
 
 sys.path.append(os.path.join(TOP, "tools"))
 
 from scftools import tables  # noqa: E402
 
-PROGRAM = os.path.join(TOP, "crates", "scf", "out", "scf")
 # What `lint` finds nothing of.
 NAMES = ("read write exit exit_group rt_sigaction rt_sigreturn nanosleep restart_syscall mmap munmap faccessat "
          "faccessat2 mkdir mkdirat unlinkat").split()
@@ -22,8 +22,8 @@ class Counting(Case):
         """How often a tool starts scf, but for its version."""
         log = self.file("log", "")
         tree = self.made_tree(f'#!/bin/sh\n[ "$1" = --version ] || echo "$@" >>{log}\nexec {PROGRAM} "$@"\n')
-        found, out, err = self.run_words([os.path.join(tree, "tools", name), *words])
-        self.assertEqual((found, err), (status, ""), out)
+        actual, out, err = self.run_words([os.path.join(tree, "tools", name), *words])
+        self.assertEqual((actual, err), (status, ""), out)
         shutil.rmtree(tree)
         with open(log, encoding="utf-8") as file:
             return len(file.readlines())
@@ -52,25 +52,32 @@ class Starts(Counting):
         self.assertEqual(self.starts("surface", self.file("f.bpf", denies)), 1)
 
     def test_surface_beside_another_form(self):
-        one, other = (self.file(name, filter_of(numbers)) for name, numbers in (("1", [0, 1]), ("2", [1, 0])))
-        self.assertEqual(self.starts("surface", one, "--beside", other), 2)
+        first, second = (self.file(name, filter_of(numbers)) for name, numbers in (("1", [0, 1]), ("2", [1, 0])))
+        self.assertEqual(self.starts("surface", first, "--beside", second), 2)
+
+    def test_profile_of(self):
+        """Of a filter that a profile says, and of one with two answers to numbers without a name, as runc's stub makes
+        it: the nearest profiles on both sides, each proved once."""
+        self.assertEqual(self.starts("profile-of", "--arch", "x86_64", self.file("f.bpf", filter_of([0, 1, 41]))), 2)
+        stubbed = filter_of([0, 1]).replace(jeq(0, 2, 0), jge(1000, 0, 1) + ret(0x00050026) + jeq(0, 2, 0), 1)
+        self.assertEqual(self.starts("profile-of", "--arch", "x86_64", self.file("f.bpf", stubbed), status=4), 3)
 
     def test_lint(self):
-        self.assertEqual(self.starts("lint", self.file("p.json", profile_of(*NAMES))), 3)
+        self.assertEqual(self.starts("lint", self.file("p.json", profile_of(*NAMES))), 2)
         # the calls of each architecture are compared by themselves; by which entry ptrace is allowed, the entries say
-        listed = [f"SCMP_ARCH_{it}" for it in ("X86_64", "X86", "X32")]
+        listed = [f"SCMP_ARCH_{name}" for name in ("X86_64", "X86", "X32")]
         several = {"defaultAction": "SCMP_ACT_ERRNO", "architectures": listed, "syscalls": [
             {"names": [*NAMES, "sigreturn", "ptrace"], "action": "SCMP_ACT_ALLOW"}]}
-        self.assertEqual(self.starts("lint", self.file("p.json", json.dumps(several))), 3)
+        self.assertEqual(self.starts("lint", self.file("p.json", json.dumps(several))), 2)
 
     def test_compare_profiles(self):
-        one, other = (self.file(f"{at}.json", profile_of(*names)) for at, names in enumerate((NAMES, NAMES[::-1])))
+        first, second = (self.file(f"{at}.json", profile_of(*names)) for at, names in enumerate((NAMES, NAMES[::-1])))
         for words in ([], ["--no-more"], ["--no-less"]):
-            self.assertEqual(self.starts("compare-profiles", *words, one, other), 3)
+            self.assertEqual(self.starts("compare-profiles", *words, first, second), 3)
         stated = {"defaultAction": "SCMP_ACT_ERRNO", "architectures": ["SCMP_ARCH_X86_64"],
                   "syscalls": [{"names": NAMES, "action": "SCMP_ACT_ALLOW"}]}
-        one = self.file("runc.json", json.dumps(stated))
-        self.assertEqual(self.starts("compare-profiles", "--runtime", "runc", one, one), 5)
+        first = self.file("runc.json", json.dumps(stated))
+        self.assertEqual(self.starts("compare-profiles", "--runtime", "runc", first, first), 5)
 
 
 class OfProcesses(Confined, Counting):
@@ -86,9 +93,10 @@ class OfProcesses(Confined, Counting):
         """Its filter answers ENOSYS to numbers above all that the profile names."""
         with open(TABLE, "rb") as file:
             table = tables.Table(file.read())
-        names = [table.names_of(it)[0] for it in table.numbers() if it <= 334 and it != 165] + ["clone3"]
+        numbers = (number for number in table.numbers() if number <= 334 and number != 165)
+        names = [table.names_of(number)[0] for number in numbers] + ["clone3"]
         data, path = self.compiled(json.dumps({
             "defaultAction": "SCMP_ACT_ERRNO", "architectures": ["SCMP_ARCH_X86_64"],
             "syscalls": [{"names": names, "action": "SCMP_ACT_ALLOW"}]}))
         child = self.child([stub(436) + insn(0, 0) + data])
-        self.assertEqual(self.starts("verify-process", "--runtime", "runc", str(child.pid), path), 3)
+        self.assertEqual(self.starts("verify-process", "--runtime", "runc", str(child.pid), path), 2)

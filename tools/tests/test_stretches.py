@@ -3,11 +3,10 @@ filter answers each number as the rules say, within the search bound, and scf th
 import json
 import struct
 
-from support.common import ALLOW, CORE, EPERM, I386, KILL_PROCESS, X86_64, Case, part
+from support.common import ALLOW, CORE, EPERM, I386, KILL_PROCESS, X32, X86_64, Case, part
 from support.stand_in import StandIn
 
 LOG, ERRNO_5, ERRNO_22 = 0x7FFC0000, 0x00050005, 0x00050016
-X32 = 0x40000000
 # The last number that a rule may have; past each low half; the greatest argument.
 LAST, BIT_32, MOST = X32 - 1, 1 << 32, (1 << 64) - 1
 ACTIONS = {ALLOW: "ALLOW", LOG: "LOG", KILL_PROCESS: "KILL_PROCESS"}
@@ -154,7 +153,7 @@ def words_of(architecture, number, arguments):
 class Stretches(Case):
     def calls(self, stretches, arguments):
         """Each number of the stretches, their neighbours and the ends, with each of the arguments."""
-        numbers = {number for one, _ in stretches for number in range(max(one.start - 1, 0), one.stop + 1)}
+        numbers = {number for first, _ in stretches for number in range(max(first.start - 1, 0), first.stop + 1)}
         asked = [(X86_64, number) for number in sorted(numbers | {0, LAST, X32, 0xFFFFFFFF})]
         return [(*of, given) for of in [*asked, (I386, 0), (I386, LAST)] for given in arguments]
 

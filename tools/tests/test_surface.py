@@ -16,8 +16,8 @@ import termios
 import unittest
 from unittest import mock
 
-from support.common import (ALLOW, EPERM, I386, KILL_PROCESS, KILL_THREAD, TABLE, TOP, UNKNOWN_ZERO, X86_64, Case,
-                            filter_of, insn, jeq, jge, load, ret, tool)
+from support.common import (ALLOW, EPERM, I386, KILL_PROCESS, KILL_THREAD, PROGRAM, TABLE, TOP, UNKNOWN_ZERO, X32,
+                            X86_64, Case, filter_of, gate, insn, jeq, jge, load, ret, tool)
 from support.confined import NEWEST, OLDEST, Confined, here
 from support.stand_in import StandIn
 from test_why import random_filter
@@ -32,7 +32,6 @@ READ, WRITE, GETPID, SOCKET, EXIT_GROUP = 0, 1, 39, 41, 231
 NAMES = {"read": READ, "write": WRITE, "getpid": GETPID, "socket": SOCKET, "exit_group": EXIT_GROUP, "too": READ}
 OWN = "".join(f"{name} {number}\n" for name, number in NAMES.items()).encode()
 NUMBERS = sorted(set(NAMES.values()))
-X32 = 0x40000000
 OTHERS = X32 - len(NUMBERS)
 TRAP, USER_NOTIF, TRACE, LOG = 0x00030000, 0x7FC00000, 0x7FF00000, 0x7FFC0000
 # Answers that seccomp(2) doesn't name, with ranks between those of ERRNO and USER_NOTIF, and of LOG and ALLOW.
@@ -44,19 +43,15 @@ def jgt(k, jt, jf):
     return insn(0x25, k, jt, jf)
 
 
-def gate(native, foreign=KILL_PROCESS):
-    return load(4) + jeq(X86_64, 1, 0) + ret(foreign) + load(0) + jge(X32, 0, 1) + ret(foreign) + native
-
-
-def of_number(number, answer, other):
+def of_number(number, answer, default):
     """Answers a number by a piece of code of one return or several, and all others so."""
     code = answer if isinstance(answer, bytes) else ret(answer)
-    return gate(jeq(number, 0, len(code) // 8) + code + ret(other))
+    return gate(jeq(number, 0, len(code) // 8) + code + ret(default))
 
 
-def by_argument(value, answer, other):
+def by_argument(value, answer, default):
     """Answers by whether the whole of the first argument is a number."""
-    return load(16) + jeq(value % HIGH, 0, 3) + load(20) + jeq(value // HIGH, 0, 1) + ret(answer) + ret(other)
+    return load(16) + jeq(value % HIGH, 0, 3) + load(20) + jeq(value // HIGH, 0, 1) + ret(answer) + ret(default)
 
 
 BY_POINTER = load(8) + jeq(0x1234, 0, 1) + ret(ALLOW) + ret(EPERM)
@@ -70,7 +65,6 @@ UNKNOWN = gate(UNKNOWN_ZERO + jeq(0, 0, 1) + ret(EPERM) + ret(ALLOW))
 BY_UNKNOWN = of_number(SOCKET, UNKNOWN_ZERO + jeq(0, 0, 1) + ret(ALLOW) + ret(EPERM), ALLOW)
 # A table without a gap whose numbers are compared one by one, each with all splits of the default.
 FEW = b"read 0\nwrite 1\nopen 2\n"
-PROGRAM = os.path.join(TOP, "crates", "scf", "out", "scf")
 M, D, F, R = surfaces.ALLOWED, surfaces.DEPENDS, surfaces.DELEGATED, surfaces.DENIED
 # Filters, oldest first, with what people expect of read, write, getpid, socket and exit_group.
 KNOWN = {
@@ -122,15 +116,15 @@ def disposition_by_hand(filters, call):
 
 def dispositions_by_hand(filters, number):
     """The dispositions of the calls of a number, at each corner of the filters here."""
-    calls = (Call(number, X86_64, pointer, (one, other, 0, 0, 0, 0))
-             for one, other, pointer in itertools.product(ARGUMENTS, (0, 4), POINTERS))
+    calls = (Call(number, X86_64, pointer, (argument, high, 0, 0, 0, 0))
+             for argument, high, pointer in itertools.product(ARGUMENTS, (0, 4), POINTERS))
     return {disposition_by_hand(filters, call) for call in calls}
 
 
 def answers_by_hand(filters, number):
     """The answers to the calls of a number, at the same corners."""
-    return [StandIn().decide(filters, Call(number, X86_64, pointer, (one, other, 0, 0, 0, 0)))
-            for one, other, pointer in itertools.product(ARGUMENTS, (0, 4), POINTERS)]
+    return [StandIn().decide(filters, Call(number, X86_64, pointer, (argument, high, 0, 0, 0, 0)))
+            for argument, high, pointer in itertools.product(ARGUMENTS, (0, 4), POINTERS)]
 
 
 def of(filters, limit=None, table=OWN):
@@ -139,7 +133,7 @@ def of(filters, limit=None, table=OWN):
 
 
 @functools.lru_cache(None)
-def known(name):
+def surface_of(name):
     return of(KNOWN[name][0])
 
 
@@ -167,8 +161,9 @@ class Rows(Case):
         for name, (filters, expected) in KNOWN.items():
             with self.subTest(name):
                 by_hand = [dispositions_by_hand(filters, number) for number in NUMBERS]
-                self.assertEqual([D if len(it) > 1 else next(iter(it)) for it in by_hand], expected)
-                surface = known(name)
+                self.assertEqual([D if len(dispositions) > 1 else next(iter(dispositions)) for dispositions in by_hand],
+                                 expected)
+                surface = surface_of(name)
                 self.assertEqual([row.number for row in surface.rows], NUMBERS)
                 self.assertEqual([row.said for row in surface.rows], expected)
                 self.assertTrue(surface.is_decided)
@@ -183,10 +178,10 @@ class Rows(Case):
             return
         self.assertGreater(len(row.shown), 1)
         self.assertLessEqual(set(row.shown), dispositions)
-        for said, shown in row.shown.items():
+        for word, shown in row.shown.items():
             self.assertEqual((shown.call.number, shown.call.architecture), (row.number, X86_64))
             self.assertEqual(answers.Answer.read(StandIn().decide(filters, shown.call)), shown.answer)
-            self.assertEqual(disposition(shown.answer.word), said)
+            self.assertEqual(disposition(shown.answer.word), word)
         self.assertFalse(set(row.never) & dispositions)
         if dispositions == {F, R}:
             self.assertEqual(row.never, [M])
@@ -195,19 +190,19 @@ class Rows(Case):
 
     def test_the_pointer_is_shown(self):
         """A line of --calls lacks it; the call is shown whole all the same."""
-        row = known("by the instruction pointer").rows[1]
+        row = surface_of("by the instruction pointer").rows[1]
         self.assertEqual(row.shown[M].call.pointer & 0xFFFFFFFF, 0x1234)
         self.assertRegex(row.shown[M].describe(), r"\Aip 0x[0-9a-f]*1234 args 0x0 0x0 0x0 0x0 0x0 0x0 ALLOW\Z")
         self.assertEqual(row.shown[R].describe(), "args 0x0 0x0 0x0 0x0 0x0 0x0 ERRNO 1")
 
     def test_random_filters(self):
         """No sampled call has a disposition that what is said excludes, and what is shown is so."""
-        random_of, said = random.Random(35), set()
+        random_of, drawn = random.Random(35), set()
         for count in (*range(6, 30), *[60] * 6):
             made = random_of.choice((random_plain, random_plain, random_filter))
             filters = [made(random_of, count) for _ in range(random_of.choice((1, 1, 2)))]
             for row in of(filters).rows:
-                said.add(row.said)
+                drawn.add(row.said)
                 sampled = set()
                 for _ in range(40):
                     arguments = tuple(random_of.choice((0, 1, 2, 41, HIGH - 1, random_of.getrandbits(64)))
@@ -219,7 +214,7 @@ class Rows(Case):
                 self.assertFalse(sampled & set(row.never))
                 for disposition_of_shown, shown in row.shown.items():
                     self.assertEqual(disposition_by_hand(filters, shown.call), disposition_of_shown)
-        self.assertLessEqual({M, D, F, R}, said)
+        self.assertLessEqual({M, D, F, R}, drawn)
 
     def test_undecided_and_unfinished(self):
         """It is said so, with the calls that were found, and nothing is guessed."""
@@ -242,8 +237,8 @@ class Rows(Case):
                           if disposition_by_hand([BY_SQUARE], Call(SOCKET, X86_64, 0, (number, 0, 0, 0, 0, 0))) == M],
                          [3])
         self.assertEqual(sorted(surface.rows[3].shown), sorted([M, R]))
-        for said, shown in surface.rows[3].shown.items():
-            self.assertEqual(disposition_by_hand([BY_SQUARE], shown.call), said)
+        for disposition, shown in surface.rows[3].shown.items():
+            self.assertEqual(disposition_by_hand([BY_SQUARE], shown.call), disposition)
 
     def test_a_number_with_two_names_and_one_with_zeros(self):
         self.assertEqual(of([ret(ALLOW)]).rows[0].names, ["read", "too"])
@@ -299,9 +294,9 @@ class Unnamed(unittest.TestCase):
 
     def test_what_could_not_be_told(self):
         """A filter that isn't decided; more ranges than are looked at; of the longest filter everything is known."""
-        found = of([UNKNOWN], table=FEW).unnamed
-        self.assertEqual((found.not_denied, found.undecided), (0, X32 - 3))
-        self.assertRegex(found.describe(), r"[0-9]+ are undecided\Z")
+        unnamed = of([UNKNOWN], table=FEW).unnamed
+        self.assertEqual((unnamed.not_denied, unnamed.undecided), (0, X32 - 3))
+        self.assertRegex(unnamed.describe(), r"[0-9]+ are undecided\Z")
         self.assertEqual(self.describe(allowing(range(300, 1300, 2))), f"500 of {OTHERS} {SOME} 300: ALLOW")
         many = allowing(range(300, 1500, 4), more=jge(X32 // 2, 0, 1) + ret(ALLOW))
         self.assertEqual(self.describe(many), f"{300 + X32 // 2} of {OTHERS} {SOME} 300: ALLOW")
@@ -345,14 +340,14 @@ class Program(Case):
             f"numbers without a name: all {OTHERS} are always denied", "files denied 0 read,too ERRNO 1",
             "files denied 1 write ERRNO 1", lines[5], "processes denied 39 getpid ERRNO 1",
             "processes denied 231 exit_group ERRNO 1"]))
-        found = re.fullmatch(r"network depends 41 socket ((?:allowed|denied) args .*) ((?:allowed|denied) args .*)",
+        match = re.fullmatch(r"network depends 41 socket ((?:allowed|denied) args .*) ((?:allowed|denied) args .*)",
                              lines[5])
-        self.assertEqual({part.split()[0] for part in found.groups()}, {"allowed", "denied"})
-        for part in found.groups():
-            said, _, *arguments = part.split()
-            call = Call(SOCKET, arguments=tuple(int(it, 16) for it in arguments[:6]))
-            self.assertEqual(StandIn().decide(filters, call), {"allowed": "ALLOW 0", "denied": "ERRNO 1"}[said])
-            self.assertEqual(" ".join(arguments[6:]), {"allowed": "ALLOW", "denied": "ERRNO 1"}[said])
+        self.assertEqual({part.split()[0] for part in match.groups()}, {"allowed", "denied"})
+        for part in match.groups():
+            disposition, _, *arguments = part.split()
+            call = Call(SOCKET, arguments=tuple(int(word, 16) for word in arguments[:6]))
+            self.assertEqual(StandIn().decide(filters, call), {"allowed": "ALLOW 0", "denied": "ERRNO 1"}[disposition])
+            self.assertEqual(" ".join(arguments[6:]), {"allowed": "ALLOW", "denied": "ERRNO 1"}[disposition])
 
     def test_foreign_calls(self):
         for name, says in (("all is made", "i386: some syscalls are allowed, such as restart_syscall (0): ALLOW; x32: "
@@ -388,11 +383,11 @@ class Program(Case):
     def test_the_table_that_comes_with_scf(self):
         """Each name of it once, in a group of its own; what a filter allows, and nothing else, is made."""
         allowed = ["read", "mount", "ptrace", "keyctl", "clock_settime", "init_module"]
-        own = tables.read(None)
-        status, lines = self.said([filter_of([own.number_of(name) for name in allowed])], table=False)
+        own_table = tables.read(None)
+        status, lines = self.said([filter_of([own_table.number_of(name) for name in allowed])], table=False)
         self.assertEqual(status, 0)
         rows = [line.split() for line in lines[3:]]
-        self.assertEqual(sorted(int(row[2]) for row in rows), sorted(own.numbers()))
+        self.assertEqual(sorted(int(row[2]) for row in rows), sorted(own_table.numbers()))
         self.assertEqual({row[0]: row[3] for row in rows if row[1] == "allowed"},
                          {"files": "read", "mounts": "mount", "tracing": "ptrace", "keys": "keyctl",
                           "time": "clock_settime", "modules": "init_module"})
@@ -406,11 +401,12 @@ class Program(Case):
             lines = {int(line.split()[2]): line for line in self.said(filters, "--examples")[1][3:]}
             for number in NUMBERS:
                 shown = rows[number]["region_examples"]
-                for one in shown:
-                    call = Call(number, X86_64, int(one["pointer"], 16), tuple(int(it, 16) for it in one["arguments"]))
-                    self.assertEqual(StandIn().decide(filters, call), "{action} {data}".format(**one["answer"]))
-                    self.assertIn(f"args {' '.join(one['arguments'])} ", lines[number])
-                self.assertEqual({"{action} {data}".format(**one["answer"]) for one in shown},
+                for example in shown:
+                    call = Call(number, X86_64, int(example["pointer"], 16),
+                                tuple(int(argument, 16) for argument in example["arguments"]))
+                    self.assertEqual(StandIn().decide(filters, call), "{action} {data}".format(**example["answer"]))
+                    self.assertIn(f"args {' '.join(example['arguments'])} ", lines[number])
+                self.assertEqual({"{action} {data}".format(**example["answer"]) for example in shown},
                                  set(answers_by_hand(filters, number)))
         self.assertEqual(self.run_tool("surface", "--examples", "--conditions", "f")[0], 2)
 
@@ -433,15 +429,16 @@ class Program(Case):
             self.assertEqual((status, lines[0]), (0, f"{shown}: allowed 1, depends 0, denied {denied}"))
             self.assertEqual([line.split()[1:] for line in lines if " allowed " in line][1:],
                              [["allowed", str(number), name, "ALLOW"]])
-            left = architectures.JUDGED[f"SCMP_ARCH_{oci}"].last - first + 1 - denied - 1
-            self.assertEqual(lines[1], f"numbers without a name: all {left} are always denied")
-            found = json.loads(self.said([only], "--arch", word, "--json", table=False)[1][0])
-            self.assertEqual((found["architecture"], found["counts"][M], found["foreign"]), (shown, 1, []))
+            remaining = architectures.JUDGED[f"SCMP_ARCH_{oci}"].last - first + 1 - denied - 1
+            self.assertEqual(lines[1], f"numbers without a name: all {remaining} are always denied")
+            report = json.loads(self.said([only], "--arch", word, "--json", table=False)[1][0])
+            self.assertEqual((report["architecture"], report["counts"][M], report["foreign"]), (shown, 1, []))
             lines = self.said([only], table=False)[1]
             counted = f"{shown}: allowed 1, depends 0, denied {denied} (--arch {shown} lists them)"
             self.assertEqual(counted in lines, word in ("i386", "x32"), lines[:4])
         status, _, err = self.run_tool("surface", "--arch", "sparc", self.file("f", ret(ALLOW)))
-        self.assertEqual((status, err), (2, "surface: no table of the architecture 'sparc': scf has those of x86-64, i386, "
+        self.assertEqual((status, err),
+                         (2, "surface: no table of the architecture 'sparc': scf has those of x86-64, i386, "
                                             "x32, aarch64, arm\n"))
         status, _, err = self.run_tool("surface", "--arch", "i386", self.file("f", ret(ALLOW)), "--beside", "f")
         self.assertEqual((status, "either --arch or --beside" in err), (2, True))
@@ -450,22 +447,23 @@ class Program(Case):
         filters = KNOWN["all dispositions"][0]
         status, lines = self.said(filters, "--json")
         self.assertEqual((status, len(lines)), (0, 1))
-        found = json.loads(lines[0])
-        self.assertEqual((found["status"], found["counts"]), (0, {M: 4, D: 1, F: 0, R: 0, "undecided": 0,
+        report = json.loads(lines[0])
+        self.assertEqual((report["status"], report["counts"]), (0, {M: 4, D: 1, F: 0, R: 0, "undecided": 0,
                                                                   "unfinished": 0}))
         self.assertEqual([(row["number"], row["names"], row["group"], row["disposition"])
-                          for row in found["calls"]], [
+                          for row in report["calls"]], [
             (0, ["read", "too"], "files", M), (1, ["write"], "files", M), (39, ["getpid"], "processes", M),
             (41, ["socket"], "network", D), (231, ["exit_group"], "processes", M)])
-        self.assertEqual(found["calls"][0]["answer"], {"action": "ALLOW", "data": 0})
-        for said, shown in found["calls"][3]["examples"].items():
-            call = Call(SOCKET, X86_64, int(shown["pointer"], 16), tuple(int(it, 16) for it in shown["arguments"]))
-            self.assertEqual(disposition_by_hand(filters, call), said)
+        self.assertEqual(report["calls"][0]["answer"], {"action": "ALLOW", "data": 0})
+        for disposition, shown in report["calls"][3]["examples"].items():
+            call = Call(SOCKET, X86_64, int(shown["pointer"], 16),
+                        tuple(int(argument, 16) for argument in shown["arguments"]))
+            self.assertEqual(disposition_by_hand(filters, call), disposition)
             self.assertEqual(answers.Answer.read(StandIn().decide(filters, call)).as_json(),
                              {key: value for key, value in shown["answer"].items() if key != "does"})
-        self.assertEqual(found["unnamed"], {"count": OTHERS, "not_denied": OTHERS, "undecided": 0, "are_allowed": True,
+        self.assertEqual(report["unnamed"], {"count": OTHERS, "not_denied": OTHERS, "undecided": 0, "are_allowed": True,
                                             "example": {"number": 2, "answer": {"action": "ALLOW", "data": 0}}})
-        self.assertEqual([(one["kind"], one["not_denied"]) for one in found["foreign"]],
+        self.assertEqual([(access["kind"], access["not_denied"]) for access in report["foreign"]],
                          [(kind, []) for kind in ("i386", "x32")])
 
     def test_statuses(self):
@@ -497,8 +495,8 @@ class Program(Case):
         for words, status, says in ((("/dev/zero",), 3, "fault filter TooLong"),
                                     (("--table=/dev/zero", "f"), 2, "has more than 4194304 bytes"),
                                     ((self.file("f", ret(ALLOW)), "--beside", "/dev/zero"), 3, "fault filter TooLong")):
-            found, out, err = self.run_tool("surface", *words)
-            self.assertEqual(found, status, words)
+            exit_status, out, err = self.run_tool("surface", *words)
+            self.assertEqual(exit_status, status, words)
             self.assertIn(says, out + err)
 
     def test_what_is_not_understood_ends_it(self):
@@ -534,7 +532,7 @@ class Terminal(Case):
         fcntl.ioctl(theirs, termios.TIOCSWINSZ, struct.pack("HHHH", 24, columns, 0, 0))
         child = subprocess.Popen([tool("surface"), *words], stdout=theirs, stdin=subprocess.DEVNULL)
         os.close(theirs)
-        found = b""
+        chain = b""
         while True:
             try:
                 piece = os.read(ours, 1 << 16)
@@ -542,13 +540,13 @@ class Terminal(Case):
                 break
             if not piece:
                 break
-            found += piece
+            chain += piece
         os.close(ours)
-        return child.wait(), found.decode().replace("\r\n", "\n").split("\n")[:-1]
+        return child.wait(), chain.decode().replace("\r\n", "\n").split("\n")[:-1]
 
     def test_widths(self):
         name = self.file("f.bpf", of_number(SOCKET, by_argument(40, EPERM, ALLOW), EPERM))
-        own = tables.read(None)
+        own_table = tables.read(None)
         for columns in (12, 30, 44, 60, 100, 250):
             with self.subTest(columns):
                 status, lines = self.shown(columns, name)
@@ -556,8 +554,8 @@ class Terminal(Case):
                 for line in lines:
                     self.assertTrue(len(line) <= columns or len(line.split()) == 1 or columns < 30, line)
                 words = re.findall(r"[a-z_0-9]+", "\n".join(lines))
-                for number in own.numbers():
-                    for call in own.names_of(number):
+                for number in own_table.numbers():
+                    for call in own_table.names_of(number):
                         self.assertIn(call, words)
                 self.assertTrue("allowed socket(" in " ".join(" ".join(lines).split()) or columns < 30)
         self.assertGreater(max(map(len, self.shown(250, name)[1])), 200)
@@ -568,14 +566,14 @@ class Terminal(Case):
         self.assertRegex(lines[3], r"\Afiles +allowed +read\Z")
 
     def test_beside(self):
-        one, other = self.file("f.bpf", filter_of([READ])), self.file("g.bpf", filter_of([READ, WRITE]))
+        first, second = self.file("f.bpf", filter_of([READ])), self.file("g.bpf", filter_of([READ, WRITE]))
         for columns in (16, 40, 100):
-            status, lines = self.shown(columns, one, "--beside", other)
+            status, lines = self.shown(columns, first, "--beside", second)
             self.assertEqual(status, 1)
             self.assertTrue(columns < 20 or max(map(len, lines)) <= columns, lines)
-            told = " ".join(" ".join(lines).split())
-            self.assertTrue(told.endswith("syscalls that differ: 1 files write (1) denied ERRNO 1 "
-                                          "(EPERM) beside: allowed ALLOW"), told)
+            text = " ".join(" ".join(lines).split())
+            self.assertTrue(text.endswith("syscalls that differ: 1 files write (1) denied ERRNO 1 "
+                                          "(EPERM) beside: allowed ALLOW"), text)
 
     def test_wrapped(self):
         self.assertEqual(surface_output.wrapped(["aa", "b", "cccc", "d"], 4), ["aa b", "cccc", "d"])
@@ -585,73 +583,76 @@ class Terminal(Case):
 class Beside(Case):
     """Two surfaces beside each other."""
 
-    def pairs(self, one, other):
-        found = stack_surfaces.of_surfaces(known(one), known(other))
-        return found.status, [(pair.number, pair.one.said, pair.other.said) for pair in found.pairs], found
+    def pairs(self, name, name_beside):
+        beside = stack_surfaces.of_surfaces(surface_of(name), surface_of(name_beside))
+        return beside.status, [(pair.number, *(row.said for row in pair.rows)) for pair in beside.pairs], beside
 
     def test_each_two(self):
         """The syscalls whose answers differ are told, and no others: in all 32 bits, as the other machine answers."""
-        for one, other in itertools.combinations(KNOWN, 2):
-            with self.subTest(one=one, other=other):
-                status, told, found = self.pairs(one, other)
-                expected = [row for row in zip(NUMBERS, KNOWN[one][1], KNOWN[other][1])
-                            if answers_by_hand(KNOWN[one][0], row[0]) != answers_by_hand(KNOWN[other][0], row[0])]
-                self.assertEqual(told, expected)
-                self.assertTrue(all(pair.is_decided for pair in found.pairs))
-                if told:
+        for name, name_beside in itertools.combinations(KNOWN, 2):
+            with self.subTest(one=name, other=name_beside):
+                status, text, beside = self.pairs(name, name_beside)
+                expected = [row for row in zip(NUMBERS, KNOWN[name][1], KNOWN[name_beside][1])
+                            if answers_by_hand(KNOWN[name][0], row[0]) != answers_by_hand(KNOWN[name_beside][0],
+                                                                                          row[0])]
+                self.assertEqual(text, expected)
+                self.assertTrue(all(pair.is_decided for pair in beside.pairs))
+                if text:
                     self.assertEqual(status, 1)
 
     def test_what_dispositions_do_not_show(self):
         """A condition, an errno and a logged syscall."""
         plain = [of_number(SOCKET, by_argument(40, EPERM, ALLOW), ALLOW)]
-        for name, other, answered in (
+        for name, default, answered in (
                 ("a condition", by_argument(41, EPERM, ALLOW), ("ERRNO 1", "ALLOW")),
                 ("an errno", by_argument(40, 0x50026, ALLOW), ("ERRNO 1", "ERRNO 38")),
                 ("a logged syscall", by_argument(40, EPERM, LOG), ("ALLOW", "LOG"))):
-            found = stack_surfaces.of_surfaces(of(plain), of([of_number(SOCKET, other, ALLOW)]))
-            (pair,) = found.pairs
-            self.assertEqual((found.status, pair.number, pair.one.said, pair.other.said), (1, SOCKET, D, D), name)
+            beside = stack_surfaces.of_surfaces(of(plain), of([of_number(SOCKET, default, ALLOW)]))
+            (pair,) = beside.pairs
+            self.assertEqual((beside.status, pair.number, *(row.said for row in pair.rows)), (1, SOCKET, D, D), name)
             verdict = pair.line.verdict
             self.assertIn((str(verdict.filters), str(verdict.profile)), (answered, answered[::-1]), name)
             self.assertRegex(pair.example, r"\Asuch as socket\(.*\): .* beside ")
 
     def test_syscalls_that_depend_and_are_the_same(self):
-        other = [gate(jeq(SOCKET, 0, 6) + by_argument(40, EPERM, ALLOW) + ret(EPERM))]
-        found = stack_surfaces.of_surfaces(known("by an argument"), of(other))
-        self.assertEqual((found.status, found.pairs), (0, ()))
+        filters = [gate(jeq(SOCKET, 0, 6) + by_argument(40, EPERM, ALLOW) + ret(EPERM))]
+        beside = stack_surfaces.of_surfaces(surface_of("by an argument"), of(filters))
+        self.assertEqual((beside.status, beside.pairs), (0, ()))
 
     def test_the_same_filters(self):
         for name in ("by an argument", "a stack"):
             self.assertEqual(self.pairs(name, name)[:2], (0, []))
-        found = stack_surfaces.of_surfaces(*(of([UNKNOWN], table=FEW) for _ in range(2)))
-        self.assertEqual((found.status, found.pairs), (0, ()))
+        beside = stack_surfaces.of_surfaces(*(of([UNKNOWN], table=FEW) for _ in range(2)))
+        self.assertEqual((beside.status, beside.pairs), (0, ()))
         # one more filter, which allows all, changes no answer, but the filters aren't the same
-        found = stack_surfaces.of_surfaces(*(of(it, table=FEW) for it in ([UNKNOWN], [UNKNOWN, ret(ALLOW)])))
-        self.assertEqual((found.status, [pair.number for pair in found.pairs]), (4, [0, 1, 2]))
+        beside = stack_surfaces.of_surfaces(*(of(filters, table=FEW) for filters in ([UNKNOWN], [UNKNOWN, ret(ALLOW)])))
+        self.assertEqual((beside.status, [pair.number for pair in beside.pairs]), (4, [0, 1, 2]))
         self.assertEqual(stack_surfaces.of_surfaces(of([SQUARE]), of([SQUARE])).pairs, ())
-        found = stack_surfaces.of_surfaces(of([BY_SQUARE]), of([BY_SQUARE]))
-        self.assertEqual((found.status, found.pairs), (0, ()))
+        beside = stack_surfaces.of_surfaces(of([BY_SQUARE]), of([BY_SQUARE]))
+        self.assertEqual((beside.status, beside.pairs), (0, ()))
 
     def test_what_could_not_be_told(self):
-        found = stack_surfaces.of_surfaces(of([BY_UNKNOWN]), of([ret(ALLOW)]))
-        self.assertEqual([(pair.number, pair.one.said, pair.other.said) for pair in found.pairs],
+        beside = stack_surfaces.of_surfaces(of([BY_UNKNOWN]), of([ret(ALLOW)]))
+        self.assertEqual([(pair.number, *(row.said for row in pair.rows)) for pair in beside.pairs],
                          [(SOCKET, "undecided", M)])
-        found = stack_surfaces.of_surfaces(of([BY_SQUARE]), of([ret(ALLOW)]))
-        self.assertEqual([(pair.number, pair.one.said, pair.other.said) for pair in found.pairs], [(SOCKET, D, M)])
+        beside = stack_surfaces.of_surfaces(of([BY_SQUARE]), of([ret(ALLOW)]))
+        self.assertEqual([(pair.number, *(row.said for row in pair.rows)) for pair in beside.pairs], [(SOCKET, D, M)])
         with mock.patch.dict(client.limits, {"limit": "0"}):
-            found = stack_surfaces.of_surfaces(of([gate(ret(ALLOW))]), of([gate(ret(EPERM))]))
-        self.assertEqual((found.status, [pair.number for pair in found.pairs]), (4, NUMBERS))
+            beside = stack_surfaces.of_surfaces(of([gate(ret(ALLOW))]), of([gate(ret(EPERM))]))
+        self.assertEqual((beside.status, [pair.number for pair in beside.pairs]), (4, NUMBERS))
 
     def test_foreign_calls_and_numbers_without_a_name(self):
         inner = jeq(READ, 0, 1) + ret(ALLOW) + ret(EPERM)
-        found = stack_surfaces.of_surfaces(of([gate(inner)]), of([gate(inner, ALLOW)]))
-        self.assertEqual((found.status, found.pairs, found.foreign_differ, found.unnamed_differ), (1, (), True, False))
-        found = stack_surfaces.of_surfaces(of([filter_of([READ])]), of([filter_of([READ, 400])]))
-        self.assertEqual((found.status, found.pairs, found.foreign_differ, found.unnamed_differ), (1, (), False, True))
+        beside = stack_surfaces.of_surfaces(of([gate(inner)]), of([gate(inner, ALLOW)]))
+        self.assertEqual((beside.status, beside.pairs, beside.foreign_differ, beside.unnamed_differ),
+                         (1, (), True, False))
+        beside = stack_surfaces.of_surfaces(of([filter_of([READ])]), of([filter_of([READ, 400])]))
+        self.assertEqual((beside.status, beside.pairs, beside.foreign_differ, beside.unnamed_differ),
+                         (1, (), False, True))
 
     def test_lines_and_json(self):
-        one, other = self.file("1.bpf", filter_of([READ, 400])), self.file("2.bpf", filter_of([WRITE]))
-        words = ("--table", self.file("t", OWN), one, "--beside", other)
+        first, second = self.file("1.bpf", filter_of([READ, 400])), self.file("2.bpf", filter_of([WRITE]))
+        words = ("--table", self.file("t", OWN), first, "--beside", second)
         self.assertEqual(self.run_tool("surface", *words), (1, (
             "allowed 1, depends 0, denied 4\nbeside: allowed 1, depends 0, denied 4\n"
             f"{NO_FOREIGN}\n"
@@ -661,12 +662,12 @@ class Beside(Case):
             "files 0 read,too allowed ALLOW beside denied ERRNO 1\nfiles 1 write denied ERRNO 1 beside allowed ALLOW\n"
             "numbers without a name: some get different answers\n"),
             ""))
-        found = json.loads(self.run_tool("surface", "--json", *words)[1])
+        report = json.loads(self.run_tool("surface", "--json", *words)[1])
         self.assertEqual([(pair["filter"]["number"], *(pair[side]["disposition"] for side in ("filter", "beside")))
-                          for pair in found["beside"]["differs"]], [(0, M, R), (1, R, M)])
-        self.assertEqual((found["status"], found["beside"]["unnamed_differ"]), (1, True))
+                          for pair in report["beside"]["differs"]], [(0, M, R), (1, R, M)])
+        self.assertEqual((report["status"], report["beside"]["unnamed_differ"]), (1, True))
         self.assertEqual([(pair["verdict"], *(pair["example"][side]["action"] for side in ("filter", "beside")))
-                          for pair in found["beside"]["differs"]],
+                          for pair in report["beside"]["differs"]],
                          [("differs", "ALLOW", "ERRNO"), ("differs", "ERRNO", "ALLOW")])
 
 
@@ -686,9 +687,9 @@ class Process(Confined):
         self.assertEqual((status, lines[0]), (0, "allowed 5, depends 0, denied 0"))
         self.assertEqual(lines[2], f"numbers without a name: {OTHERS - 1} of {OTHERS} {SOME} 2: ALLOW")
         self.assertRegex(lines[-1], rf"\A# process {child.pid} \(.*\) has 2 filters, of 1, 9 instructions\Z")
-        found = json.loads(self.surface("--json", "--pid", str(child.pid))[1][0])
-        stack = found["stacks"][0]
-        self.assertEqual((found["status"], stack["counts"][M], stack["filters"]), (0, 5, [1, 9]))
+        report = json.loads(self.surface("--json", "--pid", str(child.pid))[1][0])
+        stack = report["stacks"][0]
+        self.assertEqual((report["status"], stack["counts"][M], stack["filters"]), (0, 5, [1, 9]))
         self.assertEqual(stack["processes"][0]["threads"], child.threads)
         self.runs_on(child)
 
@@ -700,9 +701,9 @@ class Process(Confined):
         self.assertEqual(lines.count(""), 2)
         self.assertRegex(lines[0], r"\A# thread [0-9]+ of process [0-9]+ \(.*\) has no filter: it isn't confined, and "
                                    r"every syscall is allowed\Z")
-        found = json.loads(self.surface("--json", "--pid", str(child.pid))[1][0])
-        self.assertEqual([stack["confined"] for stack in found["stacks"]], ["not", "by filters", "by filters"])
-        self.assertEqual([stack["status"] for stack in found["stacks"]], [1, 0, 0])
+        report = json.loads(self.surface("--json", "--pid", str(child.pid))[1][0])
+        self.assertEqual([stack["confined"] for stack in report["stacks"]], ["not", "by filters", "by filters"])
+        self.assertEqual([stack["status"] for stack in report["stacks"]], [1, 0, 0])
 
     @here
     def test_beside(self):
@@ -726,12 +727,13 @@ class Process(Confined):
         asked = stack_surfaces.Settings(tables.Table(OWN), [])
         for is_strict, status, says in ((True, 4, "has no filter, but seccomp's strict mode"),
                                         (False, 1, "has no filter: it isn't confined, and every syscall is allowed")):
-            found = processes.Inspection([processes.Stack((), is_strict, {7: [7]})], {7: b"x"}, {})
-            blocks = stack_surfaces.of_process(found, asked)
-            self.assertEqual((client.worst(block.status for block in blocks), list(stack_surfaces.lines(blocks, found, None))),
+            inspection = processes.Inspection([processes.Stack((), is_strict, {7: [7]})], {7: b"x"}, {})
+            blocks = stack_surfaces.of_process(inspection, asked)
+            self.assertEqual((client.worst(block.status for block in blocks),
+                              list(stack_surfaces.lines(blocks, inspection, None))),
                              (status, [f"# process 7 (x) {says}"]))
-            told = stack_surfaces.as_json(blocks, found)["stacks"][0]
-            self.assertEqual((told["confined"], "counts" in told), ("strict" if is_strict else "not", False))
+            report = stack_surfaces.as_json(blocks, inspection)["stacks"][0]
+            self.assertEqual((report["confined"], "counts" in report), ("strict" if is_strict else "not", False))
 
     @here
     def test_a_fault_of_the_table_is_said_once(self):
@@ -762,7 +764,7 @@ class Groups(unittest.TestCase):
         """What stands behind a set's name is of this set; systemd's later versions only add to one."""
         printed = subprocess.run(["systemd-analyze", "syscall-filter"], stdout=subprocess.PIPE,
                                  stderr=subprocess.DEVNULL, check=False).stdout.decode()
-        sets = {name: set(rest.split()) for name, rest in re.findall(r"(?m)^(@\S+)\n((?:    .*\n)*)", printed)}
+        sets = {name: set(names.split()) for name, names in re.findall(r"(?m)^(@\S+)\n((?:    .*\n)*)", printed)}
         self.assertGreater(len(sets), 20)
         now, looked_at = None, 0
         with open(os.path.join(TOP, "tables", "calls.groups"), encoding="ascii") as file:

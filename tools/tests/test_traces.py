@@ -326,7 +326,7 @@ class Words(Case):
             self.assertEqual((status, err), (0, ""))
             # x86-64 has no sigreturn
             self.assertEqual(set(json.loads(out)["syscalls"][0]["names"]),
-                             {"read", *calls.split(), *requirements.ALWAYS} - {"sigreturn"})
+                             {"read", *calls.split(), *requirements.ALWAYS_CALLED} - {"sigreturn"})
         self.assertEqual(self.run_tool("needs", "--runtime", "x", log, profile)[:2], (2, ""))
 
 

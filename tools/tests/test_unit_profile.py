@@ -19,8 +19,9 @@ OPEN, EPERM, ENOSYS, NO_FAMILY = (ALLOW, None), (ERRNO, 1), (ERRNO, 38), (ERRNO,
 OTHERS = ("LockPersonality", "MemoryDenyWriteExecute", "PrivateDevices", "ProtectClock", "ProtectHostname",
           "ProtectKernelLogs", "ProtectKernelModules", "ProtectKernelTunables", "RestrictAddressFamilies",
           "RestrictNamespaces", "RestrictRealtime", "RestrictSUIDSGID")
-HOLDS = {"EQ": lambda it, one, _: it == one, "NE": lambda it, one, _: it != one, "LT": lambda it, one, _: it < one,
-         "GT": lambda it, one, _: it > one, "MASKED_EQ": lambda it, one, two: it & one == two & one}
+HOLDS = {"EQ": lambda argument, value, _: argument == value, "NE": lambda argument, value, _: argument != value,
+         "LT": lambda argument, value, _: argument < value, "GT": lambda argument, value, _: argument > value,
+         "MASKED_EQ": lambda argument, value, two: argument & value == two & value}
 # The flags of namespaces (linux/sched.h).
 CGROUP, IPC, NET, MNT, PID, USER, UTS, TIME = (0x2000000, 0x8000000, 0x40000000, 0x20000, 0x20000000, 0x10000000,
                                                0x4000000, 0x80)
@@ -37,11 +38,11 @@ ANSWERS = (
         OPEN: [("clone", NET | USER | 17), ("unshare", NET), ("unshare", 0), ("setns", 3, NET), ("setns", 3, USER),
                ("setns", 3, 1 << 63), ("setns", 3, 1)]}),
     ("RestrictAddressFamilies", "AF_INET AF_INET6 AF_UNIX", {
-        NO_FAMILY: [("socket", it) for it in (0, 3, 9, 11, 16, 45, 46, 1 << 32, (1 << 64) - 1)],
+        NO_FAMILY: [("socket", item) for item in (0, 3, 9, 11, 16, 45, 46, 1 << 32, (1 << 64) - 1)],
         OPEN: [("socket", 1), ("socket", 2), ("socket", 10), ("socketpair", 16)]}),
     ("RestrictAddressFamilies", "~AF_NETLINK AF_PACKET AF_ALG", {
         NO_FAMILY: [("socket", 16), ("socket", 17), ("socket", 38)],
-        OPEN: [("socket", it) for it in (0, 1, 15, 18, 37, 39, 46, 1 << 32 | 16)]}),
+        OPEN: [("socket", item) for item in (0, 1, 15, 18, 37, 39, 46, 1 << 32 | 16)]}),
     ("RestrictAddressFamilies", "~AF_PACKET", {NO_FAMILY: [("socket", 17)], OPEN: [("socket", 16), ("socket", 18)]}),
     ("RestrictAddressFamilies", "", {NO_FAMILY: [("socket", 0), ("socket", 1)]}),
     ("MemoryDenyWriteExecute", "yes", {
@@ -49,8 +50,8 @@ ANSWERS = (
                 ("shmat", 0, 0, 0x8000)],
         OPEN: [("mmap", 0, 0, 4), ("mmap", 0, 0, 3), ("mprotect", 0, 0, 3), ("shmat", 0, 0, 0x4000)]}),
     ("RestrictRealtime", "yes", {
-        EPERM: [("sched_setscheduler", 0, it) for it in (1, 2, 4, 6, 7, 1 << 32, 0x40000001, (1 << 64) - 1)],
-        OPEN: [("sched_setscheduler", 0, it) for it in (0, 3, 5)] + [("sched_setattr", 0, 1)]}),
+        EPERM: [("sched_setscheduler", 0, item) for item in (1, 2, 4, 6, 7, 1 << 32, 0x40000001, (1 << 64) - 1)],
+        OPEN: [("sched_setscheduler", 0, number) for number in (0, 3, 5)] + [("sched_setattr", 0, 1)]}),
     ("RestrictSUIDSGID", "yes", {
         EPERM: [("chmod", 0, 0o4755), ("fchmod", 0, 0o2000), ("creat", 0, 0o6000), ("mkdir", 0, 0o2755),
                 ("mknod", 0, 0o104000), ("fchmodat", 0, 0, 0o4000), ("fchmodat2", 0, 0, 0o2000),
@@ -58,7 +59,7 @@ ANSWERS = (
                 ("openat", 0, 0, 0o100, 0o2644)], ENOSYS: [("openat2",)],
         OPEN: [("chmod", 0, 0o1777), ("mknod", 0, 0o100644), ("open", 0, 1, 0o4000), ("open", 0, 0o100, 0o1644),
                ("openat", 0, 0, 0, 0o6000), ("mkdirat", 0, 0o4000, 0)]}),
-    ("LockPersonality", "yes", {EPERM: [("personality", it) for it in (8, 0x40000, 0xffffffff)],
+    ("LockPersonality", "yes", {EPERM: [("personality", number) for number in (8, 0x40000, 0xffffffff)],
                                 OPEN: [("personality", 0)]}),
     ("ProtectClock", "yes", {EPERM: [("adjtimex",), ("clock_adjtime",), ("clock_adjtime64",), ("clock_settime",),
                                      ("clock_settime64",), ("settimeofday",)], OPEN: [("clock_gettime",)]}),
@@ -105,10 +106,10 @@ class UnitProfile(Case):
 
     def shows(self, *lines, **members):
         """Has systemctl show these settings of a unit."""
-        found = {"Id": "box.service", "LoadState": "loaded", "NeedDaemonReload": "no", "DropInPaths": "",
-                 "FragmentPath": self.unit_file("box.service", ""), "SystemCallFilter": "~",
-                 "SystemCallArchitectures": "", "SystemCallErrorNumber": KILLED, "SystemCallLog": "~", **members}
-        text = "".join(f"{name}={value}\n" for name, value in found.items() if value is not None)
+        actual = {"Id": "box.service", "LoadState": "loaded", "NeedDaemonReload": "no", "DropInPaths": "",
+                  "FragmentPath": self.unit_file("box.service", ""), "SystemCallFilter": "~",
+                  "SystemCallArchitectures": "", "SystemCallErrorNumber": KILLED, "SystemCallLog": "~", **members}
+        text = "".join(f"{name}={value}\n" for name, value in actual.items() if value is not None)
         self.stand_in("systemctl", f"cat <<'END'\n{text}END")
 
     def unit_file(self, name, text):
@@ -118,18 +119,18 @@ class UnitProfile(Case):
         """The profile by these words, with its calls by their answers, and what is said."""
         status, out, err = self.run_tool("unit-profile", *words, env=self.env)
         self.assertEqual(status, 0, err)
-        found = json.loads(out)
-        calls = {(one["action"], one.get("errnoRet")): set(one["names"]) for one in found["syscalls"]}
-        self.assertEqual(len(calls), len(found["syscalls"]))
-        return (found["defaultAction"], found.get("defaultErrnoRet")), calls, found["architectures"], err
+        value = json.loads(out)
+        calls = {(entry["action"], entry.get("errnoRet")): set(entry["names"]) for entry in value["syscalls"]}
+        self.assertEqual(len(calls), len(value["syscalls"]))
+        return (value["defaultAction"], value.get("defaultErrnoRet")), calls, value["architectures"], err
 
     def of_unit(self, **members):
         self.shows(**members)
         return self.printed("box.service")
 
     def refused(self, status, says, *words):
-        found, out, err = self.run_tool("unit-profile", *words, env=self.env)
-        self.assertEqual((found, out), (status, ""), err)
+        actual, out, err = self.run_tool("unit-profile", *words, env=self.env)
+        self.assertEqual((actual, out), (status, ""), err)
         self.assertRegex(err, r"unit-profile: [^\n\x1b]*\n\Z")
         self.assertIn(says, err)
 
@@ -179,15 +180,15 @@ class UnitProfile(Case):
         """What a unit denies by an errno of their own whose file and drop-ins have these texts."""
         paths = [self.unit_file(f"{at} unit.conf", text) for at, text in enumerate(texts)]
         drop_ins = " ".join(f'"{path}"' for path in paths[1:])
-        found, calls, _, err = self.of_unit(**{"SystemCallFilter": "read write", "FragmentPath": paths[0],
-                                               "DropInPaths": drop_ins, **members})
-        self.assertEqual(found, (KILL, None))
+        status, calls, _, err = self.of_unit(**{"SystemCallFilter": "read write", "FragmentPath": paths[0],
+                                                "DropInPaths": drop_ins, **members})
+        self.assertEqual(status, (KILL, None))
         self.assertEqual(calls.pop((ALLOW, None)), {"read", "write"})
         return calls, err
 
     def test_what_an_allowing_unit_denies_by_an_errno(self):
         """systemctl show leaves that out; files and drop-ins by systemd.syntax(7)."""
-        own = {(ERRNO, 22): {"clone3"}}
+        actual = {(ERRNO, 22): {"clone3"}}
         for texts in (("[Service]\nSystemCallFilter=read write\nSystemCallFilter=~clone3:EINVAL\n",),
                       ("[Service]\nSystemCallFilter=@inner\n", "[Service]\nSystemCallFilter = ~clone3:EINVAL \n"),
                       ("[Service]\nSystemCallFilter=@inner mount\n[Unit]\nSystemCallFilter=~mount:E2BIG\n"
@@ -198,9 +199,9 @@ class UnitProfile(Case):
                        "[Service]\nSystemCallFilter=\nSystemCallFilter=@inner\nSystemCallFilter=~clone3:22\n"),
                       ("[Service]\nSystemCallFilter=@inner\nSystemCallFilter=~clone3:EINVAL mount:E2BIG read:1\n",
                        "[Service]\nSystemCallFilter=mount read\nSystemCallFilter=~mount\n")):
-            self.assertEqual(self.denied(*texts), (own, ""), texts)
+            self.assertEqual(self.denied(*texts), (actual, ""), texts)
         self.assertEqual(self.denied("[Service]\nSystemCallFilter=@inner\nSystemCallFilter=~mount:08 clone3:22\n"),
-                         (own, "unit-profile: mount:08 left out: '08' isn't an errno\n"))
+                         (actual, "unit-profile: mount:08 left out: '08' isn't an errno\n"))
         self.assertEqual(self.denied("[Service]\nSystemCallFilter=@inner\n[Socket]\nSystemCallFilter=~clone3:22\n"),
                          ({}, ""))
 
@@ -210,11 +211,11 @@ class UnitProfile(Case):
                               ({"FragmentPath": "/none/box.service"}, "'/none/box.service' can't be read: No"),
                               ({"FragmentPath": ""}, "'' can't be read"), ({"DropInPaths": '"'}, "No closing"),
                               ({"FragmentPath": self.unit_file("u", "[Service]\nSystemCallFilter=mount\n"
-                                                               "SystemCallFilter=~clone3:EINVAL")}, "another list"),
+                                                               "SystemCallFilter=~clone3:EINVAL")}, "the list in its files differs"),
                               ({"FragmentPath": self.unit_file("v", "[Service]\nSystemCallFilter=~clone3:EINVAL")},
-                               "another list")):
+                               "the list in its files differs")):
             self.shows(SystemCallFilter="read", **members)
-            self.refused(4, "it can't be known which syscalls the allow-list denies with an errno of their own",
+            self.refused(4, "systemctl show doesn't print which syscalls the allow-list denies with an errno of their",
                          "box.service")
             self.refused(4, says, "box.service")
             # a list of denied calls is shown whole
@@ -295,11 +296,13 @@ class UnitProfile(Case):
 
         def answer(name, *arguments):
             values = [*arguments, *[0] * 6]
-            found = {(one["action"], one.get("errnoRet")) for one in profile["syscalls"] if name in one["names"] and
-                     all(HOLDS[it["op"].removeprefix("SCMP_CMP_")](values[it["index"]], it["value"], it["valueTwo"])
-                         for it in one.get("args", ()))}
-            self.assertLessEqual(len(found), 1, (name, arguments))
-            return next(iter(found), (profile["defaultAction"], profile.get("defaultErrnoRet")))
+            answers = {(entry["action"], entry.get("errnoRet")) for entry in profile["syscalls"]
+                       if name in entry["names"] and all(
+                           HOLDS[condition["op"].removeprefix("SCMP_CMP_")](
+                               values[condition["index"]], condition["value"], condition["valueTwo"])
+                           for condition in entry.get("args", ()))}
+            self.assertLessEqual(len(answers), 1, (name, arguments))
+            return next(iter(answers), (profile["defaultAction"], profile.get("defaultErrnoRet")))
 
         return answer, profile["architectures"], err
 
@@ -310,10 +313,10 @@ class UnitProfile(Case):
     def test_other_settings(self):
         """Each by itself, and beside lists of what is allowed: what these deny they answer."""
         for name, text, answers in ANSWERS:
-            every = sorted({it[0] for calls in answers.values() for it in calls})
-            one = every[0]
-            for calls, number, others, own in (
-                    ("~", KILLED, OPEN, None), (f"~{one}:E2BIG", KILLED, OPEN, (ERRNO, 7)),
+            every = sorted({call[0] for calls in answers.values() for call in calls})
+            first = every[0]
+            for calls, number, others, unless_denied in (
+                    ("~", KILLED, OPEN, None), (f"~{first}:E2BIG", KILLED, OPEN, (ERRNO, 7)),
                     (" ".join(every), "1", EPERM, None), (" ".join(every), KILLED, (KILL, None), None),
                     (" ".join(every[1:]) or "read", "13", (ERRNO, 13), (ERRNO, 13))):
                 self.with_setting(name, text, SystemCallFilter=calls, SystemCallErrorNumber=number)
@@ -321,12 +324,12 @@ class UnitProfile(Case):
                 self.assertNotIn("252", err)
                 for expected, given in answers.items():
                     for call in given:
-                        shown = own if own is not None and call[0] == one else expected
+                        shown = unless_denied if unless_denied is not None and call[0] == first else expected
                         self.assertEqual(answer(*call), shown, (name, text, calls, call))
                 self.assertEqual(answer("getpid"), others)
         self.with_setting("ProtectHostname", "yes", SystemCallLog="sethostname uname")
         answer = self.answered("box.service")[0]
-        self.assertEqual([answer(it) for it in ("sethostname", "uname", "read")], [EPERM, (LOG, None), OPEN])
+        self.assertEqual([answer(name) for name in ("sethostname", "uname", "read")], [EPERM, (LOG, None), OPEN])
 
     def test_settings_that_are_off(self):
         self.shows(**{**dict.fromkeys(OTHERS, "no"), "RestrictAddressFamilies": "~", "Personality": "x86"},
@@ -341,7 +344,7 @@ class UnitProfile(Case):
                                   ({"SystemCallLog": "read"}, True), *others):
             shown = {"SystemCallFilter": "~", "NeedDaemonReload": "no", "FragmentPath": self.unit_file("u", ""),
                      **members}
-            settings = units.settings_in(shown, "box.service", units.Reader(dict, self.fail))
+            settings = units.settings_in(shown, "box.service", units.ListReader(dict, self.fail))
             self.assertEqual(settings.have_filters, expected, members)
 
     def test_personality(self):
@@ -349,7 +352,7 @@ class UnitProfile(Case):
         for text, number in (("", 0), ("x86-64", 0), ("x86", 8)):
             self.with_setting("LockPersonality", "yes", Personality=text)
             answer = self.answered("box.service")[0]
-            self.assertEqual([it for it in range(64) if answer("personality", it) == OPEN], [number])
+            self.assertEqual([number for number in range(64) if answer("personality", number) == OPEN], [number])
 
     def test_what_differs_on_i386(self):
         """There socketcall(2) can't be looked at, mmap(2) is denied as a whole, and mmap2 as mmap elsewhere."""
@@ -361,12 +364,12 @@ class UnitProfile(Case):
             self.with_setting(name, text)
             _, listed, err = self.answered("box.service")
             self.assertEqual(listed, [ALL[0], ALL[2]])
-            self.assertIn("for x86-64 and x32 alone: something else is denied on i386, which --arch i386 prints", err)
+            self.assertIn("only for x86-64 and x32: the unit denies other syscalls on i386 (--arch i386)", err)
             answer, listed, err = self.answered("--arch", "i386", "box.service")
             self.assertEqual(listed, ALL[1:2])
-            self.assertIn("on x86-64 and x32, which --arch x86-64 prints", err)
+            self.assertIn("on x86-64 and x32 (--arch x86-64)", err)
             for expected, calls in on_i386.items():
-                self.assertEqual({answer(*it) for it in calls}, {expected}, name)
+                self.assertEqual({answer(*call) for call in calls}, {expected}, name)
             self.assertEqual(self.answered("--arch", "x32", "box.service")[1], [ALL[0], ALL[2]])
             # where its syscalls aren't permitted
             self.with_setting(name, text, SystemCallArchitectures="native")
@@ -391,7 +394,7 @@ class UnitProfile(Case):
                 ("~socket", "socketcall", {("socketcall", 1): killed, ("socketcall", 2): logged})):
             self.shows(SystemCallFilter=calls, SystemCallLog=log)
             answer = self.answered("box.service")[0]
-            self.assertEqual({it: answer(*it) for it in answers}, answers, (calls, log))
+            self.assertEqual({item: answer(*item) for item in answers}, answers, (calls, log))
         self.shows(SystemCallFilter="~socket", SystemCallArchitectures="native")
         self.assertEqual(self.printed("box.service")[1], {killed: {"socket"}})
 
@@ -423,15 +426,15 @@ class UnitProfile(Case):
     def test_what_newer_versions_do_not_know(self):
         """257.13 allows write(2), and denies by ENOSYS what @known doesn't have by itself, or only i386 has
         (override_default_action of its seccomp-util.c)."""
-        known = f"{GROUPS}\n@known\n    @inner\n    brk\n    mount\n    read\n    socket\n    write\n    _llseek\n"
-        self.stand_in("systemd-analyze", f"cat <<'END'\n{known}END")
+        groups = f"{GROUPS}\n@known\n    @inner\n    brk\n    mount\n    read\n    socket\n    write\n    _llseek\n"
+        self.stand_in("systemd-analyze", f"cat <<'END'\n{groups}END")
         for number, denied in ((KILLED, (KILL, None)), ("1", EPERM)):
             self.shows(SystemCallFilter="brk openat", SystemCallErrorNumber=number, Version="257.13-1~deb13u1")
             answer = self.answered("box.service")[0]
             calls = {"brk": OPEN, "openat": OPEN, "write": OPEN, "mount": denied, "read": denied, "chroot": ENOSYS,
                      "_llseek": ENOSYS, "ipc": ENOSYS, "no_such_call": ENOSYS}
-            self.assertEqual({it: answer(it) for it in calls}, calls)
-            self.assertEqual([answer("socketcall", it) for it in (0, 1, 2)], [ENOSYS, denied, ENOSYS])
+            self.assertEqual({call: answer(call) for call in calls}, calls)
+            self.assertEqual([answer("socketcall", number) for number in (0, 1, 2)], [ENOSYS, denied, ENOSYS])
         self.shows(SystemCallFilter="~mount write", Version="257.13-1~deb13u1")
         self.assertEqual(self.printed("box.service")[:2], (OPEN, {(KILL, None): {"mount"}}))
         self.shows(SystemCallFilter="brk", Version="252.39-1~deb12u2")
@@ -489,9 +492,9 @@ class UnitProfile(Case):
                                           "unit-profile: @no-such-group left out: systemd knows no such group\n"))
         self.assertLessEqual({"mount", "umount2", "chroot", "pivot_root"}, calls[KILL, None])
         self.assertLessEqual({"reboot", "kexec_load"}, calls[ERRNO, 1])
-        known = self.printed("--set", "@known")[1][ALLOW, None]
+        known_calls = self.printed("--set", "@known")[1][ALLOW, None]
         service = self.printed("--set", "@system-service")[1][ALLOW, None]
-        self.assertLess(service, known)
+        self.assertLess(service, known_calls)
         self.assertLessEqual({"read", "openat", "execve", "exit_group", "nanosleep"}, service)
         self.assertFalse({"mount", "reboot", "swapon", "ptrace", "settimeofday"} & service)
 
@@ -603,13 +606,13 @@ class RealSystemd(OwnUnits):
             status, out, err = self.on(tool("unit-profile"), unit)
             self.assertEqual(status, 0, err)
             profile = self.file("profile.json", out)
-            found = self.run_tool("verify-process", self.pid_of(unit), profile)
-            self.assertEqual((found[0], found[1].split("\n")[0]), (0, "same"), found)
+            actual = self.run_tool("verify-process", self.pid_of(unit), profile)
+            self.assertEqual((actual[0], actual[1].split("\n")[0]), (0, "same"), actual)
         # what --set states is what the unit states
         lists = re.findall("SystemCallFilter=(.*)", DENYING)
         out = self.run_tool("unit-profile", "--set", *lists, "--errno", "010", "--architectures", "native")[1]
-        found = self.run_tool("verify-process", self.pid_of("scf-deny.service"), self.file("set.json", out))
-        self.assertEqual((found[0], found[1].split("\n")[0]), (0, "same"), found)
+        actual = self.run_tool("verify-process", self.pid_of("scf-deny.service"), self.file("set.json", out))
+        self.assertEqual((actual[0], actual[1].split("\n")[0]), (0, "same"), actual)
         # a file that changed isn't what systemd has read
         self.file("units/scf-allow.service", ALLOWING + "#\n")
         os.utime(f"{self.folder}/units/scf-allow.service", (2000000000, 2000000000))
@@ -644,8 +647,8 @@ class OtherSettings(Audited, OwnUnits):
                     self.assertEqual((status, out), (1, ""), err)
                     continue
                 self.assertEqual(status, 0, err)
-                found = self.run_tool("verify-process", process, self.file("profile.json", out))
-                self.assertEqual((found[0], found[1].split("\n")[0]), (0, "same"), (unit, name, found))
+                actual = self.run_tool("verify-process", process, self.file("profile.json", out))
+                self.assertEqual((actual[0], actual[1].split("\n")[0]), (0, "same"), (unit, name, actual))
 
     def change(self, texts):
         """Changes what units state after their start."""
@@ -661,7 +664,7 @@ class OtherSettings(Audited, OwnUnits):
         self.start(*NAMES, *FREE)
         self.assertEqual(self.verdicts(status=1), {**dict.fromkeys(NAMES, "as configured"),
                                                    **dict.fromkeys(FREE, "unconfined though configured")})
-        self.assertEqual({self.verdicts("--native")[it] for it in NAMES}, {"as configured"})
+        self.assertEqual({self.verdicts("--native")[item] for item in NAMES}, {"as configured"})
         # what is stated is changed: a setting is missing, or less of it is there; one is more; one answers otherwise
         changes = {"ProtectClock": ("ProtectClock=yes\nPrivateDevices=yes", "weaker", "iopl"),
                    "namespaces": ("RestrictNamespaces=net", "weaker", "clone"),

@@ -76,7 +76,7 @@ NOTHING = a_filter("ret #0x50001")
 ALSO_WRITE = a_filter("ld [0]; jeq #0, yes, 0; jeq #1, yes, 0; ret #0x50001; yes: ret #0x7fff0000")
 ALSO_CLOSE = a_filter("ld [0]; jeq #0, yes, 0; jeq #3, yes, 0; ret #0x50001; yes: ret #0x7fff0000")
 LOGGED = a_profile('{"defaultAction":"SCMP_ACT_LOG"}')
-REFERRED = a_profile('{"defaultAction":"SCMP_ACT_NOTIFY"}')
+DELEGATES = a_profile('{"defaultAction":"SCMP_ACT_NOTIFY"}')
 TRACED = behind_gate("ret #0x7ff00000")
 # Answers without a name, which deny: one whose rank is just behind that of ERRNO, and one just before LOG.
 BEHIND_ERRNO = behind_gate("ret #0x60000")
@@ -102,16 +102,16 @@ RELATIONS = (
     ("", [NATIVE, LOGGED, NO_TABLE], "differs\n", "\nfilter ALLOW 0\nprofile LOG 0\n", 1),
     ("--no-more", [NATIVE, LOGGED, NO_TABLE], "no more\n", "", 0),
     ("--no-less", [NATIVE, LOGGED, NO_TABLE], "no less\n", "", 0),
-    ("--no-more", [TRACED, REFERRED, NO_TABLE], "no more\n", "", 0),
-    ("--no-less", [TRACED, REFERRED, NO_TABLE], "no less\n", "", 0),
-    ("--no-more", [BEHIND_ERRNO, REFERRED, NO_TABLE], "no more\n", "", 0),
-    ("--no-less", [BEHIND_ERRNO, REFERRED, NO_TABLE], "less\ncall nr ",
+    ("--no-more", [TRACED, DELEGATES, NO_TABLE], "no more\n", "", 0),
+    ("--no-less", [TRACED, DELEGATES, NO_TABLE], "no less\n", "", 0),
+    ("--no-more", [BEHIND_ERRNO, DELEGATES, NO_TABLE], "no more\n", "", 0),
+    ("--no-less", [BEHIND_ERRNO, DELEGATES, NO_TABLE], "less\ncall nr ",
      "\nfilter UNNAMED 0x00060000\nprofile USER_NOTIF 0\n", 1),
-    ("--no-less", [BEFORE_LOG, REFERRED, NO_TABLE], "less\ncall nr ",
+    ("--no-less", [BEFORE_LOG, DELEGATES, NO_TABLE], "less\ncall nr ",
      "\nfilter UNNAMED 0x7ffb0000\nprofile USER_NOTIF 0\n", 1),
-    ("--no-more", [BEFORE_LOG, REFERRED, NO_TABLE], "no more\n", "", 0),
-    ("--no-more", [NATIVE, REFERRED, NO_TABLE], "more\ncall nr ", "\nfilter ALLOW 0\nprofile USER_NOTIF 0\n", 1),
-    ("--no-less --native", [NOTHING, REFERRED, NO_TABLE], "less\ncall nr ",
+    ("--no-more", [BEFORE_LOG, DELEGATES, NO_TABLE], "no more\n", "", 0),
+    ("--no-more", [NATIVE, DELEGATES, NO_TABLE], "more\ncall nr ", "\nfilter ALLOW 0\nprofile USER_NOTIF 0\n", 1),
+    ("--no-less --native", [NOTHING, DELEGATES, NO_TABLE], "less\ncall nr ",
      "\nfilter ERRNO 1\nprofile USER_NOTIF 0\n", 1),
     ("--no-more --limit 0", [STUB, READ, TABLE], "unfinished\n", "skipped gone\n", 4),
     # Call by call.
@@ -175,13 +175,14 @@ class Relations(OnProgram):
     it allows."""
 
     def test_relations(self):
-        for options, parts, first, rest, status in RELATIONS:
+        for options, parts, first, lines_behind, status in RELATIONS:
             with self.subTest(options=options, parts=parts):
                 out, ended = ran(["compare", *options.split()], bundle(parts))
                 text = out.decode()
-                self.assertEqual((text[:len(first)], text[-len(rest):] if rest else "", ended), (first, rest, status))
-                if not (first.endswith((" ", "0x")) or rest.startswith("\n")):
-                    self.assertEqual(text, first + rest)
+                self.assertEqual((text[:len(first)], text[-len(lines_behind):] if lines_behind else "", ended),
+                                 (first, lines_behind, status))
+                if not (first.endswith((" ", "0x")) or lines_behind.startswith("\n")):
+                    self.assertEqual(text, first + lines_behind)
 
     def test_excluded_flags(self):
         for words, text in EXCLUDED:

@@ -248,7 +248,7 @@ class Ask(Case):
         for words, status, says in ((("/dev/zero",), 1, "fault profile TooMany"),
                                     (("--table=/dev/zero", self.profile), 2, "has more than 4194304 bytes"),
                                     (("--calls-from=/dev/zero", self.profile), 2, "has more than 65536 bytes")):
-            found, out, err = self.run_tool("ask", *words)
+            found, out, err = self.run_tool("ask", "--nr=0", *words)
             self.assertEqual(found, status, words)
             self.assertIn(says, out + err)
 

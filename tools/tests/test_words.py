@@ -56,6 +56,8 @@ WORDS = (
      "not with --calls\n"
      "      --nr-to <NUMBER>        Only calls of x86-64, or of each of --architectures, with at most this number; not "
      "with --calls\n"
+     "      --reading <READING>     How a profile is read: by its words, as `strict`, or as `runc` or `crun` does "
+     "[default: strict]\n"
      "      --native                Only calls of x86-64 with numbers below 0x40000000\n"
      "      --calls                 Each named call by itself, and a line for each that isn't the same; not with "
      "--native\n"

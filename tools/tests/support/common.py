@@ -20,8 +20,11 @@ sys.path[:0] = [os.path.join(TOP, "tools"), os.path.join(TOP, "conformance")]
 SCF = os.path.join(TOP, "scf")
 # The proved program alone, which is built if it never was.
 CORE = [SCF, "core"]
+PROGRAM = os.path.join(TOP, "crates", "scf", "out", "scf")
 TABLE = os.path.join(TOP, "tables", "x86_64.table")
 X86_64, I386 = 0xC000003E, 0x40000003
+# The bit of x32 syscall numbers.
+X32 = 0x40000000
 ALLOW, EPERM, KILL_PROCESS, KILL_THREAD = 0x7FFF0000, 0x00050001, 0x80000000, 0
 # How long anything is waited for, in seconds, before it counts as something that hangs. It measures nothing: on a slow
 # machine that does much else, what takes a minute elsewhere takes a quarter of an hour.
@@ -72,11 +75,19 @@ def ret(k):
 UNKNOWN_ZERO = load(16) + insn(0x07, 0) + insn(0x24, 3) + insn(0x1C, 0) * 3
 
 
+def gate(native, foreign=KILL_PROCESS):
+    """A filter with this answer to foreign architectures and to numbers of x32, before code for other syscalls."""
+    return load(4) + jeq(X86_64, 1, 0) + ret(foreign) + load(0) + jge(X32, 0, 1) + ret(foreign) + native
+
+
+# The same in the fewest instructions, as scf compiles it.
+GATE = load(4) + jeq(X86_64, 0, 2) + load(0) + jge(X32, 0, 1) + ret(KILL_PROCESS)
+
+
 def filter_of(allowed, default=EPERM, foreign=KILL_PROCESS):
-    """Allows some numbers, and answers foreign architectures and numbers from 0x40000000 on as it is told."""
+    """A filter that allows some numbers."""
     tests = b"".join(jeq(number, len(allowed) - at, 0) for at, number in enumerate(allowed))
-    return (load(4) + jeq(X86_64, 1, 0) + ret(foreign) + load(0) + jge(0x40000000, 0, 1) + ret(foreign) + tests
-            + ret(default) + ret(ALLOW))
+    return gate(tests + ret(default) + ret(ALLOW), foreign)
 
 
 def stub(number, answer=0x00050026):

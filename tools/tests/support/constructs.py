@@ -21,13 +21,11 @@ import sys
 import tempfile
 from dataclasses import dataclass, field, replace
 
-from .common import ALLOW, CORE, EPERM, KILL_PROCESS, TOP, X86_64, insn, part
+from .common import ALLOW, CORE, EPERM, KILL_PROCESS, PROGRAM, X32, X86_64, insn, part
 from .stand_in import StandIn
 
 # The program itself, which is asked many times; `build_program` has the launcher build it where there is none.
-PROGRAM = os.path.join(TOP, "crates", "scf", "out", "scf")
 LONG, WORD = (1 << 64) - 1, (1 << 32) - 1
-X32 = 0x40000000
 LD, LDX, TAX, TXA, NEG, ST, STX, RET, RET_A = 0x20, 0x01, 0x07, 0x87, 0x84, 0x02, 0x03, 0x06, 0x16
 # Loads of a constant, and of scratch words to A and to X.
 LD_K, LD_M, LDX_M = 0x00, 0x60, 0x61

@@ -9,10 +9,10 @@ import re
 TOP = os.path.abspath(os.path.join(os.path.dirname(__file__), "..", "..", ".."))
 with open(os.path.join(TOP, "docs", "scf.schema.json"), encoding="utf-8") as file:
     SCHEMA = json.load(file)
-COMMANDS = {it for it in os.listdir(os.path.join(TOP, "tools")) if it in SCHEMA["$defs"]}
+COMMANDS = {name for name in os.listdir(os.path.join(TOP, "tools")) if name in SCHEMA["$defs"]}
 TYPES = {"object": dict, "array": list, "string": str, "integer": int, "number": (int, float), "boolean": bool,
          "null": type(None)}
-KEYWORDS = {"allOf", "anyOf", "type", "const", "enum", "pattern", "required", "properties",
+KEYWORDS = {"description", "allOf", "anyOf", "type", "const", "enum", "pattern", "required", "properties",
             "additionalProperties", "items", "minItems", "maxItems"}
 
 
@@ -40,7 +40,7 @@ def faults(value, schema, where="", is_part=False):
     schema = definition(schema)
     assert schema.keys() <= KEYWORDS, schema
     names = [schema["type"]] if isinstance(schema.get("type"), str) else schema.get("type", ())
-    if names and not any(has_type(value, it) for it in names):
+    if names and not any(has_type(value, name) for name in names):
         yield f"{where}: {value!r} isn't of type {names}"
         return
     if value != schema.get("const", value) or value not in schema.get("enum", [value]):
@@ -49,7 +49,7 @@ def faults(value, schema, where="", is_part=False):
         yield f"{where}: {value!r} doesn't match {schema['pattern']}"
     for part in schema.get("allOf", ()):
         yield from faults(value, part, where, True)
-    if "anyOf" in schema and all(any(faults(value, it, where)) for it in schema["anyOf"]):
+    if "anyOf" in schema and all(any(faults(value, item, where)) for item in schema["anyOf"]):
         yield f"{where}: {value!r} is none of {schema['anyOf']}"
     if isinstance(value, list) and not schema.get("minItems", 0) <= len(value) <= schema.get("maxItems", len(value)):
         yield f"{where}: {len(value)} items"
@@ -61,9 +61,9 @@ def faults(value, schema, where="", is_part=False):
 
 def _faults_of_members(value, schema, where, is_part):
     yield from (f"{where}: {name} is missing" for name in schema.get("required", ()) if name not in value)
-    known, others = members(schema), schema.get("additionalProperties")
-    if not is_part and known is not None and others is None:
-        yield from (f"{where}: {name} isn't in the schema" for name in value if name not in known)
+    known_members, others = members(schema), schema.get("additionalProperties")
+    if not is_part and known_members is not None and others is None:
+        yield from (f"{where}: {name} isn't in the schema" for name in value if name not in known_members)
     for name, item in value.items():
         if name in schema.get("properties", ()):
             yield from faults(item, schema["properties"][name], f"{where}.{name}")
@@ -73,7 +73,7 @@ def _faults_of_members(value, schema, where, is_part):
 
 def faults_of_output(words, out, status):
     """The faults in what a command line with --json, or --json-lines, printed when it ended with this status."""
-    command = next((it for it in map(os.path.basename, words[:2]) if it in COMMANDS), None)
+    command = next((item for item in map(os.path.basename, words[:2]) if item in COMMANDS), None)
     if command is None or not {"--json", "--json-lines"}.intersection(words) or not out.startswith("{"):
         return
     name = command if "--json" in words else "audit-lines"

@@ -8,11 +8,9 @@ import re
 import subprocess
 import unittest
 
-from .common import CORE, PATIENCE, TOP, part
+from .common import CORE, PATIENCE, PROGRAM, part
 
 # The program itself, which is run many times; the launcher builds it where it isn't current.
-PROGRAM = os.path.join(TOP, "crates", "scf", "out", "scf")
-X32 = 0x40000000
 
 
 def a_filter(text):

@@ -2,8 +2,8 @@
 again."""
 import re
 
-from .common import X86_64, part
-from .on_parts import X32, OnProgram, a_profile, a_table, bundle, ran
+from .common import X32, X86_64, part
+from .on_parts import OnProgram, a_profile, a_table, bundle, ran
 
 # What is wanted of a call or a scope: that both sides answer alike, or differently, by any answers; else both answers,
 # or the index of the answer where runs are undecided.

@@ -165,7 +165,7 @@ class OwnMachine(Machine):
         self.first.stdin.write(json.dumps([words, env, base64.b64encode(given).decode()]) + "\n")
         self.first.stdin.flush()
         status, out, err = json.loads(self.first.stdout.readline())
-        out, err = (base64.b64decode(it).decode("utf-8", "replace") for it in (out, err))
+        out, err = (base64.b64decode(item).decode("utf-8", "replace") for item in (out, err))
         self.assertEqual(list(json_schema.faults_of_output(words, out, status)), [], words)
         return status, out, err
 
@@ -257,7 +257,7 @@ class Systemd(Machine):
         with tempfile.TemporaryFile() as out, tempfile.TemporaryFile() as err:
             done = subprocess.run(words, input=given, stdout=out, stderr=err, env={**os.environ, **env}, check=False,
                                   timeout=PATIENCE)
-            return (done.returncode, *(self.text_of(it) for it in (out, err)))
+            return (done.returncode, *(self.text_of(item) for item in (out, err)))
 
     @staticmethod
     def text_of(file):

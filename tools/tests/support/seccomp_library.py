@@ -63,7 +63,8 @@ class Library:
         if number == UNKNOWN:
             return
         conditions = (Condition * max(1, len(args)))(*(
-            Condition(it["index"], COMPARISONS[it["op"]], it["value"], it.get("valueTwo", 0)) for it in args))
+            Condition(argument["index"], COMPARISONS[argument["op"]], argument["value"], argument.get("valueTwo", 0))
+            for argument in args))
         done = self.library.seccomp_rule_add_array(state, answer, number, len(args), conditions)
         if done == EEXIST:
             raise Conflict(name)

@@ -21,14 +21,14 @@ ARCHITECTURES = {
         "read": 3, "both": 3, "write": 4, "mine": 0xF0002, "personality": 136, "clone": 120}),
 }
 # "nowhere" is a name that no table has.
-NAMES = sorted({"nowhere", *(name for it in ARCHITECTURES.values() for name in it[5])})
+NAMES = sorted({"nowhere", *(name for row in ARCHITECTURES.values() for name in row[5])})
 ACTIONS = {"KILL": 0, "KILL_THREAD": 0, "KILL_PROCESS": 0x80000000, "TRAP": 0x30000, "ERRNO": 0x50000,
            "NOTIFY": 0x7FC00000, "TRACE": 0x7FF00000, "LOG": 0x7FFC0000, "ALLOW": 0x7FFF0000}
 KILLS, ALLOW = ACTIONS["KILL_PROCESS"], ACTIONS["ALLOW"]
 OPERATORS = {
-    "NE": lambda it, value, two: it != value, "LT": lambda it, value, two: it < value,
-    "LE": lambda it, value, two: it <= value, "EQ": lambda it, value, two: it == value,
-    "GE": lambda it, value, two: it >= value, "GT": lambda it, value, two: it > value,
+    "NE": lambda argument, value, two: argument != value, "LT": lambda argument, value, two: argument < value,
+    "LE": lambda argument, value, two: argument <= value, "EQ": lambda argument, value, two: argument == value,
+    "GE": lambda argument, value, two: argument >= value, "GT": lambda argument, value, two: argument > value,
     "MASKED_EQ": lambda it, value, two: it & value == two & value,
 }
 VALUES = (0, 1, 2, 8, 40, 0x7FFFFFFF, 0x80000000, 0xFFFFFFFF, 1 << 32, (1 << 32) + 8, 1 << 63, (1 << 64) - 1)
@@ -58,8 +58,9 @@ def text(profile):
 
 
 def is_met(conditions, arguments, bits):
-    return all(OPERATORS[it["op"][9:]](arguments[it["index"]] % (1 << bits), it["value"], it.get("valueTwo", 0))
-               for it in conditions)
+    return all(OPERATORS[condition["op"][9:]](arguments[condition["index"]] % (1 << bits), condition["value"],
+                                              condition.get("valueTwo", 0))
+               for condition in conditions)
 
 
 @functools.cache
@@ -71,17 +72,18 @@ def is_possible(conditions, bits):
     states = {(0,) * len(conditions)}
     for at in reversed(range(64)):
         states = {tuple(state or ((bit ^ two >> at) & value >> at & 1 if op == "MASKED_EQ" else bit - (value >> at & 1))
-                        for state, (op, value, two) in zip(known, conditions))
-                  for known in states for bit in ((0, 1) if at < bits else (0,))}
+                        for state, (op, value, two) in zip(state_so_far, conditions))
+                  for state_so_far in states for bit in ((0, 1) if at < bits else (0,))}
     return any(all(OPERATORS["EQ" if op == "MASKED_EQ" else op](state, 0, 0)
-                   for state, (op, _, _) in zip(known, conditions)) for known in states)
+                   for state, (op, _, _) in zip(state_so_far, conditions)) for state_so_far in states)
 
 
-def overlap(one, other, bits):
+def overlap(first, second, bits):
     """Whether some record meets the conditions of two rules."""
-    return all(is_possible(tuple((it["op"][9:], it["value"], it.get("valueTwo", 0)) for it in (*one, *other)
-                                 if it["index"] == index), bits)
-               for index in {it["index"] for it in (*one, *other)})
+    return all(is_possible(tuple((condition["op"][9:], condition["value"], condition.get("valueTwo", 0))
+                                 for condition in (*first, *second)
+                                 if condition["index"] == index), bits)
+               for index in {condition["index"] for condition in (*first, *second)})
 
 
 class Reading:
@@ -97,7 +99,7 @@ class Reading:
         for name, rules in self.rules.items():
             _, first, _, _, _, table = ARCHITECTURES[name]
             for index, entry in enumerate(profile["syscalls"]):
-                for number in sorted({first + table[it] for it in entry["names"] if it in table}):
+                for number in sorted({first + table[name] for name in entry["names"] if name in table}):
                     rule = index, entry.get("args", ()), word_of(entry["action"], entry.get("errnoRet"))
                     rules.setdefault(number, []).append(rule)
 
@@ -113,14 +115,15 @@ class Reading:
         for at, name in enumerate(self.given):
             if name not in self.listed:
                 return f"NotListed table {at}"
-        for second, first, number in (min(found) for found in map(self.conflicts, self.rules) if found):
+        for second, first, number in (min(conflicts) for conflicts in map(self.conflicts, self.rules) if conflicts):
             return f"Conflict number {number} first {first} second {second}"
         return None
 
     def notes(self):
         """The lines that `scf compare` prints after its verdict."""
-        known = {name for it in self.rules for name in ARCHITECTURES[it][5]}
-        return [*(f"skipped {name}" for it in self.profile["syscalls"] for name in it["names"] if name not in known),
+        known_names = {name for architecture in self.rules for name in ARCHITECTURES[architecture][5]}
+        return [*(f"skipped {name}" for entry in self.profile["syscalls"]
+                  for name in entry["names"] if name not in known_names),
                 *(f"other {name}" for name in self.listed if name not in self.given)]
 
     def architecture(self, arch, number):
@@ -142,19 +145,20 @@ class Reading:
         those beside them, and numbers that no syscall has; so many of each number whose rules have conditions. An
         argument that no condition is on has one of these words in both halves, or any bits."""
         arch, first, last, bits, _, table = ARCHITECTURES[name]
-        numbers = {first + it + step for it in table.values() for step in (-1, 0, 1)} | {first, last, first + 1000}
-        for number in sorted(it for it in numbers.union(words) if first <= it <= last):
+        numbers = {first + number + step for number in table.values()
+                   for step in (-1, 0, 1)} | {first, last, first + 1000}
+        for number in sorted(number for number in numbers.union(words) if first <= number <= last):
             rules = [conditions for _, conditions, _ in self.rules[name].get(number, ()) if conditions]
             for _ in range(count if rules else 1):
                 arguments = [random_of.choice(words) * 0x100000001, random_of.getrandbits(64)] * 3
                 random_of.shuffle(arguments)
                 random_of.shuffle(rules)
                 # most meet the last rule, or all its conditions but one
-                for one in (it for conditions in rules for it in conditions):
-                    met, unmet = edges(one["op"][9:], one["value"], one.get("valueTwo", 0), bits)
-                    own = met if met and (not unmet or random_of.random() < 0.7) else unmet
+                for condition in (conditions_met for conditions in rules for conditions_met in conditions):
+                    met, unmet = edges(condition["op"][9:], condition["value"], condition.get("valueTwo", 0), bits)
+                    chosen = met if met and (not unmet or random_of.random() < 0.7) else unmet
                     flipped = 1 << random_of.randrange(64) if random_of.random() < 0.1 else 0
-                    arguments[one["index"]] = random_of.choice(own) ^ flipped
+                    arguments[condition["index"]] = random_of.choice(chosen) ^ flipped
                 yield arch, number, arguments
 
 
@@ -162,9 +166,10 @@ class Reading:
 def edges(op, value, two, bits):
     """Values of an argument at which a condition changes, with and without bits of the upper half: those that meet it,
     and those that don't."""
-    near = {(it + step) % (1 << 64) for it in (value, two, value & two) for step in (-1, 0, 1)}
-    near |= {it for one in near for it in (one & 0xFFFFFFFF, one & 0xFFFFFFFF | 1 << 32, one | 0xFFFFFFFF << 32)}
-    met = [it for it in sorted(near) if OPERATORS[op](it % (1 << bits), value, two)]
+    near = {(number + step) % (1 << 64) for number in (value, two, value & two) for step in (-1, 0, 1)}
+    near |= {bits_near for number in near
+             for bits_near in (number & 0xFFFFFFFF, number & 0xFFFFFFFF | 1 << 32, number | 0xFFFFFFFF << 32)}
+    met = [number for number in sorted(near) if OPERATORS[op](number % (1 << bits), value, two)]
     return met, sorted(near.difference(met))
 
 
@@ -187,7 +192,8 @@ def draw_entries(random_of, name, actions):
     """Entries of a name, of which a later one may have another answer than the first."""
     answer = draw_answer(random_of, actions)
     for _ in range(random_of.choice((1, 1, 2, 3))):
-        args = [draw_condition(random_of, it) for it in random_of.sample(range(6), random_of.choice((0, 1, 1, 2)))]
+        args = [draw_condition(random_of, index)
+                for index in random_of.sample(range(6), random_of.choice((0, 1, 1, 2)))]
         answer = answer if random_of.random() < 0.9 else draw_answer(random_of, actions)
         names = [name, *random_of.sample(NAMES, random_of.choice((0, 0, 0, 1)))]
         yield {"names": names, **answer, **({"args": args} if args else {})}
@@ -197,18 +203,18 @@ def draw(random_of):
     """A profile with the tables of some architectures, not each of which it must list."""
     given = random_of.sample(tuple(ARCHITECTURES), random_of.choice((1, 2, 2, 3, 3, 4, 5)))
     actions = random_of.sample(tuple(ACTIONS), 2)
-    others = [it for it in (*ARCHITECTURES, "SCMP_ARCH_MIPS") if it not in given and random_of.random() < 0.2]
+    others = [name for name in (*ARCHITECTURES, "SCMP_ARCH_MIPS") if name not in given and random_of.random() < 0.2]
     listed = [*given, *others]
     random_of.shuffle(listed)
     how = random_of.random()
     if how < 0.08:
         missing = random_of.sample(given, random_of.choice((1, 1, len(given))))
-        listed = [it for it in listed if it not in missing]
+        listed = [name for name in listed if name not in missing]
     elif how < 0.14:
         # (an empty list, or none, stands for x86-64 or aarch64)
         given, listed = random_of.choice((["SCMP_ARCH_X86_64"], ["SCMP_ARCH_AARCH64"], given)), []
-    entries = [it for name in random_of.sample(NAMES, random_of.randrange(1, 6))
-               for it in draw_entries(random_of, name, actions)]
+    entries = [entry for name in random_of.sample(NAMES, random_of.randrange(1, 6))
+               for entry in draw_entries(random_of, name, actions)]
     return Reading({**draw_answer(random_of, tuple(ACTIONS), ("defaultAction", "defaultErrnoRet")),
                     **({"architectures": listed} if listed or random_of.random() < 0.5 else {}),
                     "syscalls": entries}, given)
@@ -227,7 +233,7 @@ class Code:
     def put(self, code, k, *targets):
         """Puts an instruction before all others; its place, counted from the end."""
         at = len(self.insns) + 1
-        self.insns.append((code, *([at - it - 1 for it in targets] or [0, 0]), k))
+        self.insns.append((code, *([at - target - 1 for target in targets] or [0, 0]), k))
         self.owners.append(self.owner)
         return at
 
@@ -238,12 +244,12 @@ class Code:
         return at
 
     def data(self):
-        return b"".join(struct.pack("<HBBI", *it) for it in reversed(self.insns))
+        return b"".join(struct.pack("<HBBI", *insn) for insn in reversed(self.insns))
 
 
 def _near(code, *targets):
     """Places that a test can go to, with jumps to those that are too far."""
-    return [code.put_jump(it) if len(code.insns) + 4 - it > 255 else it for it in targets]
+    return [code.put_jump(target) if len(code.insns) + 4 - target > 255 else target for target in targets]
 
 
 def put_test(code, test, k, holds, fails):
@@ -251,9 +257,9 @@ def put_test(code, test, k, holds, fails):
     return code.put(test, k, holds, fails)
 
 
-def put_condition(code, one, bits, holds, fails):
+def put_condition(code, condition, bits, holds, fails):
     """Tests a condition on an argument."""
-    op, value, two, index = one["op"][9:], one["value"], one.get("valueTwo", 0), one["index"]
+    op, value, two, index = condition["op"][9:], condition["value"], condition.get("valueTwo", 0), condition["index"]
     low, high = 16 + 8 * index, 20 + 8 * index
     if op == "MASKED_EQ":
         wanted = value & two
@@ -269,7 +275,7 @@ def put_condition(code, one, bits, holds, fails):
         return code.put(0x20, high)
     if op in ("NE", "LT", "LE"):
         opposite = {"NE": "EQ", "LT": "GE", "LE": "GT"}[op]
-        return put_condition(code, {**one, "op": f"SCMP_CMP_{opposite}"}, bits, fails, holds)
+        return put_condition(code, {**condition, "op": f"SCMP_CMP_{opposite}"}, bits, fails, holds)
     test = {"EQ": 0x15, "GE": 0x35, "GT": 0x25}[op]
     if bits == 32 and value >> 32:
         return code.put_jump(fails)
@@ -295,38 +301,39 @@ def compile_filter(reading):
         for number in sorted(rules):
             for _, conditions, answer in reversed(rules[number]):
                 holds = code.put(6, answer)
-                for one in conditions:
-                    holds = put_condition(code, one, ARCHITECTURES[name][3], holds, then)
+                for condition in conditions:
+                    holds = put_condition(code, condition, ARCHITECTURES[name][3], holds, then)
                 put_test(code, 0x15, number, holds, then)
                 then = code.put(0x20, 0)
         starts[name] = then
     code.owner = None
     kills = code.put(6, KILLS)
-    native, x32 = (starts.get(f"SCMP_ARCH_{it}", kills) for it in ("X86_64", "X32"))
-    put_test(code, 0x35, X32_BIT, *[code.put_jump(it) for it in (x32, native)])
-    then, found = code.put(0x20, 0), kills
-    for arch, start in [(0xC000003E, then), *((ARCHITECTURES[it][0], starts[it]) for it in reading.rules
-                                              if ARCHITECTURES[it][0] != 0xC000003E)]:
-        found = put_test(code, 0x15, arch, code.put_jump(start), found)
+    native, x32 = (starts.get(f"SCMP_ARCH_{name}", kills) for name in ("X86_64", "X32"))
+    put_test(code, 0x35, X32_BIT, *[code.put_jump(label) for label in (x32, native)])
+    then, fallback = code.put(0x20, 0), kills
+    for arch, start in [(0xC000003E, then), *((ARCHITECTURES[name][0], starts[name]) for name in reading.rules
+                                              if ARCHITECTURES[name][0] != 0xC000003E)]:
+        fallback = put_test(code, 0x15, arch, code.put_jump(start), fallback)
     code.put(0x20, 4)
     return code.data(), code.owners[::-1]
 
 
 def change_filter(random_of, data, places):
     """A filter with one of these instructions changed, which scf still accepts."""
-    insns = [list(it) for it in struct.iter_unpack("<HBBI", data)]
-    one = insns[random_of.choice([it for it in places if insns[it][0] != 5])]
+    insns = [list(insn) for insn in struct.iter_unpack("<HBBI", data)]
+    changed = insns[random_of.choice([place for place in places if insns[place][0] != 5])]
     how = random_of.randrange(3)
-    if one[0] == 0x20:
-        one[3] = random_of.choice([it for it in (one[3] ^ 4, 0, 4, 16) if it != one[3]])
-    elif one[0] == 6:
-        one[3] = random_of.choice([it for it in (ALLOW, 0x50001, 0x50026, 0x7FF00001, KILLS) if it != one[3]])
-    elif one[0] == 0x54:
-        one[3] ^= 1 << random_of.randrange(32)
+    if changed[0] == 0x20:
+        changed[3] = random_of.choice([value for value in (changed[3] ^ 4, 0, 4, 16) if value != changed[3]])
+    elif changed[0] == 6:
+        changed[3] = random_of.choice([value for value in (ALLOW, 0x50001, 0x50026, 0x7FF00001, KILLS)
+                                       if value != changed[3]])
+    elif changed[0] == 0x54:
+        changed[3] ^= 1 << random_of.randrange(32)
     elif how == 0:
-        one[1], one[2] = one[2], one[1]
+        changed[1], changed[2] = changed[2], changed[1]
     elif how == 1:
-        one[3] = (one[3] + random_of.choice((1, -1, 1 << 30))) % (1 << 32)
+        changed[3] = (changed[3] + random_of.choice((1, -1, 1 << 30))) % (1 << 32)
     else:
-        one[0] = random_of.choice([it for it in (0x15, 0x25, 0x35) if it != one[0]])
-    return b"".join(struct.pack("<HBBI", *it) for it in insns)
+        changed[0] = random_of.choice([value for value in (0x15, 0x25, 0x35) if value != changed[0]])
+    return b"".join(struct.pack("<HBBI", *insn) for insn in insns)

@@ -8,7 +8,6 @@ along each path, with what is known of each word of the record. A value is follo
 and a sum; what isn't (a product, a sum of two words) leaves a test undecided.
 """
 import json
-import struct
 import sys
 
 from .several import ARCHITECTURES, KILLS, word_of
@@ -37,23 +36,24 @@ class Possible:
 
     def within(self, low, high):
         """Those from `low` to `high`."""
-        kept = tuple((max(low, one), min(high, other)) for one, other in self.intervals if one <= high and other >= low)
-        return Possible(kept, self.mask, self.bits, self.refuted)
+        intervals = tuple((max(low, least), min(high, greatest))
+                          for least, greatest in self.intervals if least <= high and greatest >= low)
+        return Possible(intervals, self.mask, self.bits, self.refuted)
 
     def beyond(self, low, high):
         """Those below `low` or above `high`."""
-        sides = [part for one, other in self.intervals
-                 for part in ((one, min(other, low - 1)), (max(one, high + 1), other)) if part[0] <= part[1]]
+        sides = [part for least, greatest in self.intervals
+                 for part in ((least, min(greatest, low - 1)), (max(least, high + 1), greatest)) if part[0] <= part[1]]
         return Possible(tuple(sides), self.mask, self.bits, self.refuted)
 
     def agreeing(self, mask, bits):
         """Those that have these bits under a mask; None if known bits are others."""
         if (bits ^ self.bits) & mask & self.mask:
             return None
-        found = Possible(self.intervals, self.mask | mask, self.bits | bits)
+        narrowed = Possible(self.intervals, self.mask | mask, self.bits | bits)
         for pair in self.refuted:
-            found = found and found.differing(*pair)
-        return found
+            narrowed = narrowed and narrowed.differing(*pair)
+        return narrowed
 
     def differing(self, mask, bits):
         """Those that don't; None if the known bits are these."""
@@ -70,9 +70,9 @@ class Possible:
 
     def least(self):
         """The least value, or None if there is none."""
-        found = (self._least(low, high, 31, 0, self.refuted, set()) if self.mask or self.refuted else low
+        values = (self._least(low, high, 31, 0, self.refuted, set()) if self.mask or self.refuted else low
                  for low, high in self.intervals)
-        return next((it for it in found if it is not None), None)
+        return next((value for value in values if value is not None), None)
 
     def _least(self, low, high, at, found, refuted, failed):
         """The least value from `low` to `high` whose bits above one are those of `found`."""
@@ -85,9 +85,9 @@ class Possible:
         for bit in (0, 1) if key not in failed else ():
             if self.mask >> at & 1 and self.bits >> at & 1 != bit:
                 continue
-            left = tuple((mask & ~(1 << at), bits) for mask, bits in refuted
+            remaining = tuple((mask & ~(1 << at), bits) for mask, bits in refuted
                          if not mask >> at & 1 or bits >> at & 1 == bit)
-            value = self._least(low, high, at - 1, found | bit << at, left, failed)
+            value = self._least(low, high, at - 1, found | bit << at, remaining, failed)
             if value is not None:
                 return value
         failed.add(key)
@@ -127,9 +127,9 @@ class Facts:
             yield test, self
         else:
             word, *about, if_true, if_false = test
-            one = self.words[word]
-            both = (one.within(*about), one.beyond(*about)) if len(about) == 2 else \
-                (one.agreeing(*about[0]), one.differing(*about[0]))
+            possible_values = self.words[word]
+            both = (possible_values.within(*about), possible_values.beyond(*about)) if len(about) == 2 else \
+                (possible_values.agreeing(*about[0]), possible_values.differing(*about[0]))
             for possible, then in zip(both, (if_true, if_false)):
                 facts = self._with(word, possible)
                 if facts is not None:
@@ -154,16 +154,16 @@ class Bits:
     @property
     def number(self):
         """Its value, if it is a constant."""
-        if any(isinstance(it, tuple) for it in self.bits):
+        if any(isinstance(bit, tuple) for bit in self.bits):
             return None
-        return sum(it << at for at, it in enumerate(self.bits)) + self.added & WORD
+        return sum(bit << at for at, bit in enumerate(self.bits)) + self.added & WORD
 
     def folded(self):
         """The same, without the sum if it is a constant."""
         return self if self.number is None else Bits.of_number(self.number)
 
     def flipped(self):
-        return [1 - it if isinstance(it, int) else (it[0], it[1], 1 - it[2]) for it in self.bits]
+        return [1 - bit if isinstance(bit, int) else (bit[0], bit[1], 1 - bit[2]) for bit in self.bits]
 
 
 def agree(bits, value, mask=WORD):
@@ -177,12 +177,12 @@ def agree(bits, value, mask=WORD):
                     return False
                 continue
             word, place, flip = bit
-            known = words.setdefault(word, {})
-            if known.setdefault(place, wanted ^ flip) != wanted ^ flip:
+            bits_of_word = words.setdefault(word, {})
+            if bits_of_word.setdefault(place, wanted ^ flip) != wanted ^ flip:
                 return False
     test = True
-    for word, known in words.items():
-        of_word = sum(1 << at for at in known), sum(it << at for at, it in known.items())
+    for word, bits_of_word in words.items():
+        of_word = sum(1 << at for at in bits_of_word), sum(bit << at for at, bit in bits_of_word.items())
         test = (word, of_word[1], of_word[1], test, False) if of_word[0] == WORD else (word, of_word, test, False)
     return test
 
@@ -274,26 +274,26 @@ def computed(operation, a, value):
     if a.added or value.added:
         return None
     table = {0x40: joined, 0x50: met, 0xA0: differing}[operation]
-    bits = [table(one, other) for one, other in zip(a.bits, value.bits)]
+    bits = [table(bit, other_bit) for bit, other_bit in zip(a.bits, value.bits)]
     return None if None in bits else Bits(bits)
 
 
-def joined(one, other):
-    return other if one == 0 else one if other in (0, one) else 1 if 1 in (one, other) else None
+def joined(first, second):
+    return second if first == 0 else first if second in (0, first) else 1 if 1 in (first, second) else None
 
 
-def met(one, other):
-    return other if one == 1 else one if other in (1, one) else 0 if 0 in (one, other) else None
+def met(first, second):
+    return second if first == 1 else first if second in (1, first) else 0 if 0 in (first, second) else None
 
 
-def differing(one, other):
-    if isinstance(other, tuple):
-        one, other = other, one
-    if one == other:
+def differing(first, second):
+    if isinstance(second, tuple):
+        first, second = second, first
+    if first == second:
         return 0
-    if isinstance(other, tuple):
+    if isinstance(second, tuple):
         return None
-    return one ^ other if isinstance(one, int) else (one[0], one[1], one[2] ^ other)
+    return first ^ second if isinstance(first, int) else (first[0], first[1], first[2] ^ second)
 
 
 class Walk:
@@ -309,24 +309,25 @@ class Walk:
 
     def answers(self, value, facts):
         """The values of an answer, each with what is known."""
-        free = [it for it in value.bits if isinstance(it, tuple)] if value is not None else []
+        free = [bit for bit in value.bits if isinstance(bit, tuple)] if value is not None else []
         free = [(word, at) for word, at, _ in free if not facts.words[word].mask >> at & 1]
         if value is None or len(set(free)) > FREE_BITS:
             yield None, facts
             return
         cases = [facts]
         for word, at in dict.fromkeys(free):
-            cases = [its for one in cases for _, its in one.sides((word, (1 << at, 1 << at), True, False))]
+            cases = [its for case in cases for _, its in case.sides((word, (1 << at, 1 << at), True, False))]
         for its in cases:
-            bits = [it if isinstance(it, int) else (its.words[it[0]].bits >> it[1] & 1) ^ it[2] for it in value.bits]
+            bits = [bit if isinstance(bit, int) else (its.words[bit[0]].bits >> bit[1] & 1) ^ bit[2]
+                    for bit in value.bits]
             yield Bits(bits, value.added).number, its
 
     def of_filter(self, program, facts):
         """What a filter answers: each answer, the index of the instruction that gives it, and what is known there."""
         zero = Bits.of_number(0)
-        left = [(0, zero, zero, {}, facts)]
-        while left:
-            place, a, x, scratch, facts = left.pop()
+        pending = [(0, zero, zero, {}, facts)]
+        while pending:
+            place, a, x, scratch, facts = pending.pop()
             self.step()
             code, jt, jf, k = program[place]
             value = x if code & 8 else Bits.of_number(k)
@@ -335,10 +336,11 @@ class Walk:
                 for answer, its in self.answers(a if code == 0x16 else Bits.of_number(k), facts):
                     yield answer, place, its
             elif code == 5:
-                left.append((place + 1 + k, a, x, scratch, facts))
+                pending.append((place + 1 + k, a, x, scratch, facts))
             elif kind == 5:
                 sides = list(facts.sides(holds(code & 0xF0, a, value)))
-                left += [(place + 1 + (jt if is_true else jf), a, x, scratch, its) for is_true, its in reversed(sides)]
+                pending += [(place + 1 + (jt if is_true else jf), a, x, scratch, its)
+                            for is_true, its in reversed(sides)]
             elif kind == 4:
                 cases = [(False, facts)]
                 if code & 0xF0 == 0x30:
@@ -348,9 +350,9 @@ class Walk:
                         yield 0, place, its
                     else:
                         result = computed(code & 0xF0, a, value)
-                        left.append((place + 1, result and result.folded(), x, scratch, its))
+                        pending.append((place + 1, result and result.folded(), x, scratch, its))
             else:
-                left.append((place + 1, *moved(code, k, a, x, scratch), facts))
+                pending.append((place + 1, *moved(code, k, a, x, scratch), facts))
 
     def of_stack(self, programs, facts):
         """What a stack answers: the newest of the strictest answers; each with the filter that gives it."""
@@ -363,18 +365,18 @@ class Walk:
                 # (nothing is stricter)
                 yield answer, (newest, at), its
                 continue
-            for other, place, those in self.of_stack(programs[:-1], its):
-                if answer is None or other is None:
-                    yield None, (newest, at) if answer is None else place, those
-                elif rank(other) < rank(answer):
-                    yield other, place, those
+            for answer_below, place, facts_there in self.of_stack(programs[:-1], its):
+                if answer is None or answer_below is None:
+                    yield None, (newest, at) if answer is None else place, facts_there
+                elif rank(answer_below) < rank(answer):
+                    yield answer_below, place, facts_there
                 else:
-                    yield answer, (newest, at), those
+                    yield answer, (newest, at), facts_there
 
     def of_profile(self, profile, tables, facts):
         """What a profile answers, each with the reason."""
         test = ("foreign", KILLS)
-        for kind in reversed([it for it in TABLES if it in tables]):
+        for kind in reversed([table for table in TABLES if table in tables]):
             number, first, last, _ = TABLES[kind]
             test = of_architecture(kind, number, first, last, rules_of(profile, kind, tables[kind]), profile, test)
         for (reason, answer), its in self.ends(facts, test):
@@ -433,16 +435,16 @@ def of_rules(rules, bits, default):
     test = default
     for place, conditions, answer in reversed(rules):
         question = True
-        for one in reversed(conditions):
-            question = followed(of_condition(one, bits), question, False)
+        for condition in reversed(conditions):
+            question = followed(of_condition(condition, bits), question, False)
         test = (question, (f"entry {place}", answer), test)
     return test
 
 
-def of_condition(one, bits):
+def of_condition(condition, bits):
     """A condition of the OCI specification on an argument, which has 32 bits or 64."""
-    op, value, two = one["op"][len("SCMP_CMP_"):], one["value"], one.get("valueTwo") or 0
-    low = ARGUMENTS + 2 * one["index"]
+    op, value, two = condition["op"][len("SCMP_CMP_"):], condition["value"], condition.get("valueTwo") or 0
+    low = ARGUMENTS + 2 * condition["index"]
     argument = [(word, at, 0) for word in (low, low + 1) for at in range(32)][:bits]
     if op == "MASKED_EQ":
         if (value & two) >> bits:
@@ -482,13 +484,13 @@ def scope(words):
 
 def parts_of(data):
     """The parts of a bundle, by their kinds."""
-    found = {}
+    parts = {}
     while data:
         header, _, data = data.partition(b"\n")
         kind, length = header.decode().split()
-        found.setdefault(kind, []).append(data[:int(length)])
+        parts.setdefault(kind, []).append(data[:int(length)])
         data = data[int(length):]
-    return found
+    return parts
 
 
 def printed(data, words, limit=1 << 62):
@@ -502,16 +504,16 @@ def printed(data, words, limit=1 << 62):
         regions = ((answer, reason, its) for answer, reason, its in walk.of_profile(top, tables, facts)
                    if reason != "foreign" or not words.get("architectures"))
     else:
-        programs = [unpacked(it) for it in parts.get("filter", ())]
+        programs = [unpacked(data) for data in parts.get("filter", ())]
         regions = ((answer, "at {}:{}".format(*at), its) for answer, at, its in walk.of_stack(programs, facts))
     lines, count = [], 0
     for answer, reason, its in regions:
         text = "unknown" if answer is None else StandIn().printed(answer)
-        known = "".join(f" w{at} {one}" for at, one in enumerate(its.words) if str(one))
-        lines.append(f"{text} {reason}{'' if its.is_exact else ' open'}{known}")
+        words_known = "".join(f" w{at} {possible}" for at, possible in enumerate(its.words) if str(possible))
+        lines.append(f"{text} {reason}{'' if its.is_exact else ' open'}{words_known}")
         count += 1
         if words.get("examples"):
-            record = [one.least() for one in its.words]
+            record = [possible.least() for possible in its.words]
             pointer, *arguments = (record[at] | record[at + 1] << 32 for at in range(2, WORDS, 2))
             lines.append(f"call nr {record[0]} arch {record[1]:#x} ip {pointer:#x} args "
                          f"{' '.join(map(hex, arguments))}")

@@ -3,7 +3,7 @@ which is worked out by its formula and not by scf."""
 import json
 import math
 
-from .on_parts import a_filter, behind_gate
+from .on_parts import a_filter
 from .stand_in import StandIn, unpacked
 
 MOST = (1 << 64) - 1

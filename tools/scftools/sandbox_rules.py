@@ -1,0 +1,151 @@
+"""The rules of a sandbox's own list of syscalls, and their OCI profile, in which the comment of an entry has the lines
+of the list that it stands on."""
+from __future__ import annotations
+
+import json
+from collections.abc import Callable, Iterable, Iterator, Sequence
+
+from . import libseccomp, multiplexed, output, program, tables
+from .answers import Answer
+from .architectures import I386, JUDGED, NATIVE
+from .entries import Condition
+from .values import dataclass, field
+
+# The most bytes of a list, lines, letters of a line and rules; and the most names that a remark lists.
+MOST_BYTES, MOST_LINES, LONGEST_LINE, MOST_RULES, MOST_LISTED = 1 << 20, 1 << 14, 1 << 15, 1 << 14, 8
+# Letters that end a line for other programs, and for the sandbox don't.
+CONTROL_LETTERS = frozenset(map(chr, (*range(9), *range(11, 32), 127, 0x85, 0x2028, 0x2029)))
+Knows = Callable[[str, str], "int | None"]
+
+
+class ListError(Exception):
+    """The sandbox refuses the list, or it has a rule that no profile can state."""
+
+    status = program.NEGATIVE
+
+
+class UnknownRules(ListError):
+    """What the list states can't be known here."""
+
+    status = program.UNKNOWN
+
+
+def error_at(line: int, why: str, kind: type[ListError] = ListError) -> ListError:
+    return kind(f"line {line}: {output.escaped(why)}")
+
+
+@dataclass(frozen=True)
+class Rule:
+    """The answer to a syscall whose arguments meet all of some conditions, and the number of its line."""
+
+    name: str
+    answer: Answer
+    conditions: tuple[Condition, ...]
+    line: int
+
+
+@dataclass
+class Policy:
+    """A list's rules, and the answer to all else; for these architectures, of which the native one is the first."""
+
+    default: Answer
+    rules: list[Rule] = field(default_factory=list)
+    architectures: Sequence[str] = (NATIVE,)
+    # what a profile can't state, and what the sandbox reads otherwise than it is written
+    remarks: list[str] = field(default_factory=list)
+    # whether libseccomp adds i386's rules of socketcall and ipc
+    is_multiplexed: bool = False
+    # those of architectures that have other rules
+    others: list[Policy] = field(default_factory=list)
+
+    def add(self, rule: Rule) -> None:
+        if len(self.rules) == MOST_RULES:
+            raise ListError(f"it has more than {MOST_RULES} rules")
+        self.rules.append(rule)
+
+    def _covering(self) -> dict[str, Rule]:
+        """By a syscall its first rule without conditions, which for libseccomp covers all others."""
+        first: dict[str, Rule] = {}
+        for rule in self.rules:
+            if not rule.conditions:
+                first.setdefault(rule.name, rule)
+        return first
+
+    def notes(self) -> Iterator[str]:
+        """The remarks, and which rules have no effect."""
+        yield from self.remarks
+        covering = self._covering()
+        for rule in self.rules:
+            by = covering.get(rule.name, rule)
+            if rule.answer != by.answer:
+                yield f"line {rule.line} has no effect on {rule.name}: line {by.line} covers it"
+
+    def profile(self) -> dict[str, object]:
+        """The OCI profile."""
+        covering = self._covering()
+        entries: dict[tuple[Answer, tuple[Condition, ...]], dict[str, set[int]]] = {}
+        for rule in self.rules:
+            by = covering.get(rule.name, rule)
+            if rule.answer == by.answer and (by is rule or not rule.conditions):
+                entries.setdefault((rule.answer, rule.conditions), {}).setdefault(rule.name, set()).add(rule.line)
+        made = []
+        for (answer, conditions), names in entries.items():
+            args = {"args": [condition.as_json() for condition in conditions]} if conditions else {}
+            made.append({"names": list(names), **answer.members(), **args,
+                         "comment": lines_text(line for lines in names.values() for line in lines)})
+        top = {**self.default.default(), "architectures": list(self.architectures), "syscalls": made}
+        return multiplexed.with_rules(top)[0] if self.is_multiplexed else top
+
+    def data(self) -> bytes:
+        return json.dumps(self.profile()).encode()
+
+
+def lines_text(numbers: Iterable[int]) -> str:
+    """The numbers of lines, as "lines 3-5, 9"."""
+    runs = output.runs(sorted(set(numbers)))
+    texts = [f"{first}" if first == last else f"{first}-{last}" for first, last in runs]
+    return f"line{'s' * (len(runs) > 1 or runs[0][0] < runs[0][1])} {', '.join(texts)}"
+
+
+def lines_of(data: bytes) -> Iterator[tuple[int, str]]:
+    """The lines of a list with their numbers, from 1 on."""
+    if len(data) > MOST_BYTES:
+        raise ListError(f"it has more than {MOST_BYTES} bytes")
+    try:
+        text = data.decode("utf-8")
+    except UnicodeDecodeError as error:
+        raise ListError("it isn't UTF-8") from error
+    for number, line in enumerate(text.split("\n"), 1):
+        if number > MOST_LINES:
+            raise ListError(f"it has more than {MOST_LINES} lines")
+        if len(line) > LONGEST_LINE:
+            raise error_at(number, f"it has more than {LONGEST_LINE} letters")
+        if not CONTROL_LETTERS.isdisjoint(line):
+            raise error_at(number, "it has a control character")
+        yield number, line
+
+
+def _number_in_tables(name: str, architecture: str) -> int:
+    table = tables.of_architecture(architecture)
+    number = None if table is None else table.number_of(name)
+    return -1 if number is None or architecture == I386 and multiplexed.is_multiplexed(name) else number
+
+
+def knows() -> Knows:
+    """The number of a name on an architecture: below 0 if libseccomp makes no rule of it there, None if it isn't known.
+    Without a libseccomp any name may be known, and the tables tell the numbers."""
+    library = libseccomp.installed()
+    return library.number_of if library is not None else _number_in_tables
+
+
+def remark_unknown(policy: Policy, names: Iterable[str]) -> None:
+    """Adds a remark on names that libseccomp doesn't know, which the sandbox leaves out."""
+    left_out = list(dict.fromkeys(names))
+    if left_out:
+        policy.remarks.append("left out, as by the sandbox, since libseccomp doesn't know them: "
+                              + output.some([output.cut(name, 64) for name in left_out], MOST_LISTED))
+
+
+def remark_others(policy: Policy, why: dict[str, str]) -> None:
+    """Adds a remark on each architecture that the profile leaves out, by their OCI names."""
+    policy.remarks += [f"the profile leaves {JUDGED[oci].name} out: {reason}" for oci, reason in why.items()]

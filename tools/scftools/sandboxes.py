@@ -1,0 +1,38 @@
+"""Sandboxes whose own lists of syscalls commands take as profiles: LXC, snapd and firejail."""
+from __future__ import annotations
+
+from collections.abc import Callable
+
+from . import firejail_lists, lxc_policies, program, snap_templates
+from .engines import Refused
+from .sandbox_rules import ListError, Policy
+from .values import dataclass
+
+
+@dataclass(frozen=True)
+class Sandbox:
+    """A sandbox, and what its list is called: whether a text looks like one, and its reader, which raises ListError."""
+
+    name: str
+    kind: str
+    is_list: Callable[[bytes], bool]
+    read: Callable[[bytes], Policy]
+
+    def profile_of(self, data: bytes, label: str) -> tuple[bytes, list[str]]:
+        """The profile of a list, and notes on it; raises ToolError."""
+        try:
+            policy = self.read(data)
+            return policy.data(), list(policy.notes())
+        except (ListError, Refused) as why:
+            status = why.status if isinstance(why, ListError) else program.NEGATIVE
+            raise program.ToolError(f"{label}, {self.kind}: {why}", status) from why
+
+
+SANDBOXES = (Sandbox("LXC", "an LXC policy", lxc_policies.is_policy, lxc_policies.read),
+             Sandbox("snapd", "a snap's seccomp template", snap_templates.is_template, snap_templates.read),
+             Sandbox("firejail", "a firejail profile", firejail_lists.is_profile, firejail_lists.read))
+
+
+def sandbox_of(data: bytes) -> Sandbox | None:
+    """The sandbox whose list a text is."""
+    return next((sandbox for sandbox in SANDBOXES if sandbox.is_list(data)), None)

@@ -1,0 +1,263 @@
+"""tools/why: the failed syscalls of a strace log, judged by a profile: counted by syscall and entry, in order."""
+import json
+import os
+import re
+import shutil
+import subprocess
+import sys
+import unittest
+
+from support.common import TOP, Case
+
+# Loads a filter, and makes calls in the order of its words, each as often as it says, in a child where they begin with
+# `child`; then it ends with a status.
+UNDER = """
+import ctypes, os, sys
+class Program(ctypes.Structure):
+    _fields_ = [("len", ctypes.c_ushort), ("filter", ctypes.c_char_p)]
+library = ctypes.CDLL(None, use_errno=True)
+def makes(calls):
+    for count, *call in calls:
+        for _ in range(count):
+            library.syscall(*map(ctypes.c_long, call))
+name, status, before, of_child, after = sys.argv[1], *map(eval, sys.argv[2:])
+makes(before)
+data = open(name, "rb").read()
+library.prctl(38, 1, 0, 0, 0)
+if library.syscall(ctypes.c_long(317), 1, 0, ctypes.byref(Program(len(data) // 8, data))) < 0:
+    os._exit(99)
+if os.fork() == 0:
+    makes(of_child)
+    os._exit(0)
+os.wait()
+makes(after)
+os._exit(status)
+"""
+# asm/unistd_64.h
+SOCKET, SETHOSTNAME, CHROOT, UNSHARE = 41, 170, 161, 272
+PROFILE = {"defaultAction": "SCMP_ACT_ALLOW", "syscalls": [
+    {"names": ["sethostname", "chroot"], "action": "SCMP_ACT_ERRNO", "errnoRet": 1},
+    {"names": ["socket"], "action": "SCMP_ACT_ERRNO", "errnoRet": 97,
+     "args": [{"index": 0, "value": 16, "op": "SCMP_CMP_EQ"}]}]}
+LOAD = "seccomp(SECCOMP_SET_MODE_FILTER, 0, {len=3, filter=0x7ffd5c1d}) = 0"
+DENIED = 'chroot("/") = -1 EPERM (Operation not permitted)'
+HEAD = re.compile(r"# (?:process \d+|a process): the syscall is (\w+) \(\d+\)(?:; such failures: (\d+))?")
+
+
+class Denials(Case):
+    def why(self, log, *words, profile=None):
+        given = self.file("p.json", json.dumps(PROFILE if profile is None else profile))
+        status, out, err = self.run_tool("why", *words, "-", given, given=log.encode("latin-1"))
+        self.assertEqual(err, "")
+        return status, out.split("\n")[:-1]
+
+    def denied(self, log, *words, **settings):
+        """The status, and each denied syscall with its count, in order."""
+        status, lines = self.why(log, *words, **settings)
+        heads = [HEAD.fullmatch(line) for line in lines]
+        return status, [(it[1], int(it[2] or 1)) for it in heads if it]
+
+    def lines_of(self, *lines, **settings):
+        return self.denied("".join(f"{line}\n" for line in lines), **settings)[1]
+
+
+@unittest.skipUnless(shutil.which("strace"), "there is no strace here")
+class Traced(Denials):
+    """Programs under a filter, as strace logs them."""
+
+    def traced(self, before, of_child, after, status=0, profile=None):
+        done = subprocess.run([os.path.join(TOP, "tools", "compile"),
+                               self.file("c.json", json.dumps(PROFILE if profile is None else profile))],
+                              stdout=subprocess.PIPE, check=True)
+        log = os.path.join(self.folder, "log")
+        subprocess.run(["strace", "-f", "-o", log, sys.executable, "-ISc", UNDER, self.file("f.bpf", done.stdout),
+                        *map(repr, (status, before, of_child, after))], stderr=subprocess.DEVNULL, check=False)
+        if not os.path.exists(log) or not os.path.getsize(log):
+            self.skipTest("strace may not trace here")
+        with open(log, encoding="latin-1") as file:
+            return file.read()
+
+    def test_the_most_telling_first(self):
+        """What a process ended after comes before what was tried once, and that before what was tried again."""
+        log = self.traced([], [(3, SOCKET, 16, 3, 0)], [(2, SETHOSTNAME, 0, -1), (1, CHROOT, 0)], 0)
+        self.assertEqual(self.denied(log), (0, [("chroot", 1), ("sethostname", 2), ("socket", 3)]))
+        log = self.traced([], [(1, SOCKET, 16, 3, 0)], [(1, CHROOT, 0), (2, SETHOSTNAME, 0, -1)], 3)
+        self.assertEqual(self.denied(log), (0, [("sethostname", 2), ("chroot", 1), ("socket", 1)]))
+        lines = self.why(log)[1]
+        self.assertEqual(lines.index("# it is the last denied syscall of a process that ended with a failure"), 1)
+
+    def test_only_what_the_profile_answers(self):
+        """The kernel itself answers to a socket of no family with the errno of the entry for AF_NETLINK."""
+        log = self.traced([(2, CHROOT, -1)], [(3, SOCKET, 16, 3, 0), (1, SOCKET, 77, 1, 0)], [(1, UNSHARE, 1)])
+        status, lines = self.why(log)
+        self.assertEqual((status, [HEAD.fullmatch(it)[1] for it in lines if HEAD.fullmatch(it)]), (0, ["socket"]))
+        self.assertRegex("\n".join(lines), "# syscalls that failed: [0-9]+; to which the profile answers so: 3\n")
+
+    def test_the_changes_repair_it(self):
+        """By the changes that are printed of each, one after another, nothing is denied any more."""
+        calls = [(1, SOCKET, 16, 3, 0), (1, SOCKET, 16, 2, 15), (1, SETHOSTNAME, 0, -1), (1, CHROOT, 0)]
+        profile, seen = PROFILE, []
+        for _ in range(3):
+            log = self.traced([], [], calls, 1, profile)
+            given = self.file("p.json", json.dumps(profile))
+            found = json.loads(self.run_tool("why", "--json", "-", given, given=log.encode("latin-1"))[1])
+            first = found["events"][0]
+            seen.append(first["call"]["names"][0])
+            change = first["changes"][0]
+            entries = [dict(it, names=[name for name in it["names"] if at not in change["taken_out"]
+                                       or name not in first["call"]["names"]])
+                       for at, it in enumerate(profile["syscalls"])]
+            profile = {**profile, "syscalls": [it for it in entries if it["names"]] + change["added"]}
+        self.assertEqual(sorted(seen), ["chroot", "sethostname", "socket"])
+        self.assertEqual(self.denied(self.traced([], [], calls, 1, profile), profile=profile), (4, []))
+
+
+class Logs(Denials):
+    """Which failed syscalls of a log are behind the loading of the filter, and how they are counted."""
+
+    def test_before_and_behind_the_loading(self):
+        self.assertEqual(self.lines_of(f"7  {DENIED}", f"7  {DENIED}"), [("chroot", 2)])
+        self.assertEqual(self.lines_of(f"7  {DENIED}", f"7  {LOAD}", f"7  {DENIED}"), [("chroot", 1)])
+        for load in ("prctl(PR_SET_SECCOMP, SECCOMP_MODE_FILTER, {len=3, filter=0x7ffd5c1d}) = 0",
+                     "seccomp(0x1, 0x2, 0x7ffd5c1d) = 0", "seccomp(SECCOMP_SET_MODE_FILTER, "
+                     "SECCOMP_FILTER_FLAG_NEW_LISTENER, {len=3, filter=0x7ffd5c1d}) = 9",
+                     # (a filter that is printed whole, longer than what is read of a line)
+                     "seccomp(SECCOMP_SET_MODE_FILTER, 0, {len=4096, filter=[" + "BPF_STMT(0, 0), " * 5000):
+            self.assertEqual(self.lines_of(f"7  {DENIED}", f"7  {load}", f"8  {DENIED}"), [], load[:99])
+        for load in (LOAD.replace("= 0", "= -1 EINVAL (Invalid argument)"), LOAD.replace("= 0", "= 8"),
+                     "seccomp(SECCOMP_GET_ACTION_AVAIL, 0, [SECCOMP_RET_LOG]) = 0", "prctl(PR_SET_NO_NEW_PRIVS, 1) = 0",
+                     "prctl(PR_SET_SECCOMP, SECCOMP_MODE_STRICT) = 0"):
+            self.assertEqual(self.lines_of(f"7  {DENIED}", f"7  {load}", f"8  {DENIED}"), [("chroot", 2)], load)
+
+    def test_children_are_under_it(self):
+        clone = "clone(child_stack=NULL, flags=CLONE_CHILD_SETTID|SIGCHLD)"
+        self.assertEqual(self.lines_of(f"7  {LOAD}", f"7  {clone} = 8", f"8  {DENIED}", f"9  {DENIED}"),
+                         [("chroot", 1)])
+        self.assertEqual(self.lines_of(f"7  {clone} = 8", f"7  {LOAD}", f"8  {DENIED}"), [])
+        # before strace shows whose child it is
+        self.assertEqual(self.lines_of(f"7  {LOAD}", "7  vfork( <unfinished ...>", f"8  {DENIED}",
+                                       "7  <... vfork resumed>) = 8", f"8  {DENIED}"), [("chroot", 2)])
+        # the first process has a number only as long as there are others
+        self.assertEqual(self.lines_of(LOAD, f"{clone} = 8", f"[pid     8] {DENIED}", f"[pid     7] {DENIED}"),
+                         [("chroot", 2)])
+
+    def test_numbers_of_a_pid_namespace(self):
+        """There a maker gets another number than strace has."""
+        fork, thread = "fork() = 4", "clone(child_stack=0x7f01, flags=CLONE_VM|CLONE_SIGHAND|CLONE_THREAD) = 4"
+        self.assertEqual(self.lines_of("7  fork() = 3", "70  getpid() = 3", f"7  {LOAD}", f"7  {fork}",
+                                       f"71  {DENIED}", f"70  {DENIED}"), [("chroot", 1)])
+        self.assertEqual(self.lines_of(f"7  {LOAD}", "7  fork( <unfinished ...>", f"71  {DENIED}",
+                                       "7  <... fork resumed>) = 4", f"71  {DENIED}", f"72  {DENIED}"),
+                         [("chroot", 2)])
+        # a load for all threads of the process is also for those
+        for_all = LOAD.replace(" 0, {", " SECCOMP_FILTER_FLAG_TSYNC, {")
+        for before in ((f"7  {thread}", "71  getpid() = 3"), (
+                "7  clone(child_stack=0x7f01, flags=CLONE_VM|CLONE_SIGHAND|CLONE_THREAD <unfinished ...>",
+                "71  getpid() = 3", "7  <... clone resumed>) = 4")):
+            self.assertEqual(self.lines_of(*before, f"7  {for_all}", f"71  {DENIED}"), [("chroot", 1)], before)
+
+    def test_threads(self):
+        thread = "clone(child_stack=0x7f01, flags=CLONE_VM|CLONE_FS|CLONE_FILES|CLONE_SIGHAND|CLONE_THREAD)"
+        for_all = LOAD.replace(" 0, {", " SECCOMP_FILTER_FLAG_TSYNC, {")
+        for load, count in ((LOAD, 1), (for_all, 2)):
+            self.assertEqual(self.lines_of(f"7  {thread} = 8", f"8  {load}", f"8  {DENIED}", f"7  {DENIED}"),
+                             [("chroot", count)], load)
+        # a child isn't of the process
+        self.assertEqual(self.lines_of("7  fork() = 8", f"8  {for_all}", f"7  {DENIED}"), [])
+        # the thread that executes a program goes on as the process
+        execve = ('8  execve("/bin/x", 0x1, 0x2 <unfinished ...>', "7  +++ superseded by execve in pid 8 +++",
+                  "7  <... execve resumed>) = 0")
+        for loader, denied in ((8, [("chroot", 1)]), (7, [])):
+            self.assertEqual(self.lines_of(f"7  {thread} = 8", f"{loader}  {LOAD}", *execve, f"7  {DENIED}"), denied)
+
+    def test_which_one_a_process_ended_after(self):
+        socket = "socket(AF_NETLINK, SOCK_RAW, NETLINK_ROUTE) = -1 EAFNOSUPPORT (Address family not supported)"
+        for end in ("exited with 1", "killed by SIGABRT (core dumped)"):
+            self.assertEqual(self.lines_of(f"7  {DENIED}", f"7  {socket}", f"7  {socket}",
+                                           '7  openat(AT_FDCWD, "x", O_RDONLY) = -1 ENOENT (No such file or directory)',
+                                           f"7  +++ {end} +++"), [("socket", 2), ("chroot", 1)])
+        for end in ("exited with 0", ""):
+            self.assertEqual(self.lines_of(f"7  {DENIED}", f"7  {socket}", f"7  {socket}", f"7  +++ {end} +++"),
+                             [("chroot", 1), ("socket", 2)])
+        # of two that were tried once, and by no process that failed, the last
+        self.assertEqual(self.lines_of(f"7  {DENIED}", f"7  {socket}"), [("socket", 1), ("chroot", 1)])
+        # what a process tried before and tries again is its last, and a thread that ends isn't its end
+        thread = "clone(child_stack=0x7f01, flags=CLONE_VM|CLONE_FS|CLONE_FILES|CLONE_SIGHAND|CLONE_THREAD)"
+        self.assertEqual(self.lines_of(f"7  {thread} = 8", f"8  {socket}", f"7  {DENIED}", f"7  {socket}",
+                                       "8  +++ exited with 0 +++", "7  +++ exited with 1 +++"),
+                         [("socket", 2), ("chroot", 1)])
+
+    def test_by_syscall_and_entry(self):
+        """The change allows what all failures by an entry have in common."""
+        socket = "7  socket(AF_NETLINK, {}, {}) = -1 EAFNOSUPPORT (Address family not supported)"
+        lines = self.why("".join(f"{socket.format(*it)}\n" for it in (
+            ("SOCK_RAW", 0), ("SOCK_RAW", 9), ("SOCK_DGRAM", 9))), profile={
+                **PROFILE, "syscalls": [{"names": ["socket"], "action": "SCMP_ACT_ERRNO", "errnoRet": 97}]})[1]
+        self.assertEqual([it for it in lines if HEAD.fullmatch(it)],
+                         ["# process 7: the syscall is socket (41); such failures: 3"])
+        allows = "# this change of the profile allows socket where argument 0 is 0x10, and no other answer changes:"
+        self.assertIn(allows, lines)
+        # what they have in common is the entry's own condition: the change that allows all of it is the same
+        lines = self.why(socket.format("SOCK_RAW", 0) + "\n" + socket.format("SOCK_DGRAM", 9) + "\n")[1]
+        self.assertEqual([it for it in lines if "this change" in it], [allows])
+        other = {"names": ["socket"], "action": "SCMP_ACT_ERRNO", "errnoRet": 97,
+                 "args": [{"index": 0, "value": 2, "op": "SCMP_CMP_EQ"}]}
+        text = "".join(f"7  socket({it}, SOCK_RAW, 0) = -1 EAFNOSUPPORT (x)\n" for it in ("AF_NETLINK", "AF_INET"))
+        self.assertEqual(self.denied(text, profile={**PROFILE, "syscalls": [*PROFILE["syscalls"], other]}),
+                         (0, [("socket", 1), ("socket", 1)]))
+
+    def test_all(self):
+        names = ("acct", "chroot", "swapoff", "umount2", "mkdir", "rmdir", "unlink")
+        log = "".join(f'7  {name}("/x") = -1 EPERM (Operation not permitted)\n' * (at + 1)
+                      for at, name in enumerate(names))
+        profile = {**PROFILE, "syscalls": [{"names": names, "action": "SCMP_ACT_ERRNO", "errnoRet": 1}]}
+        counted = [(name, at + 1) for at, name in enumerate(names)]
+        self.assertEqual(self.denied(log, "--all", profile=profile), (0, counted))
+        self.assertEqual(self.denied(log, profile=profile), (0, counted[:5]))
+        self.assertEqual(self.why(log, profile=profile)[1][-2:], [
+            "# syscalls that failed: 28; to which the profile answers so: 28",
+            "# of these aren't shown, since they tell less (--all shows them): rmdir (84) 6 times, "
+            "unlink (87) 7 times"])
+
+    def test_what_another_cause_denied(self):
+        log = (f"7  {DENIED}\n" + "7  acct(NULL) = -1 EPERM (Operation not permitted)\n" * 2
+               + '7  mkdir("/x", 0777) = -1 EACCES (Permission denied)\n')
+        status, lines = self.why(log)
+        self.assertEqual((status, lines[-2:]), (0, [
+            "# syscalls that failed: 4; to which the profile answers so: 1",
+            "# with EPERM, but not by the profile: acct (163) 2 times: the kernel itself answers so, for example if "
+            "the process lacks a capability, or another filter does"]))
+
+    def test_a_profile_that_is_refused(self):
+        log = f'7  {DENIED}\n7  read(0, "", 1) = 0\n'
+        status, lines = self.why(log, profile={**PROFILE, "defaultAction": "SCMP_ACT"})
+        self.assertEqual((status, [it for it in lines if it[:2] != "# "]), (1, ["fault profile Action"]))
+
+    def test_what_scf_leaves_undecided(self):
+        status, lines = self.why(f"7  {DENIED}\n7  acct(NULL) = -1 EPERM (Operation not permitted)\n", "--limit=1")
+        self.assertEqual((status, lines[-1]), (4, "# of which it isn't known: 1"))
+
+    def test_json(self):
+        given = self.file("p.json", json.dumps(PROFILE))
+        log = (f"7  {DENIED}\n7  {LOAD}\n7  {DENIED}\n7  acct(NULL) = -1 EPERM (Operation not permitted)\n"
+               "7  +++ exited with 2 +++\n")
+        status, out, err = self.run_tool("why", "--json", "-", given, given=log.encode())
+        found = json.loads(out)
+        self.assertEqual((status, err, [(it["count"], it["has_ended"]) for it in found["events"]]),
+                         (0, "", [(1, True)]))
+        others = found["failures"].pop("by_other_cause")
+        self.assertEqual([(it["call"]["names"], it["errno"], it["count"]) for it in others], [(["acct"], 1, 1)])
+        self.assertEqual(found["failures"], {"count": 2, "denied": 1, "not_shown": [], "unknown": 0, "not_judged": 0,
+                                             "before_load": 1})
+
+    def test_many_failures(self):
+        """More kinds than are kept are counted, and the answer isn't known then."""
+        log = "".join(f"7  socket(AF_NETLINK, SOCK_RAW, {it}) = -1 EAFNOSUPPORT (x)\n" for it in range(1007))
+        status, lines = self.why(log)
+        self.assertEqual(status, 4)
+        self.assertIn("such failures: 1000", lines[0])
+        self.assertEqual(lines[-1], "# with too many different arguments, which aren't judged: 7")
+
+
+if __name__ == "__main__":
+    sys.exit(unittest.main())
