@@ -5,7 +5,7 @@ use Rattle.std.specs.Prelude.{ℕ, ◌*◌}
 abbrev pub audit_arch_x86_64 : ℕ
 audit_arch_x86_64 = 0xc000003e
 
--- AUDIT_ARCH_I386, AUDIT_ARCH_AARCH64, AUDIT_ARCH_ARM (linux/audit.h): the architectures of their calls
+-- AUDIT_ARCH_.. (linux/audit.h): the architectures of the calls of others
 abbrev pub audit_arch_i386 : ℕ
 audit_arch_i386 = 0x40000003
 
@@ -14,6 +14,24 @@ audit_arch_aarch64 = 0xc00000b7
 
 abbrev pub audit_arch_arm : ℕ
 audit_arch_arm = 0x40000028
+
+abbrev pub audit_arch_riscv64 : ℕ
+audit_arch_riscv64 = 0xc00000f3
+
+abbrev pub audit_arch_ppc64le : ℕ
+audit_arch_ppc64le = 0xc0000015
+
+abbrev pub audit_arch_mipsel : ℕ
+audit_arch_mipsel = 0x40000008
+
+abbrev pub audit_arch_mipsel64 : ℕ
+audit_arch_mipsel64 = 0xc0000008
+
+abbrev pub audit_arch_mipsel64n32 : ℕ
+audit_arch_mipsel64n32 = 0xe0000008
+
+abbrev pub audit_arch_loongarch64 : ℕ
+audit_arch_loongarch64 = 0xc0000102
 
 -- __X32_SYSCALL_BIT (asm/unistd.h): the first number of an x32 call
 abbrev pub x32_syscall_bit : ℕ

@@ -4,7 +4,9 @@ ghost use Rattle.std.specs.Prelude.{◌≡◌, ◌↔◌, IsTrue};
 ghost use Rattle.scf_insn.specs.Architectures.{architectures, greatest_argument, row_of, taken_of, IsOf};
 
 use crate::kernel::{
-    AUDIT_ARCH_AARCH64, AUDIT_ARCH_ARM, AUDIT_ARCH_I386, AUDIT_ARCH_X86_64, X32_SYSCALL_BIT,
+    AUDIT_ARCH_AARCH64, AUDIT_ARCH_ARM, AUDIT_ARCH_I386, AUDIT_ARCH_LOONGARCH64, AUDIT_ARCH_MIPSEL,
+    AUDIT_ARCH_MIPSEL64, AUDIT_ARCH_MIPSEL64N32, AUDIT_ARCH_PPC64LE, AUDIT_ARCH_RISCV64,
+    AUDIT_ARCH_X86_64, X32_SYSCALL_BIT,
 };
 use crate::record::CallRecord;
 
@@ -45,6 +47,12 @@ pub enum Architecture {
     X32,
     Aarch64,
     Arm,
+    Riscv64,
+    Ppc64le,
+    Mipsel,
+    Mipsel64,
+    Mipsel64n32,
+    Loongarch64,
 }
 
 /// What is known of an architecture.
@@ -58,9 +66,12 @@ struct Row {
     part: &'static str,
 }
 
+/// How many architectures there are.
+pub const ARCHITECTURES: usize = 11;
+
 impl Architecture {
     /// All of them.
-    pub fn all() -> [Architecture; 5]
+    pub fn all() -> [Architecture; ARCHITECTURES]
         ensures { result ≡ architectures }
     {
         [
@@ -69,6 +80,12 @@ impl Architecture {
             Architecture::X32,
             Architecture::Aarch64,
             Architecture::Arm,
+            Architecture::Riscv64,
+            Architecture::Ppc64le,
+            Architecture::Mipsel,
+            Architecture::Mipsel64,
+            Architecture::Mipsel64n32,
+            Architecture::Loongarch64,
         ]
     }
 
@@ -120,6 +137,54 @@ impl Architecture {
                 ArgumentBits::Bits32,
                 "SCMP_ARCH_ARM",
                 "table-arm",
+            ),
+            Architecture::Riscv64 => (
+                AUDIT_ARCH_RISCV64,
+                0,
+                u32::MAX,
+                ArgumentBits::Bits64,
+                "SCMP_ARCH_RISCV64",
+                "table-riscv64",
+            ),
+            Architecture::Ppc64le => (
+                AUDIT_ARCH_PPC64LE,
+                0,
+                u32::MAX,
+                ArgumentBits::Bits64,
+                "SCMP_ARCH_PPC64LE",
+                "table-ppc64le",
+            ),
+            Architecture::Mipsel => (
+                AUDIT_ARCH_MIPSEL,
+                0,
+                u32::MAX,
+                ArgumentBits::Bits32,
+                "SCMP_ARCH_MIPSEL",
+                "table-mipsel",
+            ),
+            Architecture::Mipsel64 => (
+                AUDIT_ARCH_MIPSEL64,
+                0,
+                u32::MAX,
+                ArgumentBits::Bits64,
+                "SCMP_ARCH_MIPSEL64",
+                "table-mipsel64",
+            ),
+            Architecture::Mipsel64n32 => (
+                AUDIT_ARCH_MIPSEL64N32,
+                0,
+                u32::MAX,
+                ArgumentBits::Bits32,
+                "SCMP_ARCH_MIPSEL64N32",
+                "table-mipsel64n32",
+            ),
+            Architecture::Loongarch64 => (
+                AUDIT_ARCH_LOONGARCH64,
+                0,
+                u32::MAX,
+                ArgumentBits::Bits64,
+                "SCMP_ARCH_LOONGARCH64",
+                "table-loongarch64",
             ),
         };
         Row {

@@ -12,6 +12,24 @@ pub const AUDIT_ARCH_AARCH64: u32 = 0xc000_00b7;
 /// `AUDIT_ARCH_ARM` of linux/audit.h: the architecture of 32-bit arm syscalls.
 pub const AUDIT_ARCH_ARM: u32 = 0x4000_0028;
 
+/// `AUDIT_ARCH_RISCV64` of linux/audit.h: the architecture of 64-bit RISC-V syscalls.
+pub const AUDIT_ARCH_RISCV64: u32 = 0xc000_00f3;
+
+/// `AUDIT_ARCH_PPC64LE` of linux/audit.h: the architecture of 64-bit little-endian PowerPC syscalls.
+pub const AUDIT_ARCH_PPC64LE: u32 = 0xc000_0015;
+
+/// `AUDIT_ARCH_MIPSEL` of linux/audit.h: the architecture of little-endian MIPS o32 syscalls.
+pub const AUDIT_ARCH_MIPSEL: u32 = 0x4000_0008;
+
+/// `AUDIT_ARCH_MIPSEL64` of linux/audit.h: the architecture of little-endian MIPS n64 syscalls.
+pub const AUDIT_ARCH_MIPSEL64: u32 = 0xc000_0008;
+
+/// `AUDIT_ARCH_MIPSEL64N32` of linux/audit.h: the architecture of little-endian MIPS n32 syscalls.
+pub const AUDIT_ARCH_MIPSEL64N32: u32 = 0xe000_0008;
+
+/// `AUDIT_ARCH_LOONGARCH64` of linux/audit.h: the architecture of 64-bit LoongArch syscalls.
+pub const AUDIT_ARCH_LOONGARCH64: u32 = 0xc000_0102;
+
 /// `__X32_SYSCALL_BIT` of asm/unistd.h: the bit of x32's syscall numbers.
 pub const X32_SYSCALL_BIT: u32 = 0x4000_0000;
 

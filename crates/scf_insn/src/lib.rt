@@ -18,7 +18,7 @@ mod record;
 mod stream;
 
 pub use answer::{Action, Answer, Disposition};
-pub use architecture::{Architecture, ArgumentBits};
+pub use architecture::{ARCHITECTURES, Architecture, ArgumentBits};
 pub use digits::{digit_byte, write_numeral};
 pub use encoding::{ReadFault, read_program, write_program};
 pub use input::{InputFault, read_input};
