@@ -6,7 +6,6 @@ use Rattle.std.proofs.lemmas.List.Elements.{All-contains}
 use Rattle.scf_insn.specs.Architectures.{row_of}
 use Rattle.scf_insn.specs.Kernel.{x32_syscall_bit}
 use Rattle.scf_insn.specs.declared.architecture.Architecture.{Architecture}
-use Rattle.scf_insn.specs.declared.architecture.Architecture.TheVariants.{Aarch64, Arm, X32, X86, X8664}
 use Rattle.scf_profile.specs.NamedCalls.{AreCallsOf, HasItsNames}
 use Rattle.scf_profile.specs.Table.{Names}
 use Rattle.scf_profile.specs.declared.named_call.NamedCall.{NamedCall}
@@ -33,12 +32,3 @@ module _ (table : Names) (calls : List NamedCall) (call : NamedCall) (are : AreC
       let named = (are.exact call.number).0 (contains_mapped (λ (c : NamedCall). c.number) calls call among) in
       let contained = (has_its_names.exact named.0).1 named.1 in
       omega (arith, contained.1, length-map call.names.items (λ (text : Bor (List ℕ)). text.now))
-
--- the number of a call in its records
-pub number_fits : (architecture : Architecture) (number : ℕ) → number < x32_syscall_bit
-    → (row_of architecture).first + number < 2 ^ 32
-number_fits X8664 number lt = omega arith
-number_fits X86 number lt = omega arith
-number_fits X32 number lt = omega arith
-number_fits Aarch64 number lt = omega arith
-number_fits Arm number lt = omega arith

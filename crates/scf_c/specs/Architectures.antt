@@ -1,10 +1,9 @@
 -- The syscall tables of architectures, and the stubs of their syscalls.
-use Rattle.std.specs.Prelude.{◌≡◌, ◌==◌, ◌≤◌, ◌||◌, ℕ, Bool, false, List, ◌∷◌, All, Option, None, IsSome, count_by, length, option_map, if◌then◌else◌}
-use Rattle.std.specs.List.{filter, filter_map, find, list_any}
+use Rattle.std.specs.Prelude.{◌≡◌, ◌==◌, ◌≤◌, ◌+◌, ◌-◌, ◌||◌, ℕ, Bool, false, List, ◌∷◌, All, Option, None, IsSome, count_by, length, option_map, if◌then◌else◌}
+use Rattle.std.specs.List.{filter, filter_map, list_any, position_or_len, slice_get}
 use Rattle.std.specs.Option.{option_map_or}
-use Rattle.scf_insn.specs.Architectures.{architectures}
+use Rattle.scf_insn.specs.Architectures.{architectures, row_of}
 use Rattle.scf_insn.specs.declared.architecture.Architecture.{Architecture}
-use Rattle.scf_insn.specs.declared.architecture.Architecture.TheVariants.{X8664, X86, X32, Aarch64, Arm}
 use Rattle.scf_profile.specs.Profile.{Profile}
 use Rattle.scf_profile.specs.StatedProfile.{is_named}
 use Rattle.scf_profile.specs.declared.reading.Reading.{Reading}
@@ -12,16 +11,14 @@ use Rattle.scf_profile.specs.declared.reading.Reading.TheVariants.{Strict}
 use Rattle.scf_request.specs.declared.interpretation.Stub.{Stub}
 use Rattle.scf_c.specs.declared.layout.Table.{Table}
 
+-- an architecture's number: its position among all of them, counted from 1
 abbrev pub architecture_number : Architecture → ℕ
-architecture_number X8664 = 1
-architecture_number X86 = 2
-architecture_number X32 = 3
-architecture_number Aarch64 = 4
-architecture_number Arm = 5
+architecture_number architecture =
+    position_or_len (λ other. is_named (row_of other).name architecture) architectures + 1
 
 -- the architecture with a number
 abbrev pub architecture_of : ℕ → Option Architecture
-architecture_of number = find (λ architecture. architecture_number architecture == number) architectures
+architecture_of number = if number == 0 then None else slice_get architectures (number - 1)
 
 -- A table's numbers have a meaning.
 pub record IsMeant (table : Table) : Type 0 where

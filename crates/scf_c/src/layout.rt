@@ -76,7 +76,7 @@ pub struct Fault {
 pub struct Table<'a> {
     /// x32's has its numbers without the bit 0x40000000.
     pub bytes: &'a [u8],
-    /// 1 for x86-64, 2 for i386, 3 for x32, 4 for aarch64, 5 for arm.
+    /// Its position among all of them, counted from 1: 1 for x86-64.
     pub architecture: u32,
     /// 1 if profiles have a stub for these syscalls, else 0.
     pub has_stub: u32,

@@ -19,26 +19,15 @@ use std::alloc::{AllocError, Global};
 pub(crate) fn architecture_of(number: u32) -> Option<Architecture>
     ensures { result ≡ architecture_of number }
 {
-    match number {
-        1 => Some(Architecture::X8664),
-        2 => Some(Architecture::X86),
-        3 => Some(Architecture::X32),
-        4 => Some(Architecture::Aarch64),
-        5 => Some(Architecture::Arm),
-        _ => None,
-    }
+    let index = number.checked_sub(1)?;
+    Architecture::all().get(index as usize).copied()
 }
 
+/// The number of an architecture: its position among all of them, counted from 1.
 pub(crate) fn architecture_number(architecture: Architecture) -> u32
     ensures { result ≡ spec.architecture_number architecture }
 {
-    match architecture {
-        Architecture::X8664 => 1,
-        Architecture::X86 => 2,
-        Architecture::X32 => 3,
-        Architecture::Aarch64 => 4,
-        Architecture::Arm => 5,
-    }
+    architecture as u32 + 1
 }
 
 /// Whether the numbers of a table have a meaning.

@@ -48,7 +48,7 @@ pub use Rattle.std.specs.Str.Lines.{lines, lines_of_parts, strip_carriage_return
 pub use Rattle.scf_insn.proofs.Common.{AllByRecursion, IsRecord, append-nil, append_assoc, and_parts, argument, cases_eq, cases_lt, common_steps, drop_all, eq-eqb, eqb-false, eqb-true, err_from_is_err_and, lookup, lt-ltb, nat_tests, ne_eqb, seccomp_data_args, seccomp_ret_kill_process, take-append-drop, take_all, x32_syscall_bit}
 pub use Rattle.scf_insn.specs.Architectures.{AreApart, IsOf, architectures, argument_in, greatest_argument, row_of, taken_of}
 pub use Rattle.scf_insn.specs.declared.architecture.Architecture.{Architecture}
-pub use Rattle.scf_insn.specs.declared.architecture.Architecture.TheVariants.{Aarch64, Arm, X32, X86, X8664}
+pub use Rattle.scf_insn.specs.declared.architecture.Architecture.TheVariants.{X8664}
 pub use Rattle.scf_insn.specs.declared.architecture.ArgumentBits.{ArgumentBits}
 pub use Rattle.scf_insn.specs.declared.architecture.ArgumentBits.TheVariants.{Bits32, Bits64}
 pub use Rattle.scf_insn.specs.declared.answer.Answer.{Answer}

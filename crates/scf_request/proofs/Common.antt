@@ -23,12 +23,12 @@ pub use Rattle.std.specs.List.{filter_map}
 pub use Rattle.std.specs.Option.{IfNone, MatchOption}
 pub use Rattle.std.specs.Str.Parse.{AllDigits}
 pub use Rattle.scf_insn.proofs.Common.{ReadsNumber, and_from, and_parts, digits_value, drop_more, is_digit, list_all, ne_eqb, numeral, take-append-drop, take_all, take_more}
-pub use Rattle.scf_insn.specs.Architectures.{row_of}
+pub use Rattle.scf_insn.specs.Architectures.{architectures, row_of}
 pub use Rattle.scf_insn.specs.declared.architecture.Architecture.{Architecture}
-pub use Rattle.scf_insn.specs.declared.architecture.Architecture.TheVariants.{X8664, X86, X32, Aarch64, Arm}
+pub use Rattle.scf_insn.specs.declared.architecture.Architecture.TheVariants.{X8664, X86}
 pub use Rattle.scf_insn.specs.declared.number.NumeralFault.{NumeralFault}
 pub use Rattle.scf_profile.proofs.Common.{All-contains, All-more, IfOk-weaker, err_from_is_err_and, false≢true, filter_map-append, map-append, option_map_or, nat_tests}
-pub use Rattle.scf_request.specs.Bundle.{AreNoParts, HasHeader, Held, IsBundlePart, IsHeader, IsPartFault, SpellsParts, content_of, contents_by, contents_of, held_of, is_beside, is_beside_profile, is_filter, is_profile, kind_word, split_kinds, stub_architecture, table_architecture}
+pub use Rattle.scf_request.specs.Bundle.{AreNoParts, HasHeader, Held, IsBundlePart, IsHeader, IsPartFault, SpellsParts, architecture_kinds, content_of, contents_by, contents_of, held_of, is_beside, is_beside_profile, is_filter, is_profile, kind_word, split_kinds, stub_architecture, table_architecture}
 pub use Rattle.scf_request.specs.Options.{NumberOption, choice_in, first_wrong, chosen_of, is_given, number_by, number_in, one_of}
 pub use Rattle.scf_request.specs.Requests.{Command as Asked, command_word}
 pub use Rattle.scf_request.specs.Requests.Command.{Answers, Ask, Asm, Check, Compare, Compile, Decide, Dis, Run}

@@ -1,5 +1,5 @@
 -- A header ends at the first line end, so bytes begin with at most one.
-use Rattle.scf_request.proofs.Common.{nat_tests, ◌≡◌, ◌≢◌, ℕ, zero, suc, ◌+◌, ◌<◌, ◌≤◌, ◌^◌, true, List, [], ◌∷◌, ◌++◌, not, eqb, length, get_or, take, drop, Bor, codes, Option, None, Some, Err, refl, sym, ap, ◌∙◌, append_assoc, arith, length-append, list_all, MatchOption, list_all-append, is_digit, digits_value, AllDigits, and_from, and_parts, ltb-true, ne_eqb, cond_some, append_cancel_left, append_cancel_right, drop_more, take-append-drop, digits_value-lt, pow-le-pow_right, numeral, ReadsNumber, NumeralFault, PartKind, Beside, BesideProfile, Filter, Profile, StubOf, Table, TableOf, Architecture, X8664, X86, X32, Aarch64, Arm, row_of, kind_word, IsHeader, HasHeader}
+use Rattle.scf_request.proofs.Common.{nat_tests, ◌≡◌, ◌≢◌, ℕ, zero, suc, ◌+◌, ◌<◌, ◌≤◌, ◌^◌, true, List, [], ◌∷◌, ◌++◌, not, eqb, length, get_or, take, drop, Bor, codes, Option, None, Some, Err, refl, sym, ap, ◌∙◌, append_assoc, arith, length-append, list_all, MatchOption, list_all-append, is_digit, digits_value, AllDigits, and_from, and_parts, ltb-true, ne_eqb, cond_some, append_cancel_left, append_cancel_right, drop_more, take-append-drop, digits_value-lt, pow-le-pow_right, numeral, ReadsNumber, NumeralFault, PartKind, kind_word, IsHeader, HasHeader}
 
 -- ---- the digits of a header
 
@@ -36,30 +36,9 @@ digits_are_line : (ds : List ℕ) → list_all (λ d. is_digit d 10) ds ≡ true
 digits_are_line [] h = refl
 digits_are_line (d ∷ ds) h = grind (arith, nat_tests, and_parts, and_from, digits_are_line ds)
 
-part_has_no : (architecture : Architecture) → IsLine (row_of architecture).part × HasNo 32 (row_of architecture).part
-part_has_no X8664 = (refl, refl)
-part_has_no X86 = (refl, refl)
-part_has_no X32 = (refl, refl)
-part_has_no Aarch64 = (refl, refl)
-part_has_no Arm = (refl, refl)
-
-stub_has_no : (architecture : Architecture)
-    → IsLine (kind_word (StubOf architecture)) × HasNo 32 (kind_word (StubOf architecture))
-stub_has_no X8664 = (refl, refl)
-stub_has_no X86 = (refl, refl)
-stub_has_no X32 = (refl, refl)
-stub_has_no Aarch64 = (refl, refl)
-stub_has_no Arm = (refl, refl)
-
 -- a kind's word has no line end and no blank
 word_has_no : (kind : PartKind) → IsLine (kind_word kind) × HasNo 32 (kind_word kind)
-word_has_no Filter = (refl, refl)
-word_has_no Profile = (refl, refl)
-word_has_no Table = (refl, refl)
-word_has_no Beside = (refl, refl)
-word_has_no BesideProfile = (refl, refl)
-word_has_no (TableOf architecture) = part_has_no architecture
-word_has_no (StubOf architecture) = stub_has_no architecture
+word_has_no kind = grind arith
 
 header_is_line : (kind : PartKind) (digits : List ℕ) (n : ℕ) → IsCount digits n
     → IsLine (kind_word kind ++ (codes " " ++ digits))

@@ -1,5 +1,5 @@
 -- Scopes that have records.
-use Rattle.scf_request.proofs.Common.{ℕ, ◌<◌, ◌≤◌, ◌^◌, List, [], ◌∷◌, refl, arith, Architecture, X8664, X86, X32, Aarch64, Arm, row_of}
+use Rattle.scf_request.proofs.Common.{ℕ, ◌<◌, ◌≤◌, ◌^◌, List, [], ◌∷◌, refl, arith, Architecture, X8664, X86, row_of}
 use Rattle.std.proofs.Common.{IsTrue, leb, min}
 use Rattle.std.proofs.lemmas.Bool.{leb-true, le-leb}
 use Rattle.scf_insn.proofs.Architectures.{reach}
@@ -22,13 +22,6 @@ are_words nr arch small_nr small_arch =
       each = (small_nr, (small_arch, (z, (z, (z, (z, (z, (z, (z, (z, (z, (z, (z, (z, (z, (z, tt))))))))))))))));
     }
 
-audit_fits : (a : Architecture) → (row_of a).audit < 2 ^ 32
-audit_fits X8664 = omega arith
-audit_fits X86 = omega arith
-audit_fits X32 = omega arith
-audit_fits Aarch64 = omega arith
-audit_fits Arm = omega arith
-
 -- an architecture's numbers that are in a range have records
 numbered : (a : Architecture) (first last nr : ℕ) → (row_of a).first ≤ nr → nr ≤ (row_of a).last
     → first ≤ nr → nr ≤ last → HasRecord (IsInScope (NumbersOf a first last))
@@ -38,7 +31,7 @@ numbered a first last nr from to above below =
     record {
       call = call_of (words_with nr (row_of a).audit);
       is_record = IsRecord-call_of (words_with nr (row_of a).audit)
-          (are_words nr (row_of a).audit small (audit_fits a));
+          (are_words nr (row_of a).audit small (reach a).audit);
       is_one = (record { arch = refl; first = from; last = to }, above, below);
     }
 

@@ -19,7 +19,7 @@ ghost use Rattle.scf_request.specs.Bundle.{
 };
 
 use crate::request::Scopes;
-use scf_insn::{Architecture, parse_numeral};
+use scf_insn::{ARCHITECTURES, Architecture, parse_numeral};
 use std::alloc::{AllocError, AllocFailed, Global};
 use thiserror::Error;
 
@@ -268,26 +268,22 @@ pub(crate) const PROFILE_KINDS: [PartKind; 5] = [
     PartKind::StubOf(Architecture::X8664),
 ];
 
+/// How many kinds of parts a bundle with a profile of several architectures has.
+const ARCHITECTURE_KINDS: usize = 3 + 2 * ARCHITECTURES;
+
 /// The kinds of parts of a bundle with a profile of several architectures.
-pub(crate) fn architecture_kinds() -> [PartKind; 13]
+pub(crate) fn architecture_kinds() -> [PartKind; ARCHITECTURE_KINDS]
     ensures { result ≡ spec.architecture_kinds }
 {
-    let [first, second, third, fourth, fifth] = Architecture::all();
-    [
-        PartKind::Filter,
-        PartKind::Profile,
-        PartKind::BesideProfile,
-        PartKind::TableOf(first),
-        PartKind::TableOf(second),
-        PartKind::TableOf(third),
-        PartKind::TableOf(fourth),
-        PartKind::TableOf(fifth),
-        PartKind::StubOf(first),
-        PartKind::StubOf(second),
-        PartKind::StubOf(third),
-        PartKind::StubOf(fourth),
-        PartKind::StubOf(fifth),
-    ]
+    let all = Architecture::all();
+    let mut kinds = [PartKind::Filter; ARCHITECTURE_KINDS];
+    kinds[1] = PartKind::Profile;
+    kinds[2] = PartKind::BesideProfile;
+    for i in 0..ARCHITECTURES {
+        kinds[3 + i] = PartKind::TableOf(all[i]);
+        kinds[3 + ARCHITECTURES + i] = PartKind::StubOf(all[i]);
+    }
+    kinds
 }
 
 /// Splits a bundle into its parts, each of one of these kinds, as `split` does with its own.

@@ -1,5 +1,6 @@
 use Rattle.scf_tool.proofs.Common.{Contains, behavior_of, sym, take_all, take_more}
-use Rattle.scf_tool.proofs.CallLemmas.{has_its_names, has_name, number_fits, one_finding_more}
+use Rattle.scf_insn.proofs.Architectures.{number_fits}
+use Rattle.scf_tool.proofs.CallLemmas.{has_its_names, has_name, one_finding_more}
 use Rattle.scf_tool.specs.Comparisons.{limit_of}
 use Rattle.scf_tool.proofs.findings.compare_calls.Goals as goal
 
