@@ -1,17 +1,17 @@
 /* scf_call_text: a call in words, by the names of scf's own tables. */
+#include "architectures.h"
 #include <scf.h>
 #include <stdio.h>
 #include <stdlib.h>
 #include <string.h>
 
+#define NAMED(of, file, text, first) {text, SCF_AUDIT_##of, first},
+
 /* By the number of the table, from 1. */
 static const struct {
     const char *name;
     uint32_t audit, first;
-} architectures[] = {
-    {"x86-64", SCF_AUDIT_X86_64, 0},   {"i386", SCF_AUDIT_X86, 0}, {"x32", SCF_AUDIT_X32, SCF_X32_BIT},
-    {"aarch64", SCF_AUDIT_AARCH64, 0}, {"arm", SCF_AUDIT_ARM, 0},
-};
+} architectures[] = {EACH_ARCHITECTURE(NAMED)};
 
 enum { COUNT = sizeof architectures / sizeof *architectures };
 

@@ -163,6 +163,12 @@ struct scf_call {
 #define SCF_AUDIT_X32 SCF_AUDIT_X86_64
 #define SCF_AUDIT_AARCH64 0xc00000b7u
 #define SCF_AUDIT_ARM 0x40000028u
+#define SCF_AUDIT_RISCV64 0xc00000f3u
+#define SCF_AUDIT_PPC64LE 0xc0000015u
+#define SCF_AUDIT_MIPSEL 0x40000008u
+#define SCF_AUDIT_MIPSEL64 0xc0000008u
+#define SCF_AUDIT_MIPSEL64N32 0xe0000008u
+#define SCF_AUDIT_LOONGARCH64 0xc0000102u
 #define SCF_X32_BIT 0x40000000u
 
 /* ---- one filter: its bytes are the kernel's struct sock_filter, 8 to an instruction, little-endian */
@@ -205,8 +211,17 @@ enum scf_architecture {
     SCF_TABLE_X86 = 2, /* i386 */
     SCF_TABLE_X32 = 3,
     SCF_TABLE_AARCH64 = 4,
-    SCF_TABLE_ARM = 5
+    SCF_TABLE_ARM = 5,
+    SCF_TABLE_RISCV64 = 6,
+    SCF_TABLE_PPC64LE = 7,
+    SCF_TABLE_MIPSEL = 8,
+    SCF_TABLE_MIPSEL64 = 9,
+    SCF_TABLE_MIPSEL64N32 = 10,
+    SCF_TABLE_LOONGARCH64 = 11
 };
+
+/* How many there are: their numbers are 1 and the following. */
+enum { SCF_ARCHITECTURES = SCF_TABLE_LOONGARCH64 };
 
 /* A syscall table gives the names of an architecture's syscalls their numbers; x32's has them without SCF_X32_BIT. runc
  * puts a stub before the filter that answers the numbers from `stub` on by ENOSYS (0x50026), whatever the profile says.

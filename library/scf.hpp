@@ -13,7 +13,19 @@
 namespace scf {
 
 enum class status : std::uint32_t { ok, refused, wrong_argument, no_memory };
-enum class architecture : std::uint32_t { x86_64 = 1, x86, x32, aarch64, arm };
+enum class architecture : std::uint32_t {
+    x86_64 = 1,
+    x86,
+    x32,
+    aarch64,
+    arm,
+    riscv64,
+    ppc64le,
+    mipsel,
+    mipsel64,
+    mipsel64n32,
+    loongarch64,
+};
 enum class relation : std::uint32_t { same, no_more, no_less, same_disposition };
 enum class verdict : std::uint32_t { none, holds, fails, undecided, unfinished };
 enum class reason : std::uint32_t { none, by_default, by_entry, foreign, by_stub };
@@ -66,7 +78,7 @@ inline struct scf_table with_stub(struct scf_table of, std::uint32_t first) {
 /* scf's own tables of all architectures. */
 inline std::vector<struct scf_table> own_tables() {
     std::vector<struct scf_table> all;
-    for (std::uint32_t number = 1; number <= static_cast<std::uint32_t>(architecture::arm); number++)
+    for (std::uint32_t number = 1; number <= SCF_ARCHITECTURES; number++)
         all.push_back(table_of(static_cast<architecture>(number)));
     return all;
 }

@@ -1,25 +1,18 @@
 /* scf_table: the files of tables/, as constants. */
+#include "architectures.h"
 #include <scf.h>
 
-#define TABLE(name, file)                                                                                              \
-    extern const uint8_t name[], name##_end[];                                                                         \
-    __asm__(".pushsection .rodata\n" #name ":\n.incbin \"" file ".table\"\n" #name "_end:\n.popsection")
+#define TABLE(of, file, text, first)                                                                                   \
+    extern const uint8_t file##_table[], file##_table_end[];                                                           \
+    __asm__(".pushsection .rodata\n" #file "_table:\n.incbin \"" #file ".table\"\n" #file "_table_end:\n.popsection");
 
-TABLE(x86_64_table, "x86_64");
-TABLE(i386_table, "i386");
-TABLE(x32_table, "x32");
-TABLE(aarch64_table, "aarch64");
-TABLE(arm_table, "arm");
+EACH_ARCHITECTURE(TABLE)
+
+#define ENDS(of, file, text, first) [SCF_TABLE_##of] = {file##_table, file##_table_end},
 
 const uint8_t *scf_table(uint32_t architecture, size_t *size) {
-    const uint8_t *at = NULL, *end = NULL;
-    switch (architecture) {
-    case SCF_TABLE_X86_64: at = x86_64_table, end = x86_64_table_end; break;
-    case SCF_TABLE_X86: at = i386_table, end = i386_table_end; break;
-    case SCF_TABLE_X32: at = x32_table, end = x32_table_end; break;
-    case SCF_TABLE_AARCH64: at = aarch64_table, end = aarch64_table_end; break;
-    case SCF_TABLE_ARM: at = arm_table, end = arm_table_end; break;
-    }
-    *size = at != NULL ? (size_t)(end - at) : 0;
-    return at;
+    static const uint8_t *const ends[SCF_ARCHITECTURES + 1][2] = {EACH_ARCHITECTURE(ENDS)};
+    const uint32_t of = architecture <= SCF_ARCHITECTURES ? architecture : 0;
+    *size = (size_t)(ends[of][1] - ends[of][0]);
+    return ends[of][0];
 }

@@ -13,7 +13,7 @@
 #include <string.h>
 #include <unistd.h>
 
-enum { TABLES = SCF_TABLE_ARM };
+enum { TABLES = SCF_ARCHITECTURES };
 static struct scf_bytes whole(const char *name) {
     static uint8_t room[2][1 << 22];
     static int next;

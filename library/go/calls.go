@@ -336,7 +336,7 @@ func Answers(side Side, scope Scope, limit uint64, tables ...Table) (regions []R
 
 // OwnTables are scf's own tables of all architectures.
 func OwnTables() (tables []Table) {
-	for architecture := X86_64; architecture <= Arm; architecture++ {
+	for architecture := X86_64; int(architecture) < len(architectures); architecture++ {
 		tables = append(tables, Table{Architecture: architecture, Text: SyscallTable(architecture)})
 	}
 	return tables

@@ -73,13 +73,28 @@ const (
 	X32                 // its table has its numbers without the bit 0x40000000
 	Aarch64
 	Arm
+	Riscv64
+	Ppc64le
+	Mipsel
+	Mipsel64
+	Mipsel64n32
+	Loongarch64
 )
+
+// By the numbers of architectures, from 1 on: their names, and AUDIT_ARCH_.. of linux/audit.h.
+var architectures = [...]struct {
+	name  string
+	audit uint32
+}{
+	{}, {"x86_64", 0xc000003e}, {"x86", 0x40000003}, {"x32", 0xc000003e}, {"aarch64", 0xc00000b7}, {"arm", 0x40000028},
+	{"riscv64", 0xc00000f3}, {"ppc64le", 0xc0000015}, {"mipsel", 0x40000008}, {"mipsel64", 0xc0000008},
+	{"mipsel64n32", 0xe0000008}, {"loongarch64", 0xc0000102},
+}
 
 // Audit is the Arch of its calls, AUDIT_ARCH_.. of linux/audit.h; 0 of a number that is none.
 func (a Architecture) Audit() uint32 {
-	audit := [...]uint32{0, 0xc000003e, 0x40000003, 0xc000003e, 0xc00000b7, 0x40000028}
-	if int(a) < len(audit) {
-		return audit[a]
+	if int(a) < len(architectures) {
+		return architectures[a].audit
 	}
 	return 0
 }
@@ -249,7 +264,10 @@ func nameOf(kind string, number, from uint32, names ...string) string {
 }
 
 func (a Architecture) String() string {
-	return nameOf("Architecture", uint32(a), 1, "x86_64", "x86", "x32", "aarch64", "arm")
+	if a != 0 && int(a) < len(architectures) {
+		return architectures[a].name
+	}
+	return nameOf("Architecture", uint32(a), 0)
 }
 
 func (r Relation) String() string {

@@ -219,7 +219,8 @@ func TestNames(t *testing.T) {
 	}{
 		{"ERRNO 1", Answer(retEperm)}, {"UNNAMED 0x7ffe0001", Answer(0x7ffe0001)}, {"ALLOW", Answer(retAllow).Action()},
 		{"fails", Fails}, {"Verdict(0)", Verdict(0)}, {"Verdict(9)", Verdict(9)}, {"same", Same}, {"no less", NoLess},
-		{"entry", ByEntry}, {"stub", ByStub}, {"crun", Crun}, {"arm", Arm}, {"NotListed", KindNotListed},
+		{"entry", ByEntry}, {"stub", ByStub}, {"crun", Crun}, {"arm", Arm}, {"loongarch64", Loongarch64},
+		{"Architecture(99)", Architecture(99)}, {"NotListed", KindNotListed},
 		{"Kind(99)", Kind(99)}, {"compare", SourceCompare},
 	} {
 		is(t, row.number.String(), row.name)
@@ -228,18 +229,19 @@ func TestNames(t *testing.T) {
 	if !strings.HasPrefix(text, "scf: fault profile Conflict number 308 first 1 second 10\nTwo entries, ") {
 		t.Error(text)
 	}
-	is(t, []uint32{X32.Audit(), Arm.Audit(), Architecture(9).Audit()}, []uint32{0xc000003e, 0x40000028, 0})
+	is(t, []uint32{X32.Audit(), Mipsel64n32.Audit(), Architecture(99).Audit()}, []uint32{0xc000003e, 0xe0000008, 0})
 }
 
 func TestTables(t *testing.T) {
 	for architecture, line := range map[Architecture]string{X86_64: "read 0", X86: "read 3", X32: "read 0",
-		Aarch64: "read 63", Arm: "read 3"} {
+		Aarch64: "read 63", Arm: "read 3", Riscv64: "read 63", Ppc64le: "read 3", Mipsel: "read 4003",
+		Mipsel64: "read 5000", Mipsel64n32: "read 6000", Loongarch64: "read 63"} {
 		text := string(SyscallTable(architecture))
 		if !strings.HasPrefix(text, "# ") || !strings.Contains(text, "\n"+line+"\n") {
 			t.Error(architecture, text)
 		}
 	}
-	is(t, SyscallTable(9), []byte(nil))
+	is(t, SyscallTable(99), []byte(nil))
 }
 
 // The thread that has the filter ends with the goroutine that is locked to it.

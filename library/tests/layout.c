@@ -22,7 +22,10 @@ int main(void) {
     SAME(args, args);
     if (sizeof(struct scf_call) != sizeof(struct seccomp_data)) return 1;
     if (SCF_AUDIT_X86_64 != AUDIT_ARCH_X86_64 || SCF_AUDIT_X86 != AUDIT_ARCH_I386 || SCF_AUDIT_X32 != AUDIT_ARCH_X86_64
-        || SCF_AUDIT_AARCH64 != AUDIT_ARCH_AARCH64 || SCF_AUDIT_ARM != AUDIT_ARCH_ARM)
+        || SCF_AUDIT_AARCH64 != AUDIT_ARCH_AARCH64 || SCF_AUDIT_ARM != AUDIT_ARCH_ARM
+        || SCF_AUDIT_RISCV64 != AUDIT_ARCH_RISCV64 || SCF_AUDIT_PPC64LE != AUDIT_ARCH_PPC64LE
+        || SCF_AUDIT_MIPSEL != AUDIT_ARCH_MIPSEL || SCF_AUDIT_MIPSEL64 != AUDIT_ARCH_MIPSEL64
+        || SCF_AUDIT_MIPSEL64N32 != AUDIT_ARCH_MIPSEL64N32 || SCF_AUDIT_LOONGARCH64 != AUDIT_ARCH_LOONGARCH64)
         return 1;
     STRUCT(bytes), FIELD(bytes, at), FIELD(bytes, len);
     STRUCT(call), FIELD(call, nr), FIELD(call, arch), FIELD(call, ip), FIELD(call, args);

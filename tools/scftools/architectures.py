@@ -24,16 +24,45 @@ NUMBERS = {f"{PREFIX}{name}": number for name, number in {
 OTHER_NAMES = {"I386": "X86", "AMD64": "X86_64", "ARM64": "AARCH64"}
 
 
+# In these numbers: the machine is little-endian, and has 64 bits.
+LITTLE_ENDIAN, WIDE = 0x40000000, 0x80000000
+
+
+@dataclass(frozen=True)
+class HeaderNumbering:
+    """How sources number an architecture's syscalls: what its header adds to some numbers, as far as the table has it;
+    whether it names a syscall by another one; and the ABIs of the kernel's table whose rows are its own."""
+
+    bases: tuple[tuple[str, int], ...] = ()
+    has_aliases: bool = False
+    abis: tuple[str, ...] = ()
+
+
 @dataclass(frozen=True)
 class Architecture:
-    """An architecture that scf judges, since a table of it comes with scf: its OCI name, what people call it, the kind
-    of its table in a bundle, what is added to a number of the table, and the bits of an argument."""
+    """An architecture that scf judges, since a table of it comes with scf: its OCI name and what people call it."""
 
     oci: str
     name: str
-    kind: str
+    # what is added to a number of the table, and the bits of an argument that are compared: those of libseccomp's
+    # ARCH_SIZE
     first: int = 0
     bits: int = 64
+    # how headers number its syscalls
+    numbering: HeaderNumbering = HeaderNumbering()
+    # Go's name of the machine whose own syscalls are its (GOARCH), and that machine's other architectures by the modes
+    # in which strace says that processes run (personality_names in its src/syscall.c)
+    machine: str | None = None
+    modes: tuple[tuple[str, str], ...] = ()
+    # the last two arguments of clone are swapped: CONFIG_CLONE_BACKWARDS of Linux
+    swaps_clone: bool = True
+    # its socketcall and ipc make the syscalls of sockets and System V IPC, too: sys_socketcall of libseccomp's arch-*.c
+    multiplexes: bool = False
+
+    @property
+    def kind(self) -> str:
+        """The kind of its table in a bundle."""
+        return "table" if self.oci == NATIVE else f"table-{self.oci.removeprefix(PREFIX).lower()}"
 
     @property
     def number(self) -> int:
@@ -50,22 +79,48 @@ class Architecture:
         """The greatest value of an argument."""
         return (1 << self.bits) - 1
 
+    @property
+    def register_bits(self) -> int:
+        """The bits of a register."""
+        return 64 if self.number & WIDE else 32
+
     def marked(self, text: str) -> str:
         """A text about a syscall of it, after its name if it isn't x86-64."""
         return text if self.oci == NATIVE else f"{self.name} {text}"
 
     @property
+    def source_name(self) -> str:
+        """Its name in those of files, and for `scf call-table`."""
+        return self.name.replace("-", "_")
+
+    @property
     def file(self) -> str:
         """The file of its table."""
-        return os.path.join(program.TOP, "tables", f"{self.name.replace('-', '_')}.table")
+        return os.path.join(program.TOP, "tables", f"{self.source_name}.table")
 
 
-# Those that scf judges, by OCI names, in scf's order.
+# Those that scf judges, by OCI names, in scf's order. The table of x32 has its numbers without __X32_SYSCALL_BIT; those
+# of mips begin at 4000, 5000 and 6000 (asm/unistd.h).
 JUDGED = {architecture.oci: architecture for architecture in (
-    Architecture(NATIVE, "x86-64", "table"), Architecture(I386, "i386", "table-x86", bits=32),
-    Architecture(X32, "x32", "table-x32", first=answers.FIRST_X32, bits=32),
-    Architecture(AARCH64, "aarch64", "table-aarch64"),
-    Architecture(ARM, "arm", "table-arm", bits=32))}
+    Architecture(NATIVE, "x86-64", numbering=HeaderNumbering(abis=("common", "64")), machine="amd64",
+                 modes=(("32 bit", I386), ("x32", X32)), swaps_clone=False),
+    Architecture(I386, "i386", bits=32, multiplexes=True),
+    Architecture(X32, "x32", first=answers.FIRST_X32, bits=32, swaps_clone=False,
+                 numbering=HeaderNumbering((("__X32_SYSCALL_BIT", 0),), abis=("common", "x32"))),
+    Architecture(AARCH64, "aarch64", machine="arm64", modes=(("32 bit", ARM),)),
+    Architecture(ARM, "arm", bits=32,
+                 numbering=HeaderNumbering((("__NR_SYSCALL_BASE", 0), ("__ARM_NR_BASE", 0x0F0000)), has_aliases=True)),
+    Architecture(f"{PREFIX}RISCV64", "riscv64", machine="riscv64"),
+    Architecture(f"{PREFIX}PPC64LE", "ppc64le", machine="ppc64le", multiplexes=True),
+    Architecture(f"{PREFIX}MIPSEL", "mipsel", bits=32, machine="mipsle", multiplexes=True,
+                 numbering=HeaderNumbering((("__NR_Linux", 4000),))),
+    Architecture(f"{PREFIX}MIPSEL64", "mipsel64", machine="mips64le",
+                 numbering=HeaderNumbering((("__NR_Linux", 5000),))),
+    Architecture(f"{PREFIX}MIPSEL64N32", "mipsel64n32", bits=32, machine="mips64p32le",
+                 numbering=HeaderNumbering((("__NR_Linux", 6000),))),
+    Architecture(f"{PREFIX}LOONGARCH64", "loongarch64", machine="loong64", swaps_clone=False))}
+# By the names that sources have of them.
+BY_SOURCE = {architecture.source_name: architecture for architecture in JUDGED.values()}
 
 
 def of_machine() -> str:
@@ -111,9 +166,17 @@ def name_in(text: str) -> str | None:
     return name if name in NUMBERS else None
 
 
+def _refuse_big_endian(name: str | None) -> None:
+    """Raises ToolError if an architecture is big-endian."""
+    if name in NUMBERS and not NUMBERS[name] & LITTLE_ENDIAN:
+        raise program.ToolError(f"{name} is big-endian: its filters and records have another byte order, which scf "
+                              "doesn't read")
+
+
 def judged_in(text: str | None) -> Architecture:
     """The architecture that a word names; without one this machine's own. Raises ToolError if scf doesn't judge it."""
     name = of_machine() if text is None else name_in(text)
+    _refuse_big_endian(name)
     if name not in JUDGED:
         raise program.ToolError(f"no table of the architecture '{text}': scf has those of "
                                 f"{', '.join(architecture.name for architecture in JUDGED.values())}")
@@ -122,8 +185,9 @@ def judged_in(text: str | None) -> Architecture:
 
 def number_in(text: str) -> str:
     """The number of an architecture, as scf takes it, given by a name, a number, or as in the audit log
-    (arch=c000003e, in hexadecimal). Raises ToolError if it is unknown or ambiguous."""
+    (arch=c000003e, in hexadecimal). Raises ToolError if it is unknown, ambiguous or big-endian."""
     name = name_in(text)
+    _refuse_big_endian(name)
     if name is not None:
         return hex(NUMBERS[name])
     if re.fullmatch("[0-9a-fA-F]{1,8}", text) and not text.isdecimal():

@@ -3,10 +3,11 @@ from __future__ import annotations
 
 from collections.abc import Iterable, Sequence
 
+from .architectures import JUDGED
 from .tables import Tables
 from .values import Pattern
 
-TABLES = ("table", "table-x86", "table-x32", "table-aarch64", "table-arm")
+TABLES = tuple(architecture.kind for architecture in JUDGED.values())
 # Of a table's architecture the first number that runc's stub answers.
 STUBS = tuple(f"stub-{table}" for table in TABLES)
 # The kinds of a filter and of a profile of the other side: `scf compare` reads them, filters with --beside.
@@ -15,7 +16,7 @@ PART_KINDS = ("filter", "profile", BESIDE, BESIDE_PROFILE, *TABLES, *STUBS)
 # The most bytes that scf reads; it refuses a longer bundle.
 LONGEST_BUNDLE = 1 << 24
 # How a bundle begins, and no filter, no text of one and no profile does.
-BEGINNING = Pattern(rb"(?:filter|beside|(?:beside-)?profile|(?:stub-)?table(?:-x86|-x32|-aarch64|-arm)?) ")
+BEGINNING = Pattern(f"(?:{'|'.join(PART_KINDS)}) ".encode())
 
 
 def bundle(parts: Iterable[tuple[str, bytes]]) -> bytes:

@@ -1,9 +1,8 @@
 """Arguments of syscalls, of which kind each is, and constants of C, by which they are given and shown: AF_INET.
 
 tables/x86_64.arguments says how many arguments each syscall has and of which kind, and tables/x86_64.constants which
-constants an argument may be. The constants' numbers on x86-64 are those of tables/arguments.symbols. Some have another
-number on i386, x32, aarch64 or arm, or none (tables/arguments.unlike). For further architectures no constant is known.
-"""
+constants an argument may be. The constants' numbers on x86-64 are those of tables/arguments.symbols. On some other
+architectures some have another number, or none (tables/arguments.unlike). For further ones no constant is known. """
 from __future__ import annotations
 
 import bisect
@@ -14,7 +13,7 @@ import re
 from collections.abc import Sequence
 
 from . import architectures, program, tables
-from .architectures import AARCH64, ARM, I386
+from .architectures import I386
 from .values import Pattern, dataclass, field
 
 # Of an argument the kernel reads 32 bits or fewer; a whole register; an address.
@@ -24,10 +23,10 @@ HALF, WHOLE, ADDRESS = "i", "w", "p"
 SWAPPED = ("clone",)
 SPLIT_SYSCALLS = (*SWAPPED, "fadvise64", "fallocate", "fanotify_mark", "pread64", "pwrite64", "readahead",
                   "sync_file_range")
-OTHER_KINDS = {AARCH64: SWAPPED, ARM: SPLIT_SYSCALLS, I386: (*SPLIT_SYSCALLS, "mmap", "select")}
+OTHER_KINDS = {**{name: SPLIT_SYSCALLS if row.register_bits == 32 else SWAPPED
+                  for name, row in architectures.JUDGED.items() if row.swaps_clone},
+               I386: (*SPLIT_SYSCALLS, "mmap", "select")}
 C_IDENTIFIER = Pattern(r"[A-Za-z_]\w*", re.A)
-# Architectures whose registers have 32 bits.
-NARROW = I386, ARM
 
 
 @functools.lru_cache(None)
@@ -78,8 +77,9 @@ def number_of(name: str, architecture: str) -> int:
     unlike = _unlike().get(architecture)
     shown = architecture.removeprefix(architectures.PREFIX).lower()
     if unlike is None:
-        raise program.ToolError(f"constants are known for x86-64, i386, x32, aarch64 and arm: for {shown}, give the "
-                              f"number of '{name}'")
+        *first, last = (row.name for oci, row in architectures.JUDGED.items() if oci in _unlike())
+        raise program.ToolError(f"constants are known for {', '.join(first)} and {last}: for {shown}, give the number "
+                                f"of '{name}'")
     if name not in numbers():
         near = tables.most_like(name.upper(), numbers())
         raise program.ToolError(f"no constant is known by the name '{name}'"
@@ -97,7 +97,8 @@ def _part(text: str, whole: str, architecture: str) -> int:
 
 
 def _width(architecture: str) -> int:
-    return 32 if architecture in NARROW else 64
+    row = architectures.JUDGED.get(architecture)
+    return 64 if row is None else row.register_bits
 
 
 def _negative(text: str, architecture: str) -> str | None:

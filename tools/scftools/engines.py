@@ -12,7 +12,6 @@ from collections.abc import Callable, Iterator, Sequence
 
 from . import architectures, output, profiles
 from .answers import ACTIONS_WITH_DATA, Answer
-from .architectures import AARCH64, NATIVE
 from .profiles import NUMBER_TYPE, SECCOMP, TEXT_TYPE, VERSION_TYPE, Origin, where_in
 from .values import Any, dataclass, field
 
@@ -32,7 +31,7 @@ CAPABILITIES = (
 ).split()
 # The machines that engines resolve profiles for: their names in `arches`, and the OCI names of their own syscalls, in
 # `archMap` and `architectures`.
-MACHINE_NAMES = {"amd64": NATIVE, "arm64": AARCH64}
+MACHINE_NAMES = {row.machine: oci for oci, row in architectures.JUDGED.items() if row.machine}
 
 
 def machine_here() -> str:

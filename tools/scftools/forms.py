@@ -39,6 +39,9 @@ NOT_FILTERS = (
      ": `scf dis` prints one that is taken"),
     (rb"\s*(?:---\s*\n)?(?:apiVersion|kind):", "YAML", OF_PROFILE),
 )
+# The instructions of a big-endian machine: the upper byte of the code, which is 0, stands first. No little-endian one
+# begins so.
+BIG_ENDIAN = Pattern(rb"\0[^\0].{6}(?:\0.{7})*", re.S)
 
 
 @dataclass(frozen=True)
@@ -170,6 +173,8 @@ def is_text(data: bytes) -> bool:
 def form_of(data: bytes, label: str) -> Filter | None:
     """The form of a filter that isn't raw, or None if the bytes are to be judged as they are. `label` names the input.
     Raises ToolError if they are known to be something else, or can be read in two ways."""
+    if BIG_ENDIAN.fullmatch(data):
+        raise program.ToolError(f"{label} is a filter of a big-endian machine: scf doesn't read its byte order")
     for begins, what, hint in NOT_FILTERS:
         if re.match(begins, data):
             raise program.ToolError(f"{label} is {what}, not a filter{hint}")

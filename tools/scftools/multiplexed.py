@@ -1,6 +1,7 @@
-"""i386 syscalls that socketcall and ipc make too, and the rules that libseccomp gives for these beside a profile's own.
+"""Syscalls that socketcall and ipc make too, on i386 and other architectures that have both, and the rules that
+libseccomp gives for these beside a profile's own.
 
-For each rule of such a syscall libseccomp adds one of socketcall or ipc (its x86_rule_add): argument 0 is the syscall's
+For each rule of such a syscall libseccomp adds one of socketcall or ipc (its abi_rule_add): argument 0 is the syscall's
 number there, in place of a condition on argument 0, and the other conditions stay. A rule of socketcall or ipc itself
 without conditions covers them.
 """
@@ -9,7 +10,7 @@ from __future__ import annotations
 from collections.abc import Callable, Iterator
 
 from .answers import Answer
-from .architectures import I386
+from .architectures import JUDGED
 from .engines import MAX_RULES, Refused
 from .values import Any
 
@@ -24,9 +25,13 @@ CALL_NUMBERS = {
 }
 
 
-def is_multiplexed(name: str) -> bool:
-    """Whether socketcall or ipc makes a syscall, too."""
-    return any(name in numbers for numbers in CALL_NUMBERS.values())
+# The OCI names of the architectures that have both.
+ARCHITECTURES = [oci for oci, row in JUDGED.items() if row.multiplexes]
+
+
+def is_multiplexed(name: str, architecture: str) -> bool:
+    """Whether socketcall or ipc makes a syscall of an architecture, too."""
+    return architecture in ARCHITECTURES and any(name in numbers for numbers in CALL_NUMBERS.values())
 
 
 def rules_of(entry: dict[str, Any], most: int | None = None) -> Iterator[dict[str, Any]]:
@@ -45,12 +50,12 @@ def rules_of(entry: dict[str, Any], most: int | None = None) -> Iterator[dict[st
 
 def with_rules(profile: dict[str, Any], note: Callable[[str], None] = lambda _: None,
                most: int | None = None) -> tuple[dict[str, Any], list[int]]:
-    """A resolved profile with the entries that libseccomp makes for i386, each behind its own, and for each entry the
-    index of its own; at most so many conditions of an entry are read. Engines pass on no entry whose answer is the
-    default's."""
+    """A resolved profile with the entries of socketcall and ipc that libseccomp makes, each behind its own, and for
+    each entry the index of its own; at most so many conditions of an entry are read. Engines pass on no entry whose
+    answer is the default's."""
     entries_of = profile["syscalls"]
-    if I386 not in profile.get("architectures", ()):
-        note(f"no rule of socketcall or ipc is added: architectures lacks {I386}")
+    if set(ARCHITECTURES).isdisjoint(profile.get("architectures", ())):
+        note(f"no rule of socketcall or ipc is added: architectures has none of {', '.join(ARCHITECTURES)}")
         return profile, list(range(len(entries_of)))
     default = Answer.of_profile(profile["defaultAction"], profile.get("defaultErrnoRet"))
     differs = [Answer.of_profile(entry["action"], entry.get("errnoRet")) != default for entry in entries_of]

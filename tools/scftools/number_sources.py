@@ -5,7 +5,8 @@ import re
 
 from . import libseccomp, program
 from .answers import FIRST_X32
-from .values import Pattern, dataclass, field
+from .architectures import BY_SOURCE, HeaderNumbering
+from .values import Pattern
 
 # A number, one with something added to it, or another syscall's name.
 VALUE = r"([0-9]+)|\([ \t]*(\w+)[ \t]*\+[ \t]*([0-9]+)[ \t]*\)|__NR_([A-Za-z_]\w*)"
@@ -15,27 +16,10 @@ HEADER_COMMENT = Pattern(r"/\*.*?(?:\*/|\Z)|//[^\n]*", re.S)
 SYSCALL_NAME = Pattern(r"[A-Za-z_]\w*", re.A)
 # The first row that isn't empty and no comment.
 FIRST_LINE = Pattern(r"^[ \t\r]*([^ \t\r\n#][^\n]*)", re.M)
-# A count, and names in capital letters, such as SYSCALL_BASE, are no syscalls.
-COUNT = "syscalls"
+# A count, numbers that mips reserves, and names in capital letters, such as SYSCALL_BASE, are no syscalls.
+NO_SYSCALL = Pattern(r"syscalls|(?:reserved|unused)[0-9]+|[^a-z]*")
 
 
-@dataclass(frozen=True)
-class HeaderNumbering:
-    """How sources number an architecture's syscalls: what its header adds to some numbers, as far as the table has it;
-    whether it names a syscall by another one; and the ABIs of the kernel's table whose rows are its own."""
-
-    bases: dict[str, int] = field(default_factory=dict)
-    has_aliases: bool = False
-    abis: tuple[str, ...] = ()
-
-
-# asm/unistd_64.h, unistd_32.h and unistd_x32.h of x86, unistd_64.h of arm64, unistd-eabi.h and unistd.h of arm. A table
-# of x32 has the numbers without __X32_SYSCALL_BIT.
-NUMBERINGS = {
-    "x86_64": HeaderNumbering(abis=("common", "64")), "i386": HeaderNumbering(),
-    "x32": HeaderNumbering({"__X32_SYSCALL_BIT": 0}, abis=("common", "x32")), "aarch64": HeaderNumbering(),
-    "arm": HeaderNumbering({"__NR_SYSCALL_BASE": 0, "__ARM_NR_BASE": 0x0F0000}, has_aliases=True),
-}
 # The numbers that are asked of libseccomp; x86-64's end far below.
 MOST_NUMBERS = 4096
 
@@ -54,13 +38,14 @@ def of_header(text: str, numbering: HeaderNumbering) -> dict[str, int]:
     """The syscalls of a header such as asm/unistd_64.h: its lines `#define __NR_NAME NUMBER`."""
     bare = HEADER_COMMENT.sub(lambda match: "\n" if "\n" in match[0] else " ", text)
     calls: dict[str, int] = {}
+    bases = dict(numbering.bases)
     for name, digits, base, more, alias in DEFINE.findall(bare):
-        if name == COUNT or name.isupper():
+        if NO_SYSCALL.fullmatch(name):
             continue
         if digits:
             _add(calls, name, digits)
-        elif base in numbering.bases:
-            _add(calls, name, more, numbering.bases[base])
+        elif base in bases:
+            _add(calls, name, more, bases[base])
         elif numbering.has_aliases and alias in calls:
             _add(calls, name, str(calls[alias]))
     return calls
@@ -87,7 +72,7 @@ def of_source_table(text: str, numbering: HeaderNumbering) -> dict[str, int]:
 
 def calls_of(data: bytes, architecture: str = "x86_64") -> dict[str, int]:
     """The syscalls of an architecture in a header, or in a table if no line defines anything."""
-    text, numbering = data.decode("utf-8", "surrogateescape"), NUMBERINGS[architecture]
+    text, numbering = data.decode("utf-8", "surrogateescape"), BY_SOURCE[architecture].numbering
     calls = of_header(text, numbering)
     first = FIRST_LINE.search(text)
     if not calls and numbering.abis and first and re.match(r"[0-9]+[ \t]+[A-Za-z0-9]+[ \t]", first[1]):

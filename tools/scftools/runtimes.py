@@ -258,7 +258,7 @@ class _Application:
             table = tables.of_architecture(architecture)
             absent = frozenset(name for name in names if (self.number_of(name, architecture) or 0) < 0
                                and table is not None and table.number_of(name) is not None
-                               and not (architecture == multiplexed.I386 and multiplexed.is_multiplexed(name)))
+                               and not multiplexed.is_multiplexed(name, architecture))
             if absent:
                 data.absent = {**data.absent, architecture: absent}
         return data

@@ -7,7 +7,7 @@ from collections.abc import Callable, Iterable, Iterator, Sequence
 
 from . import libseccomp, multiplexed, output, program, tables
 from .answers import Answer
-from .architectures import I386, JUDGED, NATIVE
+from .architectures import JUDGED, NATIVE
 from .entries import Condition
 from .values import dataclass, field
 
@@ -128,7 +128,7 @@ def lines_of(data: bytes) -> Iterator[tuple[int, str]]:
 def _number_in_tables(name: str, architecture: str) -> int:
     table = tables.of_architecture(architecture)
     number = None if table is None else table.number_of(name)
-    return -1 if number is None or architecture == I386 and multiplexed.is_multiplexed(name) else number
+    return -1 if number is None or multiplexed.is_multiplexed(name, architecture) else number
 
 
 def knows() -> Knows:

@@ -9,7 +9,7 @@ import re
 from collections.abc import Callable, Iterator
 
 from . import constants, inputs, multiplexed, output, program
-from .architectures import AARCH64, ARM, I386, JUDGED, NATIVE, X32
+from .architectures import I386, JUDGED, NATIVE, X32
 from .tables import Table
 from .values import Pattern, dataclass, field
 
@@ -22,10 +22,8 @@ LONGEST_LOG, LONGEST_LINE, LONGEST_BEGINNING, LONGEST_ARGUMENT = 1 << 30, 1 << 1
 PENDING, MOST_REMEMBERED, LEFT, PROCESSES = 10000, 1000, 100000, 1 << 20
 # At most so many processes that are creating one are considered for the architecture of a new process.
 MAKERS = 100
-# The modes of a machine's processes as strace calls them (personality_names in its src/syscall.c), each with its
-# architecture.
+# The mode in which processes of a machine's own architecture run, as strace calls it.
 OWN_MODE = "64 bit"
-MODES_OF_MACHINES = ({OWN_MODE: NATIVE, "32 bit": I386, "x32": X32}, {OWN_MODE: AARCH64, "32 bit": ARM})
 # The greatest value of an argument by architectures.
 GREATEST_ARGUMENTS = {name: architecture.greatest for name, architecture in JUDGED.items()}
 # What comes before a syscall: a process, a time, the instruction pointer and the syscall number (strace(1): -f, -Y; -t,
@@ -58,7 +56,7 @@ COMMENT_MARK = Pattern(r"/\*|\*/")
 # Where strace's order isn't that of the registers: clone's arguments have names. Of others fewer than these are shown:
 # without one half of an offset, or by an operation; unknown flags of IPC are printed as one number with what follows.
 CLONE = {"flags": 0, "child_stack": 1, "parent_tid": 2, "parent_tidptr": 2, "child_tidptr": 3, "tls": 4}
-# On other architectures than x86-64 and x32 the last two are swapped (CONFIG_CLONE_BACKWARDS in arch/Kconfig of Linux).
+# On other architectures the last two are swapped (CONFIG_CLONE_BACKWARDS in arch/Kconfig of Linux).
 CLONE_BACKWARDS = {**CLONE, "tls": 3, "child_tidptr": 4}
 REGISTER_ORDER = {"preadv2": (6, (0, 1, 2, 3, 5)), "pwritev2": (6, (0, 1, 2, 3, 5)), "futex": (6, (0, 1)),
                   "ptrace": (4, (0, 1)),
@@ -69,7 +67,8 @@ SPLIT = {"_llseek": 1, "arm_fadvise64_64": 1, "arm_sync_file_range": 1, "fadvise
          "fallocate": 2, "fanotify_mark": 2, "ftruncate64": 1, "lookup_dcookie": 0, "mmap2": 5, "pread64": 3,
          "preadv": 3, "preadv2": 3, "pwrite64": 3, "pwritev": 3, "pwritev2": 3, "readahead": 1, "sync_file_range": 1,
          "sync_file_range2": 1, "truncate64": 1}
-WHOLE_ARGUMENTS = {I386: {**SPLIT, "mmap": 0, "select": 0}, ARM: SPLIT, X32: {"preadv2": 4, "pwritev2": 4}}
+WHOLE_ARGUMENTS = {**{name: SPLIT for name, row in JUDGED.items() if row.bits == 32},
+                   I386: {**SPLIT, "mmap": 0, "select": 0}, X32: {"preadv2": 4, "pwritev2": 4}}
 # Of a mode the lower 16 bits are shown, in octal digits.
 OCTAL = Pattern(r"(?:\A|\|)0[0-7]")
 MEMBER_MARK = Pattern(r" *([a-z_]+)=")
@@ -170,7 +169,7 @@ def _in_registers(name: str, printed: list[str], architecture: str = NATIVE) -> 
     """The printed arguments by the registers that hold them."""
     named = [MEMBER_MARK.match(argument) for argument in printed]
     if any(named):
-        clone = CLONE if architecture in (NATIVE, X32) else CLONE_BACKWARDS
+        clone = CLONE_BACKWARDS if JUDGED[architecture].swaps_clone else CLONE
         pairs = [(match[1], text[match.end():]) for match, text in zip(named, printed) if match and name == "clone"]
         return {clone[key]: value for key, value in pairs if key in clone}
     count, order = REGISTER_ORDER.get(name, (0, ()))
@@ -199,7 +198,8 @@ def registers_in(text: str, name: re.Match[str], architecture: str = NATIVE, is_
 
 def modes_of(architecture: str) -> dict[str, str]:
     """The modes of processes, by strace's names, and their architectures, on a machine that has this one."""
-    return next(modes for modes in MODES_OF_MACHINES if architecture in modes.values())
+    machine = next((oci for oci, row in JUDGED.items() if architecture in dict(row.modes).values()), architecture)
+    return {OWN_MODE: machine, **dict(JUDGED[machine].modes)}
 
 
 @dataclass
@@ -296,11 +296,11 @@ class Log:
         return int(without_name[1], 16) if without_name else self.tables[architecture].number_of(name)
 
     def _numbered(self, architecture: str, name: str) -> dict[str, int]:
-        """The syscalls that strace prints by a name, and their numbers: on i386 it prints what socketcall and ipc do by
-        its own name. They are kept for the names that have a number."""
+        """The syscalls that strace prints by a name, and their numbers: what socketcall and ipc do it prints by its own
+        name. They are kept for the names that have a number."""
         numbered = self._known.get((architecture, name))
         if numbered is None:
-            multiplexers = multiplexed.CALL_NUMBERS.items() if architecture == I386 else ()
+            multiplexers = multiplexed.CALL_NUMBERS.items() if architecture in multiplexed.ARCHITECTURES else ()
             names = [name, *(multiplexer for multiplexer, its in multiplexers if name in its)]
             numbers = {syscall: self.number_of(architecture, syscall) for syscall in names}
             numbered = {syscall: number for syscall, number in numbers.items() if number is not None}

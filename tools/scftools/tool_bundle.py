@@ -2,12 +2,12 @@
 
     scf bundle KIND FILE [KIND FILE ..]
 
-KIND is filter, profile or table, or for scf's `--architectures` table-x86, table-x32, table-aarch64 or table-arm; for
-`scf compare` beside, a filter of the other side (with --beside), or beside-profile, a profile beside the first. FILE is
-a file or a pipe, by whatever name (/dev/stdin is standard input, `-` a file of that name). A stub-table, stub-table-x86
-or the like is a decimal number without a line end: from it on runc's stub answers the numbers of that table's
-architecture with ENOSYS. Each part is a header, `KIND COUNT` and a newline, and then the COUNT bytes of its file. The
-parts stand in the order of the arguments.
+KIND is filter, profile or table, or for scf's `--architectures` table-x86, table-aarch64 or the like, the table of
+SCMP_ARCH_X86, SCMP_ARCH_AARCH64 ..; for `scf compare` beside, a filter of the other side (with --beside), or
+beside-profile, a profile beside the first. FILE is a file or a pipe, by whatever name (/dev/stdin is standard input,
+`-` a file of that name). A stub-table, stub-table-x86 or the like is a decimal number without a line end: from it on
+runc's stub answers the numbers of that table's architecture with ENOSYS. Each part is a header, `KIND COUNT` and a
+newline, and then the COUNT bytes of its file. The parts stand in the order of the arguments.
 
 scf compares a bundle over all records, unless --architectures is given; `scf compare` compares files on each
 architecture that the profile names. So the same filter and profile can be `same` by files and `differs` by a bundle.
@@ -25,8 +25,8 @@ import sys
 from . import bundles, inputs, output, program
 
 USAGE = """usage: {} KIND FILE [KIND FILE ..]
-KIND is filter, profile or table, or for another architecture than x86-64 table-x86, table-x32, table-aarch64
-or table-arm; beside and beside-profile are of the other side of `scf compare`; stub-table, stub-table-x86 .. is the
+KIND is filter, profile or table, or for another architecture than x86-64 table-x86, table-aarch64 or the like, after
+its OCI name; beside and beside-profile are of the other side of `scf compare`; stub-table, stub-table-x86 .. is the
 first number of a table's architecture that runc answers with ENOSYS. FILE is a file or a pipe. Prints the parts, each
 after a header `KIND COUNT`.
 scf compares a bundle over all records, unless --architectures is given; `scf compare` compares files on each

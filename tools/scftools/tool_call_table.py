@@ -10,9 +10,10 @@ x32), a name and entry points. Without HEADER, or if it is `-`, standard input i
 knows, so that an engine can be judged by the names that its own library has. --comment begins the table with the line
 `# TEXT`, which scf skips.
 
---architecture is x86_64, i386, x32, aarch64 or arm. The headers are asm/unistd_32.h, asm/unistd_x32.h (the table has
-its numbers without 0x40000000), asm/unistd_64.h of arm64, and both asm/unistd-eabi.h and asm/unistd.h of arm. Debian's
-linux-libc-dev has all of them since 6.12, below /usr/lib/linux/uapi.
+Headers for --architecture are asm/unistd_32.h, asm/unistd_x32.h (the table has its numbers without 0x40000000),
+asm/unistd_64.h of arm64, riscv, powerpc and loongarch, asm/unistd_o32.h, unistd_n64.h and unistd_n32.h of mips, and
+both asm/unistd-eabi.h and asm/unistd.h of arm. Debian's linux-libc-dev has all of them since 6.12, below
+/usr/lib/linux/uapi.
 
 Exit status: 0 success; 2 usage error, or a header that is malformed or longer than 4 MiB; 3 there is no libseccomp, or
 the output failed.
@@ -22,15 +23,15 @@ Examples:
     scf call-table unistd_64.h >x86_64.table
     scf call-table --comment 'of this kernel' - <unistd_64.h
 """
-from . import inputs, number_sources, output, program, words
+from . import architectures, inputs, number_sources, output, program, words
 
 
 def read_words():
     parser = words.Parser(__doc__)
     parser.add_argument("--comment", metavar="TEXT", help="begin with the line `# TEXT`")
     parser.add_argument("--libseccomp", action="store_true", help="the syscalls that the installed libseccomp knows")
-    parser.add_argument("--architecture", metavar="NAME", choices=tuple(number_sources.NUMBERINGS), default="x86_64",
-                        help=f"whose syscalls the header has: {', '.join(number_sources.NUMBERINGS)} [default: x86_64]")
+    parser.add_argument("--architecture", metavar="NAME", choices=tuple(architectures.BY_SOURCE), default="x86_64",
+                        help=f"whose syscalls the header has: {', '.join(architectures.BY_SOURCE)} [default: x86_64]")
     parser.add_argument("headers", metavar="HEADER", nargs="*",
                         help="a kernel header, or syscall_64.tbl; - is standard input [default: -]")
     options = parser.parse_args()

@@ -16,12 +16,13 @@ taken; then each syscall in the tables that differs, as with --calls, with its a
 x86-64. With --json one object is printed instead, which says the same; --html also writes it as a page without scripts,
 which replaces FILE at once.
 
-The syscalls of each architecture that the profile names are compared, as far as scf has a table of it: x86-64, i386,
-x32, aarch64 and arm. A profile without a list is for x86-64. --native compares x86-64's alone, whatever the profile
-names, and --calls each syscall that a table names by itself. If the filters allow any i386 or x32 syscall that isn't
-compared, a line after the verdict says so. --all compares each possible record, also for architectures and numbers that
-no kernel has. If a syscall decides then whose architecture the profile names and scf has no table of, the first line is
-`undetermined: the profile is for this architecture, too`. --table FILE takes the place of x86-64's table.
+The syscalls of each architecture that the profile names are compared, as far as scf has a table of it: of the
+little-endian ones (`scf call-table -h` names them). A profile without a list is for x86-64. --native compares x86-64's
+alone, whatever the profile names, and --calls each syscall that a table names by itself. If the filters allow any i386
+or x32 syscall that isn't compared, a line after the verdict says so. --all compares each possible record, also for
+architectures and numbers that no kernel has. If a syscall decides then whose architecture the profile names and scf has
+no table of, the first line is `undetermined: the profile is for this architecture, too`. --table FILE takes the place
+of x86-64's table.
 
 Without --limit all comparisons together have 6 seconds of CPU time. What isn't decided by then is `unfinished`. What
 tests leave `undecided` takes more splits: --splits N.

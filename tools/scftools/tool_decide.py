@@ -5,9 +5,9 @@
     scf decide --expect ROWS [--arch ARCH] [--ip N] [--a0 N] .. [--table FILE] [--json] FILTER..
 
 The filters stand oldest first; each may be a file or a pipe, and one input `-` for standard input. A syscall is given
-by its number, or by its name in the table; with --arch i386, x32, aarch64 or arm by its name there. An argument is a
-number, which may be negative, or constants of C joined by `|`, such as CLONE_NEWUSER|SIGCHLD. A line of --calls-from is
-a number or a name, followed by any arguments from the first on; a line that begins with `#` is a comment. For each
+by its number, or by its name in the table; with --arch by its name in that architecture's. An argument is a number,
+which may be negative, or constants of C joined by `|`, such as CLONE_NEWUSER|SIGCHLD. A line of --calls-from is a
+number or a name, followed by any arguments from the first on; a line that begins with `#` is a comment. For each
 syscall scf's line comes first; the lines after it are marked by `# `: the syscall, what the answer does, which of
 several filters gives it, and the path through that filter, the indexes of the instructions that ran, from 0 on (3-7
 stands for three or more in a row). If several filters give the answer, it is the path through the newest of them, whose

@@ -25,7 +25,7 @@ where it stands in the logs.
 Each syscall is judged in the architecture of the process that makes it. Audit records name it, and strace says which
 processes don't run in the machine's 64-bit mode. All else is taken as of this machine's own architecture, or, if
 PROFILE doesn't list that, of the first that it lists; --arch names another one, and --table is its table. A line about
-a syscall of i386, x32, aarch64 or arm begins with that name. If PROFILE doesn't list an architecture, none of its
+a syscall of another architecture than x86-64 begins with its name. If PROFILE doesn't list an architecture, none of its
 syscalls is allowed: engines' filters kill for them, and scf's answer is `KILL_PROCESS 0 foreign`. strace prints what an
 i386 program does by socketcall or ipc by its own name, such as socket; without -n both syscalls are judged.
 

@@ -15,10 +15,10 @@ A profile has an entry for each answer and the syscalls that always get it, and 
 Ranges and bits that no operator compares as a whole are several entries, each with a mask. Numbers that the table
 doesn't name get the default action.
 
-The profile is for this machine's own architecture, such as x86-64. It also lists each other one, of i386, x32, aarch64
-and arm, for which scf proves the same, with entries for names that x86-64 lacks; but none whose syscalls the filters
-all kill. Standard error names those that it lists, and others of which the filters allow some syscall. With --arch the
-profile is for one architecture alone; conditions of i386, x32 and arm are on the lower half of an argument:
+The profile is for this machine's own architecture, such as x86-64. It also lists each other one of scf's tables for
+which scf proves the same, with entries for names that x86-64 lacks; but none whose syscalls the filters all kill.
+Standard error names those that it lists, and others of which the filters allow some syscall. With --arch the profile is
+for one architecture alone; where its arguments have 32 bits, conditions are on the lower half:
 
     scf profile-of --arch i386 filter.bpf
 

@@ -9,8 +9,8 @@ The FILTERs form one stack, oldest first; with --pid it is that of a running pro
 distinct stack of its threads has a block of its own. Each syscall in the table is always allowed, always denied, always
 delegated (to a supervisor or tracer), or it depends on the arguments; then an example of each is shown. The first line
 counts them. The next lines say whether any syscall of another ABI is allowed, with the same counts of an ABI of which
-one is, and how many numbers that the table doesn't name are allowed. With --arch all this is said of i386, x32, aarch64
-or arm. Then come the syscalls by purpose (tables/calls.groups), on a terminal as a table, otherwise a line each: the
+one is, and how many numbers that the table doesn't name are allowed. With --arch all this is said of that architecture
+alone. Then come the syscalls by purpose (tables/calls.groups), on a terminal as a table, otherwise a line each: the
 group, the disposition, the number, the names, and an answer. --beside shows the syscalls that differ under another
 stack of filters; it stands last. --html writes the same as a page without scripts, which replaces FILE at once.
 

@@ -6,7 +6,8 @@ import sys
 import types
 from collections.abc import Iterable
 
-from . import client, output, program, standard_input, tables, verdicts
+from . import architectures, client, output, program, standard_input, tables, verdicts
+from .architectures import JUDGED
 from .values import Any, NoReturn, Pattern
 
 # argparse imports gettext, and looks for translations of its messages at each start: the tools have none.
@@ -16,8 +17,8 @@ sys.modules.setdefault("gettext", types.SimpleNamespace(  # type: ignore
 import argparse  # noqa: E402 pylint: disable=wrong-import-position
 
 
-ARCH_HELP = ("the architecture of the syscalls{}, and of the table if none is given: x86-64, i386, x32, aarch64 or arm "
-             "[default: this machine's{}]")
+ARCH_HELP = ("the architecture of the syscalls{}, and of the table if none is given: "
+             f"{', '.join(architectures.names_of(list(JUDGED)))} [default: this machine's{{}}]")
 # Options that few need, which -h leaves out, and the most others that it shows.
 COMMON, MOST_IN_SHORT = ("--color", "--limit", "--splits", "--strict", "--table", "--version"), 5
 OBJECT_NAME, LONGEST_OBJECT_NAME = Pattern(r"[a-z0-9]([-a-z0-9]*[a-z0-9])?(\.[a-z0-9]([-a-z0-9]*[a-z0-9])?)*"), 253
@@ -56,8 +57,9 @@ SHARED: dict[str, dict[str, Any]] = {
                      "help": "of two answers to a syscall, both without conditions, keep the first that isn't the "
                              "default's, as runc and crun do"},
     **{f"--{name}": {"metavar": "N", "help": text} for name, text in client.LIMIT_OPTIONS.items()},
-    "--machine": {"choices": ("amd64", "arm64"),
-                  "help": "the machine for whose containers an engine's profile is resolved [default: this one]"},
+    "--machine": {"choices": tuple(row.machine for row in JUDGED.values() if row.machine), "metavar": "NAME",
+                  "help": "the machine for whose containers an engine's profile is resolved, as Go calls it: "
+                          f"{', '.join(row.machine for row in JUDGED.values() if row.machine)} [default: this one]"},
     "--native": {"action": "store_true", "help": "x86-64 alone, whatever architectures the profile names"},
     "--strict": {"action": "store_true",
                  "help": "refuse a profile with members that nothing reads, which may be misspelt"},

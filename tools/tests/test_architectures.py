@@ -49,14 +49,23 @@ class Numbers(unittest.TestCase):
                              ("AUDIT_ARCH_I386", I386), ("0x40000003", I386), ("1073741827", I386),
                              ("x86_64", X86_64), ("x86-64", X86_64), ("c000003e", X86_64), ("C000003E", X86_64),
                              ("x32", X86_64), ("SCMP_ARCH_X32", X86_64), ("aarch64", 0xC00000B7),
-                             ("arm64", 0xC00000B7), ("c00000b7", 0xC00000B7), ("f", 15), ("0", 0), ("20", 20)):
+                             ("arm64", 0xC00000B7), ("c00000b7", 0xC00000B7), ("riscv64", 0xC00000F3),
+                             ("ppc64le", 0xC0000015), ("mipsel", 0x40000008), ("mipsel64", 0xC0000008),
+                             ("AUDIT_ARCH_MIPSEL64N32", 0xE0000008), ("SCMP_ARCH_LOONGARCH64", 0xC0000102), ("f", 15),
+                             ("0", 0), ("20", 20)):
             self.assertEqual(int(architectures.number_in(text), 0), number, text)
 
-    def test_what_is_ambiguous_or_unknown(self):
+    def test_what_is_ambiguous_unknown_or_big_endian(self):
+        big_endian = "is big-endian: its filters and records have another byte order, which scf doesn't read"
         for text, says in (("40000003", "write 0x40000003 for SCMP_ARCH_X86, as the audit log has it, or 0x2625a03 "
                                         "for the decimal number"),
                            ("40000028", "0x40000028 for SCMP_ARCH_ARM"), ("80000016", "0x80000016 for SCMP_ARCH_S390X"),
-                           ("i387", "unknown architecture 'i387'"), ("SCMP_ARCH_", "unknown architecture")):
+                           ("i387", "unknown architecture 'i387'"), ("SCMP_ARCH_", "unknown architecture"),
+                           *((name, f"{oci} {big_endian}") for name, oci in (
+                               ("s390x", "SCMP_ARCH_S390X"), ("s390", "SCMP_ARCH_S390"), ("ppc64", "SCMP_ARCH_PPC64"),
+                               ("ppc", "SCMP_ARCH_PPC"), ("AUDIT_ARCH_MIPS", "SCMP_ARCH_MIPS"),
+                               ("mips64", "SCMP_ARCH_MIPS64"), ("mips64n32", "SCMP_ARCH_MIPS64N32"),
+                               ("SCMP_ARCH_PARISC", "SCMP_ARCH_PARISC")))):
             with self.assertRaises(program.ToolError) as caught:
                 architectures.number_in(text)
             self.assertIn(says, str(caught.exception))
@@ -100,7 +109,7 @@ class Words(Case):
     def test_a_name_is_that_of_the_architecture(self):
         """socket is 359 on i386, 41 of x32, and 198 on aarch64 (asm/unistd*.h)."""
         calls = self.file("calls", b"socket 2\n")
-        for word in ("0", "s390x", "0xffffffff"):
+        for word in ("0", "sh", "0xffffffff"):
             for words in (("decide", "--nr=socket", self.i386), ("run", "--nr=socket", self.i386),
                           ("list", "--nr=socket", self.i386), ("ask", "--nr=socket", self.profile),
                           ("decide", "--calls-from", calls, self.i386)):

@@ -253,11 +253,12 @@ class Table(Case):
 
 
 class OtherTables(Case):
-    """tables/i386.table, x32.table, aarch64.table and arm.table."""
+    """The tables of other architectures."""
 
-    # What libseccomp 2.5.4 lacks though it knows newer ones: x86-64's alone, which x32's header has, too, and a second
-    # name of a number.
-    LACKING = {"X32": {"uretprobe", "uprobe", "map_shadow_stack"}, "ARM": {"sync_file_range2"}}
+    # What libseccomp 2.5.4 lacks though it knows greater numbers: x86-64's alone, which x32's header has, too, a second
+    # name of a number, and what Linux 6.4 added.
+    LACKING = {"X32": {"uretprobe", "uprobe", "map_shadow_stack"}, "ARM": {"sync_file_range2"},
+               "RISCV64": {"riscv_hwprobe"}}
 
     @unittest.skipUnless(ctypes.util.find_library("seccomp"), "there is no libseccomp here")
     def test_libseccomp_says_the_same(self):
@@ -268,18 +269,21 @@ class OtherTables(Case):
         resolve.restype, resolve.argtypes = ctypes.c_char_p, [ctypes.c_uint32, ctypes.c_int]
         number_of = library.seccomp_syscall_resolve_name_arch
         number_of.restype, number_of.argtypes = ctypes.c_int, [ctypes.c_uint32, ctypes.c_char_p]
-        # SCMP_ARCH_X32 is EM_X86_64 and __AUDIT_ARCH_LE (seccomp.h)
-        for name, token, least in (("X86", I386, 430), ("X32", 0x4000003E, 350), ("AARCH64", AARCH64, 300),
-                                   ("ARM", ARM, 400)):
+        # SCMP_ARCH_X32 is EM_X86_64 and __AUDIT_ARCH_LE (seccomp.h); mips counts from a number of its own
+        for name, token, least, base in (
+                ("X86", I386, 430, 0), ("X32", 0x4000003E, 350, 0), ("AARCH64", AARCH64, 300, 0), ("ARM", ARM, 400, 0),
+                ("RISCV64", 0xC00000F3, 300, 0), ("PPC64LE", 0xC0000015, 380, 0), ("MIPSEL", 0x40000008, 400, 4000),
+                ("MIPSEL64", 0xC0000008, 340, 5000), ("MIPSEL64N32", 0xE0000008, 360, 6000)):
             table, bit = tables.of_architecture(f"SCMP_ARCH_{name}"), X32 if name == "X32" else 0
-            its = {number: resolve(token, number | bit) for number in (*range(1000), *range(0xF0000, 0xF0010))}
+            its = {number: resolve(token, number | bit)
+                   for number in (*range(base, base + 1000), *range(0xF0000, 0xF0010))}
             its = {number: each.decode() for number, each in its.items() if each is not None}
             self.assertGreater(len(its), least, name)
             # all count the newest ones alike, below x32's own from 512 on
-            highest_known, newest = (max(number for number in numbers if number < 512)
+            highest_known, newest = (max(number for number in numbers if number < base + 512)
                                      for numbers in (its, table.numbers()))
             self.assertEqual({number: each for number, each in its.items() if each not in table.names_of(number)
-                              and not newest < number < 512}, {}, name)
+                              and not newest < number < base + 512}, {}, name)
             alone = {each for each in table.names() if table.number_of(each) <= highest_known} - set(its.values())
             self.assertEqual(alone - self.LACKING.get(name, set()), set(), name)
             theirs = {each: number_of(token, each.encode()) for each in table.names()}
@@ -296,6 +300,16 @@ class OtherTables(Case):
             table = dict(rows(os.path.join(TOP, "tables", f"{name}.table")))
             self.assertEqual([row for row in here if table.get(row[0], row[1]) != row[1]], [])
             self.assertLess(len([row for row in here if row[0] not in table]), 2)
+
+    def test_three_have_the_numbers_of_asm_generic(self):
+        """libseccomp 2.5.4 doesn't know loongarch64; what aarch64 and riscv64 have, too, has the same number there."""
+        numbers = {name: dict(rows(os.path.join(TOP, "tables", f"{name}.table")))
+                   for name in ("aarch64", "riscv64", "loongarch64")}
+        for name in ("riscv64", "loongarch64"):
+            shared = {call for call in numbers[name] if call in numbers["aarch64"]}
+            self.assertGreater(len(shared), 315)
+            self.assertEqual([call for call in shared if numbers[name][call] != numbers["aarch64"][call]], [])
+            self.assertEqual([call for call in numbers[name] if call not in shared and "riscv" not in call], [])
 
     def test_their_names_are_known(self):
         """Each is one of x86-64, or stands among those that only other architectures have."""

@@ -123,7 +123,7 @@ class Arguments(Case):
                                    ("i386", "O_DIRECT", os.O_DIRECT), ("aarch64", "O_CREAT", os.O_CREAT)):
             self.assertEqual(self.call("--arch", arch, f"--a0={text}")["arguments"][0], hex(number), (arch, text))
         for arch, text, says in (("aarch64", "O_DIRECT", "O_DIRECT isn't the same on aarch64 as on x86-64"),
-                                 ("s390x", "AF_INET", "constants are known for x86-64, i386, x32, aarch64 and arm"),
+                                 ("sh", "AF_INET", "constants are known for x86-64, i386, x32, aarch64 and arm: for sh"),
                                  ("i386", "-0x80000001", "more than 32 bits")):
             status, out, err = self.run_tool("decide", "--nr=0", "--arch", arch, f"--a0={text}", self.any)
             self.assertEqual((status, out), (2, ""))
@@ -283,7 +283,8 @@ class OtherArchitectures(Case):
                              (("--arch=arm", "--nr=0xf0002"), "cacheflush (983042) of the architecture arm"),
                              (("--arch=x32", "--nr=520"), "execve (0x40000000 + 520), an x32 syscall"),
                              (("--arch=x32", "--nr=500"), "number 1073742324 (0x40000000 + 500), an x32 syscall"),
-                             (("--arch=s390x", "--nr=1"), "number 1 of the architecture 0x80000016")):
+                             (("--arch=mipsel", "--nr=read"), "read (4003) of the architecture mipsel"),
+                             (("--arch=sh", "--nr=1"), "number 1 of the architecture 0x4000002a")):
             self.assertIn(f"# the syscall is {shown}\n", self.run_tool("decide", *words, asks)[1])
 
     def test_a_name_that_is_not_there(self):
@@ -292,8 +293,8 @@ class OtherArchitectures(Case):
                                                                 "name is 'socketcall'"),
                             (("--nr=SYS_raed",), "the table has no syscall 'SYS_raed'; the nearest name is 'read'"),
                             (("--nr=READ",), "the table has no syscall 'READ'; the nearest name is 'read'"),
-                            (("--arch=s390x", "--nr=read"), "there is no table of --arch s390x: give the number of "
-                                                            "'read'")):
+                            (("--arch=sh", "--nr=read"), "there is no table of --arch sh: give the number of 'read'"),
+                            (("--arch=s390x", "--nr=1"), "SCMP_ARCH_S390X is big-endian")):
             status, out, err = self.run_tool("decide", *words, asks)
             self.assertEqual((status, out), (2, ""))
             self.assertIn(says, err)

@@ -344,7 +344,7 @@ class Names(unittest.TestCase):
                 self.assertIn(name, words, page)
 
     # What docs/ARCHITECTURE.md says how to add, and how files name the example of each.
-    ADDED = {"An architecture": r'\bArm\b|arch_arm\b|table-arm\b|(?:\b|_)ARM\b|"arm"|aarch64, arm \}',
+    ADDED = {"An architecture": r'(?m)\bArm\b|arch_arm\b|table-arm\b|(?:\b|_)ARM\b|"arm"|^    arm,$',
              "An action": r'\bTrap\b|(?i:ret_trap)\b|"(?:[A-Z_]+ )*TRAP[" ]|\bKILL_THREAD, TRAP,',
              "A fault": r"\bEmptyNames\b|_EMPTY_NAMES\b"}
 

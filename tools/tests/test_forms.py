@@ -211,6 +211,8 @@ class Tools(Case):
                            (b" line  CODE  JT   JF      K\n=====\n 0000: 0x20 0x00 0x00 0x00000004  A = arch\n",
                             "is a disassembly of seccomp-tools, not a filter: `seccomp-tools dump -f raw` writes"),
                            (b"#\n# pseudo filter code start\n#\n", "libseccomp's pseudo code"),
+                           (struct.pack(">HBBIHBBI", 0x20, 0, 0, 4, 0x06, 0, 0, ALLOW),
+                            "is a filter of a big-endian machine: scf doesn't read its byte order"),
                            (b"0  ld [4]  // the architecture\n", "is a listing of `scf list`"),
                            (b">  0  ld [4]  // the architecture\n", "is a listing of `scf list`")):
             path = self.file("x", data)

@@ -75,13 +75,13 @@ class Multiplexed(Case):
         given = profile(entry("socket"), entry("socketcall", action=ERRNO, errnoRet=2), entry("bind", action=ERRNO))
         self.assertEqual(self.added(given), [])
 
-    def test_only_for_i386(self):
+    def test_only_where_there_are_both(self):
         for architectures in ([], [NATIVE], [NATIVE, X32]):
             given = profile(entry("socket"), architectures=architectures)
             resolved, remarks = self.resolved(given)
             self.assertEqual(resolved["syscalls"], given["syscalls"])
-            self.assertEqual(remarks, "resolve-profile: no rule of socketcall or ipc is added: architectures lacks "
-                                   "SCMP_ARCH_X86\n")
+            self.assertEqual(remarks, "resolve-profile: no rule of socketcall or ipc is added: architectures has none "
+                                      "of SCMP_ARCH_X86, SCMP_ARCH_PPC64LE, SCMP_ARCH_MIPSEL\n")
 
     def test_with_a_runtime(self):
         """Of two conditions on an argument each is an entry of its own there."""

@@ -569,9 +569,9 @@ class InArchitectures(Judgement):
             **arm, "syscalls": [{"names": ["look"], "action": ALLOW}]})[0], 0)
 
     def test_what_is_refused(self):
-        status, out, err = self.needs("read(3) = 1", "--arch", "riscv64")
+        status, out, err = self.needs("read(3) = 1", "--arch", "sh")
         self.assertEqual((status, out), (2, ""))
-        self.assertIn("no table of the architecture 'riscv64'", err)
+        self.assertIn("no table of the architecture 'sh'", err)
         # entries that conflict on i386 alone are no matter as long as the log has none of its calls
         odd = {**self.PROFILE, "syscalls": [{"names": ["read"], "action": ALLOW}, *(
             {"names": ["mmap2"], "action": action} for action in (ALLOW, "SCMP_ACT_LOG"))]}

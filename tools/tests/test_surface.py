@@ -438,8 +438,8 @@ class Program(Case):
             self.assertEqual(counted in lines, word in ("i386", "x32"), lines[:4])
         status, _, err = self.run_tool("surface", "--arch", "sparc", self.file("f", ret(ALLOW)))
         self.assertEqual((status, err),
-                         (2, "surface: no table of the architecture 'sparc': scf has those of x86-64, i386, "
-                                            "x32, aarch64, arm\n"))
+                         (2, "surface: no table of the architecture 'sparc': scf has those of x86-64, i386, x32, "
+                             "aarch64, arm, riscv64, ppc64le, mipsel, mipsel64, mipsel64n32, loongarch64\n"))
         status, _, err = self.run_tool("surface", "--arch", "i386", self.file("f", ret(ALLOW)), "--beside", "f")
         self.assertEqual((status, "either --arch or --beside" in err), (2, True))
 

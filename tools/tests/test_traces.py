@@ -187,18 +187,20 @@ class Lines(unittest.TestCase):
                          ({"read": 2, "syscall_0x3e7": 1}, 1, 1, 12))
 
     def test_records_of_other_architectures(self):
-        """linux/audit.h: AUDIT_ARCH_I386, _AARCH64, _ARM and _RISCV64. An x32 number has 0x40000000 added. By the
-        headers openat is 295 on i386, 56 on aarch64, 322 on arm and 257 on x32."""
+        """linux/audit.h: AUDIT_ARCH_I386, _AARCH64, _ARM, _RISCV64, _MIPSEL and _S390X. An x32 number has 0x40000000
+        added. By the headers openat is 295 on i386, 56 on aarch64 and riscv64, 322 on arm, 257 on x32 and 4288 on
+        mipsel."""
         for arch, number, name in (("40000003", 295, "i386"), ("c00000b7", 56, "aarch64"), ("40000028", 322, "arm"),
                                    ("c000003e", 0x40000000 + 257, "x32"), ("i386", "openat", "i386"),
-                                   ("aarch64", "openat", "aarch64")):
+                                   ("aarch64", "openat", "aarch64"), ("c00000f3", 56, "riscv64"),
+                                   ("40000008", 4288, "mipsel")):
             for own in (architectures.NATIVE, architectures.AARCH64):
                 found, log = made_in(SYSCALL.format(arch, number, "ffffffffffffff9c"), (0, 4), own)
-                expected = 0xFFFFFFFFFFFFFF9C if name == "aarch64" else 0xFFFFFF9C
+                expected = 0xFFFFFFFFFFFFFF9C if name in ("aarch64", "riscv64") else 0xFFFFFF9C
                 self.assertEqual((found, log.foreign.count), ({(name, "openat", (expected,), None): 1}, 0))
             record = RECORD.format(number).replace("c000003e", arch)
             self.assertEqual(made_in(f"audit: type=1326 audit(1.0:2): {record}")[0], {(name, "openat"): 1})
-        found, log = made_in(SYSCALL.format("40000003", 999, "0") + "\n" + SYSCALL.format("c00000f3", 56, "0"))
+        found, log = made_in(SYSCALL.format("40000003", 999, "0") + "\n" + SYSCALL.format("80000016", 56, "0"))
         self.assertEqual((found, log.foreign.count), ({("i386", "syscall_0x3e7"): 1}, 1))
 
     def test_logs_of_another_machine(self):
@@ -300,7 +302,7 @@ class Words(Case):
         """By the headers of each open is 5 and socket 359 on i386, and openat 56 on aarch64."""
         log = self.file("log", "\n".join(SYSCALL.format(*it) for it in (
             ("c000003e", 0, 3), ("40000003", 3, 3), ("40000003", 5, 3), ("40000003", 359, "28"), ("40000003", 359, "2"),
-            ("c00000b7", 56, 3), ("c00000f3", 56, 3))))
+            ("c00000b7", 56, 3), ("80000016", 56, 3))))
         rules = [{"names": ["read", "openat"], "action": ALLOW},
                  {"names": ["socket"], "action": ALLOW, "args": [{"index": 0, "op": "SCMP_CMP_NE", "value": 40}]}]
         lines = {"i386": "i386 5 open ERRNO 1 default\n# once in line 3 of the log\n"

@@ -60,12 +60,13 @@ class Reading(enum.IntEnum):
 class Architecture(enum.IntEnum):
     """Whose syscalls a table numbers. X86 is i386; X32's table has its numbers without the bit 0x40000000."""
 
-    X86_64, X86, X32, AARCH64, ARM = range(1, 6)
+    X86_64, X86, X32, AARCH64, ARM, RISCV64, PPC64LE, MIPSEL, MIPSEL64, MIPSEL64N32, LOONGARCH64 = range(1, 12)
 
     @property
     def audit(self) -> int:
         """The `arch` of its calls: AUDIT_ARCH_.. of linux/audit.h."""
-        return (0xC000003E, 0x40000003, 0xC000003E, 0xC00000B7, 0x40000028)[self - 1]
+        return (0xC000003E, 0x40000003, 0xC000003E, 0xC00000B7, 0x40000028, 0xC00000F3, 0xC0000015, 0x40000008,
+                0xC0000008, 0xE0000008, 0xC0000102)[self - 1]
 
 
 class Action(enum.IntEnum):

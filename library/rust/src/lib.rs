@@ -105,6 +105,18 @@ pub enum Architecture {
     Aarch64 = 4,
     /// 32-bit arm.
     Arm = 5,
+    /// 64-bit RISC-V.
+    Riscv64 = 6,
+    /// 64-bit PowerPC, little-endian.
+    Ppc64le = 7,
+    /// MIPS o32, little-endian.
+    Mipsel = 8,
+    /// MIPS n64, little-endian.
+    Mipsel64 = 9,
+    /// MIPS n32, little-endian.
+    Mipsel64n32 = 10,
+    /// 64-bit LoongArch.
+    Loongarch64 = 11,
 }
 
 impl Architecture {
@@ -115,6 +127,12 @@ impl Architecture {
             Architecture::X86 => 0x4000_0003,
             Architecture::Aarch64 => 0xc000_00b7,
             Architecture::Arm => 0x4000_0028,
+            Architecture::Riscv64 => 0xc000_00f3,
+            Architecture::Ppc64le => 0xc000_0015,
+            Architecture::Mipsel => 0x4000_0008,
+            Architecture::Mipsel64 => 0xc000_0008,
+            Architecture::Mipsel64n32 => 0xe000_0008,
+            Architecture::Loongarch64 => 0xc000_0102,
         }
     }
 }
@@ -256,7 +274,7 @@ pub fn ask(profile: &Profile, tables: &[Table], call: &Call) -> Result<ProfileAn
 pub fn own_tables() -> Vec<Table<'static>> {
     use Architecture::*;
     let own = |architecture| Table { architecture, text: table(architecture), stub: None };
-    [X86_64, X86, X32, Aarch64, Arm].map(own).to_vec()
+    [X86_64, X86, X32, Aarch64, Arm, Riscv64, Ppc64le, Mipsel, Mipsel64, Mipsel64n32, Loongarch64].map(own).to_vec()
 }
 
 /// The syscall table that scf has of an architecture. Its first line says of which kernel it is.

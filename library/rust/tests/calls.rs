@@ -182,6 +182,8 @@ fn audit_values() {
     use Architecture::*;
     let values = [X86_64, X86, X32, Aarch64, Arm].map(Architecture::audit);
     assert_eq!(values, [0xc000_003e, 0x4000_0003, 0xc000_003e, 0xc000_00b7, 0x4000_0028]);
+    let later = [Riscv64, Ppc64le, Mipsel, Mipsel64, Mipsel64n32, Loongarch64].map(Architecture::audit);
+    assert_eq!(later, [0xc000_00f3, 0xc000_0015, 0x4000_0008, 0xc000_0008, 0xe000_0008, 0xc000_0102]);
 }
 
 #[test]

@@ -19,6 +19,18 @@ ARCHITECTURES = {
         "read": 63, "write": 64, "both": 1, "native": 5, "personality": 92, "clone": 220, "far": 220}),
     "SCMP_ARCH_ARM": (0x40000028, 0, 0xFFFFFFFF, 32, "table-arm", {
         "read": 3, "both": 3, "write": 4, "mine": 0xF0002, "personality": 136, "clone": 120}),
+    "SCMP_ARCH_RISCV64": (0xC00000F3, 0, 0xFFFFFFFF, 64, "table-riscv64", {
+        "read": 63, "write": 64, "also": 64, "native": 5, "personality": 92, "clone": 220, "mine": 259}),
+    "SCMP_ARCH_PPC64LE": (0xC0000015, 0, 0xFFFFFFFF, 64, "table-ppc64le", {
+        "read": 3, "both": 3, "write": 4, "far": 471, "personality": 136, "clone": 120}),
+    "SCMP_ARCH_MIPSEL": (0x40000008, 0, 0xFFFFFFFF, 32, "table-mipsel", {
+        "read": 4003, "write": 4004, "also": 4004, "far": 4471, "personality": 4136, "clone": 4120}),
+    "SCMP_ARCH_MIPSEL64": (0xC0000008, 0, 0xFFFFFFFF, 64, "table-mipsel64", {
+        "read": 5000, "write": 5001, "both": 5001, "mine": 5194, "personality": 5132, "clone": 5055}),
+    "SCMP_ARCH_MIPSEL64N32": (0xE0000008, 0, 0xFFFFFFFF, 32, "table-mipsel64n32", {
+        "read": 6000, "write": 6001, "native": 6001, "both": 6194, "personality": 6132, "clone": 6055}),
+    "SCMP_ARCH_LOONGARCH64": (0xC0000102, 0, 0xFFFFFFFF, 64, "table-loongarch64", {
+        "read": 63, "write": 64, "far": 64, "also": 5, "personality": 92, "clone": 220}),
 }
 # "nowhere" is a name that no table has.
 NAMES = sorted({"nowhere", *(name for row in ARCHITECTURES.values() for name in row[5])})

@@ -1,0 +1,106 @@
+"""Filters that libseccomp makes for other machines' architectures: compared with their profile, and asked beside what
+scf compiles and what the profile says."""
+import json
+import os
+import subprocess
+import sys
+
+from support import seccomp_library
+from support.common import CORE, TOP, Case, part
+from support.seccomp_library import NEEDED, Library
+
+sys.path.append(os.path.join(TOP, "tools"))
+
+from scftools import architectures  # noqa: E402
+
+NATIVE = "SCMP_ARCH_X86_64"
+# (libseccomp 2.5.4 knows no loongarch64)
+NAMES = [name for name in seccomp_library.TOKENS if name not in (NATIVE, "SCMP_ARCH_X86", "SCMP_ARCH_X32")]
+HIGH, CLONE_NEWUSER = 1 << 32, 0x10000000
+# Syscalls and arguments on both sides of each condition; the upper half counts where arguments have 64 bits.
+CALLS = ("read", "socket", "personality 8", "personality 9", f"personality {HIGH + 8}", "clone 17",
+         f"clone {CLONE_NEWUSER}", f"clone {HIGH}", "ioctl 0 21522", "ioctl 0 21521", f"ioctl 0 {HIGH + 21522}",
+         "lseek 0 0 7", "lseek 0 0 8", f"lseek 0 0 {HIGH}", "exit_group", "prctl 1", "4095", "0xffffffff")
+
+
+def condition(index, op, value, two=0):
+    return {"index": index, "op": f"SCMP_CMP_{op}", "value": value, "valueTwo": two}
+
+
+def profile_for(name):
+    entries = (("ALLOW", "read", ()), ("ALLOW", "exit_group", ()), ("ALLOW", "personality", (condition(0, "EQ", 8),)),
+               ("ALLOW", "clone", (condition(0, "MASKED_EQ", CLONE_NEWUSER),)),
+               ("LOG", "ioctl", (condition(1, "NE", 21522),)), ("TRAP", "lseek", (condition(2, "GT", 7),)))
+    return {"defaultAction": "SCMP_ACT_ERRNO", "architectures": [NATIVE, name], "syscalls": [
+        {"names": [called], "action": f"SCMP_ACT_{action}", "args": list(args)} for action, called, args in entries]}
+
+
+class Filters(Case):
+    def setUp(self):
+        super().setUp()
+        self.library = Library()
+
+    def each(self):
+        """The architectures, their profiles, and what libseccomp makes of these."""
+        for name in NAMES:
+            profile = profile_for(name)
+            yield (architectures.JUDGED[name], self.file(f"{name}.json", json.dumps(profile)),
+                   self.file(f"{name}.bpf", self.library.filter_of(profile)))
+
+    def compiled(self, name):
+        """What scf itself makes of the profile."""
+        tables = [architectures.JUDGED[each] for each in (NATIVE, name)]
+        parts = [part("profile", json.dumps(profile_for(name)).encode())]
+        for architecture in tables:
+            with open(architecture.file, "rb") as file:
+                parts.append(part(architecture.kind, file.read()))
+        done = subprocess.run([*CORE, "compile", "--architectures"], input=b"".join(parts), stdout=subprocess.PIPE,
+                              check=True)
+        return self.file(f"{name}.compiled.bpf", done.stdout)
+
+    @NEEDED
+    def test_they_answer_as_the_profile_says(self):
+        for architecture, profile, made in self.each():
+            status, out, _ = self.run_tool("compare", made, profile)
+            self.assertEqual((status, out.split("\n")[0]), (0, "same"), architecture.name)
+            self.assertEqual(self.run_tool("compare", self.compiled(architecture.oci), profile)[:2], (0, "same\n"))
+
+    @NEEDED
+    def test_a_changed_one_differs_on_both_architectures(self):
+        for architecture, profile, _ in self.each():
+            changed = profile_for(architecture.oci)
+            changed["syscalls"][0]["names"].append("getpid")
+            made = self.file("changed.bpf", self.library.filter_of(changed))
+            status, out, _ = self.run_tool("compare", "--json", made, profile)
+            self.assertEqual((status, [(call.get("architecture"), call["names"]) for call in json.loads(out)["calls"]]),
+                             (1, [(None, ["getpid"]), (architecture.name, ["getpid"])]))
+
+    @NEEDED
+    def test_each_call(self):
+        """What ask says is what the filters of libseccomp and of scf answer."""
+        calls = self.file("calls", "".join(f"{call}\n" for call in CALLS))
+        for architecture, profile, made in self.each():
+            words = ("--json", f"--arch={architecture.name}", "--calls-from", calls)
+            answers = [[call["answer"] for call in json.loads(self.run_tool(*command)[1])["calls"]]
+                       for command in (("ask", *words, profile), ("decide", *words, made),
+                                       ("decide", *words, self.compiled(architecture.oci)))]
+            self.assertEqual(answers[0], answers[1], architecture.name)
+            self.assertEqual(answers[0], answers[2], architecture.name)
+            self.assertGreater(len({json.dumps(answer) for answer in answers[0]}), 3)
+            # the upper half of an argument counts where it has 64 bits
+            of_call = dict(zip(CALLS, answers[0]))
+            self.assertEqual(of_call["personality 8"] == of_call[f"personality {HIGH + 8}"], architecture.bits == 32)
+
+    @NEEDED
+    def test_multiplexed_syscalls(self):
+        """libseccomp adds rules of socketcall and ipc for them, and so does resolve-profile."""
+        for name in ("SCMP_ARCH_X86", "SCMP_ARCH_PPC64LE", "SCMP_ARCH_MIPSEL"):
+            profile = profile_for(name)
+            profile["syscalls"] += [
+                {"names": ["socket"], "action": "SCMP_ACT_ALLOW", "args": [condition(1, "EQ", 2)]},
+                {"names": ["shmget"], "action": "SCMP_ACT_ALLOW"}]
+            made, alone = self.library.filter_of(profile), self.file("alone.json", json.dumps(profile))
+            status, resolved, _ = self.run_tool("resolve-profile", "--multiplexed", alone)
+            statuses = [self.run_tool("compare", self.file("made.bpf", made), path)[0]
+                        for path in (alone, self.file("resolved.json", resolved))]
+            self.assertEqual((status, statuses), (0, [1, 0]), name)
