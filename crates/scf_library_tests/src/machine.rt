@@ -2,9 +2,11 @@
 
 use crate::fixtures::filters::{DIVIDED_BY_0, STORED_BOTH_WAYS, STORED_ONE_WAY};
 use crate::fixtures::kernel::{ALLOW, X86_64};
-use crate::fixtures::{call, holds_at, holds_of, insn, push_answer};
+use crate::fixtures::{call, holds_at, holds_of, insn, push_answer, stack_of};
 use scf_insn::{Answer, CallRecord, Insn};
-use scf_machine::{CheckFault, FilterStack, Program, check, decide, run, with_newest};
+use scf_machine::{
+    CheckFault, Decision, FilterStack, Program, check, decide, decision_of, run, with_newest,
+};
 use scf_text::assemble;
 use std::alloc::Global;
 use std::process::Abort;
@@ -210,5 +212,55 @@ fn stacked(rt: &impl Abort, alloc: Global, answers: &[u32], wanted: Answer) {
 fn decisions_of_stacks(rt: HostRuntime) {
     for (answers, wanted) in decisions() {
         stacked(&rt, rt.alloc(), answers, Answer(*wanted));
+    }
+}
+
+/// Stacks of filters, what they answer to a call of number 0, and which instruction of which filter says so.
+const DECIDED_BY: &[(&[(&'static str, &'static str)], u32, Option<(usize, usize)>)] = &[
+    (&[], ALLOW, None),
+    (&[("ld [0]; ", "ret #0x7fff0000")], ALLOW, Some((0, 1))),
+    (
+        &[
+            ("", "ret #0x00050001"),
+            ("ld [0]; jeq #0, 0, 1; ", "ret #0x00050001; ret #0x7fff0000"),
+            ("", "ret #0x7fff0000"),
+        ],
+        0x0005_0001,
+        Some((1, 2)),
+    ),
+    (
+        &[("ld #1; ldx #0; ", "div x; ret a"), ("", "ret #0x00050001")],
+        0,
+        Some((0, 2)),
+    ),
+];
+
+fn decided_by() -> &'static [(
+    &'static [(&'static str, &'static str)],
+    u32,
+    Option<(usize, usize)>,
+)] {
+    DECIDED_BY
+}
+
+/// Whether a decision is this answer, by this instruction of a filter or by none.
+fn is_decision(decision: &Decision, answer: u32, by: &Option<(usize, usize)>) -> bool {
+    let is_by = match (&decision.by, by) {
+        (Some(insn), Some((filter, index))) => insn.filter == *filter && insn.index == *index,
+        (None, None) => true,
+        _ => false,
+    };
+    is_by && decision.answer == Answer(answer)
+}
+
+#[test]
+fn instructions_that_decide(rt: HostRuntime) {
+    let call = call(0, X86_64, [0; 6]);
+    for (index, (filters, answer, by)) in decided_by().iter().enumerate() {
+        let stack = stack_of(&rt, rt.alloc(), filters);
+        let decision = stack.decision(&call);
+        holds_at(&rt, is_decision(&decision, *answer, by), index);
+        let decision = decision_of(stack.filters(), &call);
+        holds_at(&rt, is_decision(&decision, *answer, by), index);
     }
 }

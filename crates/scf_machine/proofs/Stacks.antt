@@ -1,5 +1,6 @@
 -- What a stack answers, one filter after another.
-use Rattle.scf_machine.proofs.Common.{cases_eq, ◌≡◌, ◌↔◌, ℕ, zero, suc, ◌+◌, ◌<◌, ◌≤◌, ◌≤ℤ◌, ◌<ℤ◌, List, [], ◌∷◌, ◌++◌, Some, refl, ap, subst, arith, length, get_or, take, reverse, All, slice_get, ints, take_more, take_all, reverse-append, length-reverse, get_or-reverse, Contains, ◌-◌, Insn, rank_of, IsNamed, IsNoMorePermissive, action_half, action_of, nat_tests, seccomp_ret_allow, RunAnswers, IsFilter, IsFirstLeast, IsDecision, AreAnswers, StackAnswers, with_newest}
+use Rattle.scf_machine.proofs.Common.{cases_eq, cases_lt, sym, inl, inr, Option, None, Bool, true, false, if◌then◌else◌, int_lt, length-append, length-take, slice_get_within, ◌≡◌, ◌↔◌, ℕ, zero, suc, ◌+◌, ◌<◌, ◌≤◌, ◌≤ℤ◌, ◌<ℤ◌, List, [], ◌∷◌, ◌++◌, Some, refl, ap, subst, arith, length, get_or, take, reverse, All, slice_get, ints, take_more, take_all, reverse-append, length-reverse, get_or-reverse, Contains, ◌-◌, Insn, rank_of, IsNamed, IsNoMorePermissive, action_half, action_of, nat_tests, seccomp_ret_allow, EndsAt, IsRun, RunAnswers, IsFilter, DecidingInsn, AnswersAt, GivesDecision, IsDecidedBy, IsFirstLeast, IsDecision, AreAnswers, StackAnswers, with_newest}
+use Rattle.scf_machine.proofs.Indices.{index_before, index_cases, index_last}
 use Rattle.scf_machine.proofs.Meets.{run_once}
 use Rattle.scf_machine.proofs.Runs.{runs_safely}
 
@@ -108,6 +109,101 @@ pub one_more : (filters : List (List Insn)) (i : ℕ) (d : List Insn) (words : L
 one_more filters i d words older newest inside old run =
     rw (take_more filters i d inside)
     (pushed_answers (take i filters) (get_or filters i d) words older newest old run)
+
+-- ---- what gives a stack its answer
+
+-- the answer of a filter whose run ends so
+answer_at_end : (filters : List (List Insn)) (filter : List Insn) (words : List ℕ) (i index answer other : ℕ)
+    → slice_get filters i ≡ Some filter → EndsAt filter words index answer
+    → AnswersAt filters words i other → other ≡ answer
+answer_at_end filters filter words i index answer other here ends (f, is, run) =
+    let own : IsRun f words other run.0 = run.1 in
+    let steps : IsRun filter words answer (length ends.earlier + 1) = record {
+      last = ends.last;
+      earlier = ends.earlier;
+      chain = ends.chain;
+      answers = ends.answers;
+      count = refl;
+    } in
+    grind (arith, run_once filter words other answer run.0 (length ends.earlier + 1))
+
+-- no filter answers by a lesser rank
+at_least : (filters : List (List Insn)) (words : List ℕ) (by : Option DecidingInsn) (answer i other : ℕ)
+    → IsDecidedBy filters words by answer → AnswersAt filters words i other → rank_of answer ≤ℤ rank_of other
+at_least filters words None answer i other decided (f, is, run) =
+    let none : length filters ≡ 0 = ap length decided.0 in absurd (omega (arith, slice_get_within filters i f is))
+at_least filters words (Some by) answer i other gives answers = elim (cases_lt i by.filter) [
+  | inl below ↦ gives.older i other below answers
+  | inr past ↦ grind (arith, ints, cases_eq i by.filter, gives.newer i other, answer_at_end filters gives.filter words i by.index answer other)
+]
+
+answer_before : (filters : List (List Insn)) (filter : List Insn) (words : List ℕ) (i other : ℕ)
+    → i < length filters → AnswersAt (filters ++ filter ∷ []) words i other → AnswersAt filters words i other
+answer_before filters filter words i other inside (f, is, run) = elim (index_cases filters filter i f is) [
+  | inl before ↦ (f, before.1, run)
+  | inr last ↦ absurd (omega (arith, last.0))
+]
+
+newest_gives : (filters : List (List Insn)) (filter : List Insn) (words : List ℕ) (by : Option DecidingInsn)
+    (older index newest : ℕ) → IsDecidedBy filters words by older → EndsAt filter words index newest
+    → rank_of newest ≤ℤ rank_of older
+    → GivesDecision (filters ++ filter ∷ []) words (record { filter = length filters; index = index }) newest
+newest_gives filters filter words by older index newest decided ends le = record {
+  filter = filter;
+  here = index_last filters filter;
+  ends = ends;
+  newer = λ i other past answers. absurd (omega (
+    arith,
+    past,
+    length-append filters (filter ∷ []),
+    slice_get_within (filters ++ filter ∷ []) i answers.0 answers.1,
+  ));
+  older = λ i other below answers.
+      let before = answer_before filters filter words i other below answers in
+      grind (arith, ints, at_least filters words by older i other decided before);
+}
+
+older_gives : (filters : List (List Insn)) (filter : List Insn) (words : List ℕ) (by : DecidingInsn)
+    (older index newest : ℕ) → GivesDecision filters words by older → EndsAt filter words index newest
+    → rank_of older <ℤ rank_of newest → GivesDecision (filters ++ filter ∷ []) words by older
+older_gives filters filter words by older index newest gives ends lt = record {
+  filter = gives.filter;
+  here = index_before filters filter by.filter gives.filter gives.here;
+  ends = gives.ends;
+  newer = λ i other past answers. elim (index_cases filters filter i answers.0 answers.1) [
+    | inl before ↦ gives.newer i other past (answers.0, before.1, answers.2)
+    | inr last ↦ subst (λ n. rank_of older <ℤ rank_of n) (sym (answer_at_end (filters ++ filter ∷ []) filter words
+        i index newest other (rw last.0 (index_last filters filter)) ends answers)) lt
+  ];
+  older = λ i other below answers.
+      let inside = slice_get_within filters by.filter gives.filter gives.here in
+      gives.older i other below (answer_before filters filter words i other (omega arith) answers);
+}
+
+pushed_so : (filters : List (List Insn)) (filter : List Insn) (words : List ℕ) (by : Option DecidingInsn)
+    (older index newest : ℕ) (stays : Bool) → int_lt (rank_of older) (rank_of newest) ≡ stays
+    → IsDecidedBy filters words by older → EndsAt filter words index newest
+    → IsDecidedBy (filters ++ filter ∷ []) words
+    (if stays then by else Some (record { filter = length filters; index = index })) (if stays then older else newest)
+pushed_so filters filter words None older index newest true e decided ends =
+    absurd (grind (arith, ints, decided.1))
+pushed_so filters filter words (Some by) older index newest true e gives ends =
+    older_gives filters filter words by older index newest gives ends (grind (arith, ints, e))
+pushed_so filters filter words by older index newest false e decided ends =
+    newest_gives filters filter words by older index newest decided ends (grind (arith, ints, e))
+
+-- one filter more in the loop that finds what gives the answer
+pub one_more_gives : (filters : List (List Insn)) (i : ℕ) (d : List Insn) (words : List ℕ) (by : Option DecidingInsn)
+    (older index newest : ℕ) → i < length filters → IsDecidedBy (take i filters) words by older
+    → EndsAt (get_or filters i d) words index newest
+    → IsDecidedBy (take (i + 1) filters) words (if int_lt (rank_of older) (rank_of newest) then by
+    else Some (record { filter = i; index = index })) (with_newest older newest)
+one_more_gives filters i d words by older index newest inside decided ends =
+    let long : length (take i filters) ≡ i = omega (arith, length-take i filters) in
+    rw (take_more filters i d inside) (subst (λ (n : ℕ). IsDecidedBy (take i filters ++ get_or filters i d ∷ []) words
+    (if int_lt (rank_of older) (rank_of newest) then by else Some (record { filter = n; index = index }))
+    (with_newest older newest)) long
+    (pushed_so (take i filters) (get_or filters i d) words by older index newest _ refl decided ends))
 
 answer_below : (filters : List (List Insn)) (words : List ℕ)
     → All IsFilter filters → (i : ℕ) → i ≤ length filters → (answer : ℕ) × StackAnswers (take i filters) words answer

@@ -5,7 +5,7 @@ ghost use Rattle.scf_insn.specs.declared.insn.Insn.{Insn};
 ghost use Rattle.scf_insn.specs.Kernel.{bpf_maxinsns, bpf_memwords};
 ghost use Rattle.scf_insn.specs.Words.{words_of};
 ghost use Rattle.scf_machine.specs.Machine.{State, sets, stores, jumps_to, start};
-ghost use Rattle.scf_machine.specs.Machine.{value_computed, computation, holds, effect, IsRun, RunsSafely};
+ghost use Rattle.scf_machine.specs.Machine.{value_computed, computation, holds, effect, EndsAt, IsRun, RunsSafely};
 ghost use Rattle.scf_machine.specs.Path.{IsPathOf};
 ghost use Rattle.scf_machine.specs.Rules.{IsFine, IsFilter};
 ghost use Rattle.scf_machine.specs.internal.Registers.{StandFor, Agrees, IsAt, Follows};
@@ -21,6 +21,14 @@ use std::alloc::Global;
 pub struct Ran {
     pub answer: Answer,
     pub steps: u32,
+}
+
+/// The result of a run, and the index of the instruction that ends it: a return, or a division by the index register
+/// while that is 0.
+#[derive(Clone, Copy)]
+pub struct Ending {
+    pub ran: Ran,
+    pub index: usize,
 }
 
 /// The length of a call record in bytes.
@@ -213,25 +221,37 @@ impl Registers {
     }
 }
 
-/// Runs a program on a call record: the answer and the length of its only run.
+/// Runs a program on a call record: the answer, the length and the last instruction of its only run.
 ///
 /// Not inlined, so that its loop has the processor's registers to itself.
 #[inline(never)]
-pub fn run(program: &Program, call: &CallRecord) -> Ran
-    ensures run { IsRun program.now (words_of call.now) result.answer.0 result.steps }
-    ensures bound { result.steps ≤ length program.now }
+pub fn run_to_end(program: &Program, call: &CallRecord) -> Ending
+    ensures run { IsRun program.now (words_of call.now) result.ran.answer.0 result.ran.steps }
+    ensures end { EndsAt program.now (words_of call.now) result.index result.ran.answer.0 }
+    ensures bound { result.ran.steps ≤ length program.now }
     ensures safe { RunsSafely program.now (words_of call.now) }
 {
     let words = call.words();
     let mut registers = Registers::new();
     let mut steps = 0u32;
     loop {
+        let index = registers.pc;
         let answered = registers.advance(program, &words);
         steps += 1;
         if let Some(answer) = answered {
-            return Ran { answer, steps };
+            let ran = Ran { answer, steps };
+            return Ending { ran, index };
         }
     }
+}
+
+/// Runs a program on a call record: the answer and the length of its only run.
+pub fn run(program: &Program, call: &CallRecord) -> Ran
+    ensures run { IsRun program.now (words_of call.now) result.answer.0 result.steps }
+    ensures bound { result.steps ≤ length program.now }
+    ensures safe { RunsSafely program.now (words_of call.now) }
+{
+    run_to_end(program, call).ran
 }
 
 /// Runs a program on a call record, and keeps the path: the indices of the executed instructions.

@@ -1,12 +1,14 @@
 //! Stacks of filters.
 
-ghost use Rattle.std.specs.Prelude.{◌≡◌, ◌==◌, [], ◌∷◌, ℕ, List, All, length, slice_get, option_copied};
+ghost use Rattle.std.specs.Prelude.{◌≡◌, ◌==◌, [], ◌∷◌, ℕ, List, All, Some, length, slice_get, option_copied};
+ghost use Rattle.std.specs.Prelude.{if◌then◌else◌, int_lt};
+ghost use Rattle.scf_insn.specs.Answers.{rank_of};
 ghost use Rattle.scf_insn.specs.Words.{words_of};
-ghost use Rattle.scf_machine.specs.Precedence.{IsDecision, StackAnswers, with_newest};
+ghost use Rattle.scf_machine.specs.Precedence.{IsDecidedBy, IsDecision, StackAnswers, with_newest};
 ghost use Rattle.scf_machine.specs.Rules.{IsFilter};
 ghost use Rattle.scf_machine.specs.Stack.{IsPush};
 
-use crate::machine::run;
+use crate::machine::{Ending, run_to_end};
 use crate::program::Program;
 use scf_insn::kernel::MAX_INSNS_PER_PATH;
 use scf_insn::{Action, Answer, CallRecord};
@@ -65,16 +67,63 @@ pub fn with_newest(older: Answer, newest: Answer) -> Answer
     }
 }
 
-/// The answer of filters, the oldest first, to a record: all run, and the newest answer of least rank takes precedence
-/// (seccomp(2)). ALLOW 0 for no filter.
+/// The instruction that gives a stack its answer.
+#[derive(Clone, Copy)]
+pub struct DecidingInsn {
+    /// The index of its filter, 0 being the oldest.
+    pub filter: usize,
+    /// Its index in the filter.
+    pub index: usize,
+}
+
+/// What a stack answers to a record, and the instruction that gives the answer; `None` for a stack without filters.
+#[derive(Clone, Copy)]
+pub struct Decision {
+    pub answer: Answer,
+    pub by: Option<DecidingInsn>,
+}
+
+impl Decision {
+    /// The decision with one more filter, the newest, at this index: its run's ending, unless its answer's rank is
+    /// greater.
+    fn with_newest(self, filter: usize, ending: Ending) -> Decision
+        ensures answer { result.answer.0 ≡ with_newest self.answer.0 ending.ran.answer.0 }
+        ensures by { result.by ≡ (if int_lt (rank_of self.answer.0) (rank_of ending.ran.answer.0) then self.by
+            else Some (record { filter = filter; index = ending.index })) }
+    {
+        let newest = ending.ran.answer;
+        if self.answer.rank() < newest.rank() {
+            return self;
+        }
+        let index = ending.index;
+        Decision {
+            answer: newest,
+            by: Some(DecidingInsn { filter, index }),
+        }
+    }
+}
+
+/// What filters, the oldest first, answer to a record, and which instruction of which filter gives the answer: all run,
+/// and the newest answer of least rank takes precedence (seccomp(2)). ALLOW 0 for no filter.
+pub fn decision_of(filters: &[Program], call: &CallRecord) -> Decision
+    ensures by { IsDecidedBy filters.now (words_of call.now) result.by result.answer.0 }
+    ensures answer { StackAnswers filters.now (words_of call.now) result.answer.0 }
+{
+    let mut decision = Decision {
+        answer: Answer::new(Action::Allow, 0),
+        by: None,
+    };
+    for (filter, program) in filters.iter().enumerate() {
+        decision = decision.with_newest(filter, run_to_end(program, call));
+    }
+    decision
+}
+
+/// The answer of filters, the oldest first, to a record, as by `decision_of`.
 pub fn decide(filters: &[Program], call: &CallRecord) -> Answer
     ensures { StackAnswers filters.now (words_of call.now) result.0 }
 {
-    let mut decision = Answer::new(Action::Allow, 0);
-    for program in filters {
-        decision = with_newest(decision, run(program, call).answer);
-    }
-    decision
+    decision_of(filters, call).answer
 }
 
 impl FilterStack {
@@ -137,6 +186,14 @@ impl FilterStack {
         ensures filters { All IsFilter self.now }
     {
         &self.filters
+    }
+
+    /// What the stack answers to a record, and the instruction that gives the answer, as by `decision_of`.
+    pub fn decision(&self, call: &CallRecord) -> Decision
+        ensures by { IsDecidedBy self.now (words_of call.now) result.by result.answer.0 }
+        ensures answer { StackAnswers self.now (words_of call.now) result.answer.0 }
+    {
+        decision_of(&self.filters, call)
     }
 
     /// The answer of the stack to a record, as by `decide`.

@@ -1,5 +1,5 @@
 use Rattle.scf_machine.proofs.Common.{◌≡◌, ◌-◌, List, length, words_of, State, IsAt}
-use Rattle.scf_machine.proofs.machine.run.Given as goal
+use Rattle.scf_machine.proofs.machine.run_to_end.Given as goal
 
 abbrev pub invariant-loop-answer : goal.invariant-loop-answer
 invariant-loop-answer l = record {

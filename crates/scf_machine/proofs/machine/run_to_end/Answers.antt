@@ -1,7 +1,7 @@
 use Rattle.scf_machine.proofs.Common.{◌∷◌, ◌+◌, ap, arith}
 use Rattle.scf_machine.proofs.Loop.{at_inside, at_next, run_of}
 use Rattle.scf_machine.proofs.Runs.{runs_safely}
-use Rattle.scf_machine.proofs.machine.run.Goals as goal
+use Rattle.scf_machine.proofs.machine.run_to_end.Goals as goal
 
 pub overflow_add-steps : goal.overflow_add-steps
 overflow_add-steps c =
@@ -13,9 +13,20 @@ returns-in-Some c =
     let so_far = c.loop-answer.invariant in
     let filter = c.advance-answered.ensures.filter in
     let follows = rw (c.words-words.ensures, c.in-Some.is) at c.advance-answered.ensures.follows in
-    let done = run_of _ _ _ _ _ _ filter.valid so_far.at (follows so_far.earlier so_far.at)
-    (ap (λ k. k + 1) so_far.count) in
-    record { run = done.0; bound = done.1; safe = runs_safely _ _ filter.valid filter.stored }
+    let answers = follows so_far.earlier so_far.at in
+    let done = run_of _ _ _ _ _ _ filter.valid so_far.at answers (ap (λ k. k + 1) so_far.count) in
+    record {
+      run = done.0;
+      end = record {
+        last = so_far.at.state;
+        earlier = so_far.earlier;
+        chain = so_far.at.chain;
+        answers = answers;
+        here = so_far.at.stand.pc;
+      };
+      bound = done.1;
+      safe = runs_safely _ _ filter.valid filter.stored;
+    }
 
 pub loop-answer-preserved : goal.loop-answer-preserved
 loop-answer-preserved c =
