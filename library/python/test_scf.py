@@ -204,7 +204,8 @@ class Calls(unittest.TestCase):
 
     def test_tables(self):
         for architecture, about, line in ((scf.Architecture.X86_64, b"x86-64", b"read 0"),
-                                          (scf.Architecture.ARM, b"arm/asm/unistd-eabi.h", b"read 3")):
+                                          (scf.Architecture.ARM, b"arm/asm/unistd-eabi.h", b"read 3"),
+                                          (scf.Architecture.MIPSEL, b"mips/asm/unistd_o32.h", b"read 4003")):
             first, *lines = scf.table(architecture).split(b"\n")
             self.assertIn(about, first)
             self.assertIn(line, lines)

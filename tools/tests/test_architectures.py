@@ -72,6 +72,35 @@ class Numbers(unittest.TestCase):
             self.assertEqual(caught.exception.status, 2)
 
 
+class Sources(unittest.TestCase):
+    """The rows of the verified core, of libscf and of its bindings are those of the tools, in their order."""
+
+    def held(self, pattern, *path):
+        """What a pattern has in a file, small letters and digits alone."""
+        with open(os.path.join(TOP, *path), encoding="utf-8") as file:
+            return [re.sub("[^a-z0-9]", "", found.lower()) for found in re.findall(pattern, file.read(), re.M)]
+
+    def test_names(self):
+        rows = architectures.JUDGED.values()
+        names = [row.oci.removeprefix(architectures.PREFIX).lower().replace("_", "") for row in rows]
+        for pattern, path in ((r'^row_of .*\(codes "SCMP_ARCH_(\w+)"\)', "crates/scf_insn/specs/Architectures.antt"),
+                              (r'^ +"SCMP_ARCH_(\w+)",$', "crates/scf_insn/src/architecture.rt"),
+                              (r"^    SCF_TABLE_(\w+) = ", "library/scf.h"),
+                              (r"ROW\((\w+), ", "library/architectures.h"),
+                              (r'\{"(\w+)", 0x', "library/go/scf.go"),
+                              (r"(\w+)(?=(?:, \w+)*\]\.map\(own\))", "library/rust/src/lib.rs")):
+            self.assertEqual(self.held(pattern, path), names, path)
+        self.assertEqual(self.held(r"ROW\(\w+, (\w+), ", "library/architectures.h"),
+                         [row.source_name.replace("_", "") for row in rows])
+
+    def test_numbers(self):
+        numbers = [f"{row.number:08x}" for row in architectures.JUDGED.values()]
+        for pattern, path in ((r'\{"\w+", 0x(\w+)\}', "library/go/scf.go"),
+                              (r"^pub const AUDIT_ARCH_\w+: u32 = 0x(\w+);", "crates/scf_insn/src/kernel.rt")):
+            self.assertEqual(set(self.held(pattern, path)), set(numbers), path)
+        self.assertEqual(self.held(r'\{"\w+", 0x(\w+)\}', "library/go/scf.go"), numbers)
+
+
 class Words(Case):
     """decide, run, ask and list."""
 

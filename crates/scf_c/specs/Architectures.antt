@@ -1,6 +1,6 @@
 -- The syscall tables of architectures, and the stubs of their syscalls.
-use Rattle.std.specs.Prelude.{◌≡◌, ◌==◌, ◌≤◌, ◌+◌, ◌-◌, ◌||◌, ℕ, Bool, false, List, ◌∷◌, All, Option, None, IsSome, count_by, length, option_map, if◌then◌else◌}
-use Rattle.std.specs.List.{filter, filter_map, list_any, position_or_len, slice_get}
+use Rattle.std.specs.Prelude.{◌≡◌, ◌==◌, ◌≤◌, ◌+◌, ◌||◌, ℕ, Bool, false, List, ◌∷◌, All, Option, None, IsSome, count_by, length, option_map, if◌then◌else◌}
+use Rattle.std.specs.List.{filter, filter_map, find, list_any, position_or_len}
 use Rattle.std.specs.Option.{option_map_or}
 use Rattle.scf_insn.specs.Architectures.{architectures, row_of}
 use Rattle.scf_insn.specs.declared.architecture.Architecture.{Architecture}
@@ -18,7 +18,7 @@ architecture_number architecture =
 
 -- the architecture with a number
 abbrev pub architecture_of : ℕ → Option Architecture
-architecture_of number = if number == 0 then None else slice_get architectures (number - 1)
+architecture_of number = find (λ architecture. architecture_number architecture == number) architectures
 
 -- A table's numbers have a meaning.
 pub record IsMeant (table : Table) : Type 0 where

@@ -19,8 +19,10 @@ use std::alloc::{AllocError, Global};
 pub(crate) fn architecture_of(number: u32) -> Option<Architecture>
     ensures { result ≡ architecture_of number }
 {
-    let index = number.checked_sub(1)?;
-    Architecture::all().get(index as usize).copied()
+    Architecture::all()
+        .iter()
+        .copied()
+        .find(|architecture| architecture_number(*architecture) == number)
 }
 
 /// The number of an architecture: its position among all of them, counted from 1.
