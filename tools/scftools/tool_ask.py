@@ -2,7 +2,7 @@
 
     scf ask [--nr NUMBER|NAME] .. [--calls-from FILE] [--arch ARCH] [--ip N] [--a0 N] ..
             [--a5 N] [--native] [--strict] [--runtime runc|crun|docker|podman] [--table FILE]
-            [--caps LIST] [--machine amd64|arm64] [--json] PROFILE
+            [--caps LIST] [--machine NAME] [--json] PROFILE
 
 PROFILE is a resolved OCI seccomp profile, a whole config.json that holds one, a SeccompProfile of Kubernetes, as JSON
 or YAML, whose spec is one, or a list of LXC, snapd or firejail, whose rules are one: a file, a pipe, or `-` for

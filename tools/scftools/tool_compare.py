@@ -2,7 +2,7 @@
 
     scf compare [--native|--all|--calls] [--no-more|--no-less|--disposition] [--limit N]
                 [--splits N] [--strict] [--runtime runc|crun|docker|podman] [--table FILE]
-                [--caps LIST] [--machine amd64|arm64] [--verbose] [--json] [--html FILE]
+                [--caps LIST] [--machine NAME] [--verbose] [--json] [--html FILE]
                 FILTER.. PROFILE
     scf compare [--native|--all|--calls] [--no-more|--no-less|--disposition] [--limit N]
                 [--splits N] [--table FILE] [--json] FILTER.. --beside FILTER..

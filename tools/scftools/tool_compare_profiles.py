@@ -2,7 +2,7 @@
 
     scf compare-profiles [--native] [--no-more|--no-less] [--runtime runc|crun|docker|podman]
                          [--engine docker|docker-20.10|podman] [--caps LIST] [--kernel X.Y]
-                         [--machine amd64|arm64] [--arch-map native|all] [--ignore MEMBER ..]
+                         [--machine NAME] [--arch-map native|all] [--ignore MEMBER ..]
                          [--keep-first] [--limit N]
                          [--splits N] [--table FILE] [--json] OLD NEW
 

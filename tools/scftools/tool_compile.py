@@ -1,7 +1,7 @@
 """Prints a filter that answers as a profile does: runs `scf compile`, and says what was left out.
 
     scf compile [--native] [--strict] [--runtime runc|crun|docker|podman] [--json] [--table FILE]
-                [--caps LIST] [--machine amd64|arm64] PROFILE >FILTER
+                [--caps LIST] [--machine NAME] PROFILE >FILTER
 
 PROFILE is a resolved OCI seccomp profile, or another one as `scf ask` takes it: a file, a pipe, or `-` for standard
 input. The filter answers the syscalls of each architecture that the profile names, as far as scf has a table of it,

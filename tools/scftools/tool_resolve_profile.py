@@ -2,7 +2,7 @@
 
     scf resolve-profile [--engine docker|docker-20.10|podman]
                         [--runtime runc|crun|docker|podman] [--caps LIST|docker|podman|none]
-                        [--machine amd64|arm64] [--kernel X.Y] [--arch-map native|all]
+                        [--machine NAME] [--kernel X.Y] [--arch-map native|all]
                         [--ignore MEMBER ..] [--keep-first] [--multiplexed]
                         [--kubernetes NAME] ENGINE-PROFILE
 

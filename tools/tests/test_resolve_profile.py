@@ -147,6 +147,17 @@ class ResolveProfile(Case):
         self.assertEqual(applied["architectures"], ["SCMP_ARCH_AARCH64", "SCMP_ARCH_ARM"])
         self.assertNotIn("x86-64", said)
 
+    def test_other_little_endian_machines(self):
+        """Engines call them by Go's names (GOARCH), of which loong64's OCI name is SCMP_ARCH_LOONGARCH64."""
+        for machine, oci in (("riscv64", "RISCV64"), ("ppc64le", "PPC64LE"), ("mipsle", "MIPSEL"),
+                             ("mips64le", "MIPSEL64"), ("mips64p32le", "MIPSEL64N32"), ("loong64", "LOONGARCH64")):
+            own = {"architecture": f"SCMP_ARCH_{oci}", "subArchitectures": []}
+            resolved, _ = self.resolved(engine(entry("a", includes={"arches": [machine]}),
+                                               entry("b", includes={"arches": ["amd64"]}), archMap=[*MAP, own]),
+                                        "--machine", machine)
+            self.assertEqual((resolved["architectures"], [entry["names"] for entry in resolved["syscalls"]]),
+                             ([f"SCMP_ARCH_{oci}"], [["a"]]))
+
     def test_a_single_name(self):
         self.assertEqual(self.resolved(engine({"name": "read", "action": ALLOW}))[0], engine(entry("read")))
         self.assertEqual(self.resolved(engine({"name": "read", "names": [], "action": ALLOW}))[0],
