@@ -123,7 +123,9 @@ class Arguments(Case):
                                    ("i386", "O_DIRECT", os.O_DIRECT), ("aarch64", "O_CREAT", os.O_CREAT)):
             self.assertEqual(self.call("--arch", arch, f"--a0={text}")["arguments"][0], hex(number), (arch, text))
         for arch, text, says in (("aarch64", "O_DIRECT", "O_DIRECT isn't the same on aarch64 as on x86-64"),
-                                 ("sh", "AF_INET", "constants are known for x86-64, i386, x32, aarch64 and arm: for sh"),
+                                 ("sh", "AF_INET", "constants are known for x86-64, i386, x32, aarch64, arm, riscv64 and "
+                                                   "ppc64le: for sh"),
+                                 ("ppc64le", "MCL_FUTURE", "isn't the same on ppc64le as on x86-64"),
                                  ("i386", "-0x80000001", "more than 32 bits")):
             status, out, err = self.run_tool("decide", "--nr=0", "--arch", arch, f"--a0={text}", self.any)
             self.assertEqual((status, out), (2, ""))
