@@ -35,20 +35,21 @@ class Entry:
     conditions: tuple[Condition, ...]
     has_others: bool = False
 
+    @property
+    def alternatives(self) -> Sequence[Sequence[Condition]]:
+        """Its conditions, all of which hold at once; or if two are on one argument, which only a runtime's reading has,
+        each alone."""
+        is_repeated = len({condition.index for condition in self.conditions}) < len(self.conditions)
+        return [(condition,) for condition in self.conditions] if is_repeated else [self.conditions]
+
     def is_met(self, arguments: Sequence[int]) -> bool:
         """Whether arguments meet its conditions."""
-        return all(HOLDS[condition.op](arguments[condition.index], condition.value, condition.two)
-                   for condition in self.conditions)
+        return any(all(HOLDS[condition.op](arguments[condition.index], condition.value, condition.two)
+                       for condition in conditions) for conditions in self.alternatives)
 
     def as_json(self) -> dict[str, object]:
         return {"names": list(self.names), **self.answer.members(),
                 "args": [condition.as_json() for condition in self.conditions]}
-
-
-def profile_of(default: Answer, entries: Iterable[Entry], architectures: Iterable[str] = ()) -> bytes:
-    """The text of a profile for these architectures, by default x86-64, without entries that have no names."""
-    return json.dumps({**default.default(), "architectures": list(architectures),
-                       "syscalls": [entry.as_json() for entry in entries if entry.names]}).encode()
 
 
 class Object(dict):
@@ -96,5 +97,11 @@ def entry_of(place: int, entry: Object, number_of: Callable[[str], int | None]) 
     return Entry(place, known_names, answer, conditions, len(known_names) < len(names))
 
 
-def entries_of(top: Object, number_of: Callable[[str], int | None]) -> list[Entry]:
-    return [entry_of(place, entry, number_of) for place, entry in enumerate(top.get("syscalls", []))]
+def entries_of(top: Object, number_of: Callable[[str], int | None], places: Iterable[int] | None = None) -> list[Entry]:
+    """The entries, by their indexes; or by their places in a profile that this one was made of, where those behind the
+    first of a place are rules that libseccomp adds."""
+    indexed: dict[int, Object] = {}
+    listed = top.get("syscalls", [])
+    for place, entry in zip(range(len(listed)) if places is None else places, listed):
+        indexed.setdefault(place, entry)
+    return [entry_of(place, entry, number_of) for place, entry in indexed.items()]

@@ -3,32 +3,34 @@ entries that give one syscall two answers, with an example.
 
 What an entry alone answers is found by sets of arguments. Entries and names that answer nothing alone are left out, the
 last first, and scf compares the profile with itself without all of them. So all reported entries can be removed
-together, and each by itself.
+together, and each by itself. As a runtime reads them, an entry without conditions has all calls of a syscall, even if
+others answer it otherwise, and the greatest number that a profile names says where runc's stub begins.
 """
 from __future__ import annotations
 
 from collections.abc import Iterator, Sequence
 
+from . import runtimes, verdicts
 from .answers import Answer
 from .architectures import JUDGED
 from .argument_sets import FULL_SET, Sets, Steps, TooMany
 from .calls import Call
-from .entries import Entry
+from .entries import Entry, Object
 from .findings import Owners
+from .profiles import STRICT
 from .tables import Tables
-from .trials import Trial
 from .values import dataclass, replace
 from .verdicts import SAME, Verdict
 
 # The most pairs of entries to check.
 PAIRS = 10000
-ONE, BY_DEFAULT, BY_NONE, TOGETHER = "one", "default", "none", "together"
+ONE, BY_DEFAULT, BY_NONE, TOGETHER, INSTEAD = "one", "default", "none", "together", "instead"
 
 
 @dataclass(frozen=True)
 class Needless:
     """An entry, or some of its names, without effect, and why: another entry covers it, the default answers the same,
-    no syscall meets it, or several other entries cover it together."""
+    no syscall meets it, several other entries cover it together, or a runtime takes another one's answer instead."""
 
     place: int
     names: tuple[str, ...]
@@ -67,7 +69,8 @@ class Met:
         """What meets an entry."""
         key = entry.place, self.of(name).bits
         if key not in self._found:
-            self._found[key] = self.of(name).of_conditions(entry.conditions)
+            sets = self.of(name)
+            self._found[key] = sets.union(map(sets.of_conditions, entry.alternatives))
         return self._found[key]
 
     def are_all(self, others: Sequence[Entry], name: str, those: int = FULL_SET) -> bool:
@@ -88,17 +91,22 @@ class Met:
         return self.are_all(others, name, self.by(entry, name))
 
 
+def _takes_all(entry: Entry) -> bool:
+    """Whether an entry has no condition that compares anything, by which a runtime gives it all calls of a syscall."""
+    return all(condition.op == "SCMP_CMP_MASKED_EQ" and not condition.value for condition in entry.conditions)
+
+
 class Search:
     """The entries of a profile, its filter for all architectures that are judged, and the names of entries that can be
     left out."""
 
-    def __init__(self, trial: Trial, data: bytes, default: Answer, entries: Sequence[Entry]):
-        self.trial, self.filter, self.default, self.met = trial, data, default, Met()
+    def __init__(self, judged: Tables, top: Object, data: bytes, default: Answer, entries: Sequence[Entry]):
+        self.judged, self.top, self.filter, self.default, self.met = judged, top, data, default, Met()
         self.entries = {it.place: it for it in entries}
         self.gone: set[Named] = set()
         self.undecided: list[Undecided] = []
         names = dict.fromkeys(name for entry in entries for name in entry.names)
-        self._syscalls: dict[str, Sequence[Syscall]] = {it: tuple(trial.tables.numbers_of(it).items()) for it in names}
+        self._syscalls: dict[str, Sequence[Syscall]] = {it: tuple(judged.numbers_of(it).items()) for it in names}
         self._having: dict[Syscall, dict[Named, Entry]] = {}
         for entry in entries:
             for name in entry.names:
@@ -106,31 +114,44 @@ class Search:
                     self._having.setdefault(call, {})[entry.place, name] = entry
 
     def _beside(self, entry: Entry, call: Syscall) -> list[Entry]:
-        """The other entries that have a syscall, without what is removed."""
-        return [it for at, it in self._having[call].items() if at not in self.gone and it.place != entry.place]
+        """The other entries that have a syscall, without what is removed. Only as a runtime reads them one may answer
+        otherwise, and has all calls."""
+        others = [it for at, it in self._having[call].items() if at not in self.gone and it.place != entry.place]
+        return [it for it in others if it.answer == entry.answer or it.answer != self.default and _takes_all(it)
+                and not (_takes_all(entry) and entry.place < it.place)]
+
+    def _is_greatest(self, entry: Entry, name: str) -> bool:
+        """Whether an entry alone names the greatest number of an architecture, behind which runc's stub begins."""
+        return any(self.judged.stub.get(oci) == JUDGED[oci].first + number + 1 and
+                   all(at in self.gone or at[0] == entry.place for at in self._having[oci, number])
+                   for oci, number in self._syscalls[name])
 
     def _has_effect(self, entry: Entry, name: str) -> bool:
         """Whether an entry alone answers some syscall by a name, and differently than the default."""
         try:
-            return entry.answer != self.default and not all(
+            return self._is_greatest(entry, name) or entry.answer != self.default and not all(
                 self.met.is_within(entry, self._beside(entry, call), call[0]) for call in self._syscalls[name])
         except TooMany:
             return True
 
     def _leave_out(self) -> None:
-        """Leaves out what has no effect: whole entries first, then names of others, from the last on."""
+        """Leaves out what has no effect: what the default answers first, then whole entries and names of others, from
+        the last on."""
+        from_last = sorted(reversed(self.entries.values()), key=lambda entry: entry.answer != self.default)
         for is_whole in (True, False):
-            for entry in reversed(self.entries.values()):
+            for entry in from_last:
                 names = [it for it in entry.names if (entry.place, it) not in self.gone]
                 needless = [(entry.place, it) for it in names if not self._has_effect(entry, it)]
                 if len(needless) == len(entry.names) or not is_whole:
                     self.gone.update(needless)
 
-    def _is_same(self) -> Verdict:
+    def verdict(self) -> Verdict:
         """What scf says of the profile without what is left out."""
         kept = (replace(it, names=tuple(name for name in it.names if (it.place, name) not in self.gone))
                 for it in self.entries.values())
-        return self.trial.verdict([self.filter], self.trial.profile_of(self.default, kept))
+        profile, judged = runtimes.as_read({**self.top, "syscalls": [it.as_json() for it in kept if it.names]},
+                                           self.judged)
+        return verdicts.compared([self.filter], profile, judged, judged.words).verdict
 
     def _why(self, entry: Entry, names: Sequence[str]) -> tuple[str, tuple[int, ...]]:
         if entry.answer == self.default:
@@ -141,8 +162,9 @@ class Search:
             if all(self.met.is_within(entry, [], one) for one, _ in calls):
                 return BY_NONE, ()
             for place in sorted(set.intersection(*having)):
-                if all(self.met.is_within(entry, [self.entries[place]], one) for one, _ in calls):
-                    return ONE, (place,)
+                other = self.entries[place]
+                if all(self.met.is_within(entry, [other], one) for one, _ in calls):
+                    return ONE if other.answer == entry.answer else INSTEAD, (place,)
         except TooMany:
             pass
         return TOGETHER, tuple(sorted(set.union(*having)))
@@ -150,7 +172,7 @@ class Search:
     def run(self) -> Iterator[Needless]:
         """What is without effect, all together, by entry; afterwards `undecided` has what is undecided."""
         self._leave_out()
-        verdict = self._is_same() if self.gone else None
+        verdict = self.verdict() if self.gone else None
         if verdict is not None and verdict.word != SAME:
             self.undecided, self.gone = [Undecided(*it, verdict) for it in sorted(self.gone)], set()
         for entry in self.entries.values():
@@ -175,10 +197,12 @@ def _pairs(entries: Sequence[Entry], judged: Tables) -> Iterator[tuple[Entry, En
     """Pairs of entries with different answers to one syscall, and the architectures that have it, in the order of the
     second."""
     having: dict[Syscall, list[Entry]] = {}
+    taken = {call for entry in entries if judged.reading != STRICT and _takes_all(entry)
+             for name in entry.names for call in judged.numbers_of(name).items()}
     for entry in entries:
         for name in entry.names:
             others: dict[int, tuple[Entry, list[str]]] = {}
-            for call in judged.numbers_of(name).items():
+            for call in (call for call in judged.numbers_of(name).items() if call not in taken):
                 for other in having.setdefault(call, []):
                     if other.answer != entry.answer:
                         others.setdefault(other.place, (other, []))[1].append(call[0])
@@ -186,11 +210,12 @@ def _pairs(entries: Sequence[Entry], judged: Tables) -> Iterator[tuple[Entry, En
             yield from ((other, entry, name, on) for other, on in others.values())
 
 
-def conflicts(judged: Tables, entries: Sequence[Entry], most: int) -> Iterator[Conflict]:
+def conflicts(judged: Tables, default: Answer, entries: Sequence[Entry], most: int) -> Iterator[Conflict]:
     """Entries that conflict, each two once, at most so many of them. Raises TooMany."""
     seen: set[tuple[int, int]] = set()
     met = Met()
-    for count, (first, second, name, on) in enumerate(_pairs(entries, judged)):
+    counting = [it for it in entries if judged.reading == STRICT or it.answer != default]
+    for count, (first, second, name, on) in enumerate(_pairs(counting, judged)):
         if count >= PAIRS or len(seen) >= most:
             return
         places = first.place, second.place

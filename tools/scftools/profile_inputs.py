@@ -139,11 +139,18 @@ def spec_of(data: bytes) -> bytes | None:
 @dataclass(frozen=True)
 class ProfileInput:
     """A profile for scf; of one that was resolved, where its entries stand in the file; and as a runtime applies it,
-    for each architecture the least number that runc answers with ENOSYS."""
+    for each architecture the least number that runc answers with ENOSYS, and the entries that it is given, also those
+    of which it knows no name."""
 
     data: bytes
     origins: Sequence[Origin] | None = None
     stub: dict[str, int] = field(default_factory=dict)
+    passed_on: Sequence[Origin] = ()
+
+    @property
+    def places(self) -> list[int] | None:
+        """The index of each entry in the user's file, if it was resolved."""
+        return None if self.origins is None else [origin.index for origin in self.origins]
 
     def judged(self, table: Table, is_native: bool) -> Tables:
         """The tables that it is judged by, and how it is read."""

@@ -8,7 +8,7 @@ from __future__ import annotations
 import bisect
 from collections.abc import Iterable, Iterator, Mapping, Sequence
 
-from . import architectures, bundles, client, program
+from . import architectures, bundles, client, program, reasons
 from .answers import Answer
 from .architectures import Architecture
 from .calls import Call
@@ -96,6 +96,13 @@ class Region:
         self._example = example
 
     @property
+    def by(self) -> str:
+        """What gives a profile's answer."""
+        if self.entry is not None:
+            return f"by entry {self.entry}"
+        return reasons.BY_STUB if self.line.endswith(" stub") else "by the default"
+
+    @property
     def is_decided(self) -> bool:
         """Whether each of its records gets its answer."""
         return self.is_exact and self.answer is not None
@@ -123,8 +130,9 @@ class Region:
         return Call(number, architecture, self.call.pointer, arguments)
 
 
-def _read(text: str) -> list[Region] | None:
-    """Parses the output of `scf answers --examples`; None if it isn't one."""
+def read(text: str, places: Sequence[int] | None = None) -> list[Region] | None:
+    """Parses the output of `scf answers --examples`; None if it isn't one. An entry may have another place in the
+    profile that a user gave."""
     *lines, last = text.splitlines() or [""]
     words: dict[str, Word] = {}
     answers: dict[str, Answer | None] = {}
@@ -141,14 +149,15 @@ def _read(text: str) -> list[Region] | None:
                 words[set_text] = Word.read(set_text)
         of_words = {int(name[1:]): words[set_text] for name, set_text in zip(given[::2], given[1::2])}
         entry = None if parts[3] is None else int(parts[3])
-        regions.append(Region(parts[1], answers[parts[2]], entry, not parts[4], of_words, example))
+        regions.append(Region(parts[1], answers[parts[2]], entry if None in (entry, places) else places[entry],
+                              not parts[4], of_words, example))
     return regions if last.startswith(f"regions {len(regions)} steps ") and len(lines) == 2 * len(regions) else None
 
 
-def _asked(words: Sequence[str], bundle: bytes) -> list[Region] | None:
+def _asked(words: Sequence[str], bundle: bytes, places: Sequence[int] | None = None) -> list[Region] | None:
     """The regions that scf prints; None if it took as many steps as it may. Raises Refusal."""
     done = client.answers(["--examples", *words], bundle)
-    regions = _read(done.text) if done.status == program.SUCCESS else None
+    regions = read(done.text, places) if done.status == program.SUCCESS else None
     if regions is not None:
         return regions
     if (done.status, done.line) == (program.UNKNOWN, UNFINISHED):
@@ -164,9 +173,10 @@ def of_filters(filters: Sequence[bytes]) -> list[Region] | None:
     return _asked([], bundles.of_stack(filters))
 
 
-def of_profile(profile: bytes, judged: Tables) -> list[Region] | None:
-    """The regions of a profile's architectures; None if they are unfinished. Raises Refusal."""
-    return _asked(judged.words, bundles.of_compilation(profile, judged))
+def of_profile(profile: bytes, judged: Tables, places: Sequence[int] | None = None) -> list[Region] | None:
+    """The regions of a profile's architectures, on request with other places of entries; None if they are unfinished.
+    Raises Refusal."""
+    return _asked(judged.words, bundles.of_compilation(profile, judged), places)
 
 
 class Numbers:
@@ -222,12 +232,12 @@ class Lookup:
     """The regions in which records lie, of those that scf prints, or None if they are unfinished."""
 
     def __init__(self, regions: Sequence[Region] | None):
-        self._regions = regions
+        self._regions, self.is_finished = regions, regions is not None
         # by the OCI names of architectures
         self._numbers: dict[str, Numbers] = {}
 
-    def _regions_of(self, call: Call) -> Sequence[Region]:
-        """Those with records of its number."""
+    def of_number(self, call: Call) -> Sequence[Region]:
+        """Those with records of its number and architecture."""
         architecture = architectures.JUDGED.get(call.abi or "")
         if architecture is None:
             return [region for region in self._regions or () if region.is_of(call.number, call.architecture)]
@@ -238,4 +248,4 @@ class Lookup:
     def of(self, call: Call) -> Region | None:
         """The decided region of a record, None if there is none."""
         record = {POINTER: call.pointer or 0, **dict(enumerate(call.arguments))}
-        return next((region for region in self._regions_of(call) if region.is_decided and region.has(record)), None)
+        return next((region for region in self.of_number(call) if region.is_decided and region.has(record)), None)

@@ -20,6 +20,7 @@ from .explanation import join_names
 from .libseccomp import Library
 from .profile_inputs import ProfileInput
 from .profiles import OCI_ACTIONS
+from .tables import Tables
 from .values import Any, dataclass, field, replace
 from .words import Parser
 
@@ -107,11 +108,13 @@ class AppliedProfile:
     notes: Sequence[str] = ()
     # by the OCI name of an architecture, the least number of a record that runc answers with ENOSYS
     stub: dict[str, int] = field(default_factory=dict)
+    # the entries that the engine passes on, of which some may have only names that libseccomp doesn't know
+    passed_on: Sequence[Origin] = ()
 
     @property
     def input(self) -> ProfileInput:
         """The profile for scf."""
-        return ProfileInput(self.data, self.origins, self.stub)
+        return ProfileInput(self.data, self.origins, self.stub, self.passed_on)
 
     def stub_notes(self, stub: dict[str, int]) -> Iterator[str]:
         """The notes on a filter that begins with a stub at these numbers."""
@@ -295,7 +298,7 @@ class _Application:
         handed, places = multiplexed.with_rules(given, most=None if self.is_runc else CRUN_CONDITIONS)
         given_origins = [origin for entry, origin in entries if entry["names"]]
         return AppliedProfile(self.runtime, given, self.read_as(handed), [given_origins[place] for place in places],
-                              self.remarks, list(self.notes_on(given, given_origins)), self.stub_of(given))
+                              self.remarks, list(self.notes_on(given, given_origins)), self.stub_of(given), origins)
 
 
 def _number_in_tables(name: str, architecture: str) -> int | None:
@@ -358,36 +361,67 @@ def applied(value: Any, name: str, setting: Setting | None = None, keeps_first: 
     return replace(application, remarks=remarks, notes=list(dict.fromkeys([*notes, *application.notes])))
 
 
-def applied_in(data: bytes, path: str, name: str, setting: Setting, is_strict: bool = False) -> AppliedProfile:
+def as_read(value: dict[str, Any], judged: Tables) -> tuple[bytes, Tables]:
+    """A resolved profile of this value and its tables as another one was read whose tables are given: with the rules
+    and the stub that the same runtime makes."""
+    if judged.reading == profiles.STRICT:
+        return engines.to_bytes(value), judged
+    given = applied(value, judged.reading)
+    return given.data, replace(judged, stub=given.stub)
+
+
+def applied_in(data: bytes, path: str, name: str, setting: Setting, is_strict: bool | None = False) -> AppliedProfile:
     """The profile that was read of a file, as a runtime is given it; ends the tool where it refuses it, or if strict
-    for members that nothing reads."""
+    for members that nothing reads; without a word on these if that is None."""
     data = profile_inputs.plain(data, path)
     try:
         given = applied(engines.read(data), name, setting)
     except Refused as why:
         raise program.ToolError(f"{path}: {why}", program.NEGATIVE) from why
-    profile_inputs.tell_unread(data, path, is_strict)
+    if is_strict is not None:
+        profile_inputs.tell_unread(data, path, is_strict)
     return given
 
 
-def read(options: Any) -> ProfileInput:
-    """The profile that a command line names: with `--runtime` as that runtime reads it, and what is to be known of that
-    is printed."""
+def _check_words(options: Any) -> None:
+    """Refuses words that don't go together."""
     runtime = RUNTIMES.get(options.runtime)
     if options.machine is not None and options.caps is None and (runtime is None or runtime.engine is None):
         raise program.ToolError("--machine is for an engine's profile, which --caps or --runtime docker or podman says "
                                 "it is")
-    if runtime is None:
-        return profile_inputs.read(options.profile, options.caps, is_strict=options.strict, machine=options.machine)
-    if options.caps is not None and runtime.engine is None:
+    if options.caps is not None and runtime is not None and runtime.engine is None:
         raise program.ToolError(f"--caps resolves an engine's profile, and --runtime {runtime.name} takes a resolved "
                                 f"one: `scf resolve-profile --runtime {runtime.name} --engine .. --caps ..` makes it")
-    data, setting = inputs.read_whole(options.profile, "profile"), setting_of(runtime)
+
+
+def input_in(data: bytes, options: Any, is_strict: bool | None = False) -> ProfileInput:
+    """What was read of a profile that a command line names: with `--runtime` as that runtime reads it, and what is to
+    be known of that is printed."""
+    runtime = RUNTIMES.get(options.runtime)
+    if runtime is None:
+        return profile_inputs.profile_in(data, options.profile, options.caps, False, bool(is_strict), options.machine)
+    setting = setting_of(runtime)
     try:
         capabilities = setting.capabilities if options.caps is None else engines.capabilities_of(options.caps)
     except ValueError as why:
         raise program.ToolError(str(why)) from why
     setting = replace(setting, capabilities=capabilities, machine=options.machine or setting.machine)
-    given = applied_in(data, options.profile, options.runtime, setting, options.strict)
+    given = applied_in(data, options.profile, options.runtime, setting, is_strict)
     program.say(*given.describe())
     return given.input
+
+
+def is_made(options: Any) -> bool:
+    """Whether an engine or a runtime makes another profile of the one that a command line names."""
+    return options.runtime is not None or options.caps is not None
+
+
+def text_of(options: Any) -> bytes:
+    """The text of the profile that a command line names; of one that is too long scf says so, if it gets it."""
+    _check_words(options)
+    return (inputs.read_whole if is_made(options) else inputs.read)(options.profile, "profile")
+
+
+def read(options: Any) -> ProfileInput:
+    """The profile that a command line names."""
+    return input_in(text_of(options), options, options.strict)

@@ -23,9 +23,9 @@ With --runtime it is the profile as that runtime is given it, without the names 
 know. `docker` is the engine with runc, `podman` with crun; `runc` and `crun` alone take a resolved profile, or an
 engine's with --engine, such as podman's where podman runs its containers by runc. Entries that a runtime reads
 otherwise than by their words (RUNTIMES.md) are printed as they are, and a note says how it reads them. With --runtime
-runc or crun `scf compare`, `ask` and `compile` read them so, too; tools without --runtime, such as `scf lint`, go by
-the words, and may refuse them as Conflict or RepeatedIndex. runc also answers the numbers above all that the profile
-names with ENOSYS; a profile can't express that, so a note says it.
+runc or crun `scf compare`, `ask`, `compile` and `lint` read them so, too; without --runtime the tools go by the words,
+and may refuse them as Conflict or RepeatedIndex. runc also answers the numbers above all that the profile names with
+ENOSYS; a profile can't express that, so a note says it.
 
 Some profiles give a syscall two answers, both without conditions. Read by its words such a profile is refused as a
 conflict; runc and crun leave out an entry whose answer is the default's, and keep the first of the others. --keep-first

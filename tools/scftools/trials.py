@@ -1,11 +1,9 @@
 """Many runs of scf for one result of a tool, each of which may be refused."""
 from __future__ import annotations
 
-from collections.abc import Iterable, Sequence
+from collections.abc import Sequence
 
-from . import client, entries, verdicts
-from .answers import Answer
-from .entries import Entry
+from . import client, verdicts
 from .tables import Tables
 from .values import dataclass
 from .verdicts import Verdict
@@ -16,10 +14,6 @@ class Trial:
     """Runs of scf's compiler and comparison with the tables of some architectures."""
 
     tables: Tables
-
-    def profile_of(self, default: Answer, rules: Iterable[Entry]) -> bytes:
-        """The text of a profile for the architectures, without entries that have no names."""
-        return entries.profile_of(default, rules, self.tables.of)
 
     def filter_of(self, profile: bytes) -> bytes:
         """The filter of a profile for the architectures."""

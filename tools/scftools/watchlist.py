@@ -104,10 +104,6 @@ def meant() -> dict[str, list[tuple[Condition, ...]]]:
     return found
 
 
-def _by(entry: int | None) -> str:
-    return "by the default" if entry is None else f"by entry {entry}"
-
-
 class Watch:
     """What a profile with these regions allows of the list to an architecture, with some or with all arguments; nothing
     is known if they are None, which is unfinished."""
@@ -197,7 +193,7 @@ def _allowed(name: str, danger: Dangerous, watch: Watch, owners: Owners) -> Find
     shown = list(map(hex, arguments))
     some = "" if how == ALWAYS else f" with some arguments, such as {' '.join(shown)},"
     called = owners.named(" or ".join(watch.table.names_of(number)), number)
-    return Finding("dangerous-call", f"{called} is allowed{some} {_by(region.entry)}: {danger.reason}{owners.also}",
+    return Finding("dangerous-call", f"{called} is allowed{some} {region.by}: {danger.reason}{owners.also}",
                    {**more, "is_always": how == ALWAYS, "arguments": shown, "entry": region.entry,
                     **owners.as_json()})
 
@@ -233,7 +229,7 @@ def _lacking(one: Needed, watch: Watch, owners: Owners) -> Finding:
     if denied is None:
         return Finding(one.kind, f"undecided whether {called} is always allowed{owners.also}", more, False)
     return Finding(one.kind, f"{listed(users, 'and')} {'is' if len(users) == 1 else 'are'} allowed, and {called} "
-                   f"is not: {one.why} is answered {_by(denied.entry)} {denied.answer.describe()}{owners.also}",
+                   f"is not: {one.why} is answered {denied.by} {denied.answer.describe()}{owners.also}",
                    {**more, "entry": denied.entry})
 
 
@@ -249,11 +245,11 @@ def of_fallbacks(judged: Tables, watches: Mapping[str, Watch]) -> Iterator[Findi
     for newer, older, first_arguments in FALLBACKS:
         numbers = judged.numbers_of(newer)
         denials = {name: watches[name].keeps_from(newer, older, first_arguments) for name in numbers}
-        kept = {name: it and (it.answer, it.entry) for name, it in denials.items()}
-        for (answer, entry), owners in by_owners(kept, judged):
-            yield Finding("no-fallback", f"{owners.named(newer, numbers[owners.first])} is answered {_by(entry)} "
-                          f"{answer}, and {older} is allowed: libc calls {older} instead only after ENOSYS, which is "
-                          f"errno {ENOSYS.data}{owners.also}",
+        kept = {name: it and (it.answer, it.by, it.entry) for name, it in denials.items()}
+        for (answer, by, entry), owners in by_owners(kept, judged):
+            yield Finding("no-fallback", f"{owners.named(newer, numbers[owners.first])} is answered {by} {answer}, and "
+                          f"{older} is allowed: libc calls {older} instead only after ENOSYS, which is errno "
+                          f"{ENOSYS.data}{owners.also}",
                           {"name": newer, "instead": older, "entry": entry, **owners.as_json()})
 
 

@@ -7,13 +7,17 @@ import re
 import subprocess
 import sys
 
+from support import seccomp_library
 from support.common import TABLE, TOP, Case, comes, part, profile_of, taken
+from support.stand_in import StandIn
 from test_output import HOSTILE
+from test_runtimes import MOBY, PODMAN
 
 sys.path.append(os.path.join(TOP, "tools"))
 
 import kernel_profiles  # noqa: E402
 from scftools import client, constants, lint, oddities, tables, watchlist  # noqa: E402
+from scftools.calls import Call  # noqa: E402
 
 ALLOW, ERRNO, TOP_OF = "SCMP_ACT_ALLOW", "SCMP_ACT_ERRNO", (1 << 64) - 1
 NATIVE, I386, X32, AARCH64, ARM = (f"SCMP_ARCH_{it}" for it in ("X86_64", "X86", "X32", "AARCH64", "ARM"))
@@ -1301,6 +1305,131 @@ class Container(Linted):
         self.assertEqual([(it["entry"], it["names"]) for it in self.found(given, kinds=("covered", "without-effect"))],
                          [*((it, ["personality"]) for it in range(1, 5)), (7, ["read"])])
         self.assertEqual(self.run_lint(profile_of("read"))[1], "# no findings\n")
+
+
+class Runtimes(Linted):
+    """Profiles as runc and crun read them (RUNTIMES.md), which by their words are refused or mean something else."""
+
+    def of_runtime(self, given, runtime, *words, kinds=("covered", "without-effect"), status=0):
+        """The findings of some kinds, and what is said on standard error."""
+        ended, out, err = self.run_lint(given, "--json", "--runtime", runtime, *words)
+        self.assertEqual(ended, status, out + err)
+        return [it for it in json.loads(out)["findings"] if it["kind"] in kinds] if out else [], err
+
+    def test_two_answers(self):
+        """The one without conditions counts, the first of two such; an entry whose answer is the default's does not."""
+        equal, unlike = [(0, "EQ", 7)], [(0, "NE", 7)]
+        for entries, needless in (
+                ((entry("dup"), entry("dup", action="SCMP_ACT_TRAP")), [(1, "instead", [0])]),
+                ((entry("dup", args=equal), entry("dup", action="SCMP_ACT_TRAP")), [(0, "instead", [1])]),
+                ((entry("dup", args=equal), entry("dup", args=unlike), entry("dup", action="SCMP_ACT_LOG")),
+                 [(0, "instead", [2]), (1, "instead", [2])]),
+                ((entry("dup", action=ERRNO), entry("dup")), [(0, "default", [])]),
+                ((entry("dup", action=ERRNO), entry("dup", args=equal)), [(0, "default", [])])):
+            self.assertEqual(self.report(profile(*entries), status=1)["fault"]["kind"], "Conflict")
+            for runtime in ("runc", "crun"):
+                findings, err = self.of_runtime(profile(*entries, entry("dup3")), runtime)
+                self.assertEqual([(it["entry"], it["why"], it["others"]) for it in findings], needless, entries)
+                self.assertIn(f"lint: {runtime} leaves ", err)
+        given = profile(entry("dup", "dup2"), entry("dup", "dup3", action="SCMP_ACT_LOG"))
+        out = self.run_lint(given, "--runtime=crun")[1]
+        self.assertIn("without-effect: entry 1: entry 0, which has no conditions, answers its name dup instead\n", out)
+        self.assertIn("\n# scf proves the profile the same without all that is covered or without effect\n", out)
+
+    def test_what_stays_a_conflict(self):
+        """Conditions that a call meets both; not beside an entry without conditions, or one that is left out."""
+        given = profile(entry("dup", args=[(0, "LE", 7)]), entry("dup", action="SCMP_ACT_LOG", args=[(0, "GE", 7)]),
+                        entry("dup2"), entry("dup2", action="SCMP_ACT_LOG", args=[(0, "GE", 7)]),
+                        entry("dup", action=ERRNO, args=[(0, "EQ", 7)]))
+        findings, _ = self.of_runtime(given, "crun", kinds=("conflict",), status=1)
+        self.assertEqual([(it["first"], it["second"], it["call"]["arguments"][0]) for it in findings], [(0, 1, "0x7")])
+        self.assertGreater(len(self.found(given, kinds=("conflict",), status=1)), 1)
+
+    def test_two_conditions_on_one_argument(self):
+        """They are alternatives: another entry with one of them is covered, and `not 2` beside `not 3` holds always."""
+        given = profile(entry("dup", args=[(0, "EQ", 2), (0, "EQ", 3)]), entry("dup", args=[(0, "EQ", 3)]),
+                        entry("dup2", args=[(0, "NE", 2), (0, "NE", 3)]), entry("dup2", args=[(1, "EQ", 3)]))
+        self.assertEqual(self.report(given, status=1)["fault"]["kind"], "RepeatedIndex")
+        findings, _ = self.of_runtime(given, "runc")
+        self.assertEqual([(it["entry"], it["by"]) for it in findings], [(1, 0), (3, 2)])
+
+    def test_what_a_runtime_refuses(self):
+        given = profile(entry("dup", errnoRet=5))
+        self.assertEqual(self.report(given, status=1)["fault"]["kind"], "Errno")
+        self.assertEqual(self.of_runtime(given, "runc")[0], [])
+        status, out, err = self.run_lint(given, "--runtime", "crun")
+        self.assertEqual((status, out), (1, ""))
+        self.assertIn("crun refuses the profile: entry 0 has an errno beside SCMP_ACT_ALLOW", err)
+        for words in (("--runtime=runc", "--caps=docker"), ("--runtime=crun", "--machine=arm64"), ("--machine=arm64",)):
+            self.assertEqual(self.run_lint(given, *words)[:2], (2, ""))
+
+    def test_the_stub(self):
+        """runc answers ENOSYS behind the greatest number that is named: its entry has an effect even where the default
+        answers the same, and what isn't named behind it isn't the default's."""
+        given = profile(entry("read", "nanosleep"), entry("dup2", "poll", action=ERRNO), architectures=[NATIVE])
+        given["syscalls"][1]["names"].append("wait4")
+        needless = {"runc": [(1, ["dup2", "poll"])], "crun": [(1, ["dup2", "poll", "wait4"])]}
+        for runtime, names in needless.items():
+            findings, _ = self.of_runtime(given, runtime)
+            self.assertEqual([(it["entry"], it["names"]) for it in findings], names)
+        said = [self.run_lint(given, "--runtime", runtime)[1] for runtime in needless]
+        self.assertIn("and restart_syscall (219) is not: a thread stopped in such a syscall, by SIGSTOP or a debugger, "
+                      "calls it to continue, and is answered by the ENOSYS that runc puts before the filter ERRNO 38",
+                      said[0])
+        self.assertIn("and is answered by the default ERRNO 1", said[1])
+
+    def test_what_is_odd_in_the_text(self):
+        """Names, members and comments are those of the file, though the runtime doesn't read them."""
+        given = {"ociVersion": "1.0.2", "linux": {"seccomp": profile(
+            entry("reed", arg=1), entry("mount", comment="lint: ignore dangerous-call"), entry("ptrace"))}}
+        for runtime in ("runc", "crun"):
+            findings, _ = self.of_runtime(given, runtime, kinds=tuple(lint.KINDS))
+            self.assertEqual([(it["kind"], it["entry"]) for it in findings],
+                             [("unread-member", 0), ("unknown-name", 0), ("dangerous-call", 2)])
+
+    def test_entries_of_an_engines_list(self):
+        """They have the numbers that they have in the file, with --caps and with --runtime, also in SARIF."""
+        given = {"defaultAction": ERRNO, "archMap": [{"architecture": NATIVE, "subArchitectures": [I386]}]}
+        given["syscalls"] = [
+            {**entry("mount"), "includes": {"caps": ["CAP_SYS_ADMIN"]}},
+            entry("socket", args=[(0, "EQ", 2)]), entry("socketcall"), entry("ptrace"), entry("ptrace"), entry("reed"),
+            {**entry("chroot", comment="lint: ignore dangerous-call"), "includes": {"caps": ["CAP_SYS_CHROOT"]}}]
+        text = json.dumps(given, indent=1).encode()
+        lines = text.decode().split("\n")
+        for words in (("--caps=docker",), ("--runtime=docker",), ("--runtime=podman",)):
+            status, out, _ = self.run_lint(text, "--json", *words)
+            self.assertEqual(status, 0)
+            self.assertEqual([(it["kind"], it.get("entry")) for it in json.loads(out)["findings"]],
+                             [("unknown-name", 5), ("covered", 4), ("dangerous-call", 3)], words)
+            results = json.loads(self.run_lint(text, "--sarif", *words)[1])["runs"][0]["results"]
+            first = next(it for it in results if it["ruleId"] == "dangerous-call")
+            line = first["locations"][0]["physicalLocation"]["region"]["startLine"]
+            self.assertIn('"ptrace"', "".join(lines[line:line + 3]))
+            self.assertNotIn('"ptrace"', "".join(lines[line + 3:line + 5]))
+
+    @seccomp_library.NEEDED
+    def test_lists_of_engines(self):
+        """None is a conflict for its runtime; what scf calls needless is that to libseccomp, too: a second machine runs
+        the filters that it makes of the list, and of the list without."""
+        for path, engine, runtime in ((PODMAN, "podman", "crun"), (PODMAN, "podman", "runc"), (MOBY, "docker", "runc")):
+            if not os.path.exists(path):
+                self.skipTest(f"there is no {path}")
+            resolved = json.loads(self.run_tool("resolve-profile", "--engine", engine, "--caps", engine, path)[1])
+            config = {"ociVersion": "1.0.2", "linux": {"seccomp": resolved}}
+            findings, _ = self.of_runtime(config, runtime)
+            if engine == "podman":
+                self.assertEqual(self.report(config, status=1)["fault"]["kind"], "Conflict")
+                self.assertIn((["setns"], "instead"), [(it["names"], it.get("why")) for it in findings])
+            gone = {(it["entry"], name) for it in findings for name in it["names"]}
+            kept = [{**each, "names": [name for name in each["names"] if (at, name) not in gone]}
+                    for at, each in enumerate(resolved["syscalls"])]
+            library, machine = seccomp_library.Library(), StandIn()
+            filters = [library.filter_of({**resolved, "syscalls": entries}) for entries in (resolved["syscalls"], kept)]
+            for number, architecture in [(number, 0xC000003E) for number in range(460)] + \
+                    [(number, 0x40000003) for number in range(460)]:
+                for arguments in ((0,) * 6, (16, 0, 9, 0, 0, 0), (2, 1, 9, 0, 0, 0), (8, 7, 6, 5, 4, 3)):
+                    call = Call(number, architecture, 0, arguments)
+                    self.assertEqual(*(machine.run(data, call) for data in filters), call)
 
 
 class Gate(Linted):
