@@ -6,7 +6,7 @@ exception before it.
 from __future__ import annotations
 
 import json
-from collections.abc import Iterator
+from collections.abc import Collection, Iterator
 
 from . import answers, constants, entries, filters
 from .client import Refusal
@@ -51,11 +51,15 @@ class Amendment:
         return {"taken_out": [index for index, _ in self.taken_out], "added": list(self.added)}
 
 
-def conditions_of(event: Event, name: str) -> list[dict[str, object]]:
-    """Conditions that hold of the known arguments that the syscall has and that are no addresses."""
+def conditions_of(event: Event, name: str, tested: Collection[int]) -> list[dict[str, object]]:
+    """Conditions that hold of those known arguments of a syscall that an entry tests, or that programs give by
+    constants: not of addresses, nor of numbers that differ from run to run, such as descriptors."""
     kinds, words = constants.kinds().get(name, ""), []
+    known = {index: values[0] for index, values in enumerate(event.arguments) if values is not None}
     for index, values in enumerate(event.arguments[:len(kinds)]):
-        if values is None or kinds[index] == constants.ADDRESS:
+        family = constants.family_of(name, index, known)
+        has_names = family is not None and len(family.of_mask) + len(family.bits) > 1
+        if values is None or kinds[index] == constants.ADDRESS or not has_names and index not in tested:
             continue
         if len(values) == 1:
             words.append({"index": index, "value": values[0], "op": EQUAL})
@@ -160,7 +164,9 @@ def amendments(profile: bytes, event: Event, reason: Reason, trial: Trial) -> It
     if top is None:
         return
     search = AmendmentSearch(profile, top, trial, names[0], event.call.number)
-    conditions = conditions_of(event, names[0])
+    tested = {condition["index"] for entry in top.get("syscalls", []) if not set(names).isdisjoint(entry["names"])
+              for condition in entry.get("args") or []}
+    conditions = conditions_of(event, names[0], tested)
     of_known = search.run(reason, conditions) if conditions else None
     of_all = search.run(reason, [])
     if of_known is not None:

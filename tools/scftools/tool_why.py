@@ -1,7 +1,7 @@
 """Says why a syscall was denied, delegated or logged: by which entry of a profile, and which tests of a filter.
 
-    scf why [--native] [--limit N] [--splits N] [--table FILE] [--caps LIST] [--all] [--json]
-            LINE|- [PROFILE|FILTER ..]
+    scf why [--native] [--runtime runc|crun|docker|podman] [--limit N] [--splits N]
+            [--table FILE] [--caps LIST] [--all] [--json] LINE|- [PROFILE|FILTER ..]
     scf why .. --pid PID [PROFILE|FILTER ..]
     scf why .. --core FILE [PROFILE|FILTER ..]
 
@@ -18,7 +18,8 @@ LINE is what was logged when it happened, and `-` is standard input, with any nu
 also its filters. --core takes a core that SIGSYS left, which has the arguments; `-` is standard input.
 
 PROFILE is a resolved OCI seccomp profile, or another one as `scf ask` takes it, whose entries have with --caps the
-numbers that they have in the resolved one; the FILTERs are the raw filters of the process, oldest first, as `scf
+numbers that they have in the resolved one, and which --runtime has scf read as that container runtime does, so that a
+container's config.json is no conflict (RUNTIMES.md); the FILTERs are the raw filters of the process, oldest first, as `scf
 filters-of` takes them. One profile and any number of filters may be given, in any order; each may be a pipe. For each
 syscall there are lines marked by `# `: the process, the syscall, the action, and what isn't known of them; scf's answer
 for the profile (`scf ask`) with the entry, and that for the filters (`scf decide`) with the last tests on the path; and
@@ -58,8 +59,9 @@ Examples:
 import os
 import re
 
-from . import (audit_records, cause_report, causes, events, filters, inputs, output, profile_inputs, program, strace,
-               tables, trials, words)
+from . import (audit_records, cause_report, causes, events, filters, inputs, output, profile_inputs, profiles, program,
+               runtimes, strace, tables, trials, words)
+from .values import replace
 
 # By how many seconds the clock may differ between a record and the start of a process.
 TOLERANCE = 2.0
@@ -73,6 +75,7 @@ def read_words():
     parser.add_argument("--all", action="store_true",
                         help="show every denied syscall of a strace log, not the most telling ones alone")
     parser.add("--limit", "--splits", "--native", "--table", "--caps", "--json")
+    runtimes.add_option(parser)
     parser.add_argument("words", metavar="LINE|PROFILE|FILTER", nargs="*",
                         help="without --pid and --core first what was logged, or - for standard input; then a profile "
                              "and the filters of the process, oldest first")
@@ -92,9 +95,10 @@ def read_words():
     return options
 
 
-def read_files(names, trial, caps, is_native):
+def read_files(names, table, options):
     """The profile and the filters among some files, told apart by their first bytes: a profile is an object."""
     profile, found = None, []
+    reading = profiles.STRICT if options.runtime is None else runtimes.RUNTIMES[options.runtime].program
     for name in names:
         data = inputs.read(name, "profile")
         if not profile_inputs.looks_like_profile(data):
@@ -102,8 +106,10 @@ def read_files(names, trial, caps, is_native):
         elif profile is not None:
             raise program.ToolError(f"'{name}' is a second profile: give one, and filters")
         else:
-            profile = profile_inputs.profile_in(data, name, caps).data
-    return causes.Inputs(trial, profile, found, is_native)
+            profile = profiles.DerivedProfile(profile_inputs.profile_in(data, name, options.caps).data)
+            profile.reading = reading
+    trial = trials.Trial(replace(tables.native_alone(table.data), reading=reading))
+    return causes.Inputs(trial, profile, found, options.native)
 
 
 def started(process):
@@ -171,7 +177,7 @@ def read(options, files, table):
 def main():
     options = read_words()
     table = tables.read(options.table)
-    files = read_files(options.words, trials.Trial(tables.native_alone(table.data)), options.caps, options.native)
+    files = read_files(options.words, table, options)
     found, files = read(options, files, table)
     report = cause_report.of(found, files, options.all)
     if options.pid is not None:

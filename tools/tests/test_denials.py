@@ -61,6 +61,37 @@ class Denials(Case):
         return self.denied("".join(f"{line}\n" for line in lines), **settings)[1]
 
 
+class Changes(Denials):
+    def changes(self, line, *words, **settings):
+        """What the changes of a profile allow that are offered for a line."""
+        _, lines = self.why(f"{LOAD}\n{line}\n", *words, **settings)
+        found = [re.match("# this change of the profile allows (.*), and no other answer", each) for each in lines]
+        return [match[1] for match in found if match]
+
+    def test_numbers_of_a_run(self):
+        """A descriptor or a length isn't a condition, unless an entry tests it; a constant is one."""
+        denying = {"defaultAction": "SCMP_ACT_ERRNO", "syscalls": [
+            {"names": ["kill"], "action": "SCMP_ACT_ALLOW", "args": [{"index": 0, "value": 7, "op": "SCMP_CMP_EQ"}]}]}
+        for line, allowed in (("listen(6, 511) = -1 EPERM", ["every listen"]),
+                              ("setsockopt(3, SOL_SOCKET, SO_REUSEADDR, [1], 4) = -1 EPERM",
+                               ["setsockopt where argument 1 is 0x1 and argument 2 is 0x2", "every setsockopt"]),
+                              ("kill(9, SIGTERM) = -1 EPERM",
+                               ["kill where argument 0 is 0x9 and argument 1 is 0xf", "every kill"])):
+            self.assertEqual(self.changes(f"{line} (Operation not permitted)", profile=denying), allowed)
+
+    def test_a_profile_as_a_runtime_reads_it(self):
+        """podman's own lists have entries that conflict by their words: crun and runc take the first."""
+        profile = {"defaultAction": "SCMP_ACT_ERRNO", "syscalls": [
+            {"names": ["setns"], "action": "SCMP_ACT_ALLOW"},
+            {"names": ["setns"], "action": "SCMP_ACT_ERRNO", "errnoRet": 22}]}
+        line = 'chroot("/") = -1 EPERM (Operation not permitted)'
+        for runtime in ("runc", "podman"):
+            self.assertEqual(self.changes(line, "--runtime", runtime, profile=profile), ["every chroot"])
+        status, lines = self.why(f"{LOAD}\n{line}\n", profile=profile)
+        self.assertEqual((status, [each for each in lines if each.startswith("fault ")]),
+                         (1, ["fault profile Conflict number 308 first 0 second 1"]))
+
+
 @unittest.skipUnless(shutil.which("strace"), "there is no strace here")
 class Traced(Denials):
     """Programs under a filter, as strace logs them."""
