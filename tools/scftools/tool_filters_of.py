@@ -2,7 +2,7 @@
 program loads.
 
     scf filters-of [--thread TID] [--force] PID FOLDER
-    scf filters-of [--thread TID] FOLDER -- PROGRAM [ARGUMENT ..]
+    scf filters-of [--thread TID] [FOLDER] -- PROGRAM [ARGUMENT ..]
     scf filters-of [--thread TID] --log LOG FOLDER
 
 The folder is created if it doesn't exist, and must hold no *.bpf. The filters are written oldest first, as 0.bpf, 1.bpf
@@ -11,10 +11,11 @@ Filters belong to threads: all threads of the process are read, and if they don'
 so, with status 3; --thread takes those of one thread. PID may also be a thread's number, and stands for its process.
 
 With a PROGRAM it is run under strace to its end, which needs no rights, with the terminal, input and output as ever;
-the filters are those that it and what it starts hand to the kernel, each with what its process had before. Processes
-without filters don't count; if the others end with different ones, --thread takes those of one, whose number the tool
-says. A traced program gets no privileges of set-user-ID, set-group-ID or file capabilities. LOG is what
-`strace -f -v -o LOG PROGRAM ..` wrote, with all of seccomp, prctl, clone, clone3, fork and vfork.
+the filters are those that it and what it starts hand to the kernel, each with what its process had before. Without a
+FOLDER it is one here that is called by the program, as bwrap.filters. Processes without filters don't count; if the
+others end with different ones, --thread takes those of one, whose number the tool says. A traced program gets no
+privileges of set-user-ID, set-group-ID or file capabilities. LOG is what `strace -f -v -o LOG PROGRAM ..` wrote, with
+all of seccomp, prctl, clone, clone3, fork and vfork.
 
 Exit status: 0 success; 2 usage error; 3 the filters can't be read, there are none, or the threads have different ones;
 125 strace isn't installed; 126 PROGRAM isn't executable; 127 there is none. If the filters of a PROGRAM are written, it
@@ -42,13 +43,14 @@ def read_words():
     parser.add("--force")
     parser.add_argument("places", metavar="[PID] FOLDER", nargs="*",
                         help="a process, or a thread of it; a folder, created if it doesn't exist, without *.bpf")
-    before, behind = tracing.split(sys.argv[1:])
-    options = parser.parse_args(before)
-    is_running = options.log is None and (len(options.places), len(behind)) in ((2, 0), (0, 2))
-    options.traced = [] if is_running else behind
-    places = [*options.places, *behind] if is_running else options.places
-    if not is_running and (len(places) != 1 or bool(options.traced) == (options.log is not None)):
-        parser.error("give PID FOLDER, FOLDER -- PROGRAM, or --log LOG FOLDER")
+    own_words, traced = tracing.split(sys.argv[1:])
+    options = parser.parse_args(own_words)
+    options.traced, places = traced, options.places
+    is_running = options.log is None and not options.traced
+    if options.traced and not places:
+        places = [os.path.basename(options.traced[0]) + ".filters"]
+    if len(places) != 1 + is_running or options.traced and options.log is not None:
+        parser.error("give PID FOLDER, [FOLDER] -- PROGRAM, or --log LOG FOLDER")
     options.folder = places[-1]
     options.pid = processes.number_in(places[0], parser) if is_running else None
     options.thread = None if options.thread is None else processes.number_in(options.thread, parser)

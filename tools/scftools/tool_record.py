@@ -1,11 +1,12 @@
 """Runs a program under strace, and writes a log of its syscalls that `scf needs` reads, or the least profile.
 
-    scf record [--profile BASE] FILE -- PROGRAM [ARGUMENT ..]
+    scf record [--profile BASE] [FILE] -- PROGRAM [ARGUMENT ..]
 
 The program has the terminal, input and output as ever, and runs to its end; what it starts is recorded, too. FILE,
 which is overwritten, gets what `strace -f -n -e raw=all --quiet=attach -o FILE PROGRAM ..` writes: each syscall with
 its number and its registers whole, so that `needs` knows both halves of each argument. `scf needs FILE PROFILE` reads
-it, and has options for the runtime that starts the program and for another architecture.
+it, and has options for the runtime that starts the program and for another architecture. Without FILE it is a new
+file here, called by the program: ls.log, or with --profile ls.json; standard error says so.
 
 With --profile FILE gets, in place of the log, the smallest profile that allows what was recorded, as `needs --profile`
 makes it of BASE; what isn't in it goes to standard error. Only what the program did in this run is recorded: run
@@ -36,12 +37,16 @@ def read_words():
     parser.add_argument("--profile", metavar="BASE",
                         help="write the smallest profile that allows what was recorded, with BASE's default and "
                              "architectures")
-    parser.add_argument("file", metavar="FILE", help="the log, or with --profile the new profile")
+    parser.add_argument("file", metavar="FILE", nargs="?",
+                        help="the log, or with --profile the new profile [default: PROGRAM.log or PROGRAM.json]")
     own_words, traced = tracing.split(sys.argv[1:])
     options = parser.parse_args(own_words)
     if not traced:
         parser.error("no program is given: it stands behind --")
     options.traced = traced
+    if options.file is None:
+        options.file = tracing.new_name(traced, ".log" if options.profile is None else ".json")
+        program.say(f"writes {options.file}")
     # (before the program runs for nothing)
     os.close(os.open(options.file, os.O_WRONLY | os.O_CREAT | os.O_CLOEXEC, 0o666))
     return options

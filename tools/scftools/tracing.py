@@ -21,6 +21,14 @@ def split(words: Sequence[str]) -> tuple[list[str], list[str]]:
     return list(words[:at]), list(words[at + 1:])
 
 
+def new_name(words: Sequence[str], ending: str) -> str:
+    """The name of a new file here, called by a program. Raises ToolError if it is there."""
+    name = os.path.basename(words[0]) + ending
+    if os.path.lexists(name):
+        raise program.ToolError(f"'{output.escaped(name)}' is there already: name it to write over it, or another one")
+    return name
+
+
 def _path_of(name: str) -> str:
     """The file of a program, as execvp(3) finds it."""
     shown, status = output.escaped(name), NOT_THERE

@@ -50,13 +50,13 @@ class Programs(Confined):
             out = self.run_tool(name, "--help")[1]
             for word in ("EINTR", "epoll_wait", "CAP_SYS_ADMIN", "restart_syscall(2)", "--force"):
                 self.assertIn(word, out)
-        for name in ("filters-of", "verify-process"):
+        for name, *before in (("filters-of",), ("verify-process", "--")):
             for pid in ("0", "-1", "x", "1.5", "4294967296", "²", "9" * 5000, "\x1b[2J\n"):
-                status, out, err = self.run_tool(name, "--", pid, "out")
+                status, out, err = self.run_tool(name, *before, pid, "out")
                 self.assertEqual((status, out), (2, ""))
                 self.assertIn("isn't a process ID", err)
                 self.assertNotIn("\x1b", err)
-        self.assertEqual(self.run_tool("filters-of", "--thread", "0", "--", "1", "out")[0], 2)
+        self.assertEqual(self.run_tool("filters-of", "--thread", "0", "1", "out")[0], 2)
         self.assertEqual(self.run_tool("verify-process", "--native", "--calls", "1", "p")[0], 2)
 
     def test_a_process_that_is_not_there(self):

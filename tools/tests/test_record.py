@@ -124,6 +124,16 @@ sys.exit(5)""", "out")
                          (3, "", "filters-of: no filter is loaded in the program\n"))
         self.assertFalse(os.path.exists(self.path("none")))
 
+    def test_without_a_folder(self):
+        """It is called by the program."""
+        name = os.path.basename(sys.executable)
+        status, out, err = self.run_python("filters-of", "load(FIRST)")
+        self.assertEqual((status, out, err), (0, f"{name}.filters/0.bpf\n", ""))
+        self.assertEqual(self.taken(f"{name}.filters"), [FIRST])
+        status, out, err = self.run_python("filters-of", "load(FIRST)")
+        self.assertEqual((status, out), (2, ""))
+        self.assertIn(f"the folder '{name}.filters' already has filters\n", err)
+
     def test_a_log_as_a_filter(self):
         self.run_python("filters-of", "load(FIRST)", "out")
         for options, text in ((("-v",), None), ((), "it doesn't show the filters whole: strace does with -v")):
@@ -174,7 +184,7 @@ made.load()
         for words in (("out",), ("--log", "x"), ("--log", "x", "1", "out"), ("1", "out", "--", "true"), ()):
             status, out, err = self.run_tool("filters-of", *words)
             self.assertEqual((status, out), (2, ""), words)
-            self.assertIn("give PID FOLDER, FOLDER -- PROGRAM, or --log LOG FOLDER", err)
+            self.assertIn("give PID FOLDER, [FOLDER] -- PROGRAM, or --log LOG FOLDER", err)
 
 
 class Recorded(Traced):
@@ -187,8 +197,21 @@ class Recorded(Traced):
         self.assertEqual(self.run_tool("record", "log", "--", self.file("text", b"")),
                          (126, "", f"record: '{self.path('text')}' isn't executable\n"))
         self.assertEqual(self.run_tool("record", "a/b", "--", "true")[0], 3)
-        for words in (("log",), ("log", "--"), ("--", "true"), ("a", "b", "--", "true")):
+        for words in (("log",), ("log", "--"), ("--",), ("a", "b", "--", "true")):
             self.assertEqual(self.run_tool("record", *words)[:2], (2, ""))
+
+    def test_without_a_file(self):
+        """It is a new one that is called by the program."""
+        program = shutil.which("true")
+        self.assertEqual(self.run_tool("record", "--", program), (0, "", "record: writes true.log\n"))
+        self.assertIn("exit", pathlib.Path(self.path("true.log")).read_text(encoding="utf-8"))
+        self.assertEqual(self.run_tool("record", "--", program),
+                         (2, "", "record: 'true.log' is there already: name it to write over it, or another one\n"))
+        base = self.file("base.json", b'{"defaultAction": "SCMP_ACT_ERRNO"}')
+        status, _, err = self.run_tool("record", "--profile", base, "--", program)
+        self.assertEqual((status, err.split("\n")[0]), (0, "record: writes true.json"))
+        with open(self.path("true.json"), encoding="utf-8") as file:
+            self.assertIn("exit_group", [name for it in json.load(file)["syscalls"] for name in it["names"]])
 
     def test_the_terminal_interrupts_the_program_alone(self):
         script = "trap 'echo caught; exit 3' INT; echo ready; while :; do sleep 0.1; done"
