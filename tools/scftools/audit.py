@@ -16,7 +16,8 @@ from collections import Counter
 from collections.abc import Callable, Iterable, Sequence
 
 from . import (bundles, child, client, compare_output, container_files, engines, firejail_programs, hold, lxc_configs,
-               lxc_policies, machine, output, program, sandbox_rules, unit_profiles, units, verdicts, verify)
+               lxc_policies, machine, output, program, sandbox_rules, snap_programs, unit_profiles, units, verdicts,
+               verify)
 from .architectures import I386
 from .compare import Comparison
 from .container_files import ContainerDescription
@@ -76,6 +77,8 @@ class Expectation:
     others: tuple[Request, ...] = ()
     # why processes that differ may be as configured
     doubt: str | None = None
+    # a filter that the processes may have beside, which only denies more
+    beside: bytes = b""
     # the SHA-256 of a profile that isn't kept
     dropped: str | None = None
 
@@ -340,6 +343,8 @@ class StackJudge:
 
     def judge_all(self, stack: Stack, expected: Expectation) -> StackJudgement:
         """The verdict on a stack with filters beside all that is expected."""
+        own = tuple(data for data in stack.filters if data != expected.beside)
+        stack = replace(stack, filters=own) if own else stack
         judgements = [self.judge(stack, expected.asked), *(self.judge(stack, request) for request in expected.others)]
         worst = min(judgements, key=lambda judgement: WORST_FIRST.index(judgement.verdict))
         if expected.doubt is None or worst.verdict in (NOT_KNOWN, AS_CONFIGURED):
@@ -388,6 +393,7 @@ class Expectations:
         self.requests = Cache()
         self.names = container_files.Names()
         self.sandboxes: dict[firejail_programs.Sandbox, Expectation] = {}
+        self.snaps: dict[str, Expectation | None] = {}
 
     def _asked(self, config: dict[str, Any], runtime: str | None) -> Request | str:
         """The question about a configuration, once for each distinct one; or why there is none."""
@@ -478,6 +484,21 @@ class Expectations:
         return Expectation(Request(policy.data(), self.options.table, self.options.scope, unknown=(I386,)),
                            sandbox.profile)
 
+    def of_snap(self, tag: str) -> Expectation | None:
+        """The expectation of the programs with a snap's security tag, None if the tag has no filter."""
+        if tag not in self.snaps:
+            self.snaps[tag] = self.of_all() or self._of_snap(tag)
+        return self.snaps[tag]
+
+    def _of_snap(self, tag: str) -> Expectation | None:
+        path = snap_programs.path_of(tag)
+        try:
+            policy = snap_programs.policy_of(tag)
+        except (UnreadableFile, sandbox_rules.ListError) as why:
+            return Expectation(source=path, why=str(why))
+        return None if policy is None else Expectation(
+            Request(policy.data(), self.options.table, self.options.scope), path, beside=snap_programs.filter_of_all())
+
     def of_units(self, names: Sequence[str]) -> dict[str, Expectation]:
         """The expectations of units, by their names."""
         stated = self.of_all()
@@ -525,14 +546,18 @@ def rows_of(kernel: Kernel, snapshot: Snapshot, expectations: Expectations) -> t
     options, every = expectations.options, list(snapshot.processes.values())
     descriptions = container_files.descriptions_of(kernel, options.roots)
     members = container_files.Membership(kernel, descriptions.containers, snapshot.processes)
-    sandboxes = firejail_programs.Sandboxes(snapshot.processes)
+    sandboxes, tags = firejail_programs.Sandboxes(snapshot.processes), snap_programs.tags()
     of_units = expectations.of_units(sorted({unit for unit in map(container_files.unit_of, every) if unit is not None}))
     rows: dict[tuple[object, ...], AuditRow] = {}
     for process in every:
         unit = container_files.unit_of(process)
         container = members.container_of(process, unit is not None and of_units[unit].is_stated)
+        tag = snap_programs.tag_of(process) if tags else None
+        of_snap = expectations.of_snap(tag) if tag in tags else None
         if container is not None:
             row = AuditRow(CONTAINER, container.identifier, [], Expectation(), container)
+        elif of_snap is not None:
+            row = AuditRow(OTHER_PROGRAM, tag, [], of_snap)
         elif unit is not None:
             row = AuditRow(UNIT, unit, [], of_units[unit])
         elif process.is_confined:

@@ -32,10 +32,7 @@ class Sandbox:
         option = next((word for word in iter(lambda: next(words, b"--"), b"--") if STATING.match(word)), None)
         if option is not None:
             raise UnknownRules(f"firejail was given {option.decode('utf-8', 'backslashreplace')}")
-        data, users = owned_files.read(self.profile, sandbox_rules.MOST_BYTES)
-        if users - {0, os.geteuid()}:
-            raise UnreadableFile(f"'{self.profile}' may be changed by users")
-        return firejail_lists.read(data)
+        return firejail_lists.read(owned_files.read_own(self.profile, sandbox_rules.MOST_BYTES))
 
 
 class Sandboxes:

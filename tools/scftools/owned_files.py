@@ -129,6 +129,14 @@ def read(path: str, most: int, most_of_users: int | None = None) -> tuple[bytes,
     return data, place.users | ({place.status.st_uid} if place.users else frozenset())
 
 
+def read_own(path: str, most: int) -> bytes:
+    """The bytes of a file that only root, or the user of this tool, could have changed."""
+    data, users = read(path, most)
+    if users:
+        raise UnreadableFile(f"'{path}' may be changed by users")
+    return data
+
+
 def names_in(path: str, most_of_users: int) -> tuple[list[str], bool]:
     """The names in a folder, of one that a user could have changed the first, so many, and whether these are all; none
     where it isn't there."""

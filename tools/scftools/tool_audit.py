@@ -7,9 +7,10 @@
 
 All processes are read in one pass. Those with a filter are stopped for a moment, one after another, and their filters
 are compared with what is configured, each distinct stack with each distinct profile once. A container's profile is that
-of its config.json, as its runtime applies it; a unit's is what `scf unit-profile` prints. --expect takes one profile
-for all instead. Nothing is configured for other programs, of which there is a row for each executable with a filter;
-unless one is weaker than the baseline, unconfined or not known, these rows are only counted, and listed by --programs.
+of its config.json, as its runtime applies it; a unit's is what `scf unit-profile` prints; that of a snap's programs is
+in the rules that snapd keeps of them, and that of a sandbox of firejail in its profile. --expect takes one profile for
+all instead. Nothing is configured for other programs, of which there is a row for each executable with a filter; unless
+one is weaker than the baseline, unconfined or not known, these rows are only counted, and listed by --programs.
 
 Each row has a verdict. `unconfined though configured`: some thread has no filter. `unconfined by configuration`: so it
 is configured. `weaker`: some syscall is more permissive than configured, and one is shown. `not known`: and why.

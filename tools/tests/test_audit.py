@@ -9,11 +9,11 @@ import time
 import unittest
 from unittest import mock
 
-from support.common import ALLOW, EPERM, TOP, Case, filter_of, profile_of, ret, tool
+from support.common import ALLOW, EPERM, TOP, Case, filter_of, gate, jeq, load, profile_of, ret, tool
 from support import json_schema
 from support.confined import processes
 from support.own_machine import OwnMachine, Systemd
-from scftools import audit, audit_output, container_files, firejail_programs, machine, output, tables
+from scftools import audit, audit_output, container_files, firejail_programs, machine, output, snap_programs, tables
 from scftools.values import replace
 
 # What is configured for containers, and the same with one call more.
@@ -919,6 +919,76 @@ class Firejail(Case):
         os.chown(self.profile, 12345, 12345)
         expected = expectations.of_firejail(self.started())
         self.assertEqual((expected.asked, expected.why), (None, f"'{self.profile}' may be changed by users"))
+
+
+class Snaps(Case):
+    """Programs of snaps, by the names of their control groups and snapd's files."""
+
+    UUID = "0e5d3b6c-7c43-4d5e-8a51-0123456789ab"
+    # What snap-confine loads beside each snap's own filter, in short: no TIOCSTI.
+    OF_ALL = gate(jeq(16, 0, 3) + load(24) + jeq(0x5412, 0, 1) + ret(EPERM) + ret(ALLOW))
+    RULES = "# snap-seccomp version information:\n# x\nread\nwrite\n"
+
+    def setUp(self):
+        super().setUp()
+        patch = mock.patch.object(snap_programs, "FOLDER", self.folder)
+        patch.start()
+        self.addCleanup(patch.stop)
+        self.file("snap.web.run.src", self.RULES)
+        self.file("snap.classic.run.src", "@unrestricted\n")
+        self.file("global.bin", self.OF_ALL)
+        self.expectations = audit.Expectations(audit.Options(tables.read(None)))
+
+    def test_the_names_of_groups(self):
+        in_slice = "/user.slice/user-1000.slice/user@1000.service/app.slice"
+        for path, tag in ((f"{in_slice}/snap.web.run.{self.UUID}.scope", "snap.web.run"),
+                          (f"{in_slice}/snap.web.run-{self.UUID}.scope", "snap.web.run"),
+                          (f"{in_slice}/snap.web_2.hook.install.{self.UUID}.scope", "snap.web_2.hook.install"),
+                          ("/system.slice/snap.web.run.service", "snap.web.run"),
+                          ("/system.slice/snap.web.run.service/inner", "snap.web.run"),
+                          ("/system.slice/snapd.service", None), (f"{in_slice}/snap.web.scope", None),
+                          ("/system.slice/snap.web.run.timer", None), ("/", None)):
+            self.assertEqual(snap_programs.tag_of(process(groups={"": path.encode()})), tag, path)
+        self.assertEqual(snap_programs.tags(), {"snap.web.run", "snap.classic.run"})
+
+    def test_what_is_expected(self):
+        expected = self.expectations.of_snap("snap.web.run")
+        self.assertEqual((expected.source, expected.beside),
+                         (os.path.join(self.folder, "snap.web.run.src"), self.OF_ALL))
+        self.assertEqual(json.loads(expected.asked.profile)["syscalls"], [
+            {"names": ["read", "write"], "action": "SCMP_ACT_ALLOW", "comment": "lines 3-4"}])
+        self.assertIsNone(self.expectations.of_snap("snap.classic.run"))
+        self.file("snap.odd.run.src", self.RULES + "~read\n")
+        self.assertIn("line 5: '~read' is denied", self.expectations.of_snap("snap.odd.run").why)
+        os.chmod(os.path.join(self.folder, "snap.web.run.src"), 0o666)
+        self.assertTrue(audit.Expectations(self.expectations.options).of_snap("snap.web.run").why.endswith(
+            "may be changed by users"))
+
+    def test_verdicts(self):
+        """The filter of all snaps makes nothing stricter than configured; a filter that allows more is weaker."""
+        expected, judge = self.expectations.of_snap("snap.web.run"), audit.StackJudge(tables.read(None))
+        path = self.file("p.json", expected.asked.profile)
+        self.run_words(["sh", "-c", f"{tool('compile')} {path} >{self.folder}/own.bpf"])
+        with open(os.path.join(self.folder, "own.bpf"), "rb") as file:
+            own = file.read()
+        for filters, verdict in (((own, self.OF_ALL), "as configured"), ((own,), "as configured"),
+                                 ((self.OF_ALL,), "weaker"), ((gate(ret(ALLOW)), self.OF_ALL), "weaker"),
+                                 ((own, gate(ret(EPERM))), "stricter")):
+            self.assertEqual(judge.judge_all(processes.Stack(filters, False), expected).verdict, verdict)
+
+    def test_rows(self):
+        """A snap's processes are one row, before the unit that they are in; an unrestricted one has none."""
+        group = f"/user.slice/user-1000.slice/user@1000.service/app.slice/snap.{{}}.run.{self.UUID}.scope"
+        every = {number: process(number, groups={"": group.format(name).encode()}, is_confined=False)
+                 for number, name in ((7, "web"), (8, "web"), (9, "classic"))}
+        snapshot, kernel = machine.Snapshot(processes=every), mock.Mock()
+        kernel.group_owner.return_value = None
+        with mock.patch.object(container_files, "descriptions_of", lambda *_: container_files.Descriptions()), \
+                mock.patch.object(self.expectations, "of_units", lambda names: {name: audit.Expectation()
+                                                                                for name in names}):
+            rows, _ = audit.rows_of(kernel, snapshot, self.expectations)
+        self.assertEqual([(row.kind, row.key, [each.number for each in row.processes]) for row in rows],
+                         [("program", "snap.web.run", [7, 8]), ("unit", "user@1000.service", [9])])
 
 
 class Descriptions(Case):
