@@ -10,7 +10,7 @@ import functools
 import itertools
 import operator
 import re
-from collections.abc import Sequence
+from collections.abc import Mapping, Sequence
 
 from . import architectures, program, tables
 from .architectures import I386
@@ -240,12 +240,15 @@ def _value_text(value: int, kind: str, family: Family | None) -> str:
     return _number_text(value, kind) if named is None else named
 
 
-def family_of(name: str, index: int, first: int | None, architecture: str = architectures.NATIVE) -> Family | None:
-    """The constants of an argument on the architecture of this OCI name, given the first one, if that is known."""
+def family_of(name: str, index: int, values: Mapping[int, int],
+              architecture: str = architectures.NATIVE) -> Family | None:
+    """The constants of an argument on the architecture of this OCI name, given the arguments that are known, by their
+    indices."""
     families, calls = _families(architecture)
     words = calls.get(name, [])
-    if index and first is not None and words and words[0] in families and first < WORD_VALUES:
-        words = calls.get(f"{name}[{families[words[0]].describe(first)}]", words)
+    first = next((at for at, word in enumerate(words) if word in families), index)
+    if first != index and values.get(first, WORD_VALUES) < WORD_VALUES:
+        words = calls.get(f"{name}[{families[words[first]].describe(values[first])}]", words)
     return families.get(words[index]) if index < len(words) else None
 
 
@@ -257,7 +260,7 @@ def call_text(name: str, values: Sequence[int]) -> str:
     shown = []
     for index, value in enumerate(values[:len(letters)] if is_whole else values):
         kind = letters[index] if index < len(letters) else WHOLE
-        shown.append(_value_text(value, kind, family_of(name, index, values[0])))
+        shown.append(_value_text(value, kind, family_of(name, index, dict(enumerate(values)))))
     zeros = next((at for at, value in enumerate(reversed(values[:len(shown)])) if value), len(shown))
     if zeros > MOST_ZEROS:
         shown = [*shown[:len(shown) - zeros], ".."]

@@ -3,6 +3,7 @@ from __future__ import annotations
 
 import functools
 import json
+import operator
 from collections.abc import Iterator, Sequence
 
 from . import constants, program
@@ -69,17 +70,46 @@ def _mask_text(mask: int, bits: int, family: Family | None) -> str:
 
 
 def _value_text(value: int, family: Family | None) -> str:
-    """The value of an argument; one of which only some bits have names is a number."""
+    """The value of an argument; one of which several bits have no names is a number."""
     shown = family.describe(value) if family is not None and value <= LOW_HALF else None
-    return _together(_number(value) if shown is None or "|0x" in shown else shown)
+    unnamed = shown.rpartition("|0x")[2] if shown is not None and "|0x" in shown else "0"
+    return _together(_number(value) if shown is None or bin(int(unnamed, 16)).count("1") > 1 else shown)
+
+
+def _values_of(condition: Condition, bits: int) -> tuple[bool, set[int]] | None:
+    """Whether a condition compares only the lower half of an argument of 64 bits, and for which values, if these are
+    few."""
+    if condition.op == "SCMP_CMP_EQ":
+        return False, {condition.value}
+    is_half = bits > 32 and condition.value <= LOW_HALF
+    free = [1 << at for at in range(32 if is_half else bits) if not condition.value >> at & 1]
+    if condition.op != "SCMP_CMP_MASKED_EQ" or 1 << len(free) > MOST_VALUES:
+        return None
+    values = {condition.two}
+    for bit in free:
+        values |= {value | bit for value in values}
+    return is_half, values
+
+
+def _are_flags(values: set[int], family: Family | None) -> bool:
+    """Whether values differ only in bits that have a name each."""
+    bits = functools.reduce(operator.or_, (value ^ min(values) for value in values), 0)
+    return family is not None and not bits & family.mask and family.bit_names(bits) is not None
+
+
+def _set_text(name: str, is_half: bool, values: set[int], family: Family | None) -> str:
+    """That some bits of an argument are one of some values."""
+    of_bits = f"{name} & {_number(LOW_HALF)}" if is_half else name
+    return f"{of_bits} in {{{', '.join(_value_text(value, family) for value in sorted(values))}}}"
 
 
 def condition_text(condition: Condition, syscall: str, others: Alternative, architecture: str, bits: int = 64) -> str:
     """A condition on so many bits of an argument as people write it, among those that hold together, on the
     architecture of this OCI name."""
     syscall = syscall if (architecture, syscall) != IN_MEMORY else ""
-    first = next((beside.value for beside in others if (beside.index, beside.op) == (0, "SCMP_CMP_EQ")), None)
-    family, name = constants.family_of(syscall, condition.index, first, architecture), name_of(syscall, condition.index)
+    known = {beside.index: beside.value if beside.op == "SCMP_CMP_EQ" else beside.two for beside in others
+             if beside.op == "SCMP_CMP_EQ" or (beside.op, beside.value) == ("SCMP_CMP_MASKED_EQ", LOW_HALF)}
+    family, name = constants.family_of(syscall, condition.index, known, architecture), name_of(syscall, condition.index)
     op, value, bits_met = condition.op, condition.value, condition.two
     if op == "SCMP_CMP_LE" and family is not None and not family.mask and not value & value + 1 and \
             family.bit_names(value):
@@ -88,6 +118,9 @@ def condition_text(condition: Condition, syscall: str, others: Alternative, arch
         return f"{name} {SIGNS[op]} {_number(value)}"
     if op != "SCMP_CMP_MASKED_EQ":
         return f"{name} {SIGNS[op]} {_value_text(value, family)}"
+    found = _values_of(condition, bits)
+    if found is not None and len(found[1]) > 1 and bits_met and not _are_flags(found[1], family):
+        return _set_text(name, found[0], found[1], family)
     is_half = value == LOW_HALF
     is_whole = is_half or family is not None and family.mask and value & family.mask == family.mask
     shown = _value_text(bits_met, family) if is_whole and (bits_met or is_half) else \
@@ -95,25 +128,15 @@ def condition_text(condition: Condition, syscall: str, others: Alternative, arch
     return f"{name} & {_number(LOW_HALF) if is_half else _mask_text(value, bits, family)} == {shown}"
 
 
-def _values(alternatives: Sequence[Alternative], bits: int) -> list[int]:
-    """The values of the only argument that several alternatives test, if they are few; else none."""
-    conditions = [condition for alternative in alternatives for condition in alternative]
-    values: set[int] = set()
-    is_of_one = all(len(alternative) == 1 for alternative in alternatives) and \
-        len({condition.index for condition in conditions}) == 1
-    if len(alternatives) < LEAST_LISTED or not is_of_one:
-        return []
-    for tested in conditions:
-        is_masked = tested.op == "SCMP_CMP_MASKED_EQ"
-        mask, value = (tested.value, tested.two) if is_masked else ((1 << bits) - 1, tested.value)
-        free = [1 << at for at in range(bits) if not mask >> at & 1]
-        if tested.op not in ("SCMP_CMP_EQ", "SCMP_CMP_MASKED_EQ") or 1 << len(free) > MOST_VALUES:
-            return []
-        sums = [0]
-        for bit in free:
-            sums += [total + bit for total in sums]
-        values.update(value + total for total in sums)
-    return sorted(values) if len(values) <= MOST_VALUES else []
+def _values(alternatives: Sequence[Alternative], bits: int) -> tuple[bool, set[int]] | None:
+    """The values of the only argument, or of its lower half, that several alternatives compare, if they are few."""
+    found = [_values_of(condition, bits) for alternative in alternatives for condition in alternative]
+    indices = {tuple(condition.index for condition in alternative) for alternative in alternatives}
+    if len(alternatives) < LEAST_LISTED or len(indices) > 1 or len(found) > len(alternatives) or None in found or \
+            len({is_half for is_half, _ in found}) > 1:
+        return None
+    values = set().union(*(values for _, values in found))
+    return (found[0][0], values) if len(values) <= MOST_VALUES else None
 
 
 def answer_text(answer: Answer) -> str:
@@ -144,12 +167,11 @@ class Conditions:
     def _where(self, alternatives: Sequence[Alternative]) -> str:
         """Conditions of which some hold."""
         name, architecture = self.names[0], self.architecture
-        values = _values(alternatives, architecture.bits)
-        if values:
+        found = _values(alternatives, architecture.bits)
+        if found is not None:
             index = alternatives[0][0].index
-            equal = (condition_text(Condition(index, "SCMP_CMP_EQ", value, 0), name, (), architecture.oci)
-                     for value in values)
-            return f"{name_of(name, index)} in {{{', '.join(text.partition(' == ')[2] for text in equal)}}}"
+            family = constants.family_of(name, index, {}, architecture.oci)
+            return _set_text(name_of(name, index), *found, family)
         return " or ".join(" and ".join(condition_text(condition, name, alternative, architecture.oci,
                                                        architecture.bits) for condition in alternative)
                            for alternative in alternatives)

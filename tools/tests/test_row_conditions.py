@@ -85,7 +85,15 @@ class Lines(Case):
                 ("unshare", 272, 0, "SCMP_CMP_MASKED_EQ", WORD ^ 0x10000001, 0, "flags & ~(CLONE_NEWUSER|0x1) == 0"),
                 ("mprotect", 10, 2, "SCMP_CMP_LE", 3, 0, "prot & ~(PROT_READ|PROT_WRITE) == 0"),
                 ("mprotect", 10, 1, "SCMP_CMP_LE", 3, 0, "a1 <= 3"),
-                ("mprotect", 10, 2, "SCMP_CMP_LE", 4, 0, "prot <= 4")):
+                ("mprotect", 10, 2, "SCMP_CMP_LE", 4, 0, "prot <= 4"),
+                # sys/stat.h, linux/sockios.h, sys/mman.h: one bit without a name takes away no other's
+                ("fchmod", 91, 1, "SCMP_CMP_MASKED_EQ", 0o6000, 0, "mode & (S_ISUID|S_ISGID) == 0"),
+                ("ioctl", 16, 1, "SCMP_CMP_EQ", 0x8946, 0, "request == SIOCETHTOOL"),
+                ("mmap", 9, 3, "SCMP_CMP_EQ", 0x8000022, 0, "flags == (MAP_PRIVATE|MAP_ANONYMOUS|0x8000000)"),
+                ("recvmsg", 47, 2, "SCMP_CMP_MASKED_EQ", WORD ^ 0x42, 0, "flags & ~(MSG_PEEK|MSG_DONTWAIT) == 0"),
+                # a mask that leaves bits free that aren't flags is a set of values
+                ("tgkill", 234, 2, "SCMP_CMP_MASKED_EQ", WORD ^ 0x10, 1, "sig in {SIGHUP, SIGCHLD}"),
+                ("tgkill", 234, 2, "SCMP_CMP_MASKED_EQ", 0xFFFFFFEF, 1, "sig & 0xffffffff in {SIGHUP, SIGCHLD}")):
             code = where(index, op, value, two, ret(ALLOW), ret(EPERM))
             self.assertEqual(self.said_of(name, number, code), f"allowed where {text}, else denied (EPERM)")
 
@@ -97,6 +105,15 @@ class Lines(Case):
             tests = b"".join(jeq(value, 0, 1) + ret(ALLOW) for value in values)
             code = load(28) + jeq(0, 1, 0) + ret(EPERM) + load(24) + tests + ret(EPERM)
             self.assertEqual(self.said_of("kill", 62, code), f"allowed where {text}, else denied (EPERM)")
+
+    def test_options_by_level(self):
+        """The options of a socket have the names of their level (socket(7), tcp(7))."""
+        for level, option, text in ((1, 15, "level == SOL_SOCKET and optname == SO_REUSEPORT"),
+                                    (6, 1, "level == IPPROTO_TCP and optname == TCP_NODELAY"),
+                                    (77, 1, "level == 0x4d and optname == 1")):
+            code = where(1, "SCMP_CMP_EQ", level, 0, where(2, "SCMP_CMP_EQ", option, 0, ret(ALLOW), ret(EPERM)),
+                         ret(EPERM))
+            self.assertEqual(self.said_of("setsockopt", 54, code), f"allowed where {text}, else denied (EPERM)")
 
     def test_answers_of_one_disposition(self):
         """They are told apart, too."""
