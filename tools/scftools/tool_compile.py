@@ -20,8 +20,7 @@ Examples:
     scf compile profile.json >filter.bpf
     scf compile --table x86_64.table profile.json >filter.bpf
 """
-from . import bundles, client, compare, explanation, output, profiles, program, refusals, runtimes, tables, words
-from .client import Fault
+from . import client, compare, explanation, output, profiles, program, refusals, runtimes, tables, trap_data, words
 
 
 def main():
@@ -35,24 +34,24 @@ def main():
         parser.keep_off_terminal()
     profile = runtimes.read(options)
     judged = profile.judged(tables.read(options.table), options.native)
-    done = client.run(["compile", *judged.words], bundles.of_compilation(profile.data, judged))
-    fault = None if done.status == program.SUCCESS else Fault.read(done.line)
-    if fault:
-        sentences = list(refusals.sentences(fault, profile.data, judged, profile.origins))
+    try:
+        code = trap_data.compile_profile(profile.data, judged)
+    except client.Refusal as why:
+        sentences = list(refusals.sentences(why.fault, profile.data, judged, profile.origins)) if why.fault else []
         if options.json:
-            output.put_json({"status": done.status, "fault": fault.as_json(sentences)})
+            output.put_json({"status": why.status, **({"fault": why.fault.as_json(sentences)} if why.fault else {})})
         else:
-            program.say(fault.line, *sentences)
-        return done.status
+            program.say(why.line, *sentences)
+        return why.status
     report = compare.left_out(profile.data, judged)
     if options.json:
-        output.put_json({"status": done.status, "instructions": len(done.out) // 8, "hex": done.out.hex(),
+        output.put_json({"status": program.SUCCESS, "instructions": len(code) // 8, "hex": code.hex(),
                          "skipped": list(report.skipped), "other_architectures": list(report.architectures)})
-        return done.status
-    output.put(done.out)
+        return program.SUCCESS
+    output.put(code)
     output.flush()
     facts = profiles.read(profile.data) if report.skipped else None
     program.say(*explanation.of_skipped(report, judged, bool(facts and facts.allows_by_default)),
                 *(f"{line}: the filter kills a process that makes such a syscall"
                   for line in explanation.of_architectures(report)))
-    return done.status
+    return program.SUCCESS
