@@ -6,7 +6,7 @@ import json
 import math
 from collections.abc import Iterator, Sequence
 
-from . import (client, compare, constants, entries, output, program, questions, reasons, regions, tables, trap_data,
+from . import (compare, constants, entries, output, program, questions, reasons, regions, tables, trap_data,
                verdicts)
 from .answers import DISPOSITIONS, FIRST_X32
 from .architectures import JUDGED, NATIVE, Architecture

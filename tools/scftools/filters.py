@@ -3,7 +3,7 @@ from __future__ import annotations
 
 import os
 import struct
-from collections.abc import Sequence
+from collections.abc import Callable, Sequence
 
 from . import bundles, forms, inputs, program
 from .forms import Filter
@@ -61,14 +61,14 @@ def saved_in(folder: str) -> list[str]:
         return []
 
 
-def read_stack(names: Sequence[str]) -> list[Filter]:
+def read_stack(names: Sequence[str], read_one: Callable[[str], Filter] = read) -> list[Filter]:
     """The filters of some files; if they exceed what scf reads, only as many as show that."""
     filters_read: list[Filter] = []
     length = 0
     for name in names:
         if length > bundles.LONGEST_BUNDLE:
             break
-        filters_read.append(read(name))
+        filters_read.append(read_one(name))
         length += len(filters_read[-1].data)
     return filters_read
 

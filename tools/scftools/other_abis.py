@@ -1,7 +1,7 @@
-"""Syscalls of other ABIs, which a comparison of x86-64's leaves out: whether filters allow any.
+"""Syscalls of other ABIs of a machine, which a comparison of its own leaves out: whether filters allow any.
 
 A filter that doesn't test the architecture takes the number of an i386 syscall for one of x86-64; and x32 syscalls have
-the architecture of x86-64, with numbers from 0x40000000 on. An x86-64 kernel has no other ABIs.
+the architecture of x86-64, with numbers from 0x40000000 on. An x86-64 kernel has no other ABIs, one of aarch64 has arm.
 """
 from __future__ import annotations
 
@@ -9,7 +9,7 @@ from collections.abc import Collection, Iterable, Sequence
 
 from . import architectures, client, regions
 from .answers import ALLOWED, DENIED, KILL_PROCESS, Answer
-from .architectures import I386, JUDGED, X32, Architecture
+from .architectures import JUDGED, NATIVE, Architecture
 from .calls import NO_CALL, Call, number_text
 from .explanation import join_names
 from .filters import split
@@ -18,7 +18,9 @@ from .regions import Numbers, Region
 from .tables import Table
 from .values import dataclass
 
-ABIS = (JUDGED[I386], JUDGED[X32])
+# By the OCI name of a machine's own architecture its other ABIs, of the machines whose other ABIs are known.
+OF_MACHINES = {row.oci: tuple(JUDGED[abi] for _, abi in row.modes) for row in JUDGED.values() if row.modes}
+ABIS = OF_MACHINES[NATIVE]
 NO_OTHER_ABIS = "other ABIs: the kernel has no others"
 EVERY_SYSCALL_DENIED = "other ABIs: every {} syscall is denied; the kernel has no others"
 
@@ -98,9 +100,10 @@ def of_abi(filters: Sequence[bytes], filter_regions: Sequence[Region] | None, ar
 
 
 def of_regions(filters: Sequence[bytes], filter_regions: Sequence[Region] | None,
-               judged: Collection[str] = ()) -> list[AbiAccess]:
-    """The access of each other ABI of an x86-64 kernel, but for those that are judged otherwise."""
-    return [of_abi(filters, filter_regions, architecture) for architecture in ABIS if architecture.oci not in judged]
+               judged: Collection[str] = (), machine: str = NATIVE) -> list[AbiAccess]:
+    """The access of each other ABI of a machine, but for those that are judged otherwise."""
+    return [of_abi(filters, filter_regions, architecture) for architecture in OF_MACHINES[machine]
+            if architecture.oci not in judged]
 
 
 def known_of(filters: Sequence[bytes], judged: Collection[str] = ()) -> list[AbiAccess]:

@@ -169,6 +169,8 @@ class Settings:
     table: Table
     beside: Sequence[Filter] = ()
     architecture: Architecture = JUDGED[NATIVE]
+    # whether the other ABIs of the machine with this architecture are looked at, too
+    is_machine: bool = True
     # whether to say which arguments get which answer, or to show a call of each region
     has_conditions: bool = False
     has_examples: bool = False
@@ -193,7 +195,7 @@ class StackSurface:
 
 def _surface(filters: Sequence[Filter], settings: Settings) -> Surface:
     data = [bpf_filter.data for bpf_filter in filters]
-    surface = surfaces.of_filters(data, settings.table, settings.architecture)
+    surface = surfaces.of_filters(data, settings.table, settings.architecture, settings.is_machine)
     if not settings.beside:
         surface.add_others()
     for row in surface.rows if settings.has_examples else ():

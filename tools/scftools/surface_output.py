@@ -7,6 +7,7 @@ from collections.abc import Iterable, Iterator, Sequence
 from . import other_abis, program
 from .answers import ALLOWED, DENIED
 from .architectures import NATIVE
+from .explanation import join_names
 from .surfaces import DEPENDS, ROW_WORDS, Row, Surface
 
 # The width of a terminal that doesn't report one, and the least width of a column of names beside others.
@@ -66,10 +67,16 @@ def _summary(surface: Surface) -> str:
 
 
 def of_whole(surface: Surface) -> list[str]:
-    """How many syscalls are allowed, denied and so on; those of other ABIs, beside x86-64; numbers without a name."""
-    foreign = ["; ".join(other_abis.describe(surface.foreign))] if surface.asker.architecture.oci == NATIVE else []
+    """Of which other machine's architectures a filter is; how many syscalls are allowed, denied and so on; those of the
+    machine's other ABIs; numbers without a name."""
+    names = [architecture.name for architecture in surface.other_machines]
+    denied = [surface.asker.architecture.name, *(access.abi.name for access in surface.foreign)]
+    of_others = [f"it is for {join_names(names)}, which --arch lists: every {join_names(denied)} syscall is denied"] \
+        if names else []
+    foreign = ["; ".join(other_abis.describe(surface.foreign))] if surface.foreign else []
     others = [f"{_summary(beside)} (--arch {beside.asker.architecture.name} lists them)" for beside in surface.others]
-    return [_summary(surface), *foreign, *others, f"numbers without a name: {surface.unnamed.describe()}"]
+    return [*of_others, _summary(surface), *foreign, *others,
+            f"numbers without a name: {surface.unnamed.describe()}"]
 
 
 def details(row: Row, is_in_table: bool = False) -> list[str]:
@@ -160,7 +167,8 @@ def _counts_json(surface: Surface) -> dict[str, object]:
 
 
 def as_json(surface: Surface, groups: Groups) -> dict[str, object]:
-    others = [_counts_json(beside) for beside in surface.others]
+    others, machines = [_counts_json(beside) for beside in surface.others], surface.other_machines
     return {**_counts_json(surface), **({"other_abis": others} if others else {}),
+            **({"is_for": [architecture.name for architecture in machines]} if machines else {}),
             "foreign": [access.as_json() for access in surface.foreign],
             "unnamed": surface.unnamed.as_json(), "calls": [row_json(row, groups) for row in surface.rows]}

@@ -168,6 +168,7 @@ class Surface:
     table: Table
     regions: Sequence[Region] | None
     rows: list[Row]
+    # the access of the machine's other ABIs, none if one ABI alone is looked at
     foreign: list[other_abis.AbiAccess]
     unnamed: Unnamed
     # those of other ABIs of which some syscall may be allowed, on request
@@ -186,6 +187,16 @@ class Surface:
                 and self.are_conditions_finished
                 and all(access.is_decided for access in self.foreign)
                 and all(surface.is_decided for surface in self.others))
+
+    @property
+    def other_machines(self) -> list[Architecture]:
+        """The architectures of other machines of which some syscall isn't denied, if this machine's are all denied."""
+        own = {self.asker.architecture, *(access.abi for access in self.foreign)}
+        is_denied = {*self.counts} == {DENIED} and not self.unnamed.not_denied and not self.unnamed.undecided and \
+            other_abis.are_none(self.foreign)
+        return [architecture for architecture in JUDGED.values() if is_denied and self.foreign
+                and architecture not in own
+                and other_abis.of_abi(self.asker.filters, self.regions, architecture).not_denied is not None]
 
     def add_others(self) -> None:
         """Adds the surfaces of the ABIs that aren't proved to be denied."""
@@ -220,18 +231,20 @@ def _of_unnamed(numbers: Numbers, table: Table, architecture: Architecture) -> U
 
 
 def of_regions(filters: Sequence[bytes], filter_regions: Sequence[Region] | None, table: Table,
-               architecture: Architecture) -> Surface:
-    """The surface of filters with these regions, or None if they are unfinished, to an architecture with this table."""
+               architecture: Architecture, is_machine: bool = False) -> Surface:
+    """The surface of filters with these regions, or None if they are unfinished, to an architecture with this table, or
+    to a machine whose own it is."""
     asker, numbers = Asker(filters, architecture), Numbers(filter_regions, architecture)
     rows = [Row(number, table.names_of(number), architecture, numbers.of(architecture.first + number))
             for number in sorted(table.numbers())]
     if filter_regions is not None:
         asker.check(table)
         _ask(asker, rows)
-    foreign = other_abis.of_regions(filters, filter_regions) if architecture.oci == NATIVE else []
+    foreign = other_abis.of_regions(filters, filter_regions, machine=architecture.oci) if is_machine else []
     return Surface(asker, table, filter_regions, rows, foreign, _of_unnamed(numbers, table, architecture))
 
 
-def of_filters(filters: Sequence[bytes], table: Table, architecture: Architecture = JUDGED[NATIVE]) -> Surface:
-    """The surface of filters, oldest first, to an architecture with this table."""
-    return of_regions(filters, regions.of_filters(filters), table, architecture)
+def of_filters(filters: Sequence[bytes], table: Table, architecture: Architecture = JUDGED[NATIVE],
+               is_machine: bool = True) -> Surface:
+    """The surface of filters, oldest first, to an architecture with this table, or to a machine whose own it is."""
+    return of_regions(filters, regions.of_filters(filters), table, architecture, is_machine)

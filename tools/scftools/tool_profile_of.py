@@ -27,9 +27,10 @@ members `trapData` of an entry and `defaultTrapData`, which `scf compile`, `comp
 runtimes ignore; so a profile for one (--runtime, --kubernetes) doesn't have them.
 
 Some filters answer as no profile can: by the instruction pointer, or by two arguments that they compare with each
-other. Then the output is two profiles, and not JSON as a whole: the nearest that is nowhere stricter than the filters, and the nearest that is nowhere more permissive; or one
-that is both. This is proved. Lines marked by `# ` say which syscalls get another answer, and why, with an example where
-the profile is more permissive or stricter. With --no-less only the first profile is printed, with --no-more the second:
+other. Then the output is two profiles, and not JSON as a whole: the nearest that is nowhere stricter than the filters,
+and the nearest that is nowhere more permissive; or one that is both. This is proved. Lines marked by `# ` say which
+syscalls get another answer, and why, with an example where the profile is more permissive or stricter. With --no-less
+only the first profile is printed, with --no-more the second:
 
     scf profile-of --no-more filter.bpf >stricter.json
 

@@ -1,16 +1,19 @@
 """Says for each syscall whether filters allow, delegate or deny it, or on what that depends.
 
-    scf surface [--arch ARCH] [--conditions | --examples] [--limit N] [--splits N]
-                [--table FILE] [--json] [--html FILE] FILTER.. [--beside OTHER..]
+    scf surface [--arch ARCH] [--machine NAME] [--conditions | --examples] [--limit N]
+                [--splits N] [--table FILE] [--caps LIST] [--json] [--html FILE] FILTER..
+                [--beside OTHER..]
     scf surface [--arch ARCH] [--conditions | --examples] [--limit N] [--splits N]
                 [--table FILE] [--json] [--html FILE] [--force] --pid PID [--beside OTHER..]
 
 The FILTERs form one stack, oldest first; with --pid it is that of a running process, as the kernel keeps it, and each
-distinct stack of its threads has a block of its own. Each syscall in the table is always allowed, always denied, always
-delegated (to a supervisor or tracer), or it depends on the arguments; then an example of each is shown. The first line
-counts them. The next lines say whether any syscall of another ABI is allowed, with the same counts of an ABI of which
-one is, and how many numbers that the table doesn't name are allowed. With --arch all this is said of that architecture
-alone. Then come the syscalls by purpose (tables/calls.groups), on a terminal as a table, otherwise a line each: the
+distinct stack of its threads has a block of its own. A profile, as `scf ask` takes it, stands for the filter that scf
+compiles of it. Each syscall in the table is always allowed, always denied, always delegated (to a supervisor or
+tracer), or it depends on the arguments; then an example of each is shown. The first line counts them, behind one of a
+filter that is for another machine. The next lines say whether any syscall of another ABI of the machine is allowed,
+with the same counts of an ABI of which one is, and how many numbers that the table doesn't name are allowed. With
+--machine arm64 all this is said of aarch64 and arm, with --arch of that architecture alone. Then come the syscalls by
+purpose (tables/calls.groups), on a terminal as a table, otherwise a line each: the
 group, the disposition, the number, the names, and an answer. --beside shows the syscalls that differ under another
 stack of filters; it stands last. --html writes the same as a page without scripts, which replaces FILE at once.
 
@@ -39,27 +42,31 @@ Examples:
     scf surface filter.bpf
     scf surface old.bpf --beside new.bpf
 """
-from . import architectures, client, filters, output, processes, stack_surfaces, surface_output, tables, words
+from . import (architectures, client, engines, filters, inputs, other_abis, output, processes, profile_inputs, program,
+               refusals, stack_surfaces, surface_output, tables, trap_data, words)
 
 
 def read_words():
     parser = words.Parser(__doc__, processes.NEEDS.replace("This needs", "--pid needs", 1))
-    parser.add("--arch", "--limit", "--splits", "--table", "--json", "--html")
     parser.add_argument("--conditions", action="store_true",
                         help="say which arguments get which answer, instead of examples")
-    parser.add_argument("--examples", action="store_true", help="show a call for each region, with its answer")
-    parser.add_argument("--pid", metavar="PID", help="the filters of a process instead of files")
-    parser.add("--force")
     parser.add_argument("--beside", metavar="OTHER", nargs="+", default=[],
                         help="other filters, oldest first: show the syscalls that differ; stands last")
-    parser.add_argument("filters", metavar="FILTER", nargs="*", help="a raw filter, oldest first; - is standard input")
+    parser.add_argument("--pid", metavar="PID", help="the filters of a process instead of files")
+    parser.add("--arch")
+    parser.add("--machine", help="the machine whose syscalls are looked at, and for whose containers an engine's "
+                                 "profile is resolved [default: this one]")
+    parser.add_argument("--examples", action="store_true", help="show a call for each region, with its answer")
+    parser.add("--force", "--limit", "--splits", "--table", "--caps", "--json", "--html")
+    parser.add_argument("filters", metavar="FILTER", nargs="*",
+                        help="a raw filter, oldest first, or a profile; - is standard input")
     options = parser.parse_args()
     if options.pid is None and not options.filters:
         parser.error("give a FILTER or --pid")
     if options.pid is not None and options.filters:
         parser.error("give either FILTERs or --pid")
-    if options.beside and options.arch is not None:
-        parser.error("give either --arch or --beside, which compares the syscalls of all architectures")
+    if options.beside and (options.arch is not None or options.machine not in (None, "amd64")):
+        parser.error("give either --arch or --beside, which compares the syscalls of all architectures of this machine")
     if options.conditions and options.examples:
         parser.error("give either --conditions or --examples")
     if options.force and options.pid is None:
@@ -76,14 +83,29 @@ def looked_at(options):
         kernel, processes.process_of(kernel, options.pid), is_forced=options.force), True, options.json)
 
 
+def filter_in(name, options):
+    """The filter of a file, or the one that scf compiles of a profile."""
+    data = inputs.read(name, "profile")
+    if not profile_inputs.looks_like_profile(data):
+        return filters.filter_in(name, data)
+    profile = profile_inputs.profile_in(data, name, options.caps, machine=options.machine)
+    judged = profile.judged(tables.read(None), False)
+    try:
+        return filters.Filter(name, trap_data.compile_profile(profile.data, judged))
+    except client.Refusal as why:
+        sentences = refusals.sentences(why.fault, profile.data, judged, profile.origins) if why.fault else ()
+        raise program.ToolError("; ".join([f"{inputs.label(name)}: {why.line}", *sentences]), why.status) from why
+
+
 def main():
     options = read_words()
-    stack = filters.read_stack(options.filters)
-    architecture = architectures.judged_in(options.arch)
-    beside = filters.read_stack(options.beside)
+    machine = engines.MACHINE_NAMES[options.machine or engines.machine_here()]
+    architecture = architectures.judged_in(options.arch or machine)
+    stack, beside = (filters.read_stack(names, lambda name: filter_in(name, options))
+                     for names in (options.filters, options.beside))
     settings = stack_surfaces.Settings(tables.read(options.table, architecture), beside, architecture,
-                                       options.conditions,
-                                       options.examples)
+                                       architecture.oci == machine and machine in other_abis.OF_MACHINES,
+                                       options.conditions, options.examples)
     inspection = None if options.pid is None else looked_at(options)
     blocks = [stack_surfaces.of_stack(stack, settings)] if inspection is None else \
         stack_surfaces.of_process(inspection, settings)

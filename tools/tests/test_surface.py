@@ -367,7 +367,48 @@ class Program(Case):
         calls = [Call(number, architecture) for number in (0x80000000, 0xFFFFFFFE, 0xFFFFFFFF)
                  for architecture in (X86_64, I386)] + [Call(READ, 0xC00000B7), Call(READ, 0)]
         self.assertEqual({StandIn().decide([lets], call) for call in calls}, {"ALLOW 0"})
-        self.assertEqual(self.said([lets])[1][1], NO_FOREIGN)
+        self.assertEqual(self.said([lets])[1][2], NO_FOREIGN)
+
+    def test_a_filter_for_another_machine(self):
+        """It is said first of one that allows syscalls of another machine's architectures, and none of this one's."""
+        of_arch = {name: load(4) + jeq(number, 1, 0) + ret(KILL_PROCESS) + load(0) + jeq(63, 0, 1) + ret(ALLOW)
+                   + ret(EPERM) for name, number in (("aarch64", 0xC00000B7), ("arm", 0x40000028), ("i386", I386),
+                                                     ("x86-64", X86_64), ("riscv64", 0xC00000F3))}
+        for name, data in of_arch.items():
+            status, lines = self.said([data])
+            first = f"it is for {name}, which --arch lists: every x86-64, i386 and x32 syscall is denied"
+            self.assertEqual((status, lines[0] == first), (0, name in ("aarch64", "arm")), lines[0])
+            self.assertEqual(json.loads(self.said([data], "--json")[1][0]).get("is_for"),
+                             [name] if name in ("aarch64", "arm") else None)
+        self.assertEqual(self.said([of_arch["aarch64"], of_arch["arm"]])[1][0], "allowed 0, depends 0, denied 5")
+        status, out, err = self.run_tool("surface", "--machine", "arm64", self.file("f.bpf", of_arch["aarch64"]))
+        self.assertEqual((status, err), (0, ""))
+        self.assertRegex(out, r"\Aaarch64: allowed 1, depends 0, denied \d+\n"
+                              r"other ABIs: every arm syscall is denied; the kernel has no others\n")
+        out = self.run_tool("surface", "--machine", "arm64", self.file("f.bpf", of_arch["x86-64"]))[1]
+        self.assertTrue(out.startswith("it is for x86-64, which --arch lists: every aarch64 and arm syscall is "), out)
+
+    def test_a_profile(self):
+        """It stands for the filter that scf compiles of it; an engine's is resolved for a machine."""
+        profile = {"defaultAction": "SCMP_ACT_ERRNO", "architectures": ["SCMP_ARCH_X86_64"],
+                   "syscalls": [{"names": ["read"], "action": "SCMP_ACT_ALLOW"}]}
+        path = self.file("p.json", json.dumps(profile))
+        self.run_words(["sh", "-c", f"{tool('compile')} {path} >{self.folder}/p.bpf"])
+        shown = [self.run_tool("surface", name) for name in (path, "p.bpf")]
+        self.assertEqual(shown[0], shown[1])
+        self.assertEqual((shown[0][0], shown[0][1].split(",")[0], shown[0][2]), (0, "allowed 1", ""))
+        self.assertEqual(self.run_tool("surface", path, "--beside", "p.bpf")[1].splitlines()[-1],
+                         "syscalls that differ: 0")
+        engines = {**profile, "archMap": [{"architecture": "SCMP_ARCH_AARCH64", "subArchitectures": ["SCMP_ARCH_ARM"]}],
+                   "syscalls": [{"names": ["read"], "action": "SCMP_ACT_ALLOW", "includes": {"caps": ["CAP_KILL"]}}]}
+        del engines["architectures"]
+        words = ("surface", "--caps", "CAP_KILL", "--machine", "arm64", self.file("e.json", json.dumps(engines)))
+        status, out, _ = self.run_tool(*words)
+        self.assertEqual((status, out.splitlines()[0].split(",")[0]), (0, "aarch64: allowed 1"))
+        self.assertTrue(out.splitlines()[2].startswith("arm: allowed 1, "), out)
+        status, out, err = self.run_tool("surface", self.file("p.json", json.dumps(engines)))
+        self.assertEqual((status, out), (1, ""))
+        self.assertIn("surface: 'p.json': fault profile EngineForm", err.replace(f"{self.folder}/", ""))
 
     def test_the_filter_of_libseccomp(self):
         """It lets -1 through on purpose, and no x32 call."""
