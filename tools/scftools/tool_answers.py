@@ -25,6 +25,7 @@ Examples:
 
     scf answers filter.bpf
     scf answers --arch i386 --examples old.bpf new.bpf
+    scf answers --json filter.bpf
 """
 from . import (architectures, explanation, filters, output, program, refusals, region_graph, region_output, regions,
                tables, words)

@@ -23,6 +23,7 @@ Examples:
 
     scf ask --nr openat profile.json
     scf ask --nr socket --a0 40 --json profile.json
+    scf ask --caps docker --machine arm64 --arch aarch64 --nr openat engine.json
 """
 from . import decisions, runtimes, tables, words
 

@@ -32,6 +32,7 @@ Examples:
 
     scf asm filter.s >filter.bpf
     scf dis old.bpf | scf asm >again.bpf
+    scf asm filter.s | scf surface -
 """
 from . import client, explanation, inputs, output, program, words
 

@@ -38,6 +38,7 @@ Examples:
 
     scf audit
     scf audit --json
+    scf audit --json >before.json; scf audit --since before.json
 """
 import json
 import sys

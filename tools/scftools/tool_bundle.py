@@ -18,6 +18,7 @@ Examples:
 
     scf bundle filter filter.bpf profile profile.json table x86_64.table | scf compare
     scf bundle filter old.bpf filter new.bpf | scf decide --nr 257
+    scf bundle profile profile.json table x86_64.table | scf compile >profile.bpf
 """
 import os
 import sys

@@ -22,6 +22,7 @@ Examples:
 
     scf call-table unistd_64.h >x86_64.table
     scf call-table --comment 'of this kernel' - <unistd_64.h
+    scf call-table unistd_64.h | scf compile --table - profile.json >profile.bpf
 """
 from . import architectures, inputs, number_sources, output, program, words
 

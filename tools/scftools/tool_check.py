@@ -18,6 +18,7 @@ Examples:
 
     scf check filter.bpf
     scf check *.bpf
+    scf check --json filter.bpf
 """
 from . import client, explanation, filters, output, words
 

@@ -49,6 +49,7 @@ Examples:
 
     scf compare filter.bpf profile.json
     scf compare --no-more old.bpf new.bpf profile.json
+    scf compare old.bpf --beside new.bpf
 """
 import itertools
 import sys

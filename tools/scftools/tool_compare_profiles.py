@@ -28,6 +28,7 @@ Examples:
 
     scf compare-profiles old.json new.json
     scf compare-profiles --no-more old.json new.json
+    scf compare-profiles --runtime podman old.json new.json
 """
 from . import changes, client, engines, output, profile_inputs, profiles, program, refusals, runtimes, tables, words
 

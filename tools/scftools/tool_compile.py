@@ -19,6 +19,7 @@ Examples:
 
     scf compile profile.json >filter.bpf
     scf compile --table x86_64.table profile.json >filter.bpf
+    scf compile --caps docker --machine arm64 engine.json >arm64.bpf
 """
 from . import client, compare, explanation, output, profiles, program, refusals, runtimes, tables, trap_data, words
 

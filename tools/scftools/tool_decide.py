@@ -28,6 +28,7 @@ Examples:
 
     scf decide --nr socket --a0 40 filter.bpf
     scf decide --nr openat --nr 435 old.bpf new.bpf
+    scf decide --expect rows filter.bpf
 """
 from . import decisions, expectations, explanation, filters, output, program, refusals, tables, words
 from .client import Refusal

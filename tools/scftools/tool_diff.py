@@ -16,6 +16,7 @@ Examples:
 
     scf diff old.bpf new.bpf
     scf diff --no-less old.bpf new.bpf
+    scf diff --json old.bpf new.bpf
 """
 from . import stack_comparison, words
 

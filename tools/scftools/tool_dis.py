@@ -12,6 +12,7 @@ Examples:
 
     scf dis filter.bpf
     scf dis <filter.bpf
+    scf dis filter.bpf >filter.txt
 """
 import os
 

@@ -15,6 +15,7 @@ Examples:
 
     scf explain fault filter Empty
     scf explain "no more"
+    scf explain unfinished
 """
 import os
 

@@ -25,6 +25,7 @@ Examples:
 
     scf filters-of "$PID" filters
     scf filters-of --thread "$PID" "$PID" filters-of-one
+    scf filters-of --log strace.log filters-of-log
 """
 import os
 import sys

@@ -24,6 +24,7 @@ Examples:
 
     scf list filter.bpf
     scf list --nr openat filter.bpf
+    scf list --nr socket --a0 AF_INET filter.bpf
 """
 from . import client, decisions, explanation, filters, flow_graph, listing, output, program, tables, words
 

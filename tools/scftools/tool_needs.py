@@ -60,6 +60,7 @@ Examples:
 
     scf needs log profile.json
     scf needs --profile log profile.json >smaller.json
+    scf needs --profile --runtime runc log profile.json >least.json
 """
 import json
 

@@ -36,6 +36,7 @@ Examples:
 
     scf oci-hook --print-hook --kill >scf.json
     scf oci-hook --print-hook --runtime crun --policy no-more >scf.json
+    scf oci-hook --print-hook --dry-run >scf.json
 """
 import os
 import sys

@@ -47,6 +47,7 @@ Examples:
 
     scf profile-of filter.bpf
     scf profile-of --no-more old.bpf new.bpf >stricter.json
+    scf profile-of --kubernetes web filter.bpf
 """
 from . import (architectures, engines, explanation, filters, kubernetes, output, profile_of, program, runtimes, tables,
                words)

@@ -22,6 +22,7 @@ Examples:
 
     scf record log -- ls -l /
     scf record --profile profile.json least.json -- ls -l /
+    scf record -- ls / && scf needs ls.log profile.json
 """
 import os
 import sys

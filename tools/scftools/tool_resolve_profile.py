@@ -44,6 +44,7 @@ Examples:
 
     scf resolve-profile --engine docker engine.json >profile.json
     scf resolve-profile --runtime podman --caps podman,NET_RAW engine.json >profile.json
+    scf resolve-profile --kubernetes web engine.json >web.json
 """
 from . import engines, kubernetes, multiplexed, output, profile_inputs, program, runtimes, words
 from .values import replace

@@ -13,6 +13,7 @@ Examples:
 
     scf run --nr write filter.bpf
     scf run --path --nr 41 --a0 0x28 filter.bpf
+    scf run --json --nr read filter.bpf
 """
 from . import decisions, filters, tables, words
 

@@ -41,6 +41,7 @@ Examples:
 
     scf surface filter.bpf
     scf surface old.bpf --beside new.bpf
+    scf surface --caps docker --machine arm64 engine.json
 """
 from . import (architectures, client, engines, filters, inputs, other_abis, output, processes, profile_inputs, program,
                refusals, stack_surfaces, surface_output, tables, trap_data, words)

@@ -32,6 +32,7 @@ Examples:
 
     scf unit-profile --set @system-service ~@mount >profile.json
     scf unit-profile --set ~ptrace --errno EPERM >profile.json
+    scf unit-profile --set @system-service --architectures native >profile.json
 """
 import json
 

@@ -47,6 +47,7 @@ Examples:
 
     scf verify-process "$PID" profile.json
     scf verify-process --no-more --json "$PID" profile.json
+    scf verify-process "$PID" --beside filters
 """
 import os
 import sys

@@ -56,6 +56,7 @@ Examples:
 
     scf why "$(dmesg | grep type=1326 | tail -n 1)" profile.json
     scf why - profile.json filter.bpf <log
+    scf why --all - profile.json <log
 """
 import os
 import re

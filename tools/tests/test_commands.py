@@ -248,6 +248,9 @@ class Examples(Confined):
         for name, allowed in (("filter", [0, 257]), ("old", [0, 257]), ("new", [0])):
             self.file(f"{name}.bpf", filter_of(allowed))
         self.file("log", "read(0, \"\", 9) = 0\n")
+        self.file("rows", "read = ALLOW\nwrite = ERRNO EPERM\n")
+        self.file("strace.log", "prctl(PR_SET_SECCOMP, SECCOMP_MODE_FILTER, {len=1, filter=["
+                                "BPF_STMT(BPF_RET|BPF_K, SECCOMP_RET_ALLOW)]}) = 0\n")
         self.file("unistd_64.h", "#define __NR_read 0\n")
         self.file("filter.s", "ld [0]\njeq #41, no, yes\nno: ret #0x50001\nyes: ret #0x7fff0000\n")
         shutil.copy2(TABLE, self.folder)
@@ -255,7 +258,7 @@ class Examples(Confined):
 
     def run_examples(self, name, **more):
         actual = examples_of(name)
-        self.assertEqual(len(actual), 2, name)
+        self.assertEqual(len(actual), 3, name)
         for line in actual:
             with self.subTest(line):
                 env = {**os.environ, "PATH": f"{self.folder}:{os.environ['PATH']}", **more}

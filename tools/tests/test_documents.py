@@ -582,7 +582,7 @@ class ManualOfTools(Case):
         env = {**os.environ, "PATH": f"{self.folder}:{os.environ['PATH']}"}
         for name in ("asm", "dis"):
             examples = self.page(name).partition(".SH EXAMPLES\n.nf\n")[2].partition("\n.fi")[0].split("\n")
-            self.assertEqual(len(examples), 2, name)
+            self.assertEqual(len(examples), 3, name)
             for line in examples:
                 status, _, err = self.run_words(["sh", "-c", line], env=env)
                 self.assertEqual((status, err), (0, ""), line)
