@@ -6,8 +6,7 @@ import json
 import math
 from collections.abc import Iterator, Sequence
 
-from . import (compare, constants, entries, output, program, questions, reasons, regions, tables, trap_data,
-               verdicts)
+from . import compare, constants, entries, output, program, questions, reasons, regions, tables, trap_data, verdicts
 from .answers import DISPOSITIONS, FIRST_X32
 from .architectures import JUDGED, NATIVE, Architecture
 from .calls import Call
