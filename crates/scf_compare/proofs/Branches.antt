@@ -1,5 +1,6 @@
 -- Open branches, as one is opened and one is taken.
 use Rattle.scf_compare.proofs.Common.{◌≡◌, ℕ, zero, suc, ◌+◌, ◌<◌, ◌≤◌, ◌↔◌, ◌⊎◌, inl, inr, List, [], ◌∷◌, ◌++◌, length, refl, ap, ◌∙◌, arith, length-append, Option, None, Some, true, false, cases_Bool, cases_lt, Atom, Branch, GoesOver, atom_answer, IsTrue, slice_get, slice_get_within, sum_by-append, AreWordsIn, Store, IsSameLevel, Frontier, Compared, GivesAnswer, LearnsExactly, IsFrontier, open_size, Tree}
+use Rattle.scf_machine.proofs.Indices.{index_before, index_cases, index_last}
 use Rattle.scf_compare.specs.declared.frontier.OpenBranch.{OpenBranch}
 use Rattle.scf_compare.specs.internal.Trees.{GoesEither, IsStep, KeepsAsked}
 use Rattle.scf_compare.specs.internal.Frontier.{IsBefore, IsWhole, IsWhollyAhead, StaysWhole, first_open_after, first_open_left}
@@ -9,25 +10,7 @@ use Rattle.scf_compare.specs.declared.frontier.Stage.{Stage}
 use Rattle.scf_compare.specs.declared.frontier.Stage.TheVariants.{At as AtNode, AllSeen, Found}
 use Rattle.std.specs.Prelude.{IfOk, IfSome, IsSome, Result, Ok, Err}
 
--- ---- indices in a list with one more at its end
-
-index_cases : {X : Type 0} (xs : List X) (x : X) (k : ℕ) (y : X) → slice_get (xs ++ x ∷ []) k ≡ Some y
-    → ((k < length xs) × (slice_get xs k ≡ Some y)) ⊎ ((k ≡ length xs) × (x ≡ y))
-index_cases [] x zero y e = inr (refl, cc)
-index_cases [] x (suc k) y e = cc
-index_cases (a ∷ xs) x zero y e = inl (omega arith, e)
-index_cases (a ∷ xs) x (suc k) y e =
-    elim (index_cases xs x k y e) [ inl h ↦ inl (omega arith, h.1) | inr h ↦ inr (ap suc h.0, h.1) ]
-
-index_before : {X : Type 0} (xs : List X) (x : X) (k : ℕ) (y : X) → slice_get xs k ≡ Some y
-    → slice_get (xs ++ x ∷ []) k ≡ Some y
-index_before [] x k y e = cc
-index_before (a ∷ xs) x zero y e = e
-index_before (a ∷ xs) x (suc k) y e = index_before xs x k y e
-
-pub index_last : {X : Type 0} (xs : List X) (x : X) → slice_get (xs ++ x ∷ []) (length xs) ≡ Some x
-index_last [] x = refl
-index_last (a ∷ xs) x = index_last xs x
+-- ---- one more at the end of a list
 
 length_more : {X : Type 0} (xs ys : List X) (x : X) → ys ≡ xs ++ x ∷ [] → length ys ≡ length xs + 1
 length_more xs ys x e = ap length e ∙ length-append xs (x ∷ [])

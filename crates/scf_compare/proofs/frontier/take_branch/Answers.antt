@@ -1,5 +1,6 @@
 use Rattle.scf_compare.proofs.Common.{length, arith}
-use Rattle.scf_compare.proofs.Branches.{index_last, taken, taken_whole}
+use Rattle.scf_compare.proofs.Branches.{taken, taken_whole}
+use Rattle.scf_machine.proofs.Indices.{index_last}
 use Rattle.scf_compare.proofs.frontier.take_branch.Goals as goal
 
 pub learn_answer-requires : goal.learn_answer-requires
