@@ -127,17 +127,16 @@ class Answer:
 
     @property
     def is_of_profiles(self) -> bool:
-        """Whether a profile that runtimes take can give it."""
+        """Whether a profile can give it."""
         return self.action in ACTIONS_WITH_DATA or self.action != "UNNAMED" and not self.data
 
-    def members(self, action: str = "action", number: str = "errnoRet", data: str = "trapData") -> dict[str, object]:
+    def members(self, action: str = "action", number: str = "errnoRet") -> dict[str, object]:
         """The members of an entry, or of the default, that give it."""
-        of_data = number if self.action in ACTIONS_WITH_DATA else data if self.action == "TRAP" and self.data else None
-        return {action: self.oci, **({} if of_data is None else {of_data: self.data})}
+        return {action: self.oci, **({number: self.data} if self.action in ACTIONS_WITH_DATA else {})}
 
     def default(self) -> dict[str, object]:
         """The members of a profile whose default it is."""
-        return self.members("defaultAction", "defaultErrnoRet", "defaultTrapData")
+        return self.members("defaultAction", "defaultErrnoRet")
 
     def as_profile(self, architectures: Sequence[str] = ()) -> bytes | None:
         """A profile that gives every syscall of these architectures, by default x86-64's, this answer, or None if none

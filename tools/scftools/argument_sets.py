@@ -22,9 +22,9 @@ ARGUMENT_COUNT = 6
 FIRST_UNTESTED, STEPS, NODE = 64 * ARGUMENT_COUNT, 1 << 19, 2
 # Behind all variables.
 LEAF_VARIABLE = 1 << 32
-# The most alternatives for a set, and for all sets of a table together, also with more steps than STEPS; the first of
-# a set are tried in so many orders of the arguments, and the later ones in two.
-ALTERNATIVES, ALL_ALTERNATIVES, WITH_MORE_STEPS, FIRST, ORDERS = 64, 512, (128, 4096), 16, 6
+# The most alternatives for a set, and for all sets of a table together; the first of a set are tried in so many orders
+# of the arguments, and the later ones in two.
+ALTERNATIVES, ALL_ALTERNATIVES, FIRST, ORDERS = 64, 512, 16, 6
 # Values that follow each other are listed one by one up to so many; and a set's up to so many, if masks say it in fewer
 # alternatives.
 MOST_LISTED_VALUES, ALL_LISTED = 3, 8
@@ -270,16 +270,14 @@ class Sets:
 
 
 class TooManyAlternatives(Exception):
-    """The set needs too many alternatives."""
+    """The set needs more alternatives than `ALTERNATIVES`."""
 
 
 class _Cover:
-    """The search for a cover of a set with at most so many alternatives, in which single values are listed, or joined
-    by any mask."""
+    """The search for a cover of a set, in which single values are listed, or joined by any mask."""
 
-    def __init__(self, sets: Sets, whole: int, is_listing: bool, most: int):
+    def __init__(self, sets: Sets, whole: int, is_listing: bool):
         self.sets, self.whole, self.outside, self.is_listing = sets, whole, sets.complement(whole), is_listing
-        self.most = most
         self.indices = sorted({variable // sets.bits for variable in sets.variables(whole)})
 
     def _cube(self, values: int, index: int, value: int, run: tuple[int, int]) -> Condition:
@@ -343,7 +341,7 @@ class _Cover:
     def find(self) -> list[Alternative]:
         uncovered, alternatives = self.whole, []
         while uncovered != EMPTY_SET:
-            if len(alternatives) == self.most:
+            if len(alternatives) == ALTERNATIVES:
                 raise TooManyAlternatives
             alternatives.append(self._best(uncovered, len(alternatives) >= FIRST))
             uncovered = self.sets.without(uncovered, self.sets.of_conditions(alternatives[-1]))
@@ -369,11 +367,10 @@ class Covers:
 
     def __init__(self, sets: Sets):
         self.sets, self._count = sets, 0
-        self._most = WITH_MORE_STEPS if sets.steps.most > STEPS else (ALTERNATIVES, ALL_ALTERNATIVES)
         self._found: dict[int, list[Alternative] | None] = {FULL_SET: [()]}
 
     def _of(self, arguments: int) -> list[Alternative] | None:
-        if self._count > self._most[1]:
+        if self._count > ALL_ALTERNATIVES:
             return None
         alternatives = self._search(arguments, True)
         if alternatives is None or len(alternatives) > ALL_LISTED:
@@ -386,11 +383,11 @@ class Covers:
         steps = Steps(self.sets.steps.left // 2)
         sets = Sets(self.sets.bits, steps)
         try:
-            alternatives = _Cover(sets, sets.copy(arguments, self.sets), is_listing, self._most[0]).find()
+            alternatives = _Cover(sets, sets.copy(arguments, self.sets), is_listing).find()
         except (TooMany, TooManyAlternatives):
             alternatives = None
         self.sets.spend(steps.most - max(steps.left, 0))
-        self._count += self._most[0] if alternatives is None else len(alternatives)
+        self._count += ALTERNATIVES if alternatives is None else len(alternatives)
         return alternatives
 
     def of_set(self, arguments: int) -> list[Alternative] | None:

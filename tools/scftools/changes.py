@@ -6,7 +6,7 @@ import json
 import math
 from collections.abc import Iterator, Sequence
 
-from . import compare, constants, entries, output, program, questions, reasons, regions, tables, trap_data, verdicts
+from . import client, compare, constants, entries, output, program, questions, reasons, regions, tables, verdicts
 from .answers import DISPOSITIONS, FIRST_X32
 from .architectures import JUDGED, NATIVE, Architecture
 from .calls import Call
@@ -59,7 +59,7 @@ class ProfileSide:
     def filter(self) -> Filter:
         """Its filter. Raises Refusal, whose subject is the side."""
         try:
-            return Filter(self.name, trap_data.compile_profile(self.source.data, self.judged))
+            return Filter(self.name, client.compile_profile(self.source.data, self.judged))
         except Refusal as why:
             why.subject = self.name, self.source.data
             raise

@@ -3,14 +3,13 @@ from __future__ import annotations
 
 from collections.abc import Iterable, Sequence
 
-from . import (architectures, bundles, client, entries, other_abis, profiles, program, reasons, shown_answers, tables,
-               trap_data, verdicts)
+from . import (architectures, bundles, client, entries, other_abis, profiles, program, shown_answers, tables,
+               verdicts)
 from .answers import ALLOW, Answer
 from .architectures import JUDGED
 from .client import Refusal
 from .filters import RETURN_CONSTANT, Filter, instruction, looks_at_pointer
 from .profiles import Origin, Profile
-from .questions import Asker
 from .tables import Table, Tables
 from .values import dataclass, field, replace
 from .verdicts import (ALL, CALLS, FOR_OTHER_ABI, LISTED, NATIVE_SCOPE, RELATIONS, SAME, SCOPES, UNDETERMINED,
@@ -67,12 +66,6 @@ class Comparison:
 
     def _run_by(self, judged: Tables, scope: Sequence[str], filters: Sequence[bytes], relation: str,
                 is_by_call: bool = False) -> tuple[int, Report]:
-        if trap_data.is_in(self.profile):
-            return self._run_with_data(judged, scope, filters, relation, is_by_call)
-        return self._run_once(judged, scope, filters, relation, is_by_call)
-
-    def _run_once(self, judged: Tables, scope: Sequence[str], filters: Sequence[bytes], relation: str,
-                  is_by_call: bool) -> tuple[int, Report]:
         words = [*scope, *judged.reading_words, *RELATIONS[relation]]
         done = client.compare(words, bundles.of_comparison(filters, self.profile, judged))
         facts = self.facts if b"\nskipped " in done.out else None
@@ -82,47 +75,6 @@ class Comparison:
         marked = report.on(JUDGED[name]) if is_by_call and name in JUDGED else report
         shown_answers.check(marked, self.data)
         return done.status, report
-
-    def _run_with_data(self, judged: Tables, scope: Sequence[str], filters: Sequence[bytes], relation: str,
-                       is_by_call: bool) -> tuple[int, Report]:
-        """The same with a profile that has data of TRAP: without that, and if the answers have to be the same also of
-        the data alone."""
-        def changed(change: trap_data.Change, profile: bytes) -> tuple[int, Report]:
-            own = [Filter(each.name, change.filter(each.data)) for each in self.filters]
-            return replace(self, filters=own, profile=profile)._run_once(
-                judged, scope, [change.filter(data) for data in filters], relation, is_by_call)
-
-        results = [changed(trap_data.WITHOUT_DATA, self.profile)]
-        if results[0][1].verdict is None:
-            return results[0]
-        trap_data.check(self.profile, filters)
-        if relation == SAME:
-            results.append(changed(trap_data.DATA_ALONE, trap_data.DATA_ALONE.profile(self.profile)))
-        status, report = _worst(results)
-        calls = {call.number: self._with_data(call, judged) for _, each in reversed(results) for call in each.calls}
-        of_call = calls[report.calls[0].number] if report.calls else None
-        verdict = self._verdict_with_data(report.verdict, judged) if of_call is None else \
-            replace(of_call.verdict, word=report.verdict.word)
-        sides = () if verdict.filters is None or verdict.profile is None or calls else (
-            report.lines[1], f"filter {verdict.filters.line}", f"profile {verdict.profile.line}")
-        lines = (report.lines[0], *(calls[number].line for number in sorted(calls)), *sides)
-        return status, replace(report, lines=lines, verdict=verdict,
-                               calls=tuple(calls[number] for number in sorted(calls)))
-
-    def _verdict_with_data(self, verdict: Verdict, judged: Tables) -> Verdict:
-        """A verdict with the answers that both sides give to its call."""
-        if verdict.call is None:
-            return verdict
-        return replace(verdict, filters=Asker(self.data).decided(verdict.call),
-                       profile=reasons.of(self.profile, judged, verdict.call.words()).answer)
-
-    def _with_data(self, call: NamedCall, judged: Tables) -> NamedCall:
-        """A line on a syscall with these answers."""
-        before, verdict = call.verdict, self._verdict_with_data(call.verdict, judged)
-        if before.filters is None or before.profile is None or verdict.filters is None or verdict.profile is None:
-            return call
-        old, new = (f"filter {each.filters.line} profile {each.profile.line}" for each in (before, verdict))
-        return replace(call, line=call.line.replace(old, new), verdict=verdict)
 
     def _run_others(self, filters: Sequence[bytes], relation: str) -> tuple[int, Report]:
         """The same over all records; those of several architectures that are judged are left out, and a profile denies
@@ -187,7 +139,7 @@ class Comparison:
             if report.verdict is None:
                 return status, report
             results.append((status, report.on(JUDGED[name])))
-        status, first = _worst(results)
+        status, first = min(results, key=lambda result: (not result[1].verdict.fails, result[1].verdict.holds))
         calls = tuple(call for _, report in results for call in report.calls)
         return status, replace(first, lines=(first.lines[0], *(call.line for call in calls)), calls=calls,
                                skipped=_in_all(report.skipped for _, report in results),
@@ -224,11 +176,6 @@ class Comparison:
     def foreign(self, scope: str) -> list[other_abis.AbiAccess]:
         """For other ABIs that a scope doesn't cover, whether some of their syscalls are allowed."""
         return other_abis.known_of(self.data, self.tables.of if scope in (LISTED, CALLS) else ())
-
-
-def _worst(results: Sequence[tuple[int, Report]]) -> tuple[int, Report]:
-    """The first of several results whose verdict fails, else the first that doesn't hold, else the first."""
-    return min(results, key=lambda result: (not result[1].verdict.fails, result[1].verdict.holds))
 
 
 def _in_all(lists: Iterable[Sequence[str]]) -> tuple[str, ...]:

@@ -258,8 +258,8 @@ def read(name: str, caps: str | None = None, is_runtimes: bool = False, is_stric
 
 def tell_unread(data: bytes, path: str, is_strict: bool) -> None:
     """Says which members of a profile aren't read, which may be misspelt; or refuses it."""
-    read_members = (*profiles.OWN_MEMBERS, *(OF_SPEC if isinstance(data, DerivedProfile) else ()))
-    unread = (member for member in profiles.unread_members(data) if member[1] not in read_members)
+    of_spec = OF_SPEC if isinstance(data, DerivedProfile) else ()
+    unread = (member for member in profiles.unread_members(data) if member[1] not in of_spec)
     where, name, known_names = next(unread, ("", "", ()))
     if not where:
         return

@@ -9,8 +9,8 @@ from __future__ import annotations
 from collections import Counter
 from collections.abc import Iterable, Iterator, Sequence
 
-from . import (answer_sets, architectures, client, constants, engines, other_abis, output, profiles, program,
-               questions, regions, runtimes, tables, trap_data)
+from . import (answer_sets, architectures, client, constants, engines, other_abis, output, program, questions, regions,
+               runtimes, tables)
 from .answer_sets import FIRST_OPEN, FIRST_UPPER, Answers
 from .answers import DISPOSITIONS, ENOSYS, FIRST_X32, Answer
 from .architectures import JUDGED, NATIVE, Architecture
@@ -25,23 +25,20 @@ from .tables import Table
 from .values import dataclass, field, replace
 from .verdicts import NO_LESS, NO_MORE, SAME, NamedCall, Report
 
-OF_DATA = f"TRAP's data stands in {' and '.join(profiles.OWN_MEMBERS)}, which scf alone reads: runtimes give none"
 UNFINISHED_TEXT = "unfinished: it takes too many steps to follow the filters: --limit N gives more than {}"
 # How far a draft may be from the filters: it says all that a profile can; one answer for all calls of a number that the
 # filters give to some of them; the utmost answer.
 EXACT, CONSTANT, UTMOST = range(3)
 
 
-def nearest(word: int | None, is_permissive: bool, has_trap_data: bool = False) -> Answer:
-    """The answer of a profile that is nearest to a filter's, with the same disposition; the profile may have the data
-    of TRAP in scf's own member."""
+def nearest(word: int | None, is_permissive: bool) -> Answer:
+    """The answer of a profile that is nearest to a filter's, with the same disposition."""
     if word is None:
         return EVERYTHING if is_permissive else NOTHING
     answer = Answer.of_word(word)
     if answer.action == "UNNAMED":
         return NOTHING
-    is_said = answer.is_of_profiles or has_trap_data and answer.action == trap_data.TRAP.action
-    return answer if is_said else Answer(answer.action, 0)
+    return answer if answer.is_of_profiles else Answer(answer.action, 0)
 
 
 def entry_of(names: Sequence[str], answer: Answer, alternative: Alternative) -> dict[str, object]:
@@ -66,8 +63,6 @@ class FilterAnswers:
     end: int = FIRST_X32
     # whether they weren't followed to their end, and nothing is known
     is_unfinished: bool = False
-    # whether a profile may have the data of TRAP
-    has_trap_data: bool = False
     # the parts of answers, and what they depend on, each found once
     known_parts: dict[tuple[Answers, bool], dict[Answer, int]] = field(default_factory=dict)
     known_untested: dict[Answers, str | None] = field(default_factory=dict)
@@ -103,7 +98,7 @@ class FilterAnswers:
         return self.known_parts[answers, is_permissive]
 
     def _parts(self, answers: Answers, is_permissive: bool) -> dict[Answer, int]:
-        order = sorted(((nearest(word, is_permissive, self.has_trap_data), arguments) for word, arguments in answers),
+        order = sorted(((nearest(word, is_permissive), arguments) for word, arguments in answers),
                        key=lambda part: DISPOSITIONS.index(part[0].disposition), reverse=is_permissive)
         remaining, parts = FULL_SET, {}
         for answer, arguments in order:
@@ -114,9 +109,9 @@ class FilterAnswers:
         return parts
 
     def unsaid(self, answers: Answers) -> Answer | None:
-        """An answer to the calls of a number that no profile gives, such as TRAP with data for a runtime."""
+        """An answer to the calls of a number that no profile gives, such as TRAP with data."""
         return next((Answer.of_word(word) for word, _ in answers
-                     if word is not None and Answer.of_word(word) != nearest(word, True, self.has_trap_data)), None)
+                     if word is not None and Answer.of_word(word) != nearest(word, True)), None)
 
     def untested(self, answers: Answers) -> str | None:
         """Why the answers to a number depend on something that no condition tests, or None. Raises TooMany."""
@@ -285,8 +280,6 @@ class ProfileRequest:
     others: Sequence[str] = ()
     steps: Steps = field(default_factory=own_steps)
     regions: Sequence[Region] | None = None
-    # whether the profile may have the data of TRAP in scf's own member
-    has_trap_data: bool = False
 
     @property
     def data(self) -> list[bytes]:
@@ -322,8 +315,7 @@ class ProfileRequest:
         """The request with the regions of the filters. Raises Refusal if scf refuses the filters or the table."""
         filter_regions = regions.of_filters(self.data)
         Asker(self.data, self.architecture).check(self.table)
-        return replace(self, regions=filter_regions,
-                       has_trap_data=self.has_trap_data and trap_data.is_known(self.data))
+        return replace(self, regions=filter_regions)
 
     def answers(self) -> FilterAnswers:
         """The answers of the filters, number by number; nothing is known if that takes too many steps."""
@@ -339,7 +331,7 @@ class ProfileRequest:
         if is_unfinished:
             by_number = [((None, FULL_SET),)] * len(listed)
         answers = FilterAnswers(architecture, sets, self.table, listed, by_number, Covers(sets),
-                                is_unfinished=is_unfinished, has_trap_data=self.has_trap_data)
+                                is_unfinished=is_unfinished)
         is_runc = self.runtime is not None and runtimes.RUNTIMES[self.runtime].program == runtimes.RUNC
         return answers.with_stub() if is_runc else answers
 
@@ -508,8 +500,7 @@ def _of_answers(request: ProfileRequest, answers: FilterAnswers, relation: str) 
     if same is not None:
         same = _with_others(request, answers, same)
         stub = [runtimes.stub_note(same.stub)] if same.stub else []
-        data = [OF_DATA] if trap_data.is_in(same.text.encode()) else []
-        return Result(program.SUCCESS, same.text, [*_covered(request, same.architectures), *stub, *data], [same])
+        return Result(program.SUCCESS, same.text, [*_covered(request, same.architectures), *stub], [same])
     if relation == SAME:
         bounds = _bounds(request, answers)
         lines = _both_sides(request, answers, bounds)

@@ -50,8 +50,6 @@ SECCOMP = {"defaultAction": TEXT_TYPE, "defaultErrnoRet": NUMBER_TYPE, "defaultE
            "architectures": [TEXT_TYPE],
            "archMap": [ARCH_MAP], "syscalls": [ENTRY], "flags": [TEXT_TYPE], "listenerPath": TEXT_TYPE,
            "listenerMetadata": TEXT_TYPE}
-# Members that scf alone reads, of an entry and of the whole (trap_data.py).
-OWN_MEMBERS = OF_ENTRY, OF_DEFAULT = "trapData", "defaultTrapData"
 CONFIG_MEMBERS = {**SECCOMP, "linux": {"seccomp": SECCOMP}}
 
 # Letters that encoding/json of Go takes for others in the name of a member (equalFoldRight in fold.go): of ASCII those

@@ -4,12 +4,12 @@ from __future__ import annotations
 import json
 from collections.abc import Iterator, Sequence
 
-from . import bundles, client, entries, profiles, program, trap_data
+from . import bundles, client, profiles, program
 from .answers import Answer
 from .calls import Call
 from .profiles import HOLDS, Origin
 from .tables import Tables
-from .values import Pattern, dataclass, replace
+from .values import Pattern, dataclass
 from .verdicts import Fault
 
 REASON_LINE = Pattern(r"(\w+ \w+) (?:entry ([0-9]+)|(default)|(foreign)|(stub))")
@@ -37,16 +37,7 @@ class Reason:
 def of(profile: bytes, judged: Tables, words: Sequence[str]) -> Reason:
     """A profile's reason for the record that scf's options give."""
     done = client.run(["ask", *judged.words, *words], bundles.of_compilation(profile, judged))
-    reason = _read(done.status, done.text)
-    return _with_data(reason, profile) if reason.answer == trap_data.TRAP and trap_data.is_in(profile) else reason
-
-
-def _with_data(reason: Reason, profile: bytes) -> Reason:
-    """A reason with the data that the profile has of its TRAP."""
-    top = entries.read(profile) or entries.Object([])
-    answer = trap_data.default_of(top) if reason.entry is None else \
-        trap_data.answer_of(top["syscalls"][reason.entry], f"entry {reason.entry}")
-    return replace(reason, answer=answer, line=reason.line.replace(trap_data.TRAP.line, answer.line, 1))
+    return _read(done.status, done.text)
 
 
 def of_region(line: str) -> Reason:

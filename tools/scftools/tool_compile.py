@@ -21,7 +21,8 @@ Examples:
     scf compile --table x86_64.table profile.json >filter.bpf
     scf compile --caps docker --machine arm64 engine.json >arm64.bpf
 """
-from . import client, compare, explanation, output, profiles, program, refusals, runtimes, tables, trap_data, words
+from . import bundles, client, compare, explanation, output, profiles, program, refusals, runtimes, tables, words
+from .client import Fault
 
 
 def main():
@@ -35,24 +36,24 @@ def main():
         parser.keep_off_terminal()
     profile = runtimes.read(options)
     judged = profile.judged(tables.read(options.table), options.native)
-    try:
-        code = trap_data.compile_profile(profile.data, judged)
-    except client.Refusal as why:
-        sentences = list(refusals.sentences(why.fault, profile.data, judged, profile.origins)) if why.fault else []
+    done = client.run(["compile", *judged.words], bundles.of_compilation(profile.data, judged))
+    fault = None if done.status == program.SUCCESS else Fault.read(done.line)
+    if fault:
+        sentences = list(refusals.sentences(fault, profile.data, judged, profile.origins))
         if options.json:
-            output.put_json({"status": why.status, **({"fault": why.fault.as_json(sentences)} if why.fault else {})})
+            output.put_json({"status": done.status, "fault": fault.as_json(sentences)})
         else:
-            program.say(why.line, *sentences)
-        return why.status
+            program.say(fault.line, *sentences)
+        return done.status
     report = compare.left_out(profile.data, judged)
     if options.json:
-        output.put_json({"status": program.SUCCESS, "instructions": len(code) // 8, "hex": code.hex(),
+        output.put_json({"status": done.status, "instructions": len(done.out) // 8, "hex": done.out.hex(),
                          "skipped": list(report.skipped), "other_architectures": list(report.architectures)})
-        return program.SUCCESS
-    output.put(code)
+        return done.status
+    output.put(done.out)
     output.flush()
     facts = profiles.read(profile.data) if report.skipped else None
     program.say(*explanation.of_skipped(report, judged, bool(facts and facts.allows_by_default)),
                 *(f"{line}: the filter kills a process that makes such a syscall"
                   for line in explanation.of_architectures(report)))
-    return program.SUCCESS
+    return done.status

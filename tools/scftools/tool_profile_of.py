@@ -22,15 +22,11 @@ for one architecture alone; where its arguments have 32 bits, conditions are on 
 
     scf profile-of --arch i386 filter.bpf
 
-The data of TRAP, which chromium's and firefox's filters give, has no place in the OCI specification: it stands in the
-members `trapData` of an entry and `defaultTrapData`, which `scf compile`, `compare`, `ask` and `surface` read, and
-runtimes ignore; so a profile for one (--runtime, --kubernetes) doesn't have them.
-
-Some filters answer as no profile can: by the instruction pointer, or by two arguments that they compare with each
-other. Then the output is two profiles, and not JSON as a whole: the nearest that is nowhere stricter than the filters,
-and the nearest that is nowhere more permissive; or one that is both. This is proved. Lines marked by `# ` say which
-syscalls get another answer, and why, with an example where the profile is more permissive or stricter. With --no-less
-only the first profile is printed, with --no-more the second:
+Some filters answer as no profile can: by the instruction pointer, by two arguments that they compare with each other,
+or with data that a profile has no place for, as chromium's TRAP. Then the output is two profiles, and not JSON as a
+whole: the nearest that is nowhere stricter than the filters, and the nearest that is nowhere more permissive; or one
+that is both. This is proved. Lines marked by `# ` say which syscalls get another answer, and why, with an example where
+the profile is more permissive or stricter. With --no-less only the first profile is printed, with --no-more the second:
 
     scf profile-of --no-more filter.bpf >stricter.json
 
@@ -73,9 +69,9 @@ def main():
     options = read_words()
     architecture = architectures.judged_in(options.arch)
     others = [name for name in architectures.JUDGED if name != architecture.oci] if options.arch is None else []
-    request = profile_of.ProfileRequest(
-        filters.read_stack(options.filters), tables.read(options.table, architecture), architecture, options.runtime,
-        others, has_trap_data=options.runtime is None and options.kubernetes is None)
+    request = profile_of.ProfileRequest(filters.read_stack(options.filters), tables.read(options.table, architecture),
+                                        architecture,
+                                 options.runtime, others)
     try:
         result = profile_of.of_request(request, options.relation)
         text = result.text if options.kubernetes is None or result.status != program.SUCCESS else \

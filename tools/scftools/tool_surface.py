@@ -44,7 +44,7 @@ Examples:
     scf surface --caps docker --machine arm64 engine.json
 """
 from . import (architectures, client, engines, filters, inputs, other_abis, output, processes, profile_inputs, program,
-               refusals, stack_surfaces, surface_output, tables, trap_data, words)
+               refusals, stack_surfaces, surface_output, tables, words)
 
 
 def read_words():
@@ -92,7 +92,7 @@ def filter_in(name, options):
     profile = profile_inputs.profile_in(data, name, options.caps, machine=options.machine)
     judged = profile.judged(tables.read(None), False)
     try:
-        return filters.Filter(name, trap_data.compile_profile(profile.data, judged))
+        return filters.Filter(name, client.compile_profile(profile.data, judged))
     except client.Refusal as why:
         sentences = refusals.sentences(why.fault, profile.data, judged, profile.origins) if why.fault else ()
         raise program.ToolError("; ".join([f"{inputs.label(name)}: {why.line}", *sentences]), why.status) from why

@@ -39,19 +39,16 @@ def of_numbers(codes, default):
 
 def answer_of_profile(profile, name, arguments):
     """The word that a profile answers to a syscall; an answer of two entries is one, since they don't conflict."""
-    def word(action, errno, data):
+    def word(action, errno):
         action = action.removeprefix("SCMP_ACT_")
-        return several.ACTIONS[action] | (data or 0 if action == "TRAP" else 0 if action not in ("ERRNO", "TRACE") else
-                                          1 if errno is None else errno)
+        return several.ACTIONS[action] | (0 if action not in ("ERRNO", "TRACE") else 1 if errno is None else errno)
 
-    answers = {word(entry["action"], entry.get("errnoRet"), entry.get("trapData"))
-               for entry in profile["syscalls"] if name in entry["names"]
+    answers = {word(entry["action"], entry.get("errnoRet")) for entry in profile["syscalls"] if name in entry["names"]
              and all(HOLDS[condition["op"]](arguments[condition["index"]], condition["value"],
                                             condition.get("valueTwo", 0))
                      for condition in entry.get("args", ()))}
     assert len(answers) < 2, answers
-    return answers.pop() if answers else word(profile["defaultAction"], profile.get("defaultErrnoRet"),
-                                              profile.get("defaultTrapData"))
+    return answers.pop() if answers else word(profile["defaultAction"], profile.get("defaultErrnoRet"))
 
 
 def rank_of(word):
@@ -105,8 +102,8 @@ class Drawn:
         self.random = random.Random(seed)
 
     def answer(self):
-        answers = (ALLOW, EPERM, 0x00050000 | 38, KILL_PROCESS, LOG, TRACE | 7, TRAP | 9)
-        return ret(self.random.choice((LOG | 9, 0x12340000, ALLOW | 1) if self.random.random() < 0.03 else answers))
+        answers = (ALLOW, EPERM, 0x00050000 | 38, KILL_PROCESS, LOG, TRACE | 7)
+        return ret(self.random.choice((TRAP | 9, 0x12340000, ALLOW | 1) if self.random.random() < 0.03 else answers))
 
     def value(self):
         return self.random.choice((0, 1, 2, 3, 9, 16, 0x20000, 0xFFFFFFFF, self.random.getrandbits(32)))
@@ -195,10 +192,6 @@ class Profiles(Case):
             theirs = answer_of_profile(profile, name, call.arguments)
             self.assertTrue(holds(ours, theirs), (name, call, hex(ours), hex(theirs), profile))
 
-    # What is said of a profile with scf's own members.
-    OF_DATA = ("profile-of: TRAP's data stands in trapData and defaultTrapData, which scf alone reads: runtimes give "
-               "none\n")
-
     def test_drawn(self):
         """The profile answers as the filters, or one is nowhere stricter and the other nowhere more permissive."""
         counts = {0: 0, 4: 0}
@@ -208,7 +201,7 @@ class Profiles(Case):
             status, out, err = self.run_on(filters, "--limit", "1000000")
             counts[status] += 1
             profiles, records = profiles_in(out), list(drawn.records(filters))
-            self.assertEqual(err, self.OF_DATA if status == 0 and "rapData" in out else "")
+            self.assertEqual(err, "")
             if status == 0:
                 self.is_judged(filters, profiles[0], lambda ours, theirs: ours == theirs, records)
             else:
@@ -301,62 +294,10 @@ class Profiles(Case):
 
     def test_data_that_no_profile_says(self):
         """One profile is on both sides, since only the answer's data differs."""
-        profiles = self.is_bounded([of_numbers({41: ret(LOG | 9)}, ALLOW)],
+        profiles = self.is_bounded([of_numbers({41: ret(TRAP | 9)}, ALLOW)],
                                 "# proved: nowhere stricter and nowhere more permissive than the filters\n"
-                                "# only other answers, since no profile gives LOG 9: socket\n")
-        self.assertEqual([given["syscalls"] for given in profiles], [[entry("LOG", "socket")]])
-
-    def test_the_data_of_trap(self):
-        """It stands in members of scf's own, by which the profile is compared, compiled and asked; a profile for a
-        runtime has none."""
-        filters = [of_numbers({41: ret(TRAP | 9), 0: ret(TRAP), 1: ret(0x00050000 | 9), 16: ret(ALLOW)}, TRAP | 7)]
-        status, out, err = self.run_on(filters)
-        self.assertEqual((status, err), (0, self.OF_DATA))
-        self.assertEqual(json.loads(out), {
-            "defaultAction": "SCMP_ACT_TRAP", "defaultTrapData": 7, "architectures": ["SCMP_ARCH_X86_64"],
-            "syscalls": [entry("ALLOW", "ioctl"), entry("TRAP", "read"), entry("ERRNO 9", "write"),
-                         {**entry("TRAP", "socket"), "trapData": 9}]})
-        path, of_filter = self.file("p.json", out), self.file("0.bpf", filters[0])
-        for words, verdict in (((), "same"), (("--calls",), "same"), (("--no-more",), "no more"),
-                               (("--disposition",), "same disposition")):
-            done = self.run_tool("compare", "--table", self.table, *words, of_filter, path)
-            self.assertEqual((done[0], done[1].splitlines()[0], done[2]), (0, verdict, ""))
-        self.run_words(["sh", "-c", f"{tool('compile')} --table {self.table} {path} >{self.folder}/again.bpf"])
-        self.assertEqual(self.run_tool("diff", "--native", of_filter, "again.bpf")[:2], (0, "same\n"))
-        for name, answer in (("socket", "TRAP 9 entry 3"), ("read", "TRAP 0 entry 1"), ("write", "ERRNO 9 entry 2"),
-                             ("personality", "TRAP 7 default")):
-            out = self.run_tool("ask", "--table", self.table, "--nr", name, path)[1]
-            self.assertEqual(out.splitlines()[0], answer)
-        self.assertEqual(self.run_on(filters, "--runtime", "crun")[0], 4)
-
-    def test_other_data_of_trap(self):
-        """A comparison shows the data of both sides; of a stack the newest filter's counts, and ERRNO's is another."""
-        own = {**entry("TRAP", "socket"), "trapData": 9}
-        path = self.file("p.json", json.dumps({"defaultAction": "SCMP_ACT_ALLOW", "syscalls": [own]}))
-        for answers_of_filters, verdict, answer in (
-                ([TRAP | 8], "differs", "TRAP 8"), ([TRAP], "differs", "TRAP 0"), ([0x00050009], "differs", "ERRNO 9"),
-                ([TRAP | 9], "same", None), ([TRAP | 8, TRAP | 9], "same", None),
-                ([TRAP | 9, TRAP | 8], "differs", "TRAP 8"), ([TRAP | 9, 0x00050008], "same", None)):
-            names = [self.file(f"{at}.bpf", of_numbers({41: ret(word)}, ALLOW))
-                     for at, word in enumerate(answers_of_filters)]
-            lines = self.run_tool("compare", "--table", self.table, *names, path)[1].splitlines()
-            self.assertEqual(lines[0], verdict, answers_of_filters)
-            if answer is not None:
-                self.assertTrue(lines[1].startswith("call nr 41 arch 0xc000003e "))
-                self.assertEqual(lines[2:4], [f"filter {answer}", "profile TRAP 9"])
-                of_calls = self.run_tool("compare", "--calls", "--table", self.table, *names, path)[1].splitlines()
-                self.assertRegex(of_calls[1], f"^41 socket differs .* filter {answer} profile TRAP 9$")
-        for wrong in ({**own, "trapData": -1}, {**own, "trapData": True}, {**own, "action": "SCMP_ACT_LOG"}):
-            path = self.file("wrong.json", json.dumps({"defaultAction": "SCMP_ACT_ALLOW", "syscalls": [wrong]}))
-            for words in (("compare", self.file("0.bpf", ret(ALLOW))), ("compile",)):
-                status, out, err = self.run_tool(words[0], "--table", self.table, *words[1:], path)
-                self.assertEqual((status, out), (1, ""))
-                self.assertIn("entry 0 has trapData, which isn't a number up to 65535 beside SCMP_ACT_TRAP\n", err)
-        computed = self.file("0.bpf", of_numbers({41: load(16) + insn(0x16, 0)}, ALLOW))
-        status, out, err = self.run_tool("compare", "--table", self.table, computed, self.file("p.json", json.dumps(
-            {"defaultAction": "SCMP_ACT_ALLOW", "syscalls": [own]})))
-        self.assertEqual((status, out), (4, ""))
-        self.assertIn("whether its data is that of trapData isn't known\n", err)
+                                "# only other answers, since no profile gives TRAP 9: socket\n")
+        self.assertEqual([given["syscalls"] for given in profiles], [[entry("TRAP", "socket")]])
 
     def test_the_instruction_pointer_and_two_arguments(self):
         """Between what a call always gets and what it may get."""
@@ -631,7 +572,7 @@ class OtherArchitectures(Case):
 
     def test_both_sides(self):
         """Profiles on both sides are for one architecture, and those of others are told."""
-        data = of_records({NATIVE: tests_of({0: ret(LOG | 9)}, EPERM), X86: ret(ALLOW)})
+        data = of_records({NATIVE: tests_of({0: ret(TRAP | 9)}, EPERM), X86: ret(ALLOW)})
         status, out, err = self.printed(data)
         self.assertEqual((status, err), (4, ""))
         self.assertIn("# the profile covers x86-64 syscalls\n# i386: some syscalls are allowed, such as ", out)
