@@ -38,19 +38,20 @@ class Default:
 
 
 def _init(self: Any, *given: object, **named: object) -> None:
-    names, defaults = self.__match_args__, self.__defaults__
+    names, members = self.__match_args__, self.__dict__
+    members.update(zip(names, given))
     if not named and len(given) == len(names):
-        self.__dict__.update(zip(names, given))
         return
-    members = {**dict(zip(names, given)), **named}
-    for name in names:
-        if name not in members and name in defaults:
-            default = defaults[name]
-            members[name] = default.make() if isinstance(default, Default) else default
-    if len(given) > len(names) or len(members) != len(names) or any(name not in members for name in names) or \
-            any(name in named for name in names[:len(given)]):
+    if named:
+        is_repeated = not members.keys().isdisjoint(named)
+        members.update(named)
+        if is_repeated or len(members) > len(names) or not members.keys() <= self.__names__:
+            raise TypeError(f"{type(self).__name__} takes {', '.join(names)}")
+    if len(members) < len(names):
+        members.update({name: default.make() if isinstance(default, Default) else default
+                        for name, default in self.__defaults__.items() if name not in members})
+    if len(given) > len(names) or len(members) < len(names):
         raise TypeError(f"{type(self).__name__} takes {', '.join(names)}")
-    self.__dict__.update(members)
 
 
 def _members(self: Any) -> tuple[object, ...]:
@@ -76,7 +77,7 @@ if not TYPE_CHECKING:
     def dataclass(cls=None, frozen=False):
         if cls is None:
             return lambda class_body: dataclass(class_body, frozen)
-        cls.__match_args__ = tuple(cls.__annotations__)
+        cls.__match_args__, cls.__names__ = tuple(cls.__annotations__), frozenset(cls.__annotations__)
         cls.__defaults__ = {name: cls.__dict__[name] for name in cls.__annotations__ if name in cls.__dict__}
         cls.__init__, cls.__eq__, cls.__repr__ = _init, _eq, _repr
         cls.__hash__ = (lambda self: hash(_members(self))) if frozen else None
@@ -85,4 +86,5 @@ if not TYPE_CHECKING:
         return cls
 
     def replace(value, **changed):
-        return type(value)(**{**dict(zip(value.__match_args__, _members(value))), **changed})
+        kept = [changed.pop(name) if name in changed else value.__dict__[name] for name in value.__match_args__]
+        return type(value)(*kept, **changed)
