@@ -160,11 +160,13 @@ def _evading(sets: Sets, region_list: Sequence[Region], index: int) -> \
         tuple[Region, tuple[int, ...], Region, tuple[int, ...]] | None:
     """A region of a syscall that denies it, with arguments of which one has no bit in the upper half, and one that
     allows it with such a bit and otherwise the same; None if there are none."""
+    answered = [region for region in region_list if region.answer is not None]
+    allowing = [region for region in answered if region.answer.allows and region.has({index: UPPER_UNIT}, (1,))]
     without_upper, with_upper = (sets.cube(index, value, LOW_HALF << 32) for value in (0, UPPER_UNIT))
     upper = sets.bits * index, sets.bits * index + 32
-    for denied in (region for region in region_list if region.answer is not None and region.answer.denies):
+    for denied in (region for region in answered if region.answer.denies and region.has({index: 0}, (1,)) and allowing):
         low = sets.for_some(sets.both(arguments_of(sets, denied), without_upper), *upper)
-        for allowed in (region for region in region_list if region.answer is not None and region.answer.allows):
+        for allowed in allowing:
             evading = sets.both(arguments_of(sets, allowed), with_upper)
             both = sets.both(low, sets.for_some(evading, *upper))
             if both:

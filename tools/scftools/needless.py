@@ -122,28 +122,36 @@ class Search:
 
     def _is_greatest(self, entry: Entry, name: str) -> bool:
         """Whether an entry alone names the greatest number of an architecture, behind which runc's stub begins."""
-        return any(self.judged.stub.get(oci) == JUDGED[oci].first + number + 1 and
-                   all(at in self.gone or at[0] == entry.place for at in self._having[oci, number])
-                   for oci, number in self._syscalls[name])
+        stub = self.judged.stub
+        return bool(stub) and any(
+            stub.get(oci) == JUDGED[oci].first + number + 1
+            and all(at in self.gone or at[0] == entry.place for at in self._having[oci, number])
+            for oci, number in self._syscalls[name])
+
+    def _answers(self, entry: Entry, call: Syscall) -> bool:
+        """Whether an entry alone answers some arguments of a syscall. Raises TooMany."""
+        beside = self._beside(entry, call)
+        return not beside and not entry.conditions or not self.met.is_within(entry, beside, call[0])
 
     def _has_effect(self, entry: Entry, name: str) -> bool:
         """Whether an entry alone answers some syscall by a name, and differently than the default."""
         try:
-            return self._is_greatest(entry, name) or entry.answer != self.default and not all(
-                self.met.is_within(entry, self._beside(entry, call), call[0]) for call in self._syscalls[name])
+            return self._is_greatest(entry, name) or entry.answer != self.default and any(
+                self._answers(entry, call) for call in self._syscalls[name])
         except TooMany:
             return True
 
     def _leave_out(self) -> None:
-        """Leaves out what has no effect: what the default answers first, then whole entries and names of others, from
-        the last on."""
-        from_last = sorted(reversed(self.entries.values()), key=lambda entry: entry.answer != self.default)
-        for is_whole in (True, False):
-            for entry in from_last:
-                names = [it for it in entry.names if (entry.place, it) not in self.gone]
-                needless = [(entry.place, it) for it in names if not self._has_effect(entry, it)]
-                if len(needless) == len(entry.names) or not is_whole:
-                    self.gone.update(needless)
+        """Leaves out what has no effect: whole entries first, then names of others, from the last on."""
+        of_others: list[tuple[Entry, list[str]]] = []
+        for entry in reversed(self.entries.values()):
+            needless = [name for name in entry.names if not self._has_effect(entry, name)]
+            if len(needless) == len(entry.names):
+                self.gone.update((entry.place, name) for name in needless)
+            else:
+                of_others.append((entry, needless))
+        for entry, needless in of_others:
+            self.gone.update([(entry.place, name) for name in needless if not self._has_effect(entry, name)])
 
     def verdict(self) -> Verdict:
         """What scf says of the profile without what is left out."""

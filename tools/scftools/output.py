@@ -31,6 +31,8 @@ codecs.register_error("surrogates", _of_surrogates)
 
 def escaped(text: str | bytes) -> str:
     """The text as one line: control characters and bytes that aren't UTF-8 become `\\xNN`."""
+    if isinstance(text, str) and text.isascii() and text.isprintable():
+        return text
     data = text.encode("utf-8", "surrogates") if isinstance(text, str) else text
     return CONTROL.sub(lambda match: "".join(f"\\x{byte:02x}" for byte in match[0].encode()),
                        data.decode("utf-8", "backslashreplace"))

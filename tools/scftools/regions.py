@@ -6,6 +6,7 @@ regions come of a test that scf doesn't decide: a record may lie in several of t
 from __future__ import annotations
 
 import bisect
+import functools
 from collections.abc import Iterable, Iterator, Mapping, Sequence
 
 from . import architectures, bundles, client, program, reasons
@@ -14,11 +15,9 @@ from .architectures import Architecture
 from .calls import Call
 from .listing import ARCHITECTURE, ARGUMENTS, NUMBER
 from .tables import Table, Tables
-from .values import Pattern
 from .verdicts import UNFINISHED
 
-REGION_LINE = Pattern(r"((unknown|\w+ \w+) (?:at [0-9]+:[0-9]+|entry ([0-9]+)|\w+))( open)?((?: w[0-9]+ \S+)*)")
-WORD_SET = Pattern(r"((?:0x[0-9a-f]+[-,]?)*)(?:&(0x[0-9a-f]+)=(0x[0-9a-f]+))?((?:!0x[0-9a-f]+=0x[0-9a-f]+)*)")
+UNKNOWN, OPEN = "unknown", " open"
 # The index of the instruction pointer, whose words stand before those of argument 0.
 POINTER = -1
 # The greatest value of a word, and the most intervals into which known bits may divide the numbers of a region.
@@ -27,6 +26,18 @@ GREATEST_WORD, MOST_INTERVALS = (1 << 32) - 1, 4096
 
 class TooManyRanges(Exception):
     """Bits that are known divide numbers into more than MOST intervals."""
+
+
+def _number_in(text: str) -> int:
+    if not text.startswith("0x"):
+        raise ValueError(text)
+    return int(text, 16)
+
+
+def _bits_in(text: str) -> tuple[int, int]:
+    """A mask and the bits in it."""
+    mask, bits = text.split("=")
+    return _number_in(mask), _number_in(bits)
 
 
 class Word:
@@ -38,18 +49,15 @@ class Word:
 
     @classmethod
     def read(cls, text: str) -> Word:
-        """Parses what `scf answers` prints of a word, which is mostly one value."""
-        if text.startswith("0x") and text.isalnum():
-            value = int(text, 16)
+        """Parses what `scf answers` prints of a word, which is mostly one value. Raises ValueError."""
+        if text.isalnum():
+            value = _number_in(text)
             return cls(((value, value),))
-        match = WORD_SET.fullmatch(text)
-        if not match:
-            raise program.ToolError(f"scf answers printed an unexpected set: {text}", program.IO_ERROR)
-        ends = [interval.partition("-") for interval in match[1].split(",")] if match[1] else []
-        intervals = [(int(low, 16), int(high or low, 16)) for low, _, high in ends]
-        pairs = [pair.partition("=") for pair in match[4].split("!")[1:]]
-        refuted = [(int(mask, 16), int(bits, 16)) for mask, _, bits in pairs]
-        return cls(intervals, int(match[2] or "0", 16), int(match[3] or "0", 16), refuted)
+        possible, *refuted = text.split("!")
+        intervals, _, known = possible.partition("&")
+        ends = [interval.partition("-") for interval in intervals.split(",") if interval]
+        return cls([(_number_in(low), _number_in(high or low)) for low, _, high in ends],
+                   *(_bits_in(known) if known else (0, 0)), [*map(_bits_in, refuted)])
 
     def has(self, value: int) -> bool:
         """Whether a value is possible."""
@@ -111,10 +119,14 @@ class Region:
         """Whether some of its records have this number and architecture."""
         return self.words.get(NUMBER, FREE).has(number) and self.words.get(ARCHITECTURE, FREE).has(architecture)
 
-    def has(self, arguments: Mapping[int, int]) -> bool:
-        """Whether some of its records have these arguments, by their indexes; the instruction pointer's is POINTER."""
-        return all(self.words.get(ARGUMENTS + 2 * index + half, FREE).has(value >> 32 * half & GREATEST_WORD)
-                   for index, value in arguments.items() for half in (0, 1))
+    def has(self, arguments: Mapping[int, int], halves: Sequence[int] = (0, 1)) -> bool:
+        """Whether some of its records have these arguments, or these halves of them, by their indexes; the instruction
+        pointer's is POINTER."""
+        for word, values in self.words.items():
+            index, half = divmod(word - ARGUMENTS, 2)
+            if index in arguments and half in halves and not values.has(arguments[index] >> 32 * half & GREATEST_WORD):
+                return False
+        return True
 
     @property
     def call(self) -> Call:
@@ -130,27 +142,39 @@ class Region:
         return Call(number, architecture, self.call.pointer, arguments)
 
 
+def _head_in(text: str, places: Sequence[int] | None) -> tuple[str, Answer | None, int | None, bool]:
+    """The beginning of a line: an answer and its reason, also by themselves, and whether its tests were decided. Raises
+    ValueError."""
+    reason = text.removesuffix(OPEN)
+    words = reason.split(" ")
+    count = 1 if words[0] == UNKNOWN else 2
+    answer = Answer.read(" ".join(words[:count]))
+    if not words[count:] or answer is None and count == 2:
+        raise ValueError(text)
+    entry = int(words[-1]) if words[count] == "entry" else None
+    return reason, answer, entry if None in (entry, places) else places[entry], reason == text
+
+
 def read(text: str, places: Sequence[int] | None = None) -> list[Region] | None:
     """Parses the output of `scf answers --examples`; None if it isn't one. An entry may have another place in the
     profile that a user gave."""
     *lines, last = text.splitlines() or [""]
-    words: dict[str, Word] = {}
-    answers: dict[str, Answer | None] = {}
+    # what many lines have alike is parsed once
+    heads: dict[str, tuple[str, Answer | None, int | None, bool]] = {}
+    words: dict[str, tuple[int, Word]] = {}
     regions: list[Region] = []
-    for line, example in zip(lines[::2], lines[1::2]):
-        parts = REGION_LINE.fullmatch(line)
-        if not parts:
-            return None
-        if parts[2] not in answers:
-            answers[parts[2]] = Answer.read(parts[2])
-        given = parts[5].split()
-        for set_text in given[1::2]:
-            if set_text not in words:
-                words[set_text] = Word.read(set_text)
-        of_words = {int(name[1:]): words[set_text] for name, set_text in zip(given[::2], given[1::2])}
-        entry = None if parts[3] is None else int(parts[3])
-        regions.append(Region(parts[1], answers[parts[2]], entry if None in (entry, places) else places[entry],
-                              not parts[4], of_words, example))
+    try:
+        for line, example in zip(lines[::2], lines[1::2]):
+            head, *given = line.split(" w")
+            if head not in heads:
+                heads[head] = _head_in(head, places)
+            for word in given:
+                if word not in words:
+                    index, values = word.split(" ")
+                    words[word] = int(index), Word.read(values)
+            regions.append(Region(*heads[head], dict(map(words.__getitem__, given)), example))
+    except ValueError:
+        return None
     return regions if last.startswith(f"regions {len(regions)} steps ") and len(lines) == 2 * len(regions) else None
 
 
@@ -184,8 +208,8 @@ class Numbers:
 
     def __init__(self, regions: Iterable[Region] | None, architecture: Architecture, last: int | None = None):
         self.first, self.last = architecture.first, architecture.last if last is None else last
-        self._all = [region
-                     for region in regions or () if region.words.get(ARCHITECTURE, FREE).has(architecture.number)]
+        has = functools.lru_cache(None)(lambda word: word.has(architecture.number))
+        self._all = [region for region in regions or () if has(region.words.get(ARCHITECTURE, FREE))]
         # ranges of numbers with the same regions; None if they are too many
         self.ranges: list[tuple[int, int, list[Region]]] | None = None
         try:

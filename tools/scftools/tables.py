@@ -8,7 +8,7 @@ from . import architectures, inputs, profiles, program
 from .architectures import JUDGED, NATIVE, Architecture
 from .values import Pattern, dataclass, field, replace
 
-TABLE_LINE = Pattern(rb"[ \t]*([A-Za-z_][A-Za-z0-9_]*)[ \t]+0*([0-9]{1,10})[ \t]*\r?")
+TABLE_LINE = Pattern(rb"(?m)^[ \t]*([A-Za-z_][A-Za-z0-9_]*)[ \t]+0*([0-9]{1,10})[ \t]*\r?$")
 # At most so many unknown names are listed, and longer ones get no nearest name.
 MOST_LISTED, LONGEST_NAME = 20, 64
 # The least similarity of a nearest name (difflib's ratio): two swapped letters in a name of four.
@@ -29,12 +29,10 @@ class Table:
         """The names of each number, and the number of each name."""
         names: dict[int, list[str]] = {}
         numbers: dict[str, int] = {}
-        for line in self.data.split(b"\n"):
-            entry = TABLE_LINE.fullmatch(line)
-            if entry:
-                name, number = entry[1].decode(), int(entry[2])
-                names.setdefault(number, []).append(name)
-                numbers.setdefault(name, number)
+        for entry in TABLE_LINE.finditer(self.data):
+            name, number = entry[1].decode(), int(entry[2])
+            names.setdefault(number, []).append(name)
+            numbers.setdefault(name, number)
         return names, numbers
 
     def names_of(self, number: int) -> list[str]:
@@ -47,6 +45,10 @@ class Table:
     def names(self) -> Iterable[str]:
         return self._parsed[1].keys()
 
+    def numbered(self) -> Iterable[tuple[str, int]]:
+        """The names, each with its number."""
+        return self._parsed[1].items()
+
     def numbers(self) -> Iterable[int]:
         return self._parsed[0].keys()
 
@@ -58,7 +60,8 @@ class Table:
 
 def read(name: str | None, architecture: Architecture = JUDGED[NATIVE]) -> Table:
     """The table in a file, or by default the one of an architecture that comes with scf."""
-    return Table(inputs.read_whole(architecture.file if name is None else name, "table"))
+    table = of_architecture(architecture.oci) if name is None else None
+    return table or Table(inputs.read_whole(architecture.file if name is None else name, "table"))
 
 
 @functools.lru_cache(None)
@@ -87,10 +90,18 @@ class Tables:
         """Whether they are x86-64's alone."""
         return list(self.of) == [NATIVE]
 
+    @functools.cached_property
+    def _numbers(self) -> dict[str, dict[str, int]]:
+        """The numbers of each syscall."""
+        numbers: dict[str, dict[str, int]] = {}
+        for oci, table in self.of.items():
+            for name, number in table.numbered():
+                numbers.setdefault(name, {})[oci] = number
+        return numbers
+
     def numbers_of(self, name: str) -> dict[str, int]:
         """The numbers of a syscall in those that have it, by OCI names."""
-        numbers = {oci: table.number_of(name) for oci, table in self.of.items()}
-        return {oci: number for oci, number in numbers.items() if number is not None}
+        return self._numbers.get(name, {})
 
     def number_of(self, name: str) -> int | None:
         """The number of a syscall in the first one that has it."""
@@ -157,6 +168,7 @@ def of_profile(profile: bytes, table: Table, is_native: bool = False, default: s
                   reading)
 
 
+@functools.lru_cache(None)
 def names_elsewhere() -> set[str]:
     """The names of syscalls that Linux has only on other architectures."""
     try:

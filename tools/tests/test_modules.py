@@ -21,7 +21,7 @@ FOLDER = os.path.join(TOP, "tools", "scftools")
 DEAR = {"dataclasses", "inspect", "typing"}
 LATE = {"ast", "ctypes", "difflib", "glob", "hashlib", "importlib", "json", "pickle", "resource", "shlex", "signal",
         "subprocess", "syslog", "tempfile", "threading",
-        "audit_page", "cores", "filter_loads", "pages", "processes", "ptrace", "row_conditions", "sandboxes",
+        "audit_page", "cores", "filter_loads", "pages", "processes", "ptrace", "row_conditions", "sandboxes", "sarif",
         "stack_comparison"}
 
 

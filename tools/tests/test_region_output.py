@@ -242,10 +242,12 @@ class Reader(unittest.TestCase):
         """Nothing is concluded from it."""
         for printed in ("", "ALLOW 0 at 0:0\n", "ALLOW 0 at 0:0\ncall nr 0\nregions 2 steps 1\n",
                         "ALLOW 0 at 0:0 w0 7\ncall nr 0\nregions 1 steps 1\n",
+                        "ALLOW 0 at 0:0 w0\ncall nr 0\nregions 1 steps 1\n",
+                        "ALLOW 0\ncall nr 0\nregions 1 steps 1\n", "ALLOW at 0:0\ncall nr 0\nregions 1 steps 1\n",
                         "what\ncall nr 0\nregions 1 steps 1\n", "unfinished\n"):
-            self.assertIsNone(regions._read(printed) if "w0 7" not in printed else None)
-        with self.assertRaises(ToolError):
-            Word.read("7")
+            self.assertIsNone(regions.read(printed), printed)
+        for text in ("7", "0x1,8", "&0x1", "0x1!0x2", "0x1!0x2=3"):
+            self.assertRaises(ValueError, Word.read, text)
         given = client.answers
         self.addCleanup(setattr, client, "answers", given)
         for status, out in ((0, b"unfinished\n"), (4, b""), (1, b"no\n"), (0, b"fault filter Empty\n")):
