@@ -9,7 +9,7 @@ from .answers import Answer
 from .calls import Call
 from .events import Event
 from .questions import Asker
-from .regions import POINTER, Region
+from .regions import POINTER, Lookup, Region
 from .tables import Tables
 from .values import dataclass
 
@@ -37,7 +37,7 @@ class AnsweringStack:
     """The regions of filters, or of a profile, None if they are unfinished, and what answers a single record."""
 
     def __init__(self, region_list: Sequence[Region] | None, answer: Callable[[Call], Answer | None]):
-        self._regions, self.answer = region_list, answer
+        self._lookup, self.answer = Lookup(region_list), answer
 
     @classmethod
     def of_filters(cls, data: Sequence[bytes]) -> AnsweringStack:
@@ -50,25 +50,17 @@ class AnsweringStack:
         return cls(regions.of_profile(profile, judged),
                    lambda call: reasons.of(profile, judged, call.words()).answer)
 
-    def regions_of(self, event: Event, values: dict[int, int]) -> list[Region] | None:
-        """The regions in which an event may lie, with these arguments."""
-        call = event.call
-        known_values = values if call.pointer is None else {**values, POINTER: call.pointer}
-        return None if self._regions is None else [
-            region for region in self._regions
-            if region.is_of(call.number, call.architecture) and region.has(known_values)]
-
     def case(self, event: Event, values: dict[int, int]) -> Case | None:
         """The answer to an event with these arguments, None if scf doesn't say."""
-        call, of_event = event.with_values(values), self.regions_of(event, values)
-        regions_here = of_event or ()
-        record = {POINTER: call.pointer or 0, **dict(enumerate(call.arguments))}
-        answer = next((region.answer for region in regions_here if region.is_decided and region.has(record)), None) \
-            or self.answer(call)
+        call = event.with_values(values)
+        known_values = values if call.pointer is None else {**values, POINTER: call.pointer}
+        regions_here = [region for region in self._lookup.of_number(call) if region.has(known_values)]
+        of_call = self._lookup.of(call)
+        answer = self.answer(call) if of_call is None else of_call.answer
         if answer is None:
             return None
         fits = event.outcome.has(answer)
-        are_decided = of_event is not None and all(region.is_decided for region in regions_here)
+        are_decided = self._lookup.is_finished and all(region.is_decided for region in regions_here)
         is_known = not event.unknown and call.pointer is not None
         if is_known or are_decided and all(region.answer == answer for region in regions_here):
             return Case(call, answer, True, fits)

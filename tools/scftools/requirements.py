@@ -16,7 +16,7 @@ from .calls import Call
 from .engines import PASSED_ON
 from .entries import Object
 from .profiles import ALLOWING
-from .regions import Numbers, Region
+from .regions import Lookup
 from .strace import Seen
 from .tables import Table, Tables
 from .traces import Trace
@@ -145,8 +145,7 @@ class Judge:
     """A profile, its regions for one architecture, and what its conditions test of each syscall there."""
 
     def __init__(self, profile: bytes, architecture: str, table: Table):
-        self._regions = regions.of_profile(profile, Tables({architecture: table}))
-        self._numbers: dict[Architecture, Numbers] = {}
+        self._lookup = Lookup(regions.of_profile(profile, Tables({architecture: table})))
         top = entries.read(profile)
         if top is None:
             raise program.ToolError("the profile's JSON can't be parsed by this tool", program.IO_ERROR)
@@ -159,21 +158,15 @@ class Judge:
         self.looked = {name: tuple(sorted(indices)) for number, indices in looked.items() if number is not None
                        for name in (*table.names_of(number), f"syscall_{number:#x}")}
 
-    def _of_number(self, architecture: Architecture, number: int) -> list[Region]:
-        """The regions of a record's number."""
-        if architecture not in self._numbers:
-            self._numbers[architecture] = Numbers(self._regions, architecture)
-        return self._numbers[architecture].of(number)
-
     def of(self, traced: TracedCall) -> Judgement:
-        architecture, number = traced.architecture, traced.architecture.first + traced.number
+        call = traced.call({})
         allowed, denied = [], []
         for values in traced.known_values():
-            for region in self._of_number(architecture, number):
+            for region in self._lookup.of_number(call):
                 if region.answer is not None and region.has(values):
-                    shown = region.call_of(number, architecture.number, values)
+                    shown = region.call_of(call.number, call.architecture, values)
                     (allowed if region.answer.disposition == ALLOWED else denied).append((shown, region))
-        if self._regions is None:
+        if not self._lookup.is_finished:
             return Judgement(traced, UNDECIDED, UNFINISHED)
         if denied:
             call, by = denied[0]
@@ -181,7 +174,7 @@ class Judge:
                              (call, by.answer), by.line == FOREIGN)
         if allowed:
             return Judgement(traced, ALLOWED, allowed=allowed[0][0])
-        return Judgement(traced, NOT_ALLOWED, FOREIGN, denied=(traced.call({}), KILL_PROCESS), is_foreign=True)
+        return Judgement(traced, NOT_ALLOWED, FOREIGN, denied=(call, KILL_PROCESS), is_foreign=True)
 
 
 class Judges:
