@@ -12,11 +12,12 @@ from __future__ import annotations
 import errno
 from collections.abc import Sequence
 
-from . import bundles, client, listing, program, verdicts
+from . import bundles, client, program, regions, verdicts
 from .answers import ALLOWED, DENIED, FIRST_X32, I386_NUMBER, X86_64, Answer
 from .calls import Call
-from .filters import INSTRUCTION, LOAD_WORD, POINTER_OFFSETS, RETURN_CONSTANT
+from .filters import INSTRUCTION, RETURN_CONSTANT
 from .ptrace import Kernel
+from .regions import Lookup
 from .values import dataclass, replace
 
 # linux/errno.h. What a handler of a signal doesn't interrupt begins anew by each of them but the last, by which it goes
@@ -30,9 +31,9 @@ ARGUMENT_REGISTERS = {X86_64: ("rdi", "rsi", "rdx", "r10", "r8", "r9"),
                       I386_NUMBER: ("rbx", "rcx", "rdx", "rsi", "rdi", "rbp")}
 # linux/filter.h: BPF_RET | BPF_A, whose answer is computed; linux/seccomp.h: SECCOMP_RET_USER_NOTIF's high half.
 RETURN_COMPUTED, USER_NOTIF = 0x16, 0x7FC0
-# How often scf is asked about the threads of a process, which are stopped meanwhile; calls beyond begin anew. And how
-# many answers are kept.
-MOST_ASKED, MOST_KEPT = 200, 2000
+# How often scf is asked about the threads of a process, which are stopped meanwhile; calls beyond begin anew. The steps
+# in which it follows their filters, which take some tenths of a second. And of how many stacks the regions are kept.
+MOST_ASKED, STEPS, MOST_KEPT = 200, "50000", 50
 
 
 def restart_of(call: Call) -> Call:
@@ -87,17 +88,15 @@ class Restarts:
     def __init__(self, kernel: Kernel) -> None:
         self.kernel = kernel
         self.calls: dict[int, InterruptedSyscall] = {}
-        self.are_by_number: dict[tuple[tuple[bytes, ...], Call], bool] = {}
-        self.answers: dict[tuple[tuple[bytes, ...], Call], Answer | None] = {}
+        self.lookups: dict[tuple[bytes, ...], Lookup] = {}
         # how often scf may still be asked
         self.remaining_runs = MOST_ASKED
 
     def begin(self) -> None:
         """Before the threads of another process are stopped."""
         self.remaining_runs = MOST_ASKED
-        if len(self.answers) > MOST_KEPT:
-            self.answers.clear()
-            self.are_by_number.clear()
+        if len(self.lookups) > MOST_KEPT:
+            self.lookups.clear()
 
     def at_stop(self, thread: int) -> None:
         """A thread has stopped. Until it is known what its filters allow, its call begins anew, so that it does even if
@@ -145,37 +144,21 @@ class Restarts:
         return None if answer is None else answer.disposition
 
     def answer(self, filters: tuple[bytes, ...], call: Call) -> Answer | None:
-        """The answer of filters to a syscall, None if scf can't tell or was asked too often; if they test only its
-        number, scf is run once for it."""
-        general = Call(call.number, call.architecture)
-        if (filters, general) not in self.are_by_number:
-            are_by_number = all(self.remaining_runs > 0 and self.is_by_number(data, general) for data in filters)
-            if self.remaining_runs <= 0:
-                return None
-            self.are_by_number[filters, general] = are_by_number
-        key = filters, general if self.are_by_number[filters, general] else call
-        if key not in self.answers:
-            if self.remaining_runs <= 0:
-                return None
-            printed = self.run(["decide", *key[1].words()], bundles.of_stack(filters))
-            self.answers[key] = verdicts.decision(printed).answer
-        return self.answers[key]
+        """The answer of filters to a syscall, None if scf can't tell or was asked too often: by their regions, which it
+        prints once for all syscalls."""
+        if filters not in self.lookups and self.remaining_runs > 0:
+            printed = self.run(["answers", "--examples", f"--limit={STEPS}"], filters)
+            self.lookups[filters] = Lookup(regions.read(printed))
+        region = self.lookups[filters].of(call) if filters in self.lookups else None
+        if region is not None or self.remaining_runs <= 0:
+            return None if region is None else region.answer
+        return verdicts.decision(self.run(["decide", *call.words()], filters)).answer
 
-    def is_by_number(self, data: bytes, call: Call) -> bool:
-        """Whether a filter answers a syscall without loading its arguments or its instruction pointer: then every
-        syscall with that number and architecture takes the same path."""
-        lines = client.lines_of(self.run(["run", "--path", *call.words()], data))
-        match = listing.PATH.fullmatch("".join(lines[1:2]))
-        instructions = list(INSTRUCTION.iter_unpack(data))
-        if match is None:
-            return False
-        executed = [instructions[int(index)] for index in match[1].split()]
-        return not any(code == LOAD_WORD and k >= POINTER_OFFSETS[0] for code, _, _, k in executed)
-
-    def run(self, words: Sequence[str], given: bytes) -> str:
-        """The text that scf prints; empty if it isn't built, since building it takes long, or can't be run."""
+    def run(self, words: Sequence[str], filters: Sequence[bytes]) -> str:
+        """The text that scf prints of filters; empty if it isn't built, since building it takes long, or can't be
+        run."""
         self.remaining_runs -= 1
         try:
-            return client.run(words, given, may_build=False).text
+            return client.run(words, bundles.of_stack(filters), may_build=False).text
         except (program.ToolError, OSError):
             return ""

@@ -361,20 +361,32 @@ class Supervised(Confined):
 
 class Asked(unittest.TestCase):
     def test_it_is_asked_so_often_for_a_process(self):
-        """Though all calls have other arguments, and however many filters there are; calls beyond begin anew."""
-        filters, answered = (ret(ALLOW),), client.Run(0, b"ALLOW 0\n")
-        for stack, path in ((filters, b""), (filters * 6000, b"ALLOW 0 steps 1\npath 0\n")):
-            restarts = restart.Restarts(None)
-            with mock.patch.object(restart.client, "run") as run:
-                run.side_effect = lambda words, *_, **__: client.Run(0, path) if words[0] == "run" else answered
+        """Though all calls have other arguments, and however many stacks of filters there are, where scf finishes none
+        of their regions; calls beyond begin anew."""
+        unfinished, answered = client.Run(4, b"unfinished\n"), client.Run(0, b"ALLOW 0\n")
+        restarts = restart.Restarts(None)
+        with mock.patch.object(restart.client, "run") as run:
+            run.side_effect = lambda words, *_, **__: unfinished if words[0] == "answers" else answered
+            for is_one in (True, False):
                 for begin in range(0, 15 * 300, 300):
                     run.reset_mock()
                     restarts.begin()
+                    stacks = [(ret(ALLOW),) * (1 if is_one else number + 2) for number in range(300)]
                     actual = [restarts.becomes(stack, Call(35, X86_64, 0, (begin + number, 0, 0, 0, 0, 0)))
-                              for number in range(300)]
+                              for number, stack in enumerate(stacks)]
                     self.assertEqual(run.call_count, 200)
-                    self.assertEqual((None in actual, "allowed" in actual), (True, stack is filters))
-            self.assertLess(len(restarts.answers), 3000)
+                    self.assertEqual((actual[:99], actual[-1]), (["allowed"] * 99, None))
+        self.assertLess(len(restarts.lookups), 400)
+
+    def test_one_start_answers_all_calls(self):
+        data = denying(EPERM)
+        restarts, counted = restart.Restarts(None), mock.Mock(side_effect=client.run)
+        with mock.patch.object(restart.client, "run", counted):
+            restarts.begin()
+            for number, answer in ((35, "allowed"), (219, "denied"), (0, "allowed")):
+                self.assertEqual({restarts.becomes((data,), Call(number, X86_64, 1, (at,) * 6)) for at in range(9)},
+                                 {answer})
+        self.assertEqual(counted.call_count, 1)
 
 
 class Numbers(Case):
