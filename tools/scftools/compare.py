@@ -1,14 +1,14 @@
 """Runs of `scf compare` on filters and a profile, over each scope."""
 from __future__ import annotations
 
-from collections.abc import Iterable, Sequence
+from collections.abc import Sequence
 
 from . import (architectures, bundles, client, entries, other_abis, profiles, program, shown_answers, tables,
                verdicts)
-from .answers import ALLOW, Answer
+from .answers import Answer
 from .architectures import JUDGED
 from .client import Refusal
-from .filters import RETURN_CONSTANT, Filter, instruction, looks_at_pointer
+from .filters import Filter, looks_at_pointer
 from .profiles import Origin, Profile
 from .tables import Table, Tables
 from .values import dataclass, field, replace
@@ -68,9 +68,8 @@ class Comparison:
                 is_by_call: bool = False) -> tuple[int, Report]:
         words = [*scope, *judged.reading_words, *RELATIONS[relation]]
         done = client.compare(words, bundles.of_comparison(filters, self.profile, judged))
-        facts = self.facts if b"\nskipped " in done.out else None
         pointer = None if is_by_call and any(map(looks_at_pointer, filters)) else 0
-        report = verdicts.report(done.text, facts.names if facts else None, judged.has, pointer)
+        report = verdicts.report(done.text, pointer)
         name = next(iter(judged.of))
         marked = report.on(JUDGED[name]) if is_by_call and name in JUDGED else report
         shown_answers.check(marked, self.data)
@@ -95,36 +94,39 @@ class Comparison:
         """scf's status and report, and whether filters begin with runc's stub: whether they are the same as the profile
         with it."""
         scope, relation = scope or self.scope, relation or self.relation
-        status, report = self._run_scope(scope, relation)
+        status, report = self.run_as_it_is(scope, relation)
         if not self.stub or report.verdict is None or report.verdict.holds:
             return status, report, bool(self.stub) and report.verdict is not None and relation == SAME
-        without_status, without = replace(self, stub={})._run_scope(scope, relation)
+        without_status, without = replace(self, stub={}).run_as_it_is(scope, relation)
         if without.verdict is None or not without.verdict.fails:
             return without_status, without, False
         return status, report, False
 
-    def _run_scope(self, scope: str, relation: str) -> tuple[int, Report]:
+    def run_as_it_is(self, scope: str | None = None, relation: str | None = None) -> tuple[int, Report]:
+        """scf's status and report for the profile with its stub."""
+        scope, relation = scope or self.scope, relation or self.relation
+        status, report = self._run_records(scope, relation)
+        if report.verdict is None:
+            return status, report
+        judged = self.tables.only(architectures.NATIVE, self.table) if scope == NATIVE_SCOPE else self.tables
+        beside = left_out(self.profile, judged)
+        return status, replace(report, skipped=beside.skipped, architectures=beside.architectures)
+
+    def _run_records(self, scope: str, relation: str) -> tuple[int, Report]:
         if scope == CALLS and not self.tables.is_native:
             return self._run_calls(relation)
         if scope != ALL:
             return self._run(scope, self.data, relation)
-        listed = None
         if not self.tables.is_native:
-            status, listed = self._run(LISTED, self.data, relation)
-            if listed.verdict is None or not listed.verdict.holds:
-                return status, listed
+            status, report = self._run(LISTED, self.data, relation)
+            if report.verdict is None or not report.verdict.holds:
+                return status, report
         status, report = self._run_others(self.data, relation)
-        if listed is not None:
-            report = replace(report, skipped=listed.skipped, architectures=listed.architectures)
-        call = report.verdict.call if report.verdict is not None else None
-        if call is None or call.abi not in report.architectures:
+        call, without_table = report.verdict and report.verdict.call, left_out(self.profile, self.tables).architectures
+        if call is None or call.abi not in without_table:
             return status, report
-        return self._run_undetermined(report, relation)
-
-    def _run_undetermined(self, report: Report, relation: str) -> tuple[int, Report]:
-        """The verdict on the records of architectures with a table, if it fails; else `undetermined`."""
-        denials = other_abis.denial_filters(report.architectures)
-        status, others = self._run_others([*denials, *self.data], relation)
+        # the verdict on the records of architectures with a table, if it fails
+        status, others = self._run_others([*other_abis.denial_filters(without_table), *self.data], relation)
         if others.verdict is None or others.verdict.holds:
             return program.UNKNOWN, replace(report, lines=(FOR_OTHER_ABI, *report.lines[1:3]),
                                             verdict=replace(report.verdict, word=UNDETERMINED, profile=None))
@@ -141,9 +143,7 @@ class Comparison:
             results.append((status, report.on(JUDGED[name])))
         status, first = min(results, key=lambda result: (not result[1].verdict.fails, result[1].verdict.holds))
         calls = tuple(call for _, report in results for call in report.calls)
-        return status, replace(first, lines=(first.lines[0], *(call.line for call in calls)), calls=calls,
-                               skipped=_in_all(report.skipped for _, report in results),
-                               architectures=_in_all(report.architectures for _, report in results))
+        return status, replace(first, lines=(first.lines[0], *(call.line for call in calls)), calls=calls)
 
     def _run_on(self, name: str, scope: Sequence[str], relation: str, is_by_call: bool = False) -> tuple[int, Report]:
         """scf's status and report on the syscalls of one of the architectures."""
@@ -178,16 +178,9 @@ class Comparison:
         return other_abis.known_of(self.data, self.tables.of if scope in (LISTED, CALLS) else ())
 
 
-def _in_all(lists: Iterable[Sequence[str]]) -> tuple[str, ...]:
-    """The strings that stand in each of some lists, in the order of the first."""
-    first, *others = map(tuple, lists)
-    return tuple(name for name in first if all(name in names for names in map(set, others)))
-
-
 def left_out(profile: bytes, judged: Tables) -> Report:
-    """A report on what scf leaves out of a profile, from a comparison that takes no step."""
-    allows = instruction(RETURN_CONSTANT, ALLOW.word)
-    words = [*SCOPES[LISTED], *judged.reading_words, "--limit=0"]
-    done = client.run(["compare", *words], bundles.of_comparison([allows], profile, judged))
-    facts = profiles.read(profile) if b"\nskipped " in done.out else None
-    return verdicts.report(done.text, facts.names if facts else None, judged.has)
+    """A report on what scf leaves out of a profile that it takes: names that no table has, and architectures without
+    one."""
+    facts = profiles.read(profile)
+    return Report((), skipped=tuple(name for name in facts.names if not judged.has(name)) if facts is not None else (),
+                  architectures=tuple(name for name in profiles.architectures_of(profile) if name not in judged.of))

@@ -1,8 +1,8 @@
 """scf's printed lines as values.
 
 Lines are parsed by their order, since the names in them are untrusted: the first line is the verdict or a fault, the
-next ones are its example, or syscalls by name; and after the first `skipped` or `other` line nothing is a syscall or a
-verdict, whatever it looks like.
+next ones are its example, or syscalls by name. From the first `skipped` or `other` line on nothing is parsed: names may
+have newlines in them.
 """
 from __future__ import annotations
 
@@ -165,46 +165,14 @@ def named_call(line: str, pointer: int | None = 0) -> NamedCall | None:
     return NamedCall(line, number, tuple(match[2].split(",")), verdict)
 
 
-def _names(lines: Sequence[str]) -> tuple[list[str], list[str]]:
-    """The skipped names and the architectures in these lines.
-
-    A line that begins as neither belongs to the name before it, which has a newline in it.
-    """
-    # the lines of each name: they are joined once, since a name may have millions of them
-    pieces: dict[str, list[list[str]]] = {word: [] for word in LEFT_OUT}
-    last = pieces[LEFT_OUT[0]]
-    for line in lines:
-        word = next((word for word in LEFT_OUT if line.startswith(word)), None)
-        if word:
-            last = pieces[word]
-            last.append([line[len(word):]])
-        elif last:
-            last[-1].append(line)
-    skipped, others = (["\n".join(name) for name in pieces[word]] for word in LEFT_OUT)
-    return skipped, others
-
-
-def report(text: str, profile_names: Sequence[str] | None = None, is_known: Callable[[str], bool] = lambda _: False,
-           pointer: int | None = 0) -> Report:
-    """Parses the output of `scf compare`.
-
-    If the names of the profile are known, and which of them a table has, a name that contains lines `skipped ..` or
-    `other ..` is distinguished from several names. The records of lines get this instruction pointer, None if it
-    matters and is unknown.
-    """
+def report(text: str, pointer: int | None = 0) -> Report:
+    """Parses the output of `scf compare`, but for what was left out of a profile. The records of lines get this
+    instruction pointer, None if it matters and is unknown."""
     lines = client.lines_of(text)
     count = next((at for at, line in enumerate(lines) if line.startswith(LEFT_OUT)), len(lines))
-    verdict_lines, left_out_lines = lines[:count], lines[count:]
-    skipped, architectures = _names(left_out_lines)
-    if profile_names is not None:
-        exact = [name for name in profile_names if not is_known(name)]
-        head, tail = "".join(f"skipped {name}\n" for name in exact), "".join(f"{line}\n" for line in left_out_lines)
-        if tail.startswith(head) and not tail.startswith(LEFT_OUT[0], len(head)):
-            skipped, architectures = exact, _names(tail[len(head):].split("\n")[:-1])[1]
-    calls = tuple(filter(None, (named_call(line, pointer) for line in verdict_lines[1:])))
-    verdict, fault = (_verdict(verdict_lines), Fault.read(verdict_lines[0])) if verdict_lines else (None, None)
-    return Report(tuple(verdict_lines), verdict, fault, calls,
-                  tuple(skipped), tuple(architectures))
+    calls = tuple(filter(None, (named_call(line, pointer) for line in lines[1:count])))
+    verdict, fault = (_verdict(lines[:count]), Fault.read(lines[0])) if count else (None, None)
+    return Report(tuple(lines[:count]), verdict, fault, calls)
 
 
 def checked(status: int, checked_report: Report, is_by_call: bool = False) -> Report:

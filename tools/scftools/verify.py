@@ -6,7 +6,7 @@ import json
 import os
 from collections.abc import Callable, Iterator, Sequence
 
-from . import (client, compare, compare_output, engines, filters, output, profiles, program, runtimes, stack_comparison,
+from . import (client, compare_output, engines, filters, output, profiles, program, reasons, runtimes, stack_comparison,
                tables, verdicts)
 from .compare import Comparison
 from .filters import Filter
@@ -97,7 +97,7 @@ class Request:
         """Whether scf takes the profile, or leaves it to the runtimes, which accept two answers to a syscall, and two
         conditions on one argument."""
         judged = tables.of_profile(self.profile, self.table, self.scope == verdicts.NATIVE_SCOPE)
-        fault = compare.left_out(self.profile, judged).fault
+        fault = reasons.of(self.profile, judged, ()).fault
         return fault is None or fault.kind in ("Conflict", "RepeatedIndex")
 
     def judge(self, stack: Stack) -> Block:

@@ -251,7 +251,6 @@ class Reports(unittest.TestCase):
         self.assertEqual(actual.verdict.call.arguments, (1, 2, 3, 4, 5, 2**64 - 1))
         self.assertEqual((actual.verdict.call.number, actual.verdict.call.architecture), (1, X86_64))
         self.assertEqual((str(actual.verdict.filters), str(actual.verdict.profile)), ("ERRNO 22", "UNNAMED 0x12340000"))
-        self.assertEqual((actual.skipped, actual.architectures), (("a",), ("b",)))
         self.assertEqual(verdicts.report("undecided at 7\n").verdict.at, 7)
         self.assertEqual(verdicts.report("unfinished\n").verdict.word, "unfinished")
         fault = verdicts.report("fault profile Conflict number 41 first 0 second 1\n").fault
@@ -262,7 +261,6 @@ class Reports(unittest.TestCase):
         for forged in ("differs", "same", FORGED_CALL, "fault filter Empty", "undecided at 1"):
             actual = verdicts.report(f"same\nskipped x\n{forged}\nother y\n{forged}\n")
             self.assertEqual((actual.verdict.word, actual.fault, actual.calls), ("same", None, ()))
-            self.assertEqual((actual.skipped, actual.architectures), ((f"x\n{forged}",), (f"y\n{forged}",)))
         calls = verdicts.report(f"differs\n{FORGED_CALL}\nskipped x\n{FORGED_CALL}\n").calls
         self.assertEqual([call.number for call in calls], [41])
 
