@@ -2,11 +2,10 @@
 from __future__ import annotations
 
 import functools
-import json
 import math
 from collections.abc import Iterator, Sequence
 
-from . import client, compare, constants, entries, output, program, questions, reasons, regions, tables, verdicts
+from . import client, compare, constants, output, program, questions, reasons, regions, tables, verdicts
 from .answers import DISPOSITIONS, FIRST_X32
 from .architectures import JUDGED, NATIVE, Architecture
 from .calls import Call
@@ -14,7 +13,6 @@ from .client import Refusal
 from .explanation import MORE_SPLITS, join_names
 from .filters import Filter
 from .profile_inputs import ProfileInput
-from .profiles import read_like
 from .reasons import Reason
 from .stack_comparison import StackComparison
 from .tables import Table
@@ -39,21 +37,11 @@ KIND_HEADINGS = {MORE: "syscalls for which the new profile is more permissive",
             UNFINISHED: "syscalls that are undecided within the limit"}
 
 
-def _some(holder: dict[str, object], *names: str) -> dict[str, object]:
-    return {name: holder[name] for name in names if name in holder}
-
-
 class ProfileSide:
-    """A profile, the tables that it is judged by, and its entries by their syscalls, so that scf can be asked about one
-    without the other entries."""
+    """A profile, and the tables that it is judged by."""
 
     def __init__(self, name: str, source: ProfileInput, table: Table, is_native: bool) -> None:
         self.name, self.source, self.judged = name, source, source.judged(table, is_native)
-        self.top = entries.read(source.data)
-        self.indices: dict[str, list[int]] = {}
-        for index, entry in enumerate(self.top.get("syscalls", []) if self.top is not None else []):
-            for syscall in dict.fromkeys(entry["names"]):
-                self.indices.setdefault(syscall, []).append(index)
 
     @functools.cached_property
     def filter(self) -> Filter:
@@ -70,21 +58,10 @@ class ProfileSide:
         return regions.Lookup(regions.of_profile(self.source.data, self.judged))
 
     def reason(self, call: Call) -> Reason:
-        """The profile's answer to a syscall and its reason, by its regions, or else by scf on the entries that have its
-        number."""
+        """The profile's answer to a syscall and its reason, by its regions, or else by `scf ask`."""
         region = self._regions.of(call)
-        if region is not None:
-            return reasons.of_region(region.line)
-        data, places = self.source.data, None
-        if self.top is not None:
-            named = dict(sorted((index, name) for name in call.names(self.judged.native)
-                                for index in self.indices.get(name, ())))
-            entries_of = [{"names": [name], **_some(self.top["syscalls"][index], "action", "errnoRet", "args")}
-                          for index, name in named.items()]
-            members = _some(self.top, "defaultAction", "defaultErrnoRet", "architectures")
-            data, places = read_like(json.dumps({**members, "syscalls": entries_of}).encode(), data), list(named)
-        reason = reasons.of(data, self.judged, call.words())
-        return reason if reason.entry is None or places is None else replace(reason, entry=places[reason.entry])
+        return reasons.of(self.source.data, self.judged, call.words()) if region is None else \
+            reasons.of_region(region.line)
 
 
 @dataclass(frozen=True)
@@ -140,19 +117,9 @@ class ProfilePair:
             raise Refusal(report.fault.line, status, (NEW, self.sides[NEW].source.data))
         return checked(status, report)
 
-    def left_out_beside(self, compared: Report) -> dict[str, Report]:
-        """Reports on what scf leaves out of each profile; the comparison's own report covers the new one."""
-        old, new = self.sides.values()
-        return {OLD: compare.left_out(old.source.data, old.judged),
-                NEW: compared if self.are_alike else compare.left_out(new.source.data, new.judged)}
-
     def of_calls(self, architecture: Architecture, relation: str) -> list[NamedCall]:
         """The syscalls in an architecture's table for which the relation isn't proved."""
         return self._comparison.calls_of(architecture.oci, relation)
-
-    def of_number(self, architecture: Architecture, number: int) -> Verdict:
-        """The verdict on the syscalls of an architecture with a number of its table."""
-        return self._comparison.of_numbers(architecture.oci, architecture.first + number, architecture.first + number)
 
     def asked(self, call: Call) -> dict[str, Reason]:
         """Each profile's answer to a syscall, and its reason."""
@@ -245,17 +212,15 @@ def _of_unnamed(pair: ProfilePair) -> Change | None:
                  for side in pair.sides.values() if architecture.oci in side.source.stub]
         before_stubs = min(stubs, default=FIRST_X32)
         number = next((first for first, _ in questions.gaps(table, architecture) if first < before_stubs), None)
-        verdict = None if number is None else pair.of_number(architecture, number)
-        if number is None or verdict is None or verdict.holds:
+        if number is None:
             continue
-        if not verdict.fails:
-            return Change(number, (), verdict.word, architecture=architecture)
         call = Call(architecture.first + number, architecture.number)
         asked = pair.asked(call)
-        before, after = (DISPOSITIONS.index(reason.answer.disposition) if reason.answer else 0
-                         for reason in asked.values())
-        kind = MORE if before < after else LESS if before > after else OTHERWISE
-        return Change(number, (), kind, call, asked, architecture)
+        old, new = (reason.answer for reason in asked.values())
+        if old != new:
+            before, after = (DISPOSITIONS.index(answer.disposition) if answer else 0 for answer in (old, new))
+            kind = MORE if before < after else LESS if before > after else OTHERWISE
+            return Change(number, (), kind, call, asked, architecture)
     return None
 
 
@@ -274,11 +239,11 @@ def of_profiles(old: ProfileInput, new: ProfileInput, table: Table, relation: st
     """The differences between two profiles."""
     sides = {name: ProfileSide(name, source, table, is_native) for name, source in ((OLD, old), (NEW, new))}
     pair = ProfilePair(sides, table, is_native)
-    compared = pair.compared(SAME)
-    same = compared.verdict
+    same = pair.compared(SAME).verdict
     assert same is not None
     return Changes(pair, relation, _whole(pair, same, relation), [] if same.holds else _of_calls(pair),
-                   None if same.holds else _of_unnamed(pair), pair.left_out_beside(compared))
+                   None if same.holds else _of_unnamed(pair),
+                   {name: compare.left_out(side.source.data, side.judged) for name, side in sides.items()})
 
 
 def _by(reason: Reason, source: ProfileInput) -> str:
@@ -351,11 +316,9 @@ def lines(changes: Changes) -> Iterator[str]:
         for change in (change for change in changes.calls if change.kind == kind):
             yield line_of(change, pair)
             yield from output.notes(_conditions(pair, change))
-    if unnamed is not None and unnamed.call is not None:
+    if unnamed is not None:
         yield "# numbers that the table doesn't name get the defaults, for example:"
         yield line_of(unnamed, pair)
-    elif unnamed is not None:
-        yield f"# numbers that the table doesn't name: {unnamed.kind}"
     yield from output.notes(_entries(changes))
     yield from output.notes(_apart("names that were skipped because the table doesn't have them",
                                    {side: report.skipped for side, report in left_out.items()}))

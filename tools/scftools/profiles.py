@@ -78,15 +78,6 @@ def reading_of(data: bytes) -> str:
     return data.reading if isinstance(data, DerivedProfile) else STRICT
 
 
-def read_like(data: bytes, other: bytes) -> bytes:
-    """A profile that is read as another one is."""
-    if not isinstance(other, DerivedProfile):
-        return data
-    profile = DerivedProfile(data)
-    profile.reading, profile.absent = other.reading, other.absent
-    return profile
-
-
 @dataclass(frozen=True)
 class Profile:
     """A profile's default action, and the names of its entries in order, with repetitions."""

@@ -226,7 +226,6 @@ class Program(Case):
                                       self.file("t", b"read 0\nwrite 1\n"))
         self.assertEqual((status, lines[0], lines[1]), (4, "unfinished", "more 0, less 0, otherwise 0, unfinished 2"))
         self.assertIn("0 read unfinished", lines)
-        self.assertIn("# numbers that the table doesn't name: unfinished", lines)
 
     def test_undecided(self):
         """By a program that stands in for scf: nothing is guessed of the calls."""
