@@ -67,11 +67,6 @@ class FilterAnswers:
     known_parts: dict[tuple[Answers, bool], dict[Answer, int]] = field(default_factory=dict)
     known_untested: dict[Answers, str | None] = field(default_factory=dict)
 
-    @property
-    def are_kills(self) -> bool:
-        """Whether they kill every syscall of the architecture."""
-        return all(nearest(word, True).action.startswith("KILL") for answers in self.answers for word, _ in answers)
-
     def with_stub(self) -> FilterAnswers:
         """The answers without those to the numbers from one on that all get ENOSYS."""
         stub = ((ENOSYS.word, FULL_SET),)
@@ -271,7 +266,7 @@ def own_steps() -> Steps:
 class ProfileRequest:
     """Filters, oldest first, the table of an architecture, the architecture, the name of the runtime that reads the
     profile, the OCI names of other architectures that the profile may list, too, the steps in which profiles are
-    found, and the regions of the filters, None if they are unfinished."""
+    found, the regions of the filters, None if they are unfinished, and whether they begin with runc's stub."""
 
     filters: Sequence[Filter]
     table: Table
@@ -280,20 +275,22 @@ class ProfileRequest:
     others: Sequence[str] = ()
     steps: Steps = field(default_factory=own_steps)
     regions: Sequence[Region] | None = None
+    has_stub: bool = False
 
     @property
     def data(self) -> list[bytes]:
         return [bpf_filter.data for bpf_filter in self.filters]
 
     def comparison(self, profile: dict[str, object], relation: str = SAME) -> Comparison:
-        """The comparison of the filters with a profile, which has the runtime's stub if the relation is the same."""
+        """The comparison of the filters with a profile, which has the stub that they have if the relation is the
+        same."""
         comparison = Comparison(self.filters, engines.to_bytes(profile), self.table, OF_FILTERS[relation],
                                 architecture=self.architecture.oci)
         if self.runtime is None:
             return comparison
         applied = runtimes.applied(engines.read(comparison.profile), self.runtime)
         return replace(comparison, profile=applied.data, origins=applied.origins,
-                       stub=applied.stub if relation == SAME else {})
+                       stub=applied.stub if relation == SAME and self.has_stub else {})
 
     def compared(self, profile: dict[str, object], relation: str = SAME) -> tuple[Report, dict[str, int]]:
         """scf's report on whether a profile has this relation to the filters, in each architecture that it lists, and
@@ -302,10 +299,10 @@ class ProfileRequest:
         Raises Refusal if scf refuses the filters, the table or the limit.
         """
         comparison = self.comparison(profile, relation)
-        status, report, has_stub = comparison.run_with_stub()
+        status, report = comparison.run_as_it_is()
         if report.fault is not None and report.fault.source != "profile":
             raise Refusal(report.fault.line, status)
-        return report, comparison.stub if has_stub else {}
+        return report, comparison.stub
 
     def calls(self, profile: dict[str, object], relation: str) -> list[NamedCall]:
         """The syscalls in the table of which this relation isn't proved, of a profile that scf takes."""
@@ -338,35 +335,33 @@ class ProfileRequest:
     def answers_to_others(self) -> list[FilterAnswers]:
         """The answers of the filters in each other architecture, but those of which they kill every syscall."""
         pairs = [(JUDGED[name], tables.of_architecture(name)) for name in self.others]
-        found = (replace(self, table=table, architecture=architecture).answers() for architecture, table in pairs
-                 if table is not None)
-        return [answers for answers in found if not answers.are_kills]
+        return [replace(self, table=table, architecture=architecture).answers() for architecture, table in pairs
+                if table is not None and not self._kills(architecture)]
+
+    def _kills(self, architecture: Architecture) -> bool:
+        """Whether the filters kill every syscall of an architecture."""
+        ranges = Numbers(self.regions, architecture).ranges
+        return ranges is not None and all(region.answer is not None and region.answer.action.startswith("KILL")
+                                          for _, _, here in ranges for region in here)
 
 
-def _same(request: ProfileRequest, answers: FilterAnswers,
-          others: Sequence[FilterAnswers] = ()) -> ProvedProfile | None:
-    """The profile that answers as the filters do, also in other architectures, if scf proves it."""
-    draft, listed = Draft(answers, True), [filter_answers.architecture.oci for filter_answers in (answers, *others)]
+def _same(request: ProfileRequest, answers: FilterAnswers) -> ProvedProfile | None:
+    """The profile that answers as the filters do, if scf proves it; it lists each other architecture, too, of which scf
+    doesn't say otherwise."""
+    draft = Draft(answers, True)
     if not draft.may_be_same():
         return None
-    profile = draft.profile(others)
-    report, stub = request.compared(profile)
-    is_proved = report.verdict is not None and report.verdict.holds
-    return ProvedProfile(profile, (SAME,), listed, stub=stub) if is_proved else None
-
-
-def _with_others(request: ProfileRequest, answers: FilterAnswers, alone: ProvedProfile) -> ProvedProfile:
-    """The profile, which lists each other architecture too in which scf proves the same of it."""
     others = request.answers_to_others()
-    proved = _same(request, answers, others) if others else alone
-    if proved is not None:
-        return proved
-    listed: list[FilterAnswers] = []
-    for candidate in others if len(others) > 1 else ():
-        proved = _same(request, answers, [*listed, candidate])
-        if proved is not None:
-            alone, listed = proved, [*listed, candidate]
-    return alone
+    while True:
+        profile = draft.profile(others)
+        report, stub = request.compared(profile)
+        if report.verdict is not None and report.verdict.holds:
+            return ProvedProfile(profile, (SAME,), [each.architecture.oci for each in (answers, *others)], stub=stub)
+        failing = None if report.verdict is None or report.verdict.call is None else report.verdict.call.abi
+        if not others or failing == request.architecture.oci:
+            return None
+        remaining = [each for each in others if each.architecture.oci != failing]
+        others = remaining if len(remaining) < len(others) else others[:-1]
 
 
 def _bound(request: ProfileRequest, answers: FilterAnswers, relation: str) -> ProvedProfile | None:
@@ -496,9 +491,9 @@ def of_request(request: ProfileRequest, relation: str) -> Result:
 
 def _of_answers(request: ProfileRequest, answers: FilterAnswers, relation: str) -> Result:
     """The result for filters with these answers. Raises TooMany."""
+    request = replace(request, has_stub=answers.end != FIRST_X32)
     same = _same(request, answers)
     if same is not None:
-        same = _with_others(request, answers, same)
         stub = [runtimes.stub_note(same.stub)] if same.stub else []
         return Result(program.SUCCESS, same.text, [*_covered(request, same.architectures), *stub], [same])
     if relation == SAME:

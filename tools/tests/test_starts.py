@@ -4,8 +4,8 @@ import os
 import shutil
 import sys
 
-from support.common import (ALLOW, EPERM, I386, PROGRAM, TABLE, TOP, Case, filter_of, insn, jeq, jge, load, profile_of,
-                            ret, stub)
+from support.common import (ALLOW, EPERM, I386, PROGRAM, TABLE, TOP, X86_64, Case, filter_of, insn, jeq, jge, load,
+                            profile_of, ret, stub)
 from support.confined import Confined, here
 
 sys.path.append(os.path.join(TOP, "tools"))
@@ -18,12 +18,12 @@ NAMES = ("read write exit exit_group rt_sigaction rt_sigreturn nanosleep restart
 
 
 class Counting(Case):
-    def starts(self, name, *words, status=0):
-        """How often a tool starts scf, but for its version."""
+    def starts(self, name, *words, status=0, said=""):
+        """How often a tool starts scf, but for its version; what it says on standard error."""
         log = self.file("log", "")
         tree = self.made_tree(f'#!/bin/sh\n[ "$1" = --version ] || echo "$@" >>{log}\nexec {PROGRAM} "$@"\n')
         actual, out, err = self.run_words([os.path.join(tree, "tools", name), *words])
-        self.assertEqual((actual, err), (status, ""), out)
+        self.assertEqual((actual, err), (status, said), out)
         shutil.rmtree(tree)
         with open(log, encoding="utf-8") as file:
             return len(file.readlines())
@@ -62,6 +62,30 @@ class Starts(Counting):
         stubbed = filter_of([0, 1]).replace(jeq(0, 2, 0), jge(1000, 0, 1) + ret(0x00050026) + jeq(0, 2, 0), 1)
         self.assertEqual(self.starts("profile-of", "--arch", "x86_64", self.file("f.bpf", stubbed), status=4), 3)
 
+    def test_profile_of_several_architectures(self):
+        """All of them are proved at once; once more without one of which a call, answered again, shows otherwise."""
+        several = {"defaultAction": "SCMP_ACT_ERRNO", "architectures": [f"SCMP_ARCH_{name}" for name in (
+            "X86_64", "X86", "X32")], "syscalls": [{"names": NAMES, "action": "SCMP_ACT_ALLOW"}]}
+        data, _ = self.compiled(json.dumps(several))
+        self.assertEqual(self.starts("profile-of", self.file("f.bpf", data), said="profile-of: the profile covers "
+                                     "x86-64, i386 and x32 syscalls\n"), 2)
+        # (another answer to each call of i386)
+        other = load(4) + jeq(I386, 0, 1) + ret(ALLOW) + data
+        self.assertEqual(self.starts("profile-of", self.file("f.bpf", other), said="profile-of: the profile covers "
+                                     "x86-64 and x32 syscalls\nprofile-of: i386: some syscalls are allowed, such as "
+                                     "restart_syscall (0): ALLOW; --arch i386 prints its profile\n"), 4)
+
+    def test_profile_of_runc(self):
+        """The stub is one side's with the profile, so that nothing is compared twice."""
+        listed = {"defaultAction": "SCMP_ACT_ERRNO", "architectures": ["SCMP_ARCH_X86_64"],
+                  "syscalls": [{"names": ["read", "openat2"], "action": "SCMP_ACT_ALLOW"}]}
+        data, _ = self.compiled(json.dumps(listed))
+        # (runc leaves the numbers of x32 to the filter)
+        behind = load(4) + jeq(X86_64, 0, 4) + load(0) + jge(0x40000000, 2, 0) + jge(438, 0, 1) + ret(0x00050026) + data
+        for filter_, said in ((data, ""), (behind, "profile-of: runc answers the numbers from 438 on, above all that "
+                                                   "the profile names, with ENOSYS\n")):
+            self.assertEqual(self.starts("profile-of", "--runtime", "runc", self.file("f.bpf", filter_), said=said), 2)
+
     def test_lint(self):
         self.assertEqual(self.starts("lint", self.file("p.json", profile_of(*NAMES))), 2)
         # the calls of each architecture are compared by themselves; by which entry ptrace is allowed, the entries say
@@ -73,11 +97,11 @@ class Starts(Counting):
     def test_compare_profiles(self):
         first, second = (self.file(f"{at}.json", profile_of(*names)) for at, names in enumerate((NAMES, NAMES[::-1])))
         for words in ([], ["--no-more"], ["--no-less"]):
-            self.assertEqual(self.starts("compare-profiles", *words, first, second), 3)
+            self.assertEqual(self.starts("compare-profiles", *words, first, second), 2)
         stated = {"defaultAction": "SCMP_ACT_ERRNO", "architectures": ["SCMP_ARCH_X86_64"],
                   "syscalls": [{"names": NAMES, "action": "SCMP_ACT_ALLOW"}]}
         first = self.file("runc.json", json.dumps(stated))
-        self.assertEqual(self.starts("compare-profiles", "--runtime", "runc", first, first), 5)
+        self.assertEqual(self.starts("compare-profiles", "--runtime", "runc", first, first), 3)
 
 
 class OfProcesses(Confined, Counting):
