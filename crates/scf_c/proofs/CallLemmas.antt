@@ -1,11 +1,8 @@
 -- The numbers of the calls of a table.
-use Rattle.std.proofs.Common.{◌≡◌, ◌+◌, ◌<◌, ◌^◌, ◌∙◌, ℕ, List, [], ◌∷◌, Bor, Contains, ap, arith, length, map, refl}
+use Rattle.std.proofs.Common.{◌≡◌, ◌<◌, ◌∙◌, ℕ, List, [], ◌∷◌, Bor, Contains, ap, arith, length, map, refl}
 use Rattle.std.proofs.Math.ListN.{get_or-map}
 use Rattle.std.proofs.lemmas.List.{length-map}
 use Rattle.std.proofs.lemmas.List.Elements.{All-contains}
-use Rattle.scf_insn.specs.Architectures.{row_of}
-use Rattle.scf_insn.specs.Kernel.{x32_syscall_bit}
-use Rattle.scf_insn.specs.declared.architecture.Architecture.{Architecture}
 use Rattle.scf_profile.specs.NamedCalls.{AreCallsOf, HasItsNames}
 use Rattle.scf_profile.specs.Table.{Names}
 use Rattle.scf_profile.specs.declared.named_call.NamedCall.{NamedCall}

@@ -32,15 +32,15 @@ returns c =
     let IsAt : ℕ → Type 0 = λ k. get_or kinds k Filter ≡ get_or architecture_kinds k Filter in
     let behind = 3 + length architectures in
     let each : (k : ℕ) → k < length architecture_kinds → IsAt k = λ k below. elim (cases_lt k 3) [
-      inl first ↦ filled.1 k first
-    | inr later ↦ elim (cases_lt k behind) [
-        inl of_table ↦
-          let within : k - 3 < length architectures = omega arith in
-          subst IsAt (omega arith) (filled.2 (k - 3) (omega (arith, c.loop-i-test.false)) ∙ sym (table_at (k - 3) within))
-      | inr of_stub ↦
-          let within : k - behind < length architectures = omega arith in
-          subst IsAt (omega arith)
-          (filled.3 (k - behind) (omega (arith, c.loop-i-test.false)) ∙ sym (stub_at (k - behind) within))
+      | inl first ↦ filled.1 k first
+      | inr later ↦ elim (cases_lt k behind) [
+        | inl of_table ↦
+            let within : k - 3 < length architectures = omega arith in
+            subst IsAt (omega arith) (filled.2 (k - 3) (omega (arith, c.loop-i-test.false)) ∙ sym (table_at (k - 3) within))
+        | inr of_stub ↦
+            let within : k - behind < length architectures = omega arith in
+            subst IsAt (omega arith)
+            (filled.3 (k - behind) (omega (arith, c.loop-i-test.false)) ∙ sym (stub_at (k - behind) within))
       ]
     ] in
     fill_by_all (λ k. get_or architecture_kinds k Filter) kinds (length architecture_kinds) Filter filled.0 each
