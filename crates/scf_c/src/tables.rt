@@ -19,10 +19,8 @@ use std::alloc::{AllocError, Global};
 pub(crate) fn architecture_of(number: u32) -> Option<Architecture>
     ensures { result ≡ architecture_of number }
 {
-    Architecture::all()
-        .iter()
-        .copied()
-        .find(|architecture| architecture_number(*architecture) == number)
+    Architecture::all().iter().copied().find(|architecture| architecture_number(*architecture)
+        == number)
 }
 
 /// The number of an architecture: its position among all of them, counted from 1.
