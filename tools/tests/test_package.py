@@ -1,7 +1,9 @@
 """dev/package: the Debian packages and the archive, which run where they are unpacked; RPM packages, and an image."""
 import filecmp
+import fnmatch
 import os
 import re
+import shlex
 import shutil
 import subprocess
 import sys
@@ -96,6 +98,22 @@ class Package(Case):
         made = self.made("deb")
         done = self.run_words(["lintian", "--allow-root", "--fail-on", "error,warning", *made])
         self.assertEqual(done[:2], (0, ""), done)
+
+    def test_the_spec_has_each_installed_file_in_one_package(self):
+        """rpmbuild refuses a file that none of its packages has."""
+        root = os.path.join(self.folder, "root")
+        macros = {"buildroot": root, "_prefix": "/usr", "_bindir": "/usr/bin", "_libdir": "/usr/lib64",
+                  "_datadir": "/usr/share", "_includedir": "/usr/include", "_mandir": "/usr/share/man",
+                  "python3_sitelib": "/usr/lib/python3/site-packages"}
+        with open(os.path.join(TOP, "contrib", "scf.spec"), encoding="utf-8") as file:
+            spec = re.sub(r"%{(\w+)}", lambda match: macros.get(match[1], match[0]), file.read())
+        patterns = re.findall(r"(?m)^/.*", spec)
+        self.assertEqual(self.run_words(shlex.split(re.search(r"(?m)^make .*", spec)[0]), cwd=TOP)[0], 0)
+        installed = [os.path.join(at, name)[len(root):] for at, _, names in os.walk(root) for name in names]
+        owners = {path: [pattern for pattern in patterns
+                         if path.startswith(f"{pattern}/") or fnmatch.fnmatchcase(path, pattern)] for path in installed}
+        self.assertEqual({path: owning for path, owning in owners.items() if len(owning) != 1}, {})
+        self.assertEqual(set(patterns), {owning[0] for owning in owners.values()})
 
     @unittest.skipUnless(shutil.which("rpmbuild"), "there is no rpmbuild here")
     def test_the_rpm_packages(self):
