@@ -387,8 +387,8 @@ def _check_words(options: Any) -> None:
     """Refuses words that don't go together."""
     runtime = RUNTIMES.get(options.runtime)
     if options.machine is not None and options.caps is None and (runtime is None or runtime.engine is None):
-        raise program.ToolError("--machine is for an engine's profile, which --caps or --runtime docker or podman says "
-                                "it is")
+        raise program.ToolError("--machine goes with an engine's profile: give --caps, or --runtime docker or podman, "
+                                "too")
     if options.caps is not None and runtime is not None and runtime.engine is None:
         raise program.ToolError(f"--caps resolves an engine's profile, and --runtime {runtime.name} takes a resolved "
                                 f"one: `scf resolve-profile --runtime {runtime.name} --engine .. --caps ..` makes it")

@@ -7,7 +7,7 @@ import unittest
 
 from support.common import (ALLOW, CORE, EPERM, I386, KILL_PROCESS, KILL_THREAD, TABLE, UNKNOWN_ZERO, X86_64, Case,
                             filter_of, insn, jeq, jge, load, needs, part, profile_of, ret, tool)
-from scftools import tables
+from scftools import bundles, client, compare, profiles, tables
 
 READ, WRITE, EXIT_GROUP = 0, 1, 231
 # Goes on for x86-64 syscalls alone.
@@ -211,6 +211,28 @@ class Compare(Case):
         self.assertEqual(self.run_tool("compare", "--verbose", self.same, profile),
                          (0, f"same\nskipped gone\n{added}", ""))
         self.assertEqual(json.loads(self.run_tool("compare", "--json", self.same, profile)[1])["skipped"], ["gone"])
+
+    def test_what_is_left_out_is_what_scf_says(self):
+        """By each reading, over x86-64 alone and over each architecture with a table; names may look like its lines."""
+        names = ("read", "gone", "mmap2", "x\nother SCMP_ARCH_X", "skipped y", "read", "gone")
+        native = "SCMP_ARCH_X86_64"
+        entries = [{"names": names, "action": "SCMP_ACT_ALLOW"},
+                   {"names": names[1:3], "action": "SCMP_ACT_ERRNO", "errnoRet": 1}]
+        for reading in ("strict", "runc", "crun"):
+            for architectures in ([native, "SCMP_ARCH_MIPS", "SCMP_ARCH_X86", "what", "SCMP_ARCH_MIPS"], [native], []):
+                data = profiles.DerivedProfile(json.dumps({
+                    "defaultAction": "SCMP_ACT_ERRNO", "architectures": architectures,
+                    "syscalls": entries[:1 + (reading != "strict")]}).encode())
+                data.reading = reading
+                for is_native in (True, False):
+                    judged = tables.of_profile(data, tables.read(None), is_native)
+                    flags = [] if is_native else ["--architectures"]
+                    done = client.run(["compare", *flags, *judged.reading_words],
+                                      bundles.of_comparison([ret(ALLOW)], data, judged))
+                    report = compare.left_out(data, judged)
+                    text = "".join([f"skipped {name}\n" for name in report.skipped]
+                                   + [f"other {name}\n" for name in report.architectures])
+                    self.assertEqual(done.text.split("\n", 4)[4], text, (reading, architectures, is_native))
 
     def test_a_name_that_looks_like_a_verdict(self):
         """All that is printed of such names, where nothing differs, and of the one call that does."""
