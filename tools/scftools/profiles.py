@@ -78,6 +78,13 @@ def reading_of(data: bytes) -> str:
     return data.reading if isinstance(data, DerivedProfile) else STRICT
 
 
+def read_as(data: bytes, reading: str) -> DerivedProfile:
+    """A profile that is read so."""
+    profile = DerivedProfile(data)
+    profile.reading = reading
+    return profile
+
+
 @dataclass(frozen=True)
 class Profile:
     """A profile's default action, and the names of its entries in order, with repetitions."""

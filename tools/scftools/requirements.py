@@ -145,7 +145,8 @@ class Judge:
     """A profile, its regions for one architecture, and what its conditions test of each syscall there."""
 
     def __init__(self, profile: bytes, architecture: str, table: Table):
-        self._lookup = Lookup(regions.of_profile(profile, Tables({architecture: table})))
+        answered = regions.of_profile(profile, Tables({architecture: table}, profiles.reading_of(profile)))
+        self._lookup = Lookup(answered)
         top = entries.read(profile)
         if top is None:
             raise program.ToolError("the profile's JSON can't be parsed by this tool", program.IO_ERROR)
@@ -192,7 +193,8 @@ class Judges:
         # a profile without a list is for its machine's own
         names = profiles.architectures_of(profile) or [strace.modes_of(self.own.oci)[strace.OWN_MODE]]
         self.listed = Tables({name: self.tables[name]
-                              for name in tables.of_architectures(names, self.tables[NATIVE]).of})
+                              for name in tables.of_architectures(names, self.tables[NATIVE]).of},
+                             profiles.reading_of(profile))
         self._of: dict[str, Judge] = {}
         self._looked: dict[str, dict[str, tuple[int, ...]]] = {}
 

@@ -46,7 +46,8 @@ exit_group, and with syscalls of i386 or arm sigreturn: a process calls these to
 to end, which the log may not show. What isn't in it goes to standard error.
 
 --runtime adds what the container runtime itself calls behind the filter before it executes the program: without these
-no container starts.
+no container starts. PROFILE is then read as that runtime reads it (RUNTIMES.md), so that a container's config.json is
+no conflict.
 
     scf record log -- ls / && scf needs log profile.json
     scf needs --profile --runtime runc log profile.json >least.json
@@ -64,8 +65,8 @@ Examples:
 """
 import json
 
-from . import (architectures, client, engines, kubernetes, output, profile_inputs, program, refusals, requirements,
-               strace, words)
+from . import (architectures, client, engines, kubernetes, output, profile_inputs, profiles, program, refusals,
+               requirements, strace, words)
 
 
 def read_words():
@@ -76,7 +77,8 @@ def read_words():
                                                      ", or the first that PROFILE lists"))
     parser.add("--kubernetes", "--limit", "--splits", "--table", "--caps", "--json")
     parser.add_argument("--runtime", choices=tuple(requirements.OF_RUNTIMES),
-                        help="add what this container runtime calls itself before it executes the program")
+                        help="add what this container runtime calls itself before it executes the program, and read "
+                             "PROFILE as it does")
     parser.add_argument("logs", metavar="LOG", nargs="+",
                         help="the output of strace -f, perf trace, bpftrace, sysdig or auditd; - is standard input")
     parser.add("profile")
@@ -112,7 +114,7 @@ def main():
     profile = profile_inputs.read(options.profile, options.caps).data
     if strace.is_log(profile):
         raise program.ToolError(f"'{options.profile}' is a strace log, not a profile: LOG comes before PROFILE")
-    judges = requirements.Judges(profile, named, options.table)
+    judges = requirements.Judges(profiles.read_as(profile, options.runtime or profiles.STRICT), named, options.table)
     try:
         return tell(options, requirements.read(options.logs, judges, options.runtime), judges)
     except engines.Refused as why:

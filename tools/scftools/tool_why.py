@@ -108,8 +108,7 @@ def read_files(names, table, options):
         elif profile is not None:
             raise program.ToolError(f"'{name}' is a second profile: give one, and filters")
         else:
-            profile = profiles.DerivedProfile(profile_inputs.profile_in(data, name, options.caps).data)
-            profile.reading = reading
+            profile = profiles.read_as(profile_inputs.profile_in(data, name, options.caps).data, reading)
     trial = trials.Trial(replace(tables.native_alone(table.data), reading=reading))
     return causes.Inputs(trial, profile, found, options.native)
 

@@ -317,6 +317,21 @@ class Needs(Judgement):
                           first["not_allowed"]["reason"]), (2, 2, 1, {"action": "ERRNO", "data": 1, "errno": "EPERM"},
                                                        "default"))
 
+    def test_a_profile_as_a_runtime_reads_it(self):
+        """podman's own lists have entries that conflict by their words: with --runtime the first one counts."""
+        profile = {"defaultAction": ERRNO, "syscalls": [
+            {"names": ["setns", "read"], "action": ALLOW},
+            {"names": ["setns"], "action": "SCMP_ACT_KILL_PROCESS"}]}
+        log = "1 setns(3) = 0\n1 read(0) = 0\n"
+        self.assertEqual(self.needs(log, profile=profile)[1].split("\n")[0],
+                         "fault profile Conflict number 308 first 0 second 1")
+        for runtime in ("runc", "crun"):
+            status, out, _ = self.needs(log, "--json", "--runtime", runtime, profile=profile)
+            dispositions = {call["name"]: call["disposition"] for call in json.loads(out)["calls"]}
+            self.assertEqual((status, dispositions["setns"], dispositions["read"]), (1, "allowed", "allowed"))
+            status, out, _ = self.needs(log, "--profile", "--runtime", runtime, profile=profile)
+            self.assertEqual((status, "setns" in out), (0, True))
+
     def test_arguments_that_a_condition_looks_at(self):
         _, report, out = self.judged("socket(40, 1, 0) = 3\nsocket(0x28, 2, 0) = 3\nsocket(1, 1, 0) = 3\n", 1)
         self.assertEqual(out.split("\n")[:2], ["41 socket arg 0 0x28 ERRNO 22 entry 3",
