@@ -46,8 +46,9 @@ class Query:
 
 def add_numbers(parser: Parser) -> None:
     """Adds the options for a record's fields beside its number."""
-    parser.add_argument("--arch", metavar="ARCH", help="the architecture, by name (i386, x32, SCMP_ARCH_AARCH64 ..) or "
-                                                       "number, also as in the audit log (c000003e) [default: x86_64]")
+    parser.add_argument("--arch", metavar="ARCH",
+                        help="the architecture of the syscalls: x86-64, i386, x32, aarch64, arm or another one, also by "
+                             "its number, as the audit log has it (c000003e) [default: x86-64]")
     for name in OPTIONS[2:]:
         takes = "" if name == "ip" else ": a number, or constants such as AF_INET or CLONE_NEWUSER|SIGCHLD"
         parser.add_argument(f"--{name}", metavar="N",
