@@ -47,8 +47,8 @@ class Query:
 def add_numbers(parser: Parser) -> None:
     """Adds the options for a record's fields beside its number."""
     parser.add_argument("--arch", metavar="ARCH",
-                        help="the architecture of the syscalls: x86-64, i386, x32, aarch64, arm or another one, also by "
-                             "its number, as the audit log has it (c000003e) [default: x86-64]")
+                        help="the architecture of the syscalls: x86-64, i386, aarch64 or another one, also by its "
+                             "number, as the audit log has it (c000003e) [default: x86-64]")
     for name in OPTIONS[2:]:
         takes = "" if name == "ip" else ": a number, or constants such as AF_INET or CLONE_NEWUSER|SIGCHLD"
         parser.add_argument(f"--{name}", metavar="N",
