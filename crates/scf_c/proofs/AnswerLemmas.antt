@@ -1,5 +1,5 @@
--- Regions within a limit are regions within a greater one, and those of one set of records more.
-use Rattle.std.proofs.Common.{◌≡◌, ◌++◌, ◌+◌, ◌<◌, ◌≤◌, ℕ, List, [], ◌∷◌, arith, get_or, length, take}
+-- The regions of one set of records more.
+use Rattle.std.proofs.Common.{◌≡◌, ◌++◌, ◌+◌, ◌<◌, ℕ, List, [], ◌∷◌, get_or, length, take}
 use Rattle.std.proofs.lemmas.Slice.Zip.{all_zipped_more}
 use Rattle.std.specs.List.{AllZip}
 use Rattle.scf_compile.proofs.Common.{take_more}
@@ -7,22 +7,6 @@ use Rattle.scf_compare.specs.Sides.{Behavior}
 use Rattle.scf_compare.specs.declared.regions.Regions.{Regions}
 use Rattle.scf_c.specs.Answers.{AreOfRecords}
 use Rattle.scf_c.specs.declared.records.Records.{Records}
-
-pub widened : (side : Behavior) (records : Records) (limit most : ℕ) (regions : Regions)
-    → AreOfRecords side limit records regions → limit ≤ most → AreOfRecords side most records regions
-widened side records limit most regions listed below =
-    let are = listed.are_regions in
-    let within = are.within_limit in
-    record {
-      are_regions = record {
-        covered = are.covered;
-        each = are.each;
-        disjoint = are.disjoint;
-        within_limit = omega arith;
-        within_size = are.within_size;
-      };
-      decided = listed.decided;
-    }
 
 pub walks_more : (side : Behavior) (limit : ℕ) (several : List Records) (i : ℕ) (d : Records) (listed : List Regions)
     (regions : Regions) (after : List Regions) → i < length several

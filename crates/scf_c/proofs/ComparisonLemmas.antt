@@ -54,7 +54,8 @@ pub one_taken : (relation : Relation) (left right : Behavior) (limit : Limit) (t
     → AreFound relation left right limit total (take (i + 1) several) findings_after after
 one_taken relation left right limit total several i d findings between last after findings_after lt before here is =
     rw (take_more several i d lt, is)
-    (one_more relation left right limit total (take i several) findings between (get_or several i d) last after before here)
+    (one_more relation left right limit total (take i several) findings between (get_or several i d) last after before
+    here)
 
 pub same_behavior : (side : Side) (read : ReadSide) → IsSideOf side read → behavior_of side ≡ behavior_of_read read
 same_behavior (compared.Profiles profiles) (sides.Profiles loaded) is = rw is refl

@@ -1,4 +1,3 @@
 mod AnswerLemmas
-mod CallLemmas
 mod ComparisonLemmas
 mod RecordLemmas

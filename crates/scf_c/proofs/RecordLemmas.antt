@@ -1,5 +1,6 @@
 -- The calls of the tables before an index, and of the one there.
-use Rattle.std.proofs.Common.{◌≡◌, ◌++◌, ◌+◌, ◌<◌, ◌∙◌, ℕ, List, [], ◌∷◌, Ok, Option, Some, None, option_map, ap, append-nil, append_assoc, arith, drop, flat_map, get_or, length, map, refl, sym, take}
+use Rattle.std.proofs.Common.{◌≡◌, ◌++◌, ◌+◌, ◌<◌, ◌∙◌, ℕ, List, [], ◌∷◌, Ok, Option, Some, None, option_map}
+use Rattle.std.proofs.Common.{ap, append-nil, append_assoc, arith, drop, flat_map, get_or, length, map, refl, sym, take}
 use Rattle.std.proofs.lemmas.List.Elements.{filter_map-append}
 use Rattle.std.proofs.lemmas.Slice.Zip.{all_zipped_more}
 use Rattle.std.specs.List.{AllZip}
@@ -32,7 +33,8 @@ one_list_more (first ∷ lists) own =
 
 module _ (tables : List Table) (i : ℕ) (d : Table) (lt : i < length tables) where
   texts_more : texts_of (take (i + 1) tables) ≡ texts_of (take i tables) ++ texts_of (get_or tables i d ∷ [])
-  texts_more = ap texts_of (take_more tables i d lt) ∙ filter_map-append text_of (take i tables) (get_or tables i d ∷ [])
+  texts_more =
+      ap texts_of (take_more tables i d lt) ∙ filter_map-append text_of (take i tables) (get_or tables i d ∷ [])
 
   pub calls_more : (architecture : Architecture) (before after : List Records)
       → architecture_of (get_or tables i d).architecture ≡ Some architecture

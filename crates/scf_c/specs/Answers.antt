@@ -1,18 +1,18 @@
 -- What a side answers, by regions of records, and what is handed out of it.
-use Rattle.std.specs.Prelude.{◌≡◌, ◌==◌, ◌⊎◌, ◌≤◌, ◌<◌, ◌++◌, ℕ, Bool, true, false, List, [], ◌∷◌, All, Option, Some, None, flat_map, is_some, length, map, slice_get, sum_by, if◌then◌else◌}
+use Rattle.std.specs.Prelude.{◌≡◌, ◌==◌, ◌⊎◌, ◌≤◌, ◌<◌, ◌++◌, ℕ, Bool, true, false, List, [], ◌∷◌}
+use Rattle.std.specs.Prelude.{Option, Some, None, flat_map, is_some, length, map, slice_get, sum_by, if◌then◌else◌}
 use Rattle.std.specs.List.{AllZip}
 use Rattle.std.specs.Option.{option_map_or}
 use Rattle.scf_insn.specs.declared.answer.Answer.{Answer}
 use Rattle.scf_facts.specs.declared.bits.Bits.{Bits}
 use Rattle.scf_facts.specs.declared.interval.Interval.{Interval}
 use Rattle.scf_facts.specs.WordSets.{NumberFacts}
-use Rattle.scf_profile.specs.Scope.{IsInScope}
-use Rattle.scf_compare.specs.Regions.{AreRegions, IsDecidedRegion}
 use Rattle.scf_compare.specs.Sides.{Behavior}
 use Rattle.scf_compare.specs.declared.origin.Origin.{Origin}
 use Rattle.scf_compare.specs.declared.origin.Origin.TheVariants.{Filter, Profile}
 use Rattle.scf_compare.specs.declared.region.Region.{Region}
 use Rattle.scf_compare.specs.declared.regions.Regions.{Regions}
+use Rattle.scf_tool.specs.Explorations.{AreListed}
 use Rattle.scf_tool.specs.RegionLines.{are_whole, word_indices}
 use Rattle.scf_c.specs.declared.answers.Listed.{Listed}
 use Rattle.scf_c.specs.declared.layout.Listing.{Listing}
@@ -34,11 +34,9 @@ use Rattle.scf_tool.specs.declared.verify_fault.VerifyFault.TheVariants.{Memory}
 
 -- ---- regions
 
--- These are the regions of a side over some records, within a limit of steps. Those of a plain side are exact and have
--- an answer.
-pub record AreOfRecords (side : Behavior) (limit : ℕ) (records : Records) (regions : Regions) : Type 0 where
-  pub are_regions : AreRegions side (IsInScope records.scope) limit regions
-  pub decided : side.is_plain → All IsDecidedRegion regions.list.items
+-- these are the regions of a side over some records, within a limit of steps
+abbrev pub AreOfRecords : Behavior → ℕ → Records → Regions → Type 0
+AreOfRecords side limit records regions = AreListed side records.scope limit regions
 
 -- Walks over several sets of records come to their regions, or to none, only if the limit of all steps is below their
 -- sizes together.

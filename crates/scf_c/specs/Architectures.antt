@@ -1,5 +1,6 @@
 -- The syscall tables of architectures, and the stubs of their syscalls.
-use Rattle.std.specs.Prelude.{◌≡◌, ◌==◌, ◌≤◌, ◌+◌, ◌||◌, ℕ, Bool, false, List, ◌∷◌, All, Option, None, IsSome, count_by, length, option_map, if◌then◌else◌}
+use Rattle.std.specs.Prelude.{◌≡◌, ◌==◌, ◌≤◌, ◌+◌, ◌||◌, ℕ, Bool, false, List, ◌∷◌, All, Option, None, IsSome}
+use Rattle.std.specs.Prelude.{count_by, length, option_map, if◌then◌else◌}
 use Rattle.std.specs.List.{filter, filter_map, find, list_any, position_or_len}
 use Rattle.std.specs.Option.{option_map_or}
 use Rattle.scf_insn.specs.Architectures.{architectures, row_of}

@@ -1,5 +1,5 @@
 -- Comparisons from the caller's bytes: what they come to, and what is handed out of it.
-use Rattle.std.specs.Prelude.{◌≡◌, ◌*◌, ◌⊎◌, ℕ, Bool, true, false, not, List, [], ◌∷◌, Option, Some, None, find, map, min}
+use Rattle.std.specs.Prelude.{◌≡◌, ◌*◌, ◌⊎◌, ℕ, Bool, true, false, not, List, [], ◌∷◌, Option, Some, None, find, min}
 use Rattle.std.specs.Option.{option_map_or, option_or}
 use Rattle.scf_profile.specs.declared.relation.Relation.{Relation}
 use Rattle.scf_profile.specs.declared.scope.Scope.{Scope}
@@ -8,7 +8,8 @@ use Rattle.scf_compare.specs.declared.finding.Finding.{Finding}
 use Rattle.scf_compare.specs.declared.finding.Finding.TheVariants.{Holds, Fails, Undecided, Unfinished}
 use Rattle.scf_compare.specs.declared.finding.Which.{Which}
 use Rattle.scf_compare.specs.declared.finding.Which.TheVariants.{Left, Right}
-use Rattle.scf_compare.specs.Findings.{AllRelated, IsFindingDecided, IsFindingWithin, IsTrueFinding, LeavesFindingSteps, compared_in}
+use Rattle.scf_compare.specs.Findings.{AllRelated, IsFindingDecided, IsFindingWithin, IsTrueFinding}
+use Rattle.scf_compare.specs.Findings.{LeavesFindingSteps, compared_in}
 use Rattle.scf_compare.specs.Sides.{Behavior}
 use Rattle.scf_tool.specs.Reports.{report_text}
 use Rattle.scf_tool.specs.declared.findings.Findings.TheVariants.{AtOnce}
@@ -31,7 +32,8 @@ use Rattle.scf_c.specs.Layout.{call_of, no_call}
 use Rattle.scf_c.specs.Profiles.{nothing_left_out}
 use Rattle.scf_c.specs.Questions.{limit_of}
 use Rattle.scf_c.specs.Records.{AreRecords, AreRecordsRefused}
-use Rattle.scf_c.specs.Sides.{IsRead, IsSideRefused, are_same_kind, behavior_of_read, left_out_of_side, refusal_of_right, tables_in_scope}
+use Rattle.scf_c.specs.Sides.{IsRead, IsSideRefused, are_same_kind, behavior_of_read, left_out_of_side}
+use Rattle.scf_c.specs.Sides.{refusal_of_right, tables_in_scope}
 
 -- ---- findings
 

@@ -3,7 +3,7 @@ pub mod BundleEndings
 pub mod CallLemmas
 pub mod Common
 mod ComparisonParts
-mod ExplorationLemmas
+pub mod ExplorationLemmas
 mod FaultLemmas
 mod InputLemmas
 mod SideLemmas

@@ -2,7 +2,8 @@ use Rattle.std.proofs.Common.{◌≡◌, ◌+◌, ◌≤◌, ℕ, List, ap, arit
 use Rattle.std.proofs.lemmas.List.Sums.{sum_by_more, sum_by_push}
 use Rattle.scf_compare.specs.Sides.{behavior_of}
 use Rattle.scf_compare.specs.declared.regions.Regions.{Regions}
-use Rattle.scf_c.proofs.AnswerLemmas.{walks_more, widened}
+use Rattle.scf_tool.proofs.ExplorationLemmas.{widened}
+use Rattle.scf_c.proofs.AnswerLemmas.{walks_more}
 use Rattle.scf_c.specs.Records.{all_records}
 use Rattle.scf_c.specs.declared.records.Records.{Records}
 use Rattle.scf_c.proofs.answers.explore_each.Goals as goal

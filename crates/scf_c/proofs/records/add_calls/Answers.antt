@@ -1,7 +1,7 @@
 use Rattle.std.proofs.Common.{rules, map}
+use Rattle.std.proofs.lemmas.Simd.{map-map}
 use Rattle.scf_profile.specs.NamedCalls.{AreCallsOf}
 use Rattle.scf_profile.specs.declared.named_call.NamedCall.{NamedCall}
-use Rattle.scf_c.proofs.CallLemmas.{mapped_twice}
 use Rattle.scf_c.specs.Records.{of_call}
 use Rattle.scf_c.proofs.records.add_calls.Goals as goal
 
@@ -13,6 +13,6 @@ returns-clause-added c =
       c.in-Ok.ensures.table,
       map (λ (call : NamedCall). call.number) calls,
       record { rising = are.rising; exact = are.exact },
-      rw (mapped_twice (of_call c.args.architecture) (λ (call : NamedCall). call.number) calls)
+      rw (map-map (of_call c.args.architecture) (λ (call : NamedCall). call.number) calls)
           (rw c.deref.ensures.value at c.in_ok-add_named.ensures),
     )

@@ -1,6 +1,6 @@
 use Rattle.std.proofs.Common.{Contains, sym}
 use Rattle.scf_insn.proofs.Architectures.{number_fits}
-use Rattle.scf_c.proofs.CallLemmas.{has_its_names, has_name}
+use Rattle.scf_tool.proofs.CallLemmas.{has_its_names, has_name}
 use Rattle.scf_c.proofs.records.add_named.Goals as goal
 
 pub number_in-requires-clause-named : goal.number_in-requires-clause-named
