@@ -197,11 +197,20 @@ SCF_RESULT SCF_NONNULL(5, 6) SCF_READS(1, 2) SCF_WRITES(3, 4)
 uint32_t scf_assemble(const uint8_t *text, size_t text_len, uint8_t *filter, size_t room, size_t *needed,
                       struct scf_fault *fault);
 
-/* The answer of a stack of filters to a call: all run, and the one that takes precedence answers (seccomp(2)). The
- * oldest filter comes first. */
+/* What a stack of filters answers to a call, and the instruction that gives the answer. */
+struct scf_decision {
+    uint32_t answer;     /* SECCOMP_RET_.. of linux/seccomp.h */
+    uint32_t has_filter; /* 1, or 0 if there is no filter: then the call is allowed */
+    uint64_t filter;     /* the index of the filter that answers, 0 the oldest */
+    uint64_t index;      /* the index of its instruction */
+    uint64_t reserved[4];
+};
+
+/* The answer of a stack of filters to a call: all run, and the one that takes precedence answers, of several with the
+ * same action the newest (seccomp(2)). The oldest filter comes first. */
 SCF_RESULT SCF_NONNULL(3, 4, 5) SCF_READS(1, 2)
 uint32_t scf_decide(const struct scf_bytes *filters, size_t filters_len, const struct scf_call *call,
-                    uint32_t *answer, struct scf_fault *fault);
+                    struct scf_decision *decision, struct scf_fault *fault);
 
 /* ---- syscall tables */
 

@@ -176,10 +176,10 @@ inline result<std::vector<std::uint8_t>> assemble(std::string_view text) {
     });
 }
 
-/* The answer of a stack of filters to a call. */
-inline result<std::uint32_t> decide(filters stack, const scf_call &call) {
-    return detail::make<std::uint32_t>(
-        [&](auto &answer, auto &fault) { return scf_decide(stack.data(), stack.size(), &call, &answer, &fault); });
+/* The answer of a stack of filters to a call, and the instruction that gives it. */
+inline result<scf_decision> decide(filters stack, const scf_call &call) {
+    return detail::make<scf_decision>(
+        [&](auto &made, auto &fault) { return scf_decide(stack.data(), stack.size(), &call, &made, &fault); });
 }
 
 /* Loads a filter: scf_load, by seccomp(2). */

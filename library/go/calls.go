@@ -136,19 +136,19 @@ func Assemble(text string) ([]byte, error) {
 	})
 }
 
-// Decide returns the answer of a stack of filters, the oldest first, to a call.
-func Decide(filters [][]byte, call Call) (Answer, error) {
+// Decide returns the answer of a stack of filters, the oldest first, to a call, and the instruction that gives it.
+func Decide(filters [][]byte, call Call) (Decision, error) {
 	// with an element more, so that there is a first
 	list, free, err := copyToC(append(filters[:len(filters):len(filters)], nil))
 	if err != nil {
-		return 0, err
+		return Decision{}, err
 	}
 	defer free()
-	var a C.uint32_t
+	var d C.struct_scf_decision
 	err = invoke(func(f *C.struct_scf_fault) C.uint32_t {
-		return C.scf_decide(&list[0], C.size_t(len(filters)), callPtr(&call), &a, f)
+		return C.scf_decide(&list[0], C.size_t(len(filters)), callPtr(&call), &d, f)
 	})
-	return Answer(a), err
+	return Decision{Answer(d.answer), d.has_filter != 0, uint64(d.filter), uint64(d.index)}, err
 }
 
 func (p *Profile) inC(text C.struct_scf_bytes) (own C.struct_scf_profile) {

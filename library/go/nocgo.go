@@ -8,7 +8,7 @@ func Run([]byte, Call) (Answer, int, error)               { return 0, 0, ErrNoCg
 func Trace([]byte, Call) (Answer, []int, error)           { return 0, nil, ErrNoCgo }
 func List([]byte) (string, error)                         { return "", ErrNoCgo }
 func Assemble(string) ([]byte, error)                     { return nil, ErrNoCgo }
-func Decide([][]byte, Call) (Answer, error)               { return 0, ErrNoCgo }
+func Decide([][]byte, Call) (Decision, error)             { return Decision{}, ErrNoCgo }
 func SyscallTable(Architecture) []byte                    { return nil }
 func Load([]byte, uint32) (int, error)                    { return 0, ErrNoCgo }
 func (f *Fault) text() string                             { return f.Kind.String() }

@@ -205,6 +205,14 @@ type ProfileAnswer struct {
 	LeftOut LeftOut
 }
 
+// Decision is what a stack of filters answers, and the indices of the filter that answers, 0 the oldest, and of its
+// instruction. Without HasFilter there is no filter, and the call is allowed.
+type Decision struct {
+	Answer        Answer
+	HasFilter     bool
+	Filter, Index uint64
+}
+
 // Reason says why a profile answers a call as it does.
 type Reason uint32
 

@@ -63,11 +63,12 @@ func TestFilters(t *testing.T) {
 	answer, path, err := Trace(deny, read)
 	is(t, []any{answer, path, err}, []any{Answer(retEperm), []int{0}, nil})
 	for _, row := range []struct {
-		filters [][]byte
-		answer  Answer
-	}{{[][]byte{deny, allow}, retEperm}, {nil, retAllow}} {
-		answer, err := Decide(row.filters, read)
-		is(t, []any{answer, err}, []any{row.answer, nil})
+		filters  [][]byte
+		decision Decision
+	}{{[][]byte{deny, allow}, Decision{retEperm, true, 0, 0}}, {[][]byte{allow, deny}, Decision{retEperm, true, 1, 0}},
+		{nil, Decision{retAllow, false, 0, 0}}} {
+		decision, err := Decide(row.filters, read)
+		is(t, []any{decision, err}, []any{row.decision, nil})
 	}
 }
 

@@ -47,8 +47,9 @@ class Calls(unittest.TestCase):
         answer = scf.run(DENY, READ).answer
         self.assertEqual((answer.action, answer.data, str(answer)), (scf.Action.ERRNO, 1, "ERRNO 1"))
         self.assertEqual(str(scf.Answer(0x7FFE0001)), "UNNAMED 0x7ffe0001")
-        self.assertEqual(scf.decide([DENY, ALLOW], READ), RET_EPERM)
-        self.assertEqual(scf.decide([], READ), RET_ALLOW)
+        self.assertEqual(scf.decide([DENY, ALLOW], READ), (RET_EPERM, 0, 0))
+        self.assertEqual(scf.decide([ALLOW, DENY], READ), (RET_EPERM, 1, 0))
+        self.assertEqual(scf.decide([], READ), (RET_ALLOW, None, None))
 
     def test_calls_in_words(self):
         for call, text in ((scf.Call(41, (2, 1)), "socket(0x2, 0x1, 0x0, 0x0, 0x0, 0x0) of x86-64"),
@@ -191,7 +192,7 @@ class Calls(unittest.TestCase):
             for buffer, count in ((bytearray(ALLOW), 1), (memoryview(ALLOW), 1), (memoryview(ALLOW * 2)[8:], 1),
                                   (area, mmap.PAGESIZE // 8)):
                 self.assertEqual(scf.check(buffer), count)
-                self.assertEqual(scf.decide([DENY, buffer], READ), RET_EPERM)
+                self.assertEqual(scf.decide([DENY, buffer], READ).answer, RET_EPERM)
         compiled = scf.compile(scf.Profile(bytearray(PROFILE.text)), [NATIVE._replace(text=memoryview(NATIVE.text))])
         self.assertEqual(compiled, scf.compile(PROFILE, NAMES))
         self.assertEqual(scf.check(ALLOW + bytes(0)), 1)

@@ -8,6 +8,7 @@ static struct scf_fault fault;
 static struct scf_comparison found;
 static struct scf_records_finding each[4];
 static struct scf_answer reply;
+static struct scf_decision decision;
 static struct scf_left_out left_out;
 static uint8_t text[4096];
 static size_t needed, count;
@@ -23,6 +24,7 @@ static void unset(void) {
     memset(&needed, UNSET, sizeof needed);
     memset(&count, UNSET, sizeof count);
     memset(&answer, UNSET, sizeof answer);
+    memset(&decision, UNSET, sizeof decision);
     memset(&steps, UNSET, sizeof steps);
 }
 
@@ -69,27 +71,35 @@ static void paths(void) {
     IS(answer == 0 && needed == 0 && path[1] == 7 && is_fault(&fault, SCF_SOURCE_FILTER, SCF_KIND_EMPTY, 0));
 }
 
+static int is_decided(uint32_t by, uint64_t filter, uint64_t index, uint32_t wanted) {
+    return decision.answer == wanted && decision.has_filter == by && decision.filter == filter
+        && decision.index == index && is_zero(decision.reserved, 32) && is_zero(&fault, sizeof fault);
+}
+
 static void stacks(void) {
-    struct scf_call read = call_of(0);
+    static const uint8_t enoent[] = {6, 0, 0, 0, 2, 0, 5, 0};
+    struct scf_call read = call_of(0), write = call_of(1);
     struct scf_bytes both[2], nine[9];
     static uint8_t large[32768];
     size_t i;
-    both[0] = bytes_of(deny, sizeof deny);
+    both[0] = bytes_of(positive, sizeof positive);
     both[1] = bytes_of(allow, sizeof allow);
     unset();
-    IS(scf_decide(both, 2, &read, &answer, &fault) == SCF_OK);
-    IS(answer == RET_EPERM && is_zero(&fault, sizeof fault));
-    IS(scf_decide(both + 1, 1, &read, &answer, &fault) == SCF_OK && answer == RET_ALLOW);
-    IS(scf_decide(NULL, 0, &read, &answer, &fault) == SCF_OK && answer == RET_ALLOW);
+    IS(scf_decide(both, 2, &read, &decision, &fault) == SCF_OK && is_decided(1, 0, 3, RET_EPERM));
+    IS(scf_decide(both, 2, &write, &decision, &fault) == SCF_OK && is_decided(1, 1, 0, RET_ALLOW));
+    IS(scf_decide(both, 1, &write, &decision, &fault) == SCF_OK && is_decided(1, 0, 2, RET_ALLOW));
+    IS(scf_decide(NULL, 0, &read, &decision, &fault) == SCF_OK && is_decided(0, 0, 0, RET_ALLOW));
+    both[1] = bytes_of(enoent, sizeof enoent);
+    IS(scf_decide(both, 2, &read, &decision, &fault) == SCF_OK && is_decided(1, 1, 0, 0x00050002));
     for (i = 0; i < sizeof large; i += sizeof allow) memcpy(large + i, allow, sizeof allow);
     for (i = 0; i < 9; i++) nine[i] = bytes_of(large, sizeof large);
     unset();
     /* seven of 4096 and 4 each, and the eighth */
-    IS(scf_decide(nine, 8, &read, &answer, &fault) == SCF_REFUSED);
-    IS(answer == 0 && is_fault(&fault, SCF_SOURCE_STACK, SCF_KIND_TOO_MANY, 7 * 4100 + 4096));
-    IS(scf_decide(nine, 7, &read, &answer, &fault) == SCF_OK);
+    IS(scf_decide(nine, 8, &read, &decision, &fault) == SCF_REFUSED);
+    IS(is_zero(&decision, sizeof decision) && is_fault(&fault, SCF_SOURCE_STACK, SCF_KIND_TOO_MANY, 7 * 4100 + 4096));
+    IS(scf_decide(nine, 7, &read, &decision, &fault) == SCF_OK);
     both[1] = bytes_of(allow, 3);
-    IS(scf_decide(both, 2, &read, &answer, &fault) == SCF_REFUSED);
+    IS(scf_decide(both, 2, &read, &decision, &fault) == SCF_REFUSED);
     IS(is_fault(&fault, SCF_SOURCE_FILTER, SCF_KIND_TRUNCATED, 0));
 }
 

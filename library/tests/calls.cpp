@@ -16,7 +16,9 @@ static void filters() {
     const auto traced = scf::trace(scf::view(positive), call_of(1));
     IS(traced->answer == RET_ALLOW && traced->indices == (std::vector<std::size_t>{0, 1, 2}));
     const scf_bytes stack[] = {none, all};
-    IS(*scf::decide(stack, call_of(0)) == RET_EPERM && *scf::decide({}, call_of(0)) == RET_ALLOW);
+    const auto decided = scf::decide(stack, call_of(0));
+    IS(decided->answer == RET_EPERM && decided->has_filter == 1 && decided->filter == 0 && decided->index == 0);
+    IS(scf::decide({}, call_of(0))->answer == RET_ALLOW && scf::decide({}, call_of(0))->has_filter == 0);
     IS(*scf::list(all) == "ret #0x7fff0000\n");
     IS(*scf::assemble("ret #0x7fff0000\n") == std::vector<std::uint8_t>(allow, allow + sizeof allow));
     const auto wrong = scf::assemble("\nrat\n");

@@ -29,6 +29,8 @@ int main(void) {
         return 1;
     STRUCT(bytes), FIELD(bytes, at), FIELD(bytes, len);
     STRUCT(call), FIELD(call, nr), FIELD(call, arch), FIELD(call, ip), FIELD(call, args);
+    STRUCT(decision), FIELD(decision, answer), FIELD(decision, has_filter), FIELD(decision, filter);
+    FIELD(decision, index), FIELD(decision, reserved);
     STRUCT(fault), FIELD(fault, source), FIELD(fault, kind), FIELD(fault, numbers), FIELD(fault, reserved);
     STRUCT(table), FIELD(table, bytes), FIELD(table, architecture), FIELD(table, has_stub), FIELD(table, stub);
     FIELD(table, reserved);

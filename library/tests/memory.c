@@ -47,6 +47,7 @@ struct result {
     uint32_t status, answer, steps;
     size_t count, needed;
     struct scf_fault fault;
+    struct scf_decision decision;
     struct scf_answer reply;
     struct scf_left_out left_out;
     struct scf_comparison found;
@@ -81,7 +82,7 @@ static void assembles(struct result *r) { r->status = scf_assemble((const uint8_
 
 static void decides(struct result *r) {
     struct scf_call call = call_of(1);
-    r->status = scf_decide(stack, 2, &call, &r->answer, &r->fault);
+    r->status = scf_decide(stack, 2, &call, &r->decision, &r->fault);
 }
 
 /* The profile lists both, and the one table serves for both; with a stub, which no call comes to. */

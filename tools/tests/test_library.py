@@ -171,7 +171,7 @@ class Interface(Built):
             self.assertEqual((ctypes.sizeof(kind), [it for field, _ in kind._fields_
                                                     for it in (field, str(getattr(kind, field).offset))]),
                              (int(size), fields), name)
-        self.assertEqual(len(lines), 15)
+        self.assertEqual(len(lines), 16)
 
     def test_faults_are_those_of_the_page(self):
         sources, kinds = header_numbers("SOURCE_"), header_numbers("KIND_")
@@ -622,8 +622,14 @@ class Alike(Case):
 
     def case_decide(self, call, words):
         filters = self.filters()
-        return ["decide", *words], b"".join(part("filter", it) for it in filters), \
-            lambda scf: (f"{answer_text(scf.decide(filters, scf.Call(**call)))}\n", 0)
+
+        def made(scf):
+            answer, filter, index = scf.decide(filters, scf.Call(**call))
+            answers = [scf.trace(own, scf.Call(**call)) for own in filters]
+            self.assertEqual((answers[filter].answer, answers[filter].path[-1]), (answer, index))
+            self.assertNotIn(answer, [own.answer for own in answers[filter + 1:]])
+            return f"{answer_text(answer)}\n", 0
+        return ["decide", *words], b"".join(part("filter", it) for it in filters), made
 
     def several(self):
         """A profile and tables of some architectures, in the program's order: the parts, and the same for the

@@ -1,11 +1,13 @@
--- Why filters and texts are refused.
-use Rattle.std.specs.Prelude.{ℕ, List, Some, Err}
+-- Why filters and texts are refused, and what is handed out of a stack's decision.
+use Rattle.std.specs.Prelude.{ℕ, List, [], ◌∷◌, Option, Some, None, Err}
+use Rattle.scf_machine.specs.declared.stack.DecidingInsn.{DecidingInsn}
 use Rattle.scf_text.specs.Faults.{IsFault, fault_of}
 use Rattle.scf_tool.specs.Commands.{NoReadFailed}
 use Rattle.scf_tool.specs.FilterStacks.{HasNoStack}
 use Rattle.scf_tool.specs.Verifying.{IsNoFilter, ReadsFilter}
 use Rattle.scf_tool.specs.declared.verify_fault.VerifyFault.TheVariants.{FilterRead, Memory}
 use Rattle.scf_c.specs.declared.layout.Bytes.{Bytes}
+use Rattle.scf_c.specs.declared.layout.DecisionNumbers.{DecisionNumbers}
 use Rattle.scf_c.specs.declared.refusal.Refusal.{Refusal}
 use Rattle.scf_c.specs.declared.refusal.Refusal.TheVariants.{Verify, Text}
 use Rattle.scf_c.specs.Layout.{known}
@@ -31,3 +33,20 @@ IsListRefused bytes why = ⊥
 abbrev pub IsTextRefused : List ℕ → Refusal → Type 0
 IsTextRefused text (Text why) = IsFault why (fault_of text)
 IsTextRefused text why = ⊥
+
+-- ---- a stack's decision
+
+-- an answer, and the instruction that gives it: none if there is no filter
+abbrev pub decided_by : ℕ → Option DecidingInsn → DecisionNumbers
+decided_by answer None =
+    record { answer = answer; has_filter = 0; filter = 0; index = 0; reserved = 0 ∷ 0 ∷ 0 ∷ 0 ∷ [] }
+decided_by answer (Some insn) = record {
+  answer = answer;
+  has_filter = 1;
+  filter = insn.filter;
+  index = insn.index;
+  reserved = 0 ∷ 0 ∷ 0 ∷ 0 ∷ [];
+}
+
+abbrev pub no_decision : DecisionNumbers
+no_decision = decided_by 0 None

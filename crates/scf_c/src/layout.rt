@@ -56,6 +56,21 @@ impl Call {
     }
 }
 
+/// What a stack of filters answers, and the instruction that gives the answer.
+#[repr(C)]
+#[derive(Clone, Copy)]
+pub struct DecisionNumbers {
+    pub answer: u32,
+    /// 1, or 0 if the stack has no filter.
+    pub has_filter: u32,
+    /// The index of the filter, 0 the oldest.
+    pub filter: u64,
+    /// The index of its instruction.
+    pub index: u64,
+    /// 0.
+    pub reserved: [u64; 4],
+}
+
 /// Why an input is refused, or what memory ran out for.
 #[repr(C)]
 #[derive(Clone, Copy)]

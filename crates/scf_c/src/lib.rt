@@ -27,8 +27,9 @@ pub use answers::scf_answers;
 pub use comparison::scf_compare;
 pub use filter::{scf_check, scf_run, scf_trace};
 pub use layout::{
-    Bytes, Call, Comparison, Fault, FindingNumbers, LeftOutCounts, Listing, ProfileAnswer,
-    ProfileInput, Question, RecordsComparison, RegionNumbers, SideInput, Table, WordFact,
+    Bytes, Call, Comparison, DecisionNumbers, Fault, FindingNumbers, LeftOutCounts, Listing,
+    ProfileAnswer, ProfileInput, Question, RecordsComparison, RegionNumbers, SideInput, Table,
+    WordFact,
 };
 pub use profile::{scf_ask, scf_compile};
 pub use stack::scf_decide;

@@ -1,22 +1,23 @@
 //! A stack of filters.
 
-ghost use Rattle.std.specs.Prelude.{◌≡◌, ◌≢◌, List, Some, map, IfErr, IfOk};
+ghost use Rattle.std.specs.Prelude.{◌≡◌, ◌≢◌, List, Option, Some, map, IfErr, IfOk};
 ghost use Rattle.scf_insn.specs.Words.{words_of};
 ghost use Rattle.scf_insn.specs.declared.insn.Insn.{Insn};
-ghost use Rattle.scf_machine.specs.Precedence.{StackAnswers};
+ghost use Rattle.scf_machine.specs.Precedence.{IsDecidedBy, StackAnswers};
+ghost use Rattle.scf_machine.specs.declared.stack.DecidingInsn.{DecidingInsn};
 ghost use Rattle.scf_tool.specs.FilterStacks.{HasStack};
 ghost use Rattle.scf_c.specs.Faults.{IsRefusal, no_fault};
-ghost use Rattle.scf_c.specs.Filters.{IsStackRefused};
+ghost use Rattle.scf_c.specs.Filters.{IsStackRefused, decided_by, no_decision};
 ghost use Rattle.scf_c.specs.Layout.{known, record_of};
 ghost use Rattle.scf_c.specs.Statuses.{ok};
 ghost use Rattle.scf_c.specs.internal.Reading.{rest_of};
 
 use crate::fault::{no_fault, refuse};
-use crate::layout::{Bytes, Call, Fault};
+use crate::layout::{Bytes, Call, DecisionNumbers, Fault};
 use crate::memory::Reader;
 use crate::refusal::Refusal;
 use crate::status::OK;
-use scf_machine::FilterStack;
+use scf_machine::{Decision, FilterStack};
 use scf_tool::read_stack;
 use std::alloc::{AllocError, Global};
 
@@ -40,24 +41,61 @@ pub(crate) fn stack_of(alloc: Global, filters: &[Bytes]) -> Result<FilterStack, 
     Ok(read_stack(alloc, &mut readers)?)
 }
 
-/// What a stack of filters answers to a call. The filters are in the order of the stack, the oldest first.
+/// What is handed out where nothing is decided.
+fn no_decision() -> DecisionNumbers
+    ensures { result ≡ no_decision }
+{
+    DecisionNumbers {
+        answer: 0,
+        has_filter: 0,
+        filter: 0,
+        index: 0,
+        reserved: [0; 4],
+    }
+}
+
+/// What is handed out of a decision.
+fn numbers_of(decision: Decision) -> DecisionNumbers
+    ensures { result ≡ decided_by decision.answer.0 decision.by }
+{
+    let answer = decision.answer.0;
+    match decision.by {
+        Some(insn) => DecisionNumbers {
+            answer,
+            has_filter: 1,
+            filter: insn.filter as u64,
+            index: insn.index as u64,
+            reserved: [0; 4],
+        },
+        None => DecisionNumbers {
+            answer,
+            ..no_decision()
+        },
+    }
+}
+
+/// What a stack of filters answers to a call, and which instruction of which filter gives the answer. The filters are
+/// in the order of the stack, the oldest first.
 #[unsafe(no_mangle)]
 pub extern "C" fn scf_decide(
     alloc: Global,
     filters: &[Bytes],
     call: &Call,
-    answer: &mut u32,
+    decision: &mut DecisionNumbers,
     fault: &mut Fault,
 ) -> u32
     ensures decided { result ≡ ok → (stack : List (List Insn)) × HasStack (known filters.now) stack
-        × StackAnswers stack (words_of (record_of call.now)) answer.new × (fault.new ≡ no_fault) }
-    ensures refused { result ≢ ok → IsRefusal (IsStackRefused filters.now) result fault.new × (answer.new ≡ 0) }
+        × StackAnswers stack (words_of (record_of call.now)) decision.new.answer
+        × (by : Option DecidingInsn) × IsDecidedBy stack (words_of (record_of call.now)) by decision.new.answer
+        × (decision.new ≡ decided_by decision.new.answer by) × (fault.new ≡ no_fault) }
+    ensures refused { result ≢ ok → IsRefusal (IsStackRefused filters.now) result fault.new
+        × (decision.new ≡ no_decision) }
 {
-    *answer = 0;
+    *decision = no_decision();
     *fault = no_fault();
     match stack_of(alloc, filters) {
         Ok(stack) => {
-            *answer = stack.decide(&call.record()).0;
+            *decision = numbers_of(stack.decision(&call.record()));
             OK
         }
         Err(why) => refuse(why, fault),

@@ -22,11 +22,11 @@ from typing import TYPE_CHECKING, Any, NamedTuple, Union
 if TYPE_CHECKING:
     from mmap import mmap
 
-__all__ = ["ALL", "Action", "Answer", "Architecture", "Buffer", "Call", "Comparison", "EACH_ARCHITECTURE", "EACH_CALL",
-           "Fact", "Filters", "Finding", "KEEP_PRIVILEGES", "Kind", "LIMIT", "LeftOut", "Listing", "NO_ENTRY",
-           "Profile", "ProfileAnswer", "Reading", "Reason", "RecordsFinding", "Refused", "Region", "Relation", "Run",
-           "Scope", "Side", "Source", "Table", "Trace", "Verdict", "answers", "ask", "assemble", "check", "compare",
-           "compile", "decide", "listing", "load", "own_tables", "run", "table", "trace", "version"]
+__all__ = ["ALL", "Action", "Answer", "Architecture", "Buffer", "Call", "Comparison", "Decision", "EACH_ARCHITECTURE",
+           "EACH_CALL", "Fact", "Filters", "Finding", "KEEP_PRIVILEGES", "Kind", "LIMIT", "LeftOut", "Listing",
+           "NO_ENTRY", "Profile", "ProfileAnswer", "Reading", "Reason", "RecordsFinding", "Refused", "Region",
+           "Relation", "Run", "Scope", "Side", "Source", "Table", "Trace", "Verdict", "answers", "ask", "assemble",
+           "check", "compare", "compile", "decide", "listing", "load", "own_tables", "run", "table", "trace", "version"]
 
 Buffer = Union[bytes, bytearray, memoryview, "mmap"]
 LIMIT = 1_000_000  # the most steps of a comparison that scf takes without --limit
@@ -105,6 +105,10 @@ class _Call(ctypes.Structure):
     _fields_ = [("nr", _U32), ("arch", _U32), ("ip", _U64), ("args", _U64 * 6)]
 
 
+class _Decision(ctypes.Structure):
+    _fields_ = [("answer", _U32), ("has_filter", _U32), ("filter", _U64), ("index", _U64), ("reserved", _U64 * 4)]
+
+
 class _Fault(ctypes.Structure):
     _fields_ = [("source", _U32), ("kind", _U32), ("numbers", _U64 * 3), ("reserved", _U64 * 4)]
 
@@ -168,7 +172,7 @@ _OUT, _PROFILE, _SIDE = [ctypes.c_void_p, _SIZE, _NEEDED], ctypes.POINTER(_Profi
 _QUESTION, _COMPARISON = ctypes.POINTER(_Question), ctypes.POINTER(_Comparison)
 for _name, _types in {
     "check": [*_IN, _NEEDED], "run": [*_IN, _CALL, _NUMBER, _NUMBER], "trace": [*_IN, _CALL, _NUMBER, *_OUT],
-    "list": [*_IN, *_OUT], "assemble": [*_IN, *_OUT], "decide": [*_FILTERS, _CALL, _NUMBER],
+    "list": [*_IN, *_OUT], "assemble": [*_IN, *_OUT], "decide": [*_FILTERS, _CALL, ctypes.POINTER(_Decision)],
     "compile": [_PROFILE, *_TABLES, *_OUT, ctypes.POINTER(_LeftOut)],
     "ask": [_PROFILE, *_TABLES, _CALL, ctypes.POINTER(_Answer)],
     "compare": [_SIDE, _SIDE, *_TABLES, _QUESTION, _COMPARISON, *_OUT, *_OUT],
@@ -415,6 +419,15 @@ class Trace(NamedTuple):
     path: list[int]
 
 
+class Decision(NamedTuple):
+    """What a stack of filters answers to a call, and the indices of the filter that answers, 0 the oldest, and of its
+    instruction: None without a filter, which allows the call."""
+
+    answer: Answer
+    filter: int | None
+    instruction: int | None
+
+
 class LeftOut(NamedTuple):
     """How much of a profile isn't judged: the architectures that it lists without a table, and the names that no table
     has, each occurrence."""
@@ -558,11 +571,12 @@ def assemble(text: Buffer) -> bytes:
     return _output_of(1 << 15, _lib.scf_assemble, *_buffer("text", text))
 
 
-def decide(filters: Sequence[Buffer], call: Call) -> Answer:
-    """The answer of a stack of filters, the oldest first, to a call."""
-    answer = _U32()
-    _call(_lib.scf_decide, *_stack("filters", filters), _record(call), answer)
-    return Answer(answer.value)
+def decide(filters: Sequence[Buffer], call: Call) -> Decision:
+    """The answer of a stack of filters, the oldest first, to a call, and the instruction that gives it."""
+    decision = _Decision()
+    _call(_lib.scf_decide, *_stack("filters", filters), _record(call), decision)
+    filter, instruction = (decision.filter, decision.index) if decision.has_filter else (None, None)
+    return Decision(Answer(decision.answer), filter, instruction)
 
 
 def compile(profile: Profile, tables: Sequence[Table]) -> bytes:

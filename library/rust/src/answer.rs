@@ -64,6 +64,31 @@ impl fmt::Display for Answer {
     }
 }
 
+/// An instruction of a stack of filters.
+#[derive(Clone, Copy, Debug, PartialEq, Eq, Hash)]
+pub struct Instruction {
+    /// The index of its filter, 0 the oldest.
+    pub filter: u64,
+    /// Its index in the filter.
+    pub index: u64,
+}
+
+/// What a stack of filters answers to a call.
+#[derive(Clone, Copy, Debug, PartialEq, Eq)]
+pub struct Decision {
+    /// The answer.
+    pub answer: Answer,
+    /// The instruction that gives it; none if there is no filter, and the call is allowed.
+    pub by: Option<Instruction>,
+}
+
+impl From<sys::Decision> for Decision {
+    fn from(decision: sys::Decision) -> Decision {
+        let by = Instruction { filter: decision.filter, index: decision.index };
+        Decision { answer: Answer(decision.answer), by: (decision.has_filter != 0).then_some(by) }
+    }
+}
+
 /// Why a profile answers a call as it does.
 #[derive(Clone, Copy, Debug, PartialEq, Eq, Hash)]
 #[non_exhaustive]

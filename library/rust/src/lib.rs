@@ -20,7 +20,9 @@ mod compare;
 mod fault;
 mod sys;
 
-pub use answer::{answers, Action, Answer, Fact, LeftOut, Listing, Place, ProfileAnswer, Reason, Region};
+pub use answer::{
+    answers, Action, Answer, Decision, Fact, Instruction, LeftOut, Listing, Place, ProfileAnswer, Reason, Region,
+};
 pub use compare::{Compare, Comparison, RecordsFinding, Relation, Scope, Side, Verdict};
 pub use fault::{Error, Fault, Kind, Source, NO_ENTRY};
 use sys::Bytes;
@@ -245,11 +247,11 @@ pub fn assemble(text: &[u8]) -> Result<Vec<u8>, Error> {
     })
 }
 
-/// The answer of a stack of filters, the oldest first, to a call.
-pub fn decide(filters: &[&[u8]], call: &Call) -> Result<Answer, Error> {
-    let (filters, mut answer) = (list_of(filters), 0);
-    invoke(|fault| unsafe { sys::scf_decide(filters.as_ptr(), filters.len(), call, &mut answer, fault) })?;
-    Ok(Answer(answer))
+/// The answer of a stack of filters, the oldest first, to a call, and the instruction that gives it.
+pub fn decide(filters: &[&[u8]], call: &Call) -> Result<Decision, Error> {
+    let (filters, mut decision) = (list_of(filters), sys::Decision::default());
+    invoke(|fault| unsafe { sys::scf_decide(filters.as_ptr(), filters.len(), call, &mut decision, fault) })?;
+    Ok(decision.into())
 }
 
 /// A filter that answers every call as the profile does, and how much of that isn't judged: KILL_PROCESS answers the

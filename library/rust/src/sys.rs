@@ -23,6 +23,16 @@ pub struct Fault {
 }
 
 #[repr(C)]
+#[derive(Default)]
+pub struct Decision {
+    pub answer: u32,
+    pub has_filter: u32,
+    pub filter: u64,
+    pub index: u64,
+    pub reserved: [u64; 4],
+}
+
+#[repr(C)]
 pub struct Table {
     pub bytes: Bytes,
     pub architecture: u32,
@@ -167,7 +177,7 @@ extern "C" {
                     fault: &mut Fault) -> u32;
     pub fn scf_assemble(text: *const u8, len: usize, filter: *mut u8, room: usize, needed: &mut usize,
                         fault: &mut Fault) -> u32;
-    pub fn scf_decide(filters: *const Bytes, len: usize, call: &crate::Call, answer: &mut u32,
+    pub fn scf_decide(filters: *const Bytes, len: usize, call: &crate::Call, decision: &mut Decision,
                       fault: &mut Fault) -> u32;
     pub fn scf_compile(profile: &Profile, tables: *const Table, tables_len: usize, filter: *mut u8, room: usize,
                        needed: &mut usize, left_out: &mut LeftOut, fault: &mut Fault) -> u32;

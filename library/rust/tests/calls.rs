@@ -2,8 +2,8 @@
 
 use scf::{
     answers, ask, assemble, check, compile, decide, list, load, own_tables, run, table, trace, version, Action, Answer,
-    Architecture, Call, Compare, Error, Fault, Kind, LeftOut, Place, Profile, ProfileAnswer, Reading, Reason, Relation,
-    Scope, Source, Table, Verdict, NO_ENTRY,
+    Architecture, Call, Compare, Decision, Error, Fault, Instruction, Kind, LeftOut, Place, Profile, ProfileAnswer,
+    Reading, Reason, Relation, Scope, Source, Table, Verdict, NO_ENTRY,
 };
 
 const ALLOW: [u8; 8] = [6, 0, 0, 0, 0, 0, 0xff, 0x7f];
@@ -38,8 +38,9 @@ fn filters() {
     assert_eq!(check(&[ALLOW.as_slice(), &[6]].concat()), refused(Source::Filter, Kind::Truncated, [8, 0, 0]));
     assert_eq!(run(&ALLOW, &call(0)), Ok((RET_ALLOW, 1)));
     assert_eq!(trace(&DENY, &call(0)), Ok((RET_EPERM, vec![0])));
-    assert_eq!(decide(&[&DENY, &ALLOW], &call(0)), Ok(RET_EPERM));
-    assert_eq!(decide(&[], &call(0)), Ok(RET_ALLOW));
+    let by = Some(Instruction { filter: 0, index: 0 });
+    assert_eq!(decide(&[&DENY, &ALLOW], &call(0)), Ok(Decision { answer: RET_EPERM, by }));
+    assert_eq!(decide(&[], &call(0)), Ok(Decision { answer: RET_ALLOW, by: None }));
 }
 
 #[test]
