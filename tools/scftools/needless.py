@@ -39,15 +39,6 @@ class Needless:
     others: tuple[int, ...] = ()
 
 
-@dataclass(frozen=True)
-class Undecided:
-    """An undecided name of an entry, and the verdict."""
-
-    place: int
-    name: str
-    verdict: Verdict
-
-
 # A name of an entry, by the entry's index; and a syscall: the OCI name of an architecture, and a number of its table.
 Named = tuple[int, str]
 Syscall = tuple[str, int]
@@ -104,7 +95,8 @@ class Search:
         self.judged, self.top, self.filter, self.default, self.met = judged, top, data, default, Met()
         self.entries = {it.place: it for it in entries}
         self.gone: set[Named] = set()
-        self.undecided: list[Undecided] = []
+        # names of which it is undecided, each with the verdict
+        self.undecided: list[tuple[Named, Verdict]] = []
         names = dict.fromkeys(name for entry in entries for name in entry.names)
         self._syscalls: dict[str, Sequence[Syscall]] = {it: tuple(judged.numbers_of(it).items()) for it in names}
         self._having: dict[Syscall, dict[Named, Entry]] = {}
@@ -182,7 +174,7 @@ class Search:
         self._leave_out()
         verdict = self.verdict() if self.gone else None
         if verdict is not None and verdict.word != SAME:
-            self.undecided, self.gone = [Undecided(*it, verdict) for it in sorted(self.gone)], set()
+            self.undecided, self.gone = [(it, verdict) for it in sorted(self.gone)], set()
         for entry in self.entries.values():
             names = tuple(name for name in entry.names if (entry.place, name) in self.gone)
             if names:

@@ -32,8 +32,9 @@ ARGUMENT_REGISTERS = {X86_64: ("rdi", "rsi", "rdx", "r10", "r8", "r9"),
 # linux/filter.h: BPF_RET | BPF_A, whose answer is computed; linux/seccomp.h: SECCOMP_RET_USER_NOTIF's high half.
 RETURN_COMPUTED, USER_NOTIF = 0x16, 0x7FC0
 # How often scf is asked about the threads of a process, which are stopped meanwhile; calls beyond begin anew. The steps
-# in which it follows their filters, which take some tenths of a second. And of how many stacks the regions are kept.
-MOST_ASKED, STEPS, MOST_KEPT = 200, "50000", 50
+# in which it follows their filters: the 28 of a unit of systemd take 230000, and some 30 ms. And of how many stacks the
+# regions are kept.
+MOST_ASKED, STEPS, MOST_KEPT = 200, "300000", 50
 
 
 def restart_of(call: Call) -> Call:

@@ -383,8 +383,14 @@ def applied_in(data: bytes, path: str, name: str, setting: Setting, is_strict: b
     return given
 
 
-def _check_words(options: Any) -> None:
-    """Refuses words that don't go together."""
+def is_made(options: Any) -> bool:
+    """Whether an engine or a runtime makes another profile of the one that a command line names."""
+    return options.runtime is not None or options.caps is not None
+
+
+def text_of(options: Any) -> bytes:
+    """The text of the profile that a command line names; words that don't go together are refused. Of a text that is
+    too long scf says so, if it gets it."""
     runtime = RUNTIMES.get(options.runtime)
     if options.machine is not None and options.caps is None and (runtime is None or runtime.engine is None):
         raise program.ToolError("--machine goes with an engine's profile: give --caps, or --runtime docker or podman, "
@@ -392,6 +398,7 @@ def _check_words(options: Any) -> None:
     if options.caps is not None and runtime is not None and runtime.engine is None:
         raise program.ToolError(f"--caps resolves an engine's profile, and --runtime {runtime.name} takes a resolved "
                                 f"one: `scf resolve-profile --runtime {runtime.name} --engine .. --caps ..` makes it")
+    return (inputs.read_whole if is_made(options) else inputs.read)(options.profile, "profile")
 
 
 def input_in(data: bytes, options: Any, is_strict: bool | None = False) -> ProfileInput:
@@ -409,17 +416,6 @@ def input_in(data: bytes, options: Any, is_strict: bool | None = False) -> Profi
     given = applied_in(data, options.profile, options.runtime, setting, is_strict)
     program.say(*given.describe())
     return given.input
-
-
-def is_made(options: Any) -> bool:
-    """Whether an engine or a runtime makes another profile of the one that a command line names."""
-    return options.runtime is not None or options.caps is not None
-
-
-def text_of(options: Any) -> bytes:
-    """The text of the profile that a command line names; of one that is too long scf says so, if it gets it."""
-    _check_words(options)
-    return (inputs.read_whole if is_made(options) else inputs.read)(options.profile, "profile")
 
 
 def read(options: Any) -> ProfileInput:

@@ -1333,7 +1333,7 @@ class Runtimes(Linted):
                 self.assertIn(f"lint: {runtime} leaves ", err)
         given = profile(entry("dup", "dup2"), entry("dup", "dup3", action="SCMP_ACT_LOG"))
         out = self.run_lint(given, "--runtime=crun")[1]
-        self.assertIn("without-effect: entry 1: entry 0, which has no conditions, answers its name dup instead\n", out)
+        self.assertIn("without-effect: entry 1: entry 0, which has no conditions, answers dup instead\n", out)
         self.assertIn("\n# scf proves the profile the same without all that is covered or without effect\n", out)
 
     def test_what_stays_a_conflict(self):
