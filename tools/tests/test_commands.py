@@ -281,6 +281,30 @@ class Examples(Confined):
         self.run_examples("unit-profile")
 
 
+@unittest.skipUnless(shutil.which("git"), "there is no git here")
+class Hook(Case):
+    """contrib/pre-commit: the profiles of a commit, or those that it is given, are linted."""
+
+    def committed(self, text, *words):
+        os.makedirs(os.path.join(self.folder, "repository"), exist_ok=True)
+        self.file("repository/a seccomp.json", text)
+        env = {**os.environ, "PATH": f"{TOP}:{os.environ['PATH']}", "HOOK": os.path.join(TOP, "contrib", "pre-commit"),
+               "GIT_CONFIG_GLOBAL": os.devnull}
+        script = f"cd {self.folder}/repository && git init -q . && git add -A && {' '.join(words) or '$HOOK'}"
+        return self.run_words(["sh", "-c", script], env=env)
+
+    def test_a_commit(self):
+        profile = {"defaultAction": "SCMP_ACT_ERRNO", "syscalls": [{"names": ["read"], "action": "SCMP_ACT_ALLOW"}]}
+        status, out, _ = self.committed(json.dumps(profile))
+        self.assertEqual((status, out.split("\n")[0]), (0, "a seccomp.json:"))
+        profile["syscalls"][0]["args"] = [{"index": 0, "value": 0, "op": "SCMP_CMP_MASKED_EQ"}]
+        for words in ((), ("$HOOK", "'a seccomp.json'")):
+            status, out, _ = self.committed(json.dumps(profile), *words)
+            self.assertNotEqual(status, 0)
+            self.assertIn("a seccomp.json:\nalways-met: entry 0", out)
+        self.assertEqual(self.committed("{}", "git mv 'a seccomp.json' other.json && $HOOK")[:2], (0, ""))
+
+
 class Completion(Case):
     def setUp(self):
         super().setUp()
