@@ -388,7 +388,9 @@ class Profiles(Case):
 
 
 NATIVE, X86, X32_NAME, AARCH64, ARM = list(several.ARCHITECTURES)[:5]
-FILES = {NATIVE: "x86_64", X86: "i386", X32_NAME: "x32", AARCH64: "aarch64", ARM: "arm"}
+FILES = {name: name.removeprefix("SCMP_ARCH_").lower() for name in several.ARCHITECTURES} | {X86: "i386"}
+EACH = ("the profile covers x86-64, i386, x32, aarch64, arm, riscv64, ppc64le, mipsel, mipsel64, mipsel64n32 and "
+        "loongarch64 syscalls")
 
 
 def table_of(name):
@@ -534,8 +536,7 @@ class OtherArchitectures(Case):
                     entry("ALLOW", "socketcall", index=0, value=1, op="SCMP_CMP_EQ"),
                     said=["the profile covers x86-64, i386 and x32 syscalls"])
         # a filter that doesn't look at the architecture
-        self.covers(ret(TRAP), several.ARCHITECTURES, default="TRAP",
-                    said=["the profile covers x86-64, i386, x32, aarch64 and arm syscalls"])
+        self.covers(ret(TRAP), several.ARCHITECTURES, default="TRAP", said=[EACH])
 
     def test_one_that_differs(self):
         """It isn't listed, and that is said; --arch gives its profile."""
@@ -600,8 +601,7 @@ class OtherArchitectures(Case):
             entry("ALLOW", "personality", index=0, value=8, op="SCMP_CMP_EQ")]}
         done = subprocess.run([tool("compile"), self.file("p.json", json.dumps(profile))], stdout=subprocess.PIPE,
                               check=True)
-        self.covers(done.stdout, profile["architectures"], *profile["syscalls"],
-                    said=["the profile covers x86-64, i386, x32, aarch64 and arm syscalls"])
+        self.covers(done.stdout, profile["architectures"], *profile["syscalls"], said=[EACH])
 
     @mock.patch.dict(several.ARCHITECTURES, WITH_TABLES)
     @mock.patch.object(several, "NAMES", sorted({name for row in WITH_TABLES.values() for name in row[5]}))
