@@ -389,7 +389,7 @@ class Cores(Causes):
     def test_hostile_cores(self):
         core = self.core(answering(KILL_PROCESS))
         with open(core, "rb") as file:
-            data = file.read(1 << 14)
+            data = file.read(1 << 20)
         for cut in (0, 3, 4, 16, 24, 51, 63, 64, 100, 1000, 3000, 3450, 4000):
             self.refused(data[:cut], "the core")
         for at, text, says in ((0, b"\x28\xb5\x2f\xfd", "is compressed"), (16, b"\2\0", "isn't one, but a program"),
