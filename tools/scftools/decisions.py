@@ -4,8 +4,8 @@ from __future__ import annotations
 import re
 from collections.abc import Callable, Iterable, Iterator, Sequence
 
-from . import (architectures, bundles, client, explanation, inputs, listing, output, profiles, program, reasons,
-               refusals, tables, verdicts)
+from . import (architectures, client, explanation, inputs, listing, output, profiles, program, reasons, refusals,
+               tables)
 from .answers import FIRST_X32, X86_64, Answer
 from .calls import OPTIONS, SKIPPED, Call
 from .client import Fault
@@ -223,29 +223,24 @@ def _reply(status: int, lines: Sequence[str], query: Query, decision: Decision, 
 
 def of_stack(filters: Sequence[Filter], query: Query, table: Table) -> Reply:
     """The reply of a stack, with the filter that gives the answer, and the path through it."""
-    done = client.run(["decide", *query.words()], bundles.of_stack([bpf_filter.data for bpf_filter in filters]))
-    decision = verdicts.decision(done.text)
-
-    def givers() -> list[Giver]:
-        return listing.deciding_filters(filters, query.words(), decision.answer) if decision.answer else []
+    run = listing.run_stack(filters, query.words())
+    decision, givers = run.decision, run.givers(run.decision.answer)
+    giver = listing.to_show(givers)
 
     def reasons() -> Iterator[str]:
         yield from refusals.of_stack(filters, decision.fault)
-        deciding = givers()
-        yield from of_givers(filters, deciding)
-        giver = listing.to_show(deciding)
+        yield from of_givers(filters, givers)
         if giver is not None:
             yield f"the path in {giver.describe()}: {giver.path.describe()}"
 
     def members() -> dict[str, object]:
-        deciding = givers()
-        giver, files = listing.to_show(deciding), [giver.filter.name for giver in deciding]
+        files = [giver.filter.name for giver in givers]
         if decision.fault:
             files = faulty_filters(filters, decision.fault)
         return {**({"filters": files} if len(filters) > 1 and (giver or decision.fault) else {}),
                 **({"path": giver.as_json()} if giver else {})}
 
-    return replace(_reply(done.status, [decision.line] if decision.line else [], query, decision, table),
+    return replace(_reply(run.status, [decision.line] if decision.line else [], query, decision, table),
                    reasons=reasons, members=members)
 
 

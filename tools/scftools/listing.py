@@ -1,10 +1,10 @@
 """Listings of filters: instruction indexes, jump targets, and names of syscalls and answers; and paths: which
-instructions run on a syscall, by `scf run --path`, and the last tests among them."""
+instructions run on a syscall, by `scf run --path` and `scf decide --path`, and the last tests among them."""
 from __future__ import annotations
 
 from collections.abc import Iterator, Sequence
 
-from . import client, output, verdicts
+from . import bundles, client, output, verdicts
 from .answers import ACTIONS, FIRST_X32, X86_64, Answer
 from .architectures import shown_name
 from .calls import Call, number_text
@@ -214,12 +214,17 @@ class Path:
                         for first, last in output.runs(self.indexes))
 
 
+def _path(status: int, lines: Sequence[str]) -> Path:
+    """The answer of a run in its first line, and the path in the second one, if there is one."""
+    match = PATH.fullmatch("".join(lines[1:2]))
+    return Path(status, tuple(lines), verdicts.decision("".join(lines[:1])),
+                tuple(map(int, match[1].split())) if match else ())
+
+
 def path_of(data: bytes, words: Sequence[str], with_path: bool = True) -> Path:
     """A filter's answer to the record that scf's options give, and on request the path to it."""
     done = client.run(["run", *["--path"] * with_path, *words], data)
-    match = PATH.fullmatch("".join(done.lines[1:2]))
-    return Path(done.status, tuple(done.lines), verdicts.decision(done.text),
-                tuple(map(int, match[1].split())) if match else ())
+    return _path(done.status, done.lines)
 
 
 @dataclass(frozen=True)
@@ -244,13 +249,38 @@ class Giver:
         return {"filter": self.filter.name, "indexes": list(self.path.indexes)}
 
 
-def deciding_filters(filters: Sequence[Filter], words: Sequence[str], answer: Answer) -> list[Giver]:
-    """The filters of a stack, oldest first, that give its answer; the kernel takes it from the last of them.
+@dataclass(frozen=True)
+class StackRun:
+    """The answer of a stack of filters to a syscall or a fault, and the path of each filter, oldest first."""
 
-    It runs the newest first, and of equal actions keeps the one that it has (seccomp_run_filters in kernel/seccomp.c).
-    """
-    runs = (Giver(bpf_filter, len(filters) == 1, path_of(bpf_filter.data, words)) for bpf_filter in filters)
-    return [giver for giver in runs if giver.path.decision.answer == answer and giver.path.indexes]
+    status: int
+    filters: Sequence[Filter]
+    decision: Decision
+    paths: Sequence[Path]
+
+    def givers(self, answer: Answer | None) -> list[Giver]:
+        """The filters, oldest first, that give this answer; if it is the stack's, the kernel takes it from the last of
+        them.
+
+        It runs the newest first, and of equal actions keeps the one that it has (seccomp_run_filters in
+        kernel/seccomp.c).
+        """
+        runs = (Giver(bpf_filter, len(self.filters) == 1, path)
+                for bpf_filter, path in zip(self.filters, self.paths))
+        return [giver for giver in runs if giver.path.indexes and giver.path.decision.answer == answer]
+
+
+def run_stack(filters: Sequence[Filter], words: Sequence[str]) -> StackRun:
+    """What a stack answers to the record that scf's options give, and how each of its filters runs."""
+    done = client.run(["decide", *words, "--path"], bundles.of_stack([bpf_filter.data for bpf_filter in filters]))
+    runs = done.lines[1:]
+    return StackRun(done.status, filters, verdicts.decision(done.text),
+                    [_path(done.status, runs[at:at + 2]) for at in range(0, len(runs), 2)])
+
+
+def deciding_filters(filters: Sequence[Filter], words: Sequence[str], answer: Answer) -> list[Giver]:
+    """The filters of a stack, oldest first, that give this answer."""
+    return run_stack(filters, words).givers(answer)
 
 
 def to_show(givers: Sequence[Giver]) -> Giver | None:

@@ -225,8 +225,8 @@ class Decision:
 
 def decision(text: str) -> Decision:
     line = text.split("\n", 1)[0]
-    match = re.fullmatch(r"(\w+ \w+)(?: steps ([0-9]+))?", line)
+    match = re.fullmatch(r"(\w+ \w+)(?: steps ([0-9]+)| at [0-9]+:[0-9]+)?", line)
     answer = Answer.read(match[1]) if match else None
     if answer is None or match is None:
         return Decision(line, fault=Fault.read(line))
-    return Decision(line, answer, int(match[2]) if match[2] else None)
+    return Decision(line.partition(" at ")[0], answer, int(match[2]) if match[2] else None)

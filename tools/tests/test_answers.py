@@ -181,6 +181,28 @@ BUNDLES = (
     (["decide"], b"filter  8\n\x06\0\0\0\0\0\xff\x7f", "fault bundle Header offset 0\n", 3),
     (["decide"], b"filter 8 \x06\0\0\0\0\0\xff\x7f", "fault bundle Header offset 0\n", 3),
     (["decide", "--nr", "x"], b"filter", "fault number nr\n", 2),
+    (["decide", "--at"], TWO_FILTERS, "KILL_THREAD 0 at 0:0\n", 0),
+    (["decide", "--at"], 2 * TWO_FILTERS, "KILL_THREAD 0 at 2:0\n", 0),
+    (["decide", "--at"], b"", "ALLOW 0\n", 0),
+    (["decide", "--at"], b"table 0\n", "fault bundle Parts\n", 3),
+    (["decide", "--at"], b"filter 0\n", "fault filter Empty\n", 1),
+    (["decide", "--at", "--nr", "x"], b"filter", "fault number nr\n", 2),
+    (["decide", "--path"], b"", "ALLOW 0\n", 0),
+    (["decide", "--path"], b"filter 0\n", "fault filter Empty\n", 1),
+)
+# Stacks of filters as texts, oldest first, the options of a call, which instruction of which filter gives the answer
+# (of the filters whose action takes precedence the newest, seccomp(2)), and how each filter runs.
+NUMBER_5 = "ld [0]; jeq #5, 0, 1; ret #0x50001; ret #0x7fff0000"
+STACKS = (
+    ([NUMBER_5], "--nr 5", "ERRNO 1 at 0:2", ["ERRNO 1 steps 3\npath 0 1 2"]),
+    ([NUMBER_5], "--nr 4", "ALLOW 0 at 0:3", ["ALLOW 0 steps 3\npath 0 1 3"]),
+    ([NUMBER_5, NUMBER_5], "--nr 5", "ERRNO 1 at 1:2", 2 * ["ERRNO 1 steps 3\npath 0 1 2"]),
+    (["ret #0x50002", NUMBER_5], "--nr 5", "ERRNO 1 at 1:2",
+     ["ERRNO 2 steps 1\npath 0", "ERRNO 1 steps 3\npath 0 1 2"]),
+    ([NUMBER_5, "ret #0x7fff0000"], "--nr 5", "ERRNO 1 at 0:2",
+     ["ERRNO 1 steps 3\npath 0 1 2", "ALLOW 0 steps 1\npath 0"]),
+    (["ret #0x30007", "ldx #0; div x; ret a", NUMBER_5], "--nr 4", "KILL_THREAD 0 at 1:1",
+     ["TRAP 7 steps 1\npath 0", "KILL_THREAD 0 steps 2\npath 0 1", "ALLOW 0 steps 3\npath 0 1 3"]),
 )
 
 
@@ -239,7 +261,15 @@ class Paths(OnProgram):
         self.prints(["run", "--path"], assembled("ld [0]"), "fault filter LastNotReturn\n", 1)
         self.prints(["run", "--path"], b"cut", "fault filter Truncated offset 0\n", 3)
         self.prints(["run", "--path", "--ip", "-"], b"", "fault number ip\n", 2)
-        self.assertEqual(ran(["decide", "--path"])[1], 2)
+
+    def test_stacks(self):
+        for filters, options, first, runs in STACKS:
+            given = bundle([a_filter(spelled) for spelled in filters])
+            self.prints(["decide", *options.split(), "--at"], given, first + "\n")
+            for words in (["--path"], ["--path", "--at"]):
+                self.prints(["decide", *options.split(), *words], given, "\n".join([first, *runs]) + "\n")
+            # without a flag the answer stands alone
+            self.prints(["decide", *options.split()], given, first.split(" at ")[0] + "\n")
 
 
 class Questions(OnProgram):

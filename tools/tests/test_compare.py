@@ -466,6 +466,13 @@ esac
 """
 
 
+STACK = """#!/bin/sh
+echo "$@" >>"$KEPT"; cat >/dev/null
+echo ERRNO 1 at 1:2
+echo ERRNO 1 steps 3; echo path 0 1 3; echo ERRNO 1 steps 2; echo path 0 2; echo ALLOW 0 steps 1; echo path 0
+"""
+
+
 class WithAnotherScf(Case):
     """What the tool hands to scf, and what it makes of lines, by a program that stands in for scf."""
 
@@ -537,6 +544,18 @@ class Decide(Case):
         self.assertEqual(out,
                          "KILL_PROCESS 0\n# the syscall is restart_syscall (0) of the architecture i386\n"
                          "# KILL_PROCESS: the process is killed\n# the path in the filter: 0-2\n")
+
+    def test_one_start_of_scf(self):
+        """The answer of a stack and how each of its filters runs come from one start."""
+        tree, kept = self.made_tree(STACK), os.path.join(self.folder, "kept")
+        files = [self.file(name, ret(EPERM)) for name in ("one.bpf", "two.bpf", "three.bpf")]
+        done = self.run_words([os.path.join(tree, "tools", "decide"), "--nr=41", *files],
+                              env={**os.environ, "KEPT": kept})
+        self.assertEqual(done, (0, "ERRNO 1\n# the syscall is socket (41)\n# ERRNO 1: the syscall fails with EPERM\n"
+                                   f"# the filters that answer so are {files[0]} and {files[1]}\n"
+                                   f"# the path in {files[1]}: 0 2\n", ""))
+        with open(kept, encoding="ascii") as handed:
+            self.assertEqual(handed.read(), "decide --nr=41 --path\n")
 
     def test_filters_stand_oldest_first(self):
         first, two = self.file("one.bpf", ret(0x00050001)), self.file("two.bpf", ret(0x00050002))

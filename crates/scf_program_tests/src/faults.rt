@@ -69,6 +69,7 @@ const READS: &[Asked] = &[
     (&["scf", "dis"], GATE, b"fault filter Read\n"),
     (&["scf", "asm"], TEXT, b"fault input Read\n"),
     (&["scf", "decide"], STACK, b"fault input Read\n"),
+    (&["scf", "decide", "--path"], STACK, b"fault input Read\n"),
     (&["scf", "compile"], PROFILE, b"fault input Read\n"),
     (&["scf", "compare"], PAIR, b"fault input Read\n"),
     (&["scf", "compare", "--calls"], CALLS, b"fault input Read\n"),
@@ -99,6 +100,12 @@ const ANSWERS: &[Asked] = &[
     ),
     (&["scf", "dis"], Input::Filter("ret a"), b"ret a\n"),
     (&["scf", "decide"], STACK, b"KILL_THREAD 0\n"),
+    (&["scf", "decide", "--at"], STACK, b"KILL_THREAD 0 at 0:0\n"),
+    (
+        &["scf", "decide", "--path"],
+        STACK,
+        b"KILL_THREAD 0 at 0:0\nKILL_THREAD 0 steps 1\npath 0\nALLOW 0 steps 1\npath 0\n",
+    ),
     (&["scf", "ask"], PROFILE, b"ALLOW 0 default\n"),
 ];
 

@@ -193,6 +193,10 @@ pub record AsksToExplore (rows : List Row) (exploration : Exploration) : Type 0 
   pub scope : SelectsScope rows exploration.scope
   pub examples : is_given rows examples_flag ≡ exploration.has_examples
 
--- the flag that has the path of a run shown
+-- the flag that has the instruction shown that gives an answer
+abbrev pub at_flag : List ℕ
+at_flag = codes "at"
+
+-- the flag that has the paths of runs shown
 abbrev pub path_flag : List ℕ
 path_flag = codes "path"

@@ -16,7 +16,7 @@ use Rattle.scf_request.specs.declared.request.Request.{Request}
 use Rattle.scf_request.specs.declared.request.Request.TheVariants as requests
 use Rattle.scf_request.specs.declared.request.Scopes.{Scopes}
 use Rattle.scf_request.specs.declared.request.Scopes.TheVariants.{AtOnce, EachCall}
-use Rattle.scf_request.specs.Options.{AreExclusive, AsksToCompare, AsksToExplore, NumberOption, architectures_flag, beside_flag, call_options, comparison_options, examples_flag, exploration_options, first_wrong, flag_names, is_given, native_flag, number_in, numbers_of_comparison, numbers_of_exploration, numbers_of_record, path_flag, reading_in, relation_flags, scope_flags}
+use Rattle.scf_request.specs.Options.{AreExclusive, AsksToCompare, AsksToExplore, NumberOption, architectures_flag, at_flag, beside_flag, call_options, comparison_options, examples_flag, exploration_options, first_wrong, flag_names, is_given, native_flag, number_in, numbers_of_comparison, numbers_of_exploration, numbers_of_record, path_flag, reading_in, relation_flags, scope_flags}
 
 pub data Command : Type 0 where
   Answers Ask Asm Check Compare Compile Decide Dis Run : Command
@@ -34,7 +34,7 @@ words_of_command Compare = (
   flag_names scope_flags ++ flag_names relation_flags ++ beside_flag ∷ architectures_flag ∷ [],
 )
 words_of_command Compile = (codes "compile", [], architectures_flag ∷ [])
-words_of_command Decide = (codes "decide", call_options, [])
+words_of_command Decide = (codes "decide", call_options, at_flag ∷ path_flag ∷ [])
 words_of_command Dis = (codes "dis", [], [])
 words_of_command Run = (codes "run", call_options, path_flag ∷ [])
 
@@ -66,6 +66,8 @@ command_and_numbers (requests.CompareArchitectures comparison) = (Compare, numbe
 command_and_numbers requests.Compile = (Compile, [])
 command_and_numbers requests.CompileArchitectures = (Compile, [])
 command_and_numbers (requests.Decide call) = (Decide, numbers_of_record call)
+command_and_numbers (requests.DecideBy call) = (Decide, numbers_of_record call)
+command_and_numbers (requests.DecidePaths call) = (Decide, numbers_of_record call)
 command_and_numbers requests.List = (Dis, [])
 command_and_numbers (requests.Run call) = (Run, numbers_of_record call)
 command_and_numbers (requests.Trace call) = (Run, numbers_of_record call)
@@ -87,6 +89,9 @@ HasFlags rows (requests.CompareArchitectures comparison) = AsksToCompare rows co
     × (is_given rows architectures_flag ≡ true)
 HasFlags rows requests.Compile = is_given rows architectures_flag ≡ false
 HasFlags rows requests.CompileArchitectures = is_given rows architectures_flag ≡ true
+HasFlags rows (requests.Decide call) = (is_given rows at_flag ≡ false) × (is_given rows path_flag ≡ false)
+HasFlags rows (requests.DecideBy call) = (is_given rows at_flag ≡ true) × (is_given rows path_flag ≡ false)
+HasFlags rows (requests.DecidePaths call) = is_given rows path_flag ≡ true
 HasFlags rows (requests.Run call) = is_given rows path_flag ≡ false
 HasFlags rows (requests.Trace call) = is_given rows path_flag ≡ true
 HasFlags rows request = Unit {0}

@@ -7,7 +7,7 @@ ghost use Rattle.scf_request.specs.Requests.Command.{Answers, Ask, Asm, Check, C
 ghost use Rattle.scf_request.specs.internal.Parsing.{MakesNamed, ReadsAsProgram, definition_of, option_of, options_kept};
 
 use crate::options::{
-    ARCHITECTURES_FLAG, BESIDE_FLAG, CALLS_FLAG, DISPOSITION_FLAG, EXAMPLES_FLAG, NATIVE_FLAG,
+    ARCHITECTURES_FLAG, AT_FLAG, BESIDE_FLAG, CALLS_FLAG, DISPOSITION_FLAG, EXAMPLES_FLAG, NATIVE_FLAG,
     NO_LESS_FLAG, NO_MORE_FLAG, NumberOption, PATH_FLAG, READING_OPTION, call_options,
     comparison_options, exploration_options,
 };
@@ -118,7 +118,11 @@ fn define_decide<'a>(alloc: Global) -> Result<Command<'a>, AllocError>
     ensures { IfOk result (λ command. app_of command ≡ definition_of Decide) }
 {
     let about = "Runs a bundle of filters on a call";
-    command_with(alloc, "decide", about, &call_options())
+    let at = "Also the filter that gives the answer, the oldest being 0, and its instruction";
+    let path = "This, and the answer of each filter and the instructions on its way";
+    command_with(alloc, "decide", about, &call_options())?
+        .arg(flag_argument(alloc, AT_FLAG, at))?
+        .arg(flag_argument(alloc, PATH_FLAG, path))
 }
 
 /// The command `dis`.

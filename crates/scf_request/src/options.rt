@@ -172,7 +172,10 @@ pub(crate) const ARCHITECTURES_FLAG: &str = "architectures";
 /// The flag that shows a record of each region.
 pub(crate) const EXAMPLES_FLAG: &str = "examples";
 
-/// The flag that prints the path of a run.
+/// The flag that prints which instruction gives an answer.
+pub(crate) const AT_FLAG: &str = "at";
+
+/// The flag that prints the paths of runs.
 pub(crate) const PATH_FLAG: &str = "path";
 
 /// Over which records a comparison goes, by flag.

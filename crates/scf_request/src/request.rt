@@ -20,7 +20,7 @@ ghost use Rattle.scf_request.specs.Options.{
 ghost use Rattle.scf_request.specs.Requests.{AsksFor, GoesOverRecord, ReadsBy, Spell};
 
 use crate::options::{
-    ARCHITECTURES_FLAG, BESIDE_FLAG, EXAMPLES_FLAG, NATIVE_FLAG, NumberFault, PATH_FLAG,
+    ARCHITECTURES_FLAG, AT_FLAG, BESIDE_FLAG, EXAMPLES_FLAG, NATIVE_FLAG, NumberFault, PATH_FLAG,
     RELATION_FLAGS, SCOPE_FLAGS, chosen_flag, comparison_numbers, exploration_numbers, has_range,
     is_given, reading_in, record_of,
 };
@@ -92,6 +92,10 @@ pub enum Request {
     /// `compile --architectures`: compile the profiles of the architectures that have a table.
     CompileArchitectures,
     Decide(CallRecord),
+    /// `decide --at`: also print which instruction of which filter gives the answer.
+    DecideBy(CallRecord),
+    /// `decide --path`: print this, and run each filter and print the path.
+    DecidePaths(CallRecord),
     List,
     Run(CallRecord),
     /// `run --path`: run a filter and print the path.
@@ -246,7 +250,14 @@ fn decide_request(options: &ArgMatches<'_>) -> Result<Request, RequestFault>
     ensures { Spell (Some (codes "decide", rows_of (found_of options.now))) result }
 {
     let call = record_of(options)?;
-    Ok(Request::Decide(call))
+    if is_given(options, PATH_FLAG) {
+        return Ok(Request::DecidePaths(call));
+    }
+    if is_given(options, AT_FLAG) {
+        Ok(Request::DecideBy(call))
+    } else {
+        Ok(Request::Decide(call))
+    }
 }
 
 /// The request of the command with this name and these options.

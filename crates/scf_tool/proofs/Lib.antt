@@ -6,6 +6,7 @@ mod ComparisonParts
 pub mod ExplorationLemmas
 mod FaultLemmas
 mod InputLemmas
+mod RunLemmas
 mod SideLemmas
 pub mod StackLemmas
 pub mod TableLemmas

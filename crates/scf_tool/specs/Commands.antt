@@ -1,7 +1,7 @@
 -- What is true of standard input where a command ends with a reply or a fault. The bytes of the input count where its
 -- reader tells them.
 use Rattle.std.specs.Prelude.{◌≡◌, ◌≢◌, ◌⊎◌, ◌<◌, ◌≤◌, ◌++◌, ℕ, Bool, true, false, List, [], ◌∷◌, length, map, All, Option, Some, Result, Ok, Err}
-use Rattle.std.specs.List.{AllZip}
+use Rattle.std.specs.List.{AllZip, flat_map}
 use Rattle.scf_insn.specs.declared.encoding.ReadFault.TheVariants as reads
 use Rattle.scf_insn.specs.declared.input.InputFault.{InputFault}
 use Rattle.scf_insn.specs.declared.input.InputFault.TheVariants as inputs
@@ -14,7 +14,8 @@ use Rattle.scf_insn.specs.Insn.{program_bytes}
 use Rattle.scf_insn.specs.Words.{words_of}
 use Rattle.scf_machine.specs.Machine.{IsRun, RunAnswers}
 use Rattle.scf_machine.specs.Path.{IsPathOf}
-use Rattle.scf_machine.specs.Precedence.{StackAnswers}
+use Rattle.scf_machine.specs.Precedence.{IsDecidedBy, StackAnswers}
+use Rattle.scf_machine.specs.declared.stack.Decision.{Decision}
 use Rattle.scf_text.specs.Faults.{IsFault, fault_of}
 use Rattle.scf_text.specs.Listing.{text_of}
 use Rattle.scf_text.specs.Spelling as spelling
@@ -35,7 +36,7 @@ use Rattle.scf_tool.specs.declared.fault.Fault.TheVariants as faults
 use Rattle.scf_profile.specs.declared.reading.Reading.{Reading}
 use Rattle.scf_profile.specs.declared.relation.Relation.{Relation}
 use Rattle.scf_tool.specs.declared.reply.Reply.{Reply}
-use Rattle.scf_tool.specs.declared.reply.Reply.TheVariants.{Accepted, Ran, Decided, Asked, Bytes, Compared}
+use Rattle.scf_tool.specs.declared.reply.Reply.TheVariants.{Accepted, Ran, Decided, DecidedBy, Asked, Bytes, Compared}
 use Rattle.scf_request.specs.declared.request.Comparison.{Comparison}
 use Rattle.scf_request.specs.declared.request.Exploration.{Exploration}
 use Rattle.scf_compare.specs.Sides.{profile_behavior, stack_behavior}
@@ -54,7 +55,7 @@ use Rattle.scf_request.specs.Contents.{texts_for}
 use Rattle.scf_request.specs.declared.bundle.BundleForm.{BundleForm}
 use Rattle.scf_request.specs.declared.bundle.BundleForm.TheVariants as forms
 use Rattle.scf_request.specs.Interpretations.{Interpretation, LoadsBy, LoadsEachBy, interpretation_of, stubs_of}
-use Rattle.scf_tool.specs.Lines.{traced_text}
+use Rattle.scf_tool.specs.Lines.{decision_text, traced_text}
 use Rattle.scf_tool.specs.FilterStacks.{HasStack, HasNoStack}
 use Rattle.scf_tool.specs.Reports.{findings_status, sides_text}
 use Rattle.scf_tool.specs.declared.sides.SidesOutcome.{SidesOutcome}
@@ -133,20 +134,39 @@ NoReadFailed (verifies.TableRead fault) = fault ≢ inputs.Read
 NoReadFailed (verifies.ProfileRead fault) = fault ≢ inputs.Read
 NoReadFailed fault = Unit {0}
 
--- `decide`: the answer to the call of the stack that the filters are
-abbrev pub DecidesCall : CallRecord → List (List ℕ) → Result Reply Fault → Type 0
-DecidesCall call filters (Ok (Decided answer)) =
-    (stack : List (List Insn)) × HasStack (map Some filters) stack × StackAnswers stack (words_of call) answer.0
-DecidesCall call filters (Err (faults.Verify fault)) = NoReadFailed fault × HasNoStack (map Some filters) fault
-DecidesCall call filters ending = ⊥
+-- the lines of the runs of filters over a record, one for each, whose ways are shown
+abbrev pub ShowsRuns : List (List Insn) → List ℕ → List ℕ → Type 0
+ShowsRuns stack words text = (runs : List (ℕ × List ℕ))
+    × AllZip (λ filter run. IsPathOf filter words run.0 run.1) stack runs
+    × (text ≡ flat_map (λ run. traced_text run.0 run.1) runs)
+
+-- What is replied of a stack to `decide`, its answer to the call; to `decide --at`, this and the instruction that gives
+-- it; to `decide --path`, these, and the run of each filter with the instructions on its way.
+abbrev pub IsReplyOnStack : Request → List (List Insn) → Reply → Type 0
+IsReplyOnStack (requests.Decide call) stack (Decided answer) = StackAnswers stack (words_of call) answer.0
+IsReplyOnStack (requests.DecideBy call) stack (DecidedBy decision) =
+    IsDecidedBy stack (words_of call) decision.by decision.answer.0
+IsReplyOnStack (requests.DecidePaths call) stack (Bytes bytes) = (decision : Decision) × (runs : List ℕ)
+    × IsDecidedBy stack (words_of call) decision.by decision.answer.0 × ShowsRuns stack (words_of call) runs
+    × (bytes.items ≡ decision_text decision.by decision.answer.0 ++ runs)
+IsReplyOnStack request stack reply = ⊥
+
+-- What these end with: the reply is true of the stack that the filters are, or they are none. Memory for the lines of
+-- runs may be wanting.
+abbrev pub EndsOnStack : Request → List (List ℕ) → Result Reply Fault → Type 0
+EndsOnStack request filters (Ok reply) =
+    (stack : List (List Insn)) × HasStack (map Some filters) stack × IsReplyOnStack request stack reply
+EndsOnStack request filters (Err (faults.Verify fault)) = NoReadFailed fault × HasNoStack (map Some filters) fault
+EndsOnStack (requests.DecidePaths call) filters (Err faults.Answers) = Unit {0}
+EndsOnStack request filters ending = ⊥
 
 -- filters are all that a bundle with a profile's parts holds
 abbrev pub AreFilters : Held → Type 0
 AreFilters held = (held.profiles ≡ []) × (held.beside_profiles ≡ []) × (held.tables ≡ []) × (held.stubs ≡ [])
 
 -- `decide`: filters, any number of them
-abbrev pub Decides : CallRecord → Option (List ℕ) → Result Reply Fault → Type 0
-Decides call input = EndsOnBundle forms.Profile input AreFilters (λ held. DecidesCall call held.filters)
+abbrev pub Decides : Request → Option (List ℕ) → Result Reply Fault → Type 0
+Decides request input = EndsOnBundle forms.Profile input AreFilters (λ held. EndsOnStack request held.filters)
 
 -- ---- a profile
 
@@ -408,6 +428,8 @@ IsTrueReply reading (requests.CompareArchitectures comparison) input =
     Compares forms.Architectures reading comparison input
 IsTrueReply reading requests.Compile input = EndsOnTable reading input Compiles
 IsTrueReply reading requests.CompileArchitectures input = EndsOnTables reading input CompilesEach
-IsTrueReply reading (requests.Decide call) input = Decides call input
+IsTrueReply reading (requests.Decide call) input = Decides (requests.Decide call) input
+IsTrueReply reading (requests.DecideBy call) input = Decides (requests.DecideBy call) input
+IsTrueReply reading (requests.DecidePaths call) input = Decides (requests.DecidePaths call) input
 IsTrueReply reading requests.List input = Lists input
 IsTrueReply reading request input = EndsOnFilter request input

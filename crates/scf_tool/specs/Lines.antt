@@ -1,10 +1,11 @@
 -- The lines that the program prints.
-use Rattle.std.specs.Prelude.{ℕ, List, ◌++◌, codes, length}
+use Rattle.std.specs.Prelude.{ℕ, List, [], ◌++◌, codes, length, Option, Some, None}
 use Rattle.std.specs.List.{flat_map}
 use Rattle.std.specs.Fmt.{decimal}
 use Rattle.scf_insn.specs.declared.answer.Action.{Action}
 use Rattle.scf_insn.specs.declared.answer.Action.TheVariants.{KillProcess, KillThread, Trap, Errno, UserNotif, Trace, Log, Allow, Other}
 use Rattle.scf_insn.specs.Answers.{action_half, data_half, action_of}
+use Rattle.scf_machine.specs.declared.stack.DecidingInsn.{DecidingInsn}
 use Rattle.scf_profile.specs.declared.reason.Reason.{Reason}
 use Rattle.scf_profile.specs.declared.reason.Reason.TheVariants.{Foreign, Stub, Entry, Default}
 use Rattle.scf_tool.specs.Numerals.{eight_digits}
@@ -33,6 +34,19 @@ answer_text answer = text_by (action_of (action_half answer)) answer
 -- the count of steps behind the answer of a run, and the end of its line
 abbrev pub steps_text : ℕ → List ℕ
 steps_text steps = codes " steps " ++ decimal steps ++ codes "\n"
+
+-- an instruction of a filter by both indices, behind the answer that it gives
+abbrev pub insn_text : ℕ → ℕ → List ℕ
+insn_text filter index = codes " at " ++ (decimal filter ++ (codes ":" ++ decimal index))
+
+-- what gives a stack its answer, behind the answer: nothing where there is no filter
+abbrev pub by_text : Option DecidingInsn → List ℕ
+by_text None = []
+by_text (Some by) = insn_text by.filter by.index
+
+-- the line of the answer of a stack and of what gives it
+abbrev pub decision_text : Option DecidingInsn → ℕ → List ℕ
+decision_text by answer = answer_text answer ++ (by_text by ++ codes "\n")
 
 -- the line of the indices on a run's way
 abbrev pub path_text : List ℕ → List ℕ

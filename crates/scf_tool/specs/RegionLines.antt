@@ -11,7 +11,7 @@ use Rattle.scf_compare.specs.declared.origin.Origin.{Origin}
 use Rattle.scf_compare.specs.declared.origin.Origin.TheVariants.{Filter, Profile}
 use Rattle.scf_compare.specs.declared.region.Region.{Region}
 use Rattle.scf_compare.specs.declared.regions.Regions.{Regions}
-use Rattle.scf_tool.specs.Lines.{answer_text, reason_words}
+use Rattle.scf_tool.specs.Lines.{answer_text, insn_text, reason_words}
 use Rattle.scf_tool.specs.Reports.{call_line, prefixed}
 
 -- ---- what is known of a word
@@ -76,7 +76,7 @@ region_answer_text (Some answer) = answer_text answer.0
 
 -- where it comes from: the filter and its instruction, or the reason of a profile
 abbrev pub origin_text : Origin → List ℕ
-origin_text (Filter filter index) = codes " at " ++ (decimal filter ++ (codes ":" ++ decimal index))
+origin_text (Filter filter index) = insn_text filter index
 origin_text (Profile reason) = reason_words reason
 
 -- a region that isn't exact is open

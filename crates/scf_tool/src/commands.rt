@@ -28,7 +28,7 @@ use profile::{ask_profile, compile_profile};
 use scf_insn::{InputFault, Sink, Source, read_input};
 use scf_profile::Reading;
 use scf_request::{BundleForm, Request, parse, reading_of, request_of};
-use stack::decide_stack;
+use stack::{decide_stack, decide_stack_at, trace_stack};
 use std::alloc::Global;
 use std::convert::AsStr;
 use text::assemble_text;
@@ -85,6 +85,8 @@ fn answer<R: Source>(
         Request::Compile => compile_profile(alloc, reading, input),
         Request::CompileArchitectures => compile_architectures(alloc, reading, input),
         Request::Decide(call) => decide_stack(alloc, call, input),
+        Request::DecideBy(call) => decide_stack_at(alloc, call, input),
+        Request::DecidePaths(call) => trace_stack(alloc, call, input),
         Request::List => list_filter(alloc, input),
         Request::Run(call) => run_filter(alloc, call, input),
         Request::Trace(call) => trace_filter(alloc, call, input),

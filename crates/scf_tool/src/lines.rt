@@ -6,7 +6,8 @@ ghost use Rattle.std.specs.Fmt.{decimal};
 ghost use Rattle.std.specs.List.{flat_map};
 ghost use Rattle.scf_insn.specs.Answers.{data_half};
 ghost use Rattle.scf_insn.specs.Streams.{Writes};
-ghost use Rattle.scf_tool.specs.Lines.{answer_text, reason_text, reason_words, steps_text, text_by, traced_text};
+ghost use Rattle.scf_tool.specs.Lines.{answer_text, by_text, decision_text, insn_text, reason_text, reason_words};
+ghost use Rattle.scf_tool.specs.Lines.{steps_text, text_by, traced_text};
 ghost use Rattle.scf_tool.specs.Numerals.{eight_digits};
 ghost use Rattle.scf_tool.specs.internal.Gathering.{Adds};
 
@@ -14,7 +15,7 @@ use crate::buffer::Buffer;
 use crate::fragments::Fragment::{Decimal, EightDigits, Text};
 use crate::fragments::write_fragments;
 use scf_insn::{Action, Answer, Memory, Sink, WriteFault, write_whole};
-use scf_machine::Trace;
+use scf_machine::{DecidingInsn, Decision, Trace};
 use scf_profile::Reason;
 
 /// The name of an action, if it has one.
@@ -70,6 +71,53 @@ pub(crate) fn add_answer(text: &mut Buffer, answer: Answer) -> Result<(), Memory
     ensures { Adds text.old (answer_text answer.0) result text.new }
 {
     match write_answer(text, answer) {
+        Ok(()) => Ok(()),
+        Err(_) => Err(Memory),
+    }
+}
+
+/// Writes an instruction of a filter behind the answer that it gives.
+fn write_insn<S: Sink>(sink: &mut S, filter: usize, index: usize) -> Result<(), WriteFault>
+    ensures { Writes S.contents S.failures sink.old (insn_text filter index) result sink.new }
+{
+    let words = [Text(" at "), Decimal(filter as u64), Text(":"), Decimal(index as u64)];
+    write_fragments(sink, &words)
+}
+
+/// Adds an instruction of a filter to a text, behind the answer that it gives.
+pub(crate) fn add_insn(text: &mut Buffer, filter: usize, index: usize) -> Result<(), Memory>
+    ensures { Adds text.old (insn_text filter index) result text.new }
+{
+    match write_insn(text, filter, index) {
+        Ok(()) => Ok(()),
+        Err(_) => Err(Memory),
+    }
+}
+
+/// Writes what gives a stack its answer.
+fn write_by<S: Sink>(sink: &mut S, by: Option<DecidingInsn>) -> Result<(), WriteFault>
+    ensures { Writes S.contents S.failures sink.old (by_text by) result sink.new }
+{
+    match by {
+        Some(insn) => write_insn(sink, insn.filter, insn.index),
+        None => write_whole(sink, b""),
+    }
+}
+
+/// Writes the answer of a stack and what gives it, and a line end.
+pub(crate) fn write_decision<S: Sink>(sink: &mut S, decision: Decision) -> Result<(), WriteFault>
+    ensures { Writes S.contents S.failures sink.old (decision_text decision.by decision.answer.0) result sink.new }
+{
+    write_answer(sink, decision.answer)?;
+    write_by(sink, decision.by)?;
+    write_whole(sink, b"\n")
+}
+
+/// Adds the answer of a stack and what gives it to a text, and a line end.
+pub(crate) fn add_decision(text: &mut Buffer, decision: Decision) -> Result<(), Memory>
+    ensures { Adds text.old (decision_text decision.by decision.answer.0) result text.new }
+{
+    match write_decision(text, decision) {
         Ok(()) => Ok(()),
         Err(_) => Err(Memory),
     }

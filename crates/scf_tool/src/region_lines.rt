@@ -27,7 +27,7 @@ ghost use Rattle.scf_tool.specs.internal.Gathering.{Adds};
 
 use crate::buffer::Buffer;
 use crate::fragments::Fragment::{Decimal, Hexadecimal, Text};
-use crate::lines::{add_answer, add_reason};
+use crate::lines::{add_answer, add_insn, add_reason};
 use crate::reporting::add_call;
 use scf_compare::{Origin, Region, Regions};
 use scf_facts::{Bits, Interval, Snapshot, WordSet};
@@ -198,12 +198,7 @@ fn add_origin(text: &mut Buffer, origin: Origin) -> Result<(), Memory>
     ensures { Adds text.old (origin_text origin) result text.new }
 {
     match origin {
-        Origin::Filter { filter, index } => text.add(&[
-            Text(" at "),
-            Decimal(filter as u64),
-            Text(":"),
-            Decimal(index as u64),
-        ]),
+        Origin::Filter { filter, index } => add_insn(text, filter, index),
         Origin::Profile(reason) => add_reason(text, reason),
     }
 }

@@ -12,10 +12,12 @@ use crate::fault::Fault;
 use crate::fault_line::write_fault;
 use crate::fragments::Fragment::{Decimal, Text};
 use crate::fragments::write_fragments;
-use crate::lines::{write_answer, write_last_answer, write_last_reason, write_steps};
+use crate::lines::{
+    write_answer, write_decision, write_last_answer, write_last_reason, write_steps,
+};
 use crate::status::Status;
 use scf_insn::{Answer, Sink, WriteFault, write_whole};
-use scf_machine::Ran;
+use scf_machine::{Decision, Ran};
 use scf_profile::Reason;
 
 /// The result of a command. Printing it allocates nothing beyond one line's buffer.
@@ -29,6 +31,8 @@ pub(crate) enum Reply {
     Ran(Ran),
     /// The answer of a stack.
     Decided(Answer),
+    /// The answer of a stack, and the instruction that gives it.
+    DecidedBy(Decision),
     /// The answer of a profile.
     Asked { answer: Answer, reason: Reason },
     /// These bytes.
@@ -77,6 +81,7 @@ fn write_ending<S: Sink>(sink: &mut S, ending: &Result<Reply, Fault>) -> Result<
         }
         Ok(Reply::Ran(ran)) => write_ran(sink, ran),
         Ok(Reply::Decided(answer)) => write_last_answer(sink, *answer),
+        Ok(Reply::DecidedBy(decision)) => write_decision(sink, *decision),
         Ok(Reply::Asked { answer, reason }) => write_asked(sink, *answer, *reason),
         Ok(Reply::Bytes(bytes)) => write_whole(sink, bytes),
         Ok(Reply::Compared { text, .. }) => write_whole(sink, text),

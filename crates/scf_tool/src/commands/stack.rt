@@ -1,24 +1,37 @@
 //! Commands on a stack of filters.
 
-ghost use Rattle.scf_tool.specs.Commands.{Decides};
+ghost use Rattle.std.specs.Prelude.{◌≡◌, ◌++◌, ℕ, List, map, Err, IfErr, IfOk, Some};
+ghost use Rattle.scf_insn.specs.Words.{words_of};
+ghost use Rattle.scf_machine.specs.Path.{IsPathOf};
+ghost use Rattle.scf_machine.specs.Precedence.{IsDecidedBy};
+ghost use Rattle.scf_request.specs.Bundle.{Held};
+ghost use Rattle.scf_request.specs.declared.bundle.BundleForm.TheVariants as forms;
+ghost use Rattle.scf_request.specs.declared.request.Request.{Request};
+ghost use Rattle.scf_request.specs.declared.request.Request.TheVariants as requests;
+ghost use Rattle.scf_tool.specs.Commands.{AreFilters, Decides, HoldsBundle, ShowsRuns};
+ghost use Rattle.scf_tool.specs.FilterStacks.{HasStack};
+ghost use Rattle.scf_tool.specs.Lines.{decision_text, traced_text};
 ghost use Rattle.scf_tool.specs.Statuses.{LeavesWhole};
+ghost use Rattle.scf_tool.specs.internal.Gathering.{buffered};
 
+use crate::buffer::Buffer;
 use crate::commands::parts::are_filters;
 use crate::commands::whole_input;
 use crate::fault::Fault;
 use crate::filter_stack::stack_of;
+use crate::lines::{add_decision, add_trace};
 use crate::reply::Reply;
-use scf_insn::{CallRecord, Source};
+use scf_insn::{CallRecord, Memory, Source};
+use scf_machine::{Decision, FilterStack, Program, trace};
 use scf_request::{BundleForm, Contents};
 use std::alloc::Global;
 
-/// `decide`: what a stack of filters answers to a call.
-pub(super) fn decide_stack<R: Source>(
-    alloc: Global,
-    call: &CallRecord,
-    input: &mut R,
-) -> Result<Reply, Fault>
-    ensures answer { Decides call.now (R.remaining input.old) result }
+/// The stack of the filters that a bundle holds.
+fn read_filters<R: Source>(alloc: Global, input: &mut R) -> Result<FilterStack, Fault>
+    ensures stack { IfOk result (λ stack. (held : Held) × HoldsBundle forms.Profile (R.remaining input.old) held
+        × AreFilters held × HasStack (map Some held.filters) stack) }
+    ensures fault { IfErr result (λ fault. (request : Request)
+        → Decides request (R.remaining input.old) (Err fault)) }
     ensures left { LeavesWhole R.remaining R.failures input.old result input.new }
 {
     let bytes = whole_input(alloc, input)?;
@@ -27,6 +40,95 @@ pub(super) fn decide_stack<R: Source>(
         return Err(Fault::Parts);
     }
     let mut filters = contents.filters;
-    let stack = stack_of(alloc, &mut filters)?;
+    Ok(stack_of(alloc, &mut filters)?)
+}
+
+/// `decide`: what a stack of filters answers to a call.
+pub(super) fn decide_stack<R: Source>(
+    alloc: Global,
+    call: &CallRecord,
+    input: &mut R,
+) -> Result<Reply, Fault>
+    ensures answer { Decides (requests.Decide call.now) (R.remaining input.old) result }
+    ensures left { LeavesWhole R.remaining R.failures input.old result input.new }
+{
+    let stack = read_filters(alloc, input)?;
     Ok(Reply::Decided(stack.decide(call)))
+}
+
+/// `decide --at`: what it answers, and which instruction gives the answer.
+pub(super) fn decide_stack_at<R: Source>(
+    alloc: Global,
+    call: &CallRecord,
+    input: &mut R,
+) -> Result<Reply, Fault>
+    ensures answer { Decides (requests.DecideBy call.now) (R.remaining input.old) result }
+    ensures left { LeavesWhole R.remaining R.failures input.old result input.new }
+{
+    let stack = read_filters(alloc, input)?;
+    Ok(Reply::DecidedBy(stack.decision(call)))
+}
+
+/// Adds the lines of a filter's run on a call and its path.
+fn add_run(
+    alloc: Global,
+    text: &mut Buffer,
+    filter: &Program,
+    call: &CallRecord,
+) -> Result<(), Memory>
+    ensures { IfOk result (λ _. (answer : ℕ) × (indices : List ℕ)
+        × IsPathOf filter.now (words_of call.now) answer indices
+        × (buffered text.new ≡ buffered text.old ++ traced_text answer indices)) }
+{
+    let trace = trace(alloc, filter, call)?;
+    add_trace(text, &trace)
+}
+
+/// Adds the lines of the runs of filters on a call and their paths.
+fn add_runs(
+    alloc: Global,
+    text: &mut Buffer,
+    filters: &[Program],
+    call: &CallRecord,
+) -> Result<(), Memory>
+    ensures { IfOk result (λ _. (runs : List ℕ) × ShowsRuns filters.now (words_of call.now) runs
+        × (buffered text.new ≡ buffered text.old ++ runs)) }
+{
+    for filter in filters {
+        add_run(alloc, text, filter, call)?;
+    }
+    Ok(())
+}
+
+/// The lines of the answer of a stack to a call, of what gives it, and of the runs of its filters.
+fn lines_of_runs(
+    alloc: Global,
+    stack: &FilterStack,
+    call: &CallRecord,
+) -> Result<Vec<u8>, Memory>
+    ensures { IfOk result (λ text. (decision : Decision) × (runs : List ℕ)
+        × IsDecidedBy stack.now (words_of call.now) decision.by decision.answer.0
+        × ShowsRuns stack.now (words_of call.now) runs
+        × (text.items ≡ decision_text decision.by decision.answer.0 ++ runs)) }
+{
+    let mut text = Buffer::new(alloc);
+    add_decision(&mut text, stack.decision(call))?;
+    add_runs(alloc, &mut text, stack.filters(), call)?;
+    Ok(text.into_bytes())
+}
+
+/// `decide --path`: what it answers, which instruction gives the answer, and how each filter runs.
+pub(super) fn trace_stack<R: Source>(
+    alloc: Global,
+    call: &CallRecord,
+    input: &mut R,
+) -> Result<Reply, Fault>
+    ensures answer { Decides (requests.DecidePaths call.now) (R.remaining input.old) result }
+    ensures left { LeavesWhole R.remaining R.failures input.old result input.new }
+{
+    let stack = read_filters(alloc, input)?;
+    match lines_of_runs(alloc, &stack, call) {
+        Ok(lines) => Ok(Reply::Bytes(lines)),
+        Err(_) => Err(Fault::Answers),
+    }
 }
