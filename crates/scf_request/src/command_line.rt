@@ -7,8 +7,8 @@ ghost use Rattle.scf_request.specs.Requests.Command.{Answers, Ask, Asm, Check, C
 ghost use Rattle.scf_request.specs.internal.Parsing.{MakesNamed, ReadsAsProgram, definition_of, option_of, options_kept};
 
 use crate::options::{
-    ARCHITECTURES_FLAG, AT_FLAG, BESIDE_FLAG, CALLS_FLAG, DISPOSITION_FLAG, EXAMPLES_FLAG, NATIVE_FLAG,
-    NO_LESS_FLAG, NO_MORE_FLAG, NumberOption, PATH_FLAG, READING_OPTION, call_options,
+    ARCHITECTURES_FLAG, AT_FLAG, BESIDE_FLAG, CALLS_FLAG, DISPOSITION_FLAG, EXAMPLES_FLAG,
+    NATIVE_FLAG, NO_LESS_FLAG, NO_MORE_FLAG, NumberOption, PATH_FLAG, READING_OPTION, call_options,
     comparison_options, exploration_options,
 };
 use clap::{Arg, ArgAction, ArgMatches, Command, Error};

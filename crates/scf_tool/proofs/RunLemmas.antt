@@ -7,7 +7,6 @@ use Rattle.scf_tool.proofs.Common.{Insn, List, [], ap, flat_map, get_or, length,
 use Rattle.scf_tool.specs.Commands.{ShowsRuns}
 use Rattle.scf_tool.specs.Lines.{traced_text}
 
-
 -- one filter more runs
 pub one_more_run : (filters : List (List Insn)) (i : ℕ) (d : List Insn) (words text : List ℕ) (answer : ℕ)
     (indices : List ℕ) → i < length filters → ShowsRuns (take i filters) words text

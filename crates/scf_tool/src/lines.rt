@@ -80,7 +80,12 @@ pub(crate) fn add_answer(text: &mut Buffer, answer: Answer) -> Result<(), Memory
 fn write_insn<S: Sink>(sink: &mut S, filter: usize, index: usize) -> Result<(), WriteFault>
     ensures { Writes S.contents S.failures sink.old (insn_text filter index) result sink.new }
 {
-    let words = [Text(" at "), Decimal(filter as u64), Text(":"), Decimal(index as u64)];
+    let words = [
+        Text(" at "),
+        Decimal(filter as u64),
+        Text(":"),
+        Decimal(index as u64),
+    ];
     write_fragments(sink, &words)
 }
 

@@ -101,11 +101,7 @@ fn add_runs(
 }
 
 /// The lines of the answer of a stack to a call, of what gives it, and of the runs of its filters.
-fn lines_of_runs(
-    alloc: Global,
-    stack: &FilterStack,
-    call: &CallRecord,
-) -> Result<Vec<u8>, Memory>
+fn lines_of_runs(alloc: Global, stack: &FilterStack, call: &CallRecord) -> Result<Vec<u8>, Memory>
     ensures { IfOk result (λ text. (decision : Decision) × (runs : List ℕ)
         × IsDecidedBy stack.now (words_of call.now) decision.by decision.answer.0
         × ShowsRuns stack.now (words_of call.now) runs
